@@ -13,7 +13,7 @@ use Rattle.command_inputs.proofs.Beginnings.{cut_leads, printed_begun}
 use Rattle.command_inputs.proofs.Runs.{leads_on}
 use Rattle.command_inputs.specs.Begun.{IsCutOf}
 use Rattle.command_inputs.specs.Found.{IsBase, IsProgramAt, IsRead}
-use Rattle.command_inputs.specs.Known.{Content}
+use Rattle.files.specs.Known.{Content}
 use Rattle.command_inputs.specs.Printed.{Printed, PrintsUnlessDenied}
 use Rattle.command_inputs.specs.declared.fault.Fault.{Fault}
 use Rattle.command_inputs.specs.declared.status.Status.{Status}

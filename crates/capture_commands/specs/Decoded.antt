@@ -12,7 +12,7 @@ use Rattle.subcommands.specs.declared.words.Decode.{Decode}
 use Rattle.command_inputs.specs.Begun.{BeginsPrinted}
 use Rattle.command_inputs.specs.Finding.{Once}
 use Rattle.command_inputs.specs.Found.{IsBase, IsProgramAt, IsRead}
-use Rattle.command_inputs.specs.Known.{Content}
+use Rattle.files.specs.Known.{Content}
 use Rattle.command_inputs.specs.Meaning.{Meaning}
 use Rattle.command_inputs.specs.Order.{base_fault}
 use Rattle.command_inputs.specs.Printed.{First, Printed}

@@ -7,7 +7,7 @@ use Rattle.subcommands.specs.declared.words.Dump.{Dump}
 use Rattle.command_inputs.specs.Faults.{capture_fault}
 use Rattle.command_inputs.specs.Finding.{Once}
 use Rattle.command_inputs.specs.Found.{IsRead}
-use Rattle.command_inputs.specs.Known.{Content}
+use Rattle.files.specs.Known.{Content}
 use Rattle.command_inputs.specs.Meaning.{Meaning, writing_at_once}
 use Rattle.command_inputs.specs.Printed.{First, Printed}
 use Rattle.command_inputs.specs.declared.fault.Fault.{Fault}

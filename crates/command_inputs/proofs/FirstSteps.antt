@@ -8,7 +8,7 @@ use Rattle.retire.specs.Number.{number_of}
 use Rattle.rvclass.specs.Image.{Image}
 use Rattle.command_inputs.specs.Faults.{Path}
 use Rattle.command_inputs.specs.Found.{AreAskedLogs, AreFew, AreLegalLogs, IsAskedProgram, IsBase, IsProgramAt}
-use Rattle.command_inputs.specs.Known.{Content}
+use Rattle.files.specs.Known.{Content}
 use Rattle.command_inputs.specs.Order.{logs_fault}
 use Rattle.command_inputs.specs.Printed.{First, Printed, PrintsUnlessDenied}
 use Rattle.command_inputs.specs.declared.fault.Fault.{Fault}

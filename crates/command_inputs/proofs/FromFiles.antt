@@ -15,7 +15,7 @@ use Rattle.symbols.specs.declared.fault.SymbolsFault.{SymbolsFault}
 use Rattle.symbols.specs.declared.fault.SymbolsFault.TheVariants as symbols
 use Rattle.command_inputs.specs.Faults.{Path, log_fault, symbols_fault}
 use Rattle.command_inputs.specs.Found.{AreSymbolsAt, IsLegalLogAt, IsLog, IsProgramAt, IsRead}
-use Rattle.command_inputs.specs.Known.{Content}
+use Rattle.files.specs.Known.{Content}
 use Rattle.command_inputs.specs.declared.fault.Fault.{Fault}
 use Rattle.command_inputs.specs.declared.fault.Fault.TheVariants as fault
 

@@ -10,7 +10,7 @@ use Rattle.command_inputs.specs.Faults.{Path}
 use Rattle.command_inputs.specs.Found.{IsFirstRefused, IsLegalLogAt, IsLog}
 use Rattle.command_inputs.specs.Judged.{IsJudgedLogAt, IsOfProgram, IsUnjudgedAt, IsVerdict, events_in, events_of}
 use Rattle.command_inputs.specs.Judged.{illegal_in}
-use Rattle.command_inputs.specs.Known.{Content}
+use Rattle.files.specs.Known.{Content}
 use Rattle.command_inputs.specs.Turns.{ComeInTurn, StopsAt}
 use Rattle.command_inputs.specs.declared.fault.Fault.{Fault}
 use Rattle.command_inputs.specs.declared.fault.Fault.TheVariants as fault

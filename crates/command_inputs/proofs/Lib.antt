@@ -4,6 +4,7 @@ pub mod FromFiles
 pub mod LegalLogs
 pub mod MadeOfTexts
 pub mod Runs
+pub mod StreamLemmas
 pub mod TextLogs
 pub mod TextsInTurn
 pub mod Turns

@@ -5,7 +5,7 @@ use Rattle.std.proofs.lemmas.List.{append_assoc, get_or_at, length-append, take_
 use Rattle.std.proofs.lemmas.Slice.Zip.{AllZip-long}
 use Rattle.side_by_side.specs.declared.coming.Found.{Found}
 use Rattle.command_inputs.specs.Faults.{Path}
-use Rattle.command_inputs.specs.Known.{Content}
+use Rattle.files.specs.Known.{Content}
 use Rattle.command_inputs.specs.Made.{AreMadeInTurn, IsMadeOf, IsNotMadeOf}
 use Rattle.command_inputs.specs.Texts.{AreTextsInTurn, HaveRead, IsTextAt, IsUnreadAt}
 use Rattle.command_inputs.specs.Turns.{ComeInTurn, StopsAt}

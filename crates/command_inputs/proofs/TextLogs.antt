@@ -5,7 +5,7 @@ use Rattle.rvclass.specs.Image.{Image}
 use Rattle.command_inputs.specs.Faults.{Path}
 use Rattle.command_inputs.specs.Found.{log_at}
 use Rattle.command_inputs.specs.Judged.{IsJudgedLogAt, IsUnjudgedAt}
-use Rattle.command_inputs.specs.Known.{Content}
+use Rattle.files.specs.Known.{Content}
 use Rattle.command_inputs.specs.Made.{IsNotMadeOf}
 use Rattle.command_inputs.specs.declared.fault.Fault.{Fault}
 use Rattle.command_inputs.specs.declared.judging.JudgedLog.{JudgedLog}

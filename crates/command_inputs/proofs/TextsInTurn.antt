@@ -3,7 +3,7 @@ use Rattle.std.proofs.Common.{◌≡◌, ℕ, ◌+◌, ◌^◌, ◌<◌, ◌≤�
 use Rattle.std.proofs.Common.{drop, get_or, length, sym, ap, subst, arith}
 use Rattle.std.proofs.lemmas.List.{drop_more}
 use Rattle.command_inputs.specs.Faults.{Path}
-use Rattle.command_inputs.specs.Known.{Content}
+use Rattle.files.specs.Known.{Content}
 use Rattle.command_inputs.specs.Texts.{AreTextsInTurn, ArePlacedFrom, IsTextAt, IsUnreadAt}
 use Rattle.command_inputs.specs.Turns.{ComeInTurn}
 use Rattle.command_inputs.specs.declared.fault.Fault.{Fault}

@@ -10,6 +10,8 @@ use Rattle.captures.specs.declared.capture_reading.ReadFault.TheVariants as read
 use Rattle.captures.specs.declared.outcome.CaptureFault.{CaptureFault}
 use Rattle.captures.specs.declared.outcome.CaptureFault.TheVariants as capture
 use Rattle.decoder.specs.declared.fault.DecodeFault.TheVariants as decode
+use Rattle.log_streams.specs.declared.stop.Stop.{Stop}
+use Rattle.log_streams.specs.declared.stop.Stop.TheVariants as stop
 use Rattle.losses.specs.declared.fault.LossyFault.{LossyFault}
 use Rattle.losses.specs.declared.fault.LossyFault.TheVariants as lossy
 use Rattle.message.specs.declared.fault.MessageFault.TheVariants.{BadHeader}
@@ -23,8 +25,8 @@ use Rattle.symbols.specs.declared.fault.SymbolsFault.{SymbolsFault}
 use Rattle.symbols.specs.declared.fault.SymbolsFault.TheVariants as symbols
 use Rattle.command_inputs.specs.declared.fault.Fault.{Fault}
 use Rattle.command_inputs.specs.declared.fault.Fault.TheVariants as fault
-use Rattle.command_inputs.specs.declared.files.FileFault.{FileFault}
-use Rattle.command_inputs.specs.declared.files.FileFault.TheVariants as file
+use Rattle.files.specs.declared.fault.FileFault.{FileFault}
+use Rattle.files.specs.declared.fault.FileFault.TheVariants as file
 use Rattle.command_inputs.specs.declared.status.Status.{Status}
 use Rattle.command_inputs.specs.declared.status.Status.TheVariants.{NotWhole, Refused, Machine}
 
@@ -42,6 +44,11 @@ abbrev pub log_fault : Path → LogFault → Fault
 log_fault path log.Read = fault.Unreadable path
 log_fault path log.Memory = fault.Memory
 log_fault path why = fault.Log path why
+
+-- The fault of a log of which nothing is made.
+abbrev pub stop_fault : Path → Stop → Fault
+stop_fault path (stop.Unread why) = log_fault path why
+stop_fault path (stop.Illegal why) = fault.Illegal path why
 
 -- The fault of a capture that does not hold, whole and in order, what was sent.
 abbrev pub sent_fault : Path → SentFault → Fault

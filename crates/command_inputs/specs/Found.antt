@@ -16,7 +16,7 @@ use Rattle.rvclass.specs.Program.{program_of}
 use Rattle.symbols.specs.File.{most_bytes}
 use Rattle.symbols.specs.declared.fault.SymbolsFault.TheVariants.{TooLarge}
 use Rattle.command_inputs.specs.Faults.{Path, log_fault}
-use Rattle.command_inputs.specs.Known.{Content, MayHold, MayLack}
+use Rattle.files.specs.Known.{Content, MayHold, MayLack}
 use Rattle.command_inputs.specs.Finding.{After}
 use Rattle.command_inputs.specs.declared.fault.Fault.{Fault}
 use Rattle.command_inputs.specs.declared.fault.Fault.TheVariants as fault

@@ -12,7 +12,7 @@ use Rattle.rvclass.specs.Image.{Image}
 use Rattle.rvclass.specs.Words.{Words}
 use Rattle.command_inputs.specs.Faults.{Path}
 use Rattle.command_inputs.specs.Found.{IsLog}
-use Rattle.command_inputs.specs.Known.{Content}
+use Rattle.files.specs.Known.{Content}
 use Rattle.command_inputs.specs.declared.fault.Fault.{Fault}
 use Rattle.command_inputs.specs.declared.fault.Fault.TheVariants as fault
 use Rattle.command_inputs.specs.declared.judging.JudgedLog.{JudgedLog}

@@ -2,7 +2,6 @@ pub mod Status
 pub mod Faults
 pub mod FaultText
 pub mod Order
-pub mod Known
 pub mod Finding
 pub mod Found
 pub mod Turns

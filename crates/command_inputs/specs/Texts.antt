@@ -4,7 +4,7 @@ use Rattle.rvclass.specs.Image.{Image}
 use Rattle.command_inputs.specs.Faults.{Path}
 use Rattle.command_inputs.specs.Found.{IsRead, log_at}
 use Rattle.command_inputs.specs.Judged.{IsVerdictOf, events_of}
-use Rattle.command_inputs.specs.Known.{Content}
+use Rattle.files.specs.Known.{Content}
 use Rattle.command_inputs.specs.Turns.{ComeInTurn}
 use Rattle.command_inputs.specs.declared.fault.Fault.{Fault}
 use Rattle.command_inputs.specs.declared.fault.Fault.TheVariants as fault

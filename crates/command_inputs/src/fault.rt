@@ -4,16 +4,17 @@ ghost use Rattle.std.specs.Prelude.{◌≡◌, ◌≢◌, Some};
 ghost use Rattle.command_inputs.specs.FaultText.{fault_text, reason_text};
 ghost use Rattle.command_inputs.specs.declared.fault.Fault.TheVariants as fault;
 ghost use Rattle.command_inputs.specs.Faults.{capture_fault, file_fault, log_fault, lossy_fault, reading_fault};
-ghost use Rattle.command_inputs.specs.Faults.{schedule_fault, sent_fault, status_of, symbols_fault, unsent_fault};
-ghost use Rattle.command_inputs.specs.Faults.{write_fault};
+ghost use Rattle.command_inputs.specs.Faults.{schedule_fault, sent_fault, status_of, stop_fault, symbols_fault};
+ghost use Rattle.command_inputs.specs.Faults.{unsent_fault, write_fault};
 
-use crate::files::FileFault;
 use crate::status::Status;
 use auditing::SentFault;
 use bench::Setup;
 use captures::{CaptureFault, ReadFault};
 use decoder::DecodeFault;
+use files::FileFault;
 use legalpath::PathFault;
+use log_streams::Stop;
 use losses::LossyFault;
 use message::MessageFault;
 use retire::{LogFault, WriteFault};
@@ -82,6 +83,16 @@ impl<'a> Fault<'a> {
             LogFault::Read => Fault::Unreadable(path),
             LogFault::Memory => Fault::Memory,
             _ => Fault::Log(path, why),
+        }
+    }
+
+    /// Why nothing is made of the log at a path.
+    pub fn of_stop(path: &'a str, why: Stop) -> Fault<'a>
+        ensures { result ≡ stop_fault path.entry why }
+    {
+        match why {
+            Stop::Unread(why) => Fault::of_log(path, why),
+            Stop::Illegal(why) => Fault::Illegal(path, why),
         }
     }
 

@@ -8,8 +8,8 @@ ghost use Rattle.command_inputs.specs.Order.{logs_fault};
 ghost use Rattle.retire.specs.Number.{number_of};
 
 use crate::fault::Fault;
-use crate::files::Files;
 use crate::status::Status;
+use files::Files;
 use retire::number;
 use rvclass::Program;
 use std::alloc::Global;

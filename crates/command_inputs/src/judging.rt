@@ -6,9 +6,9 @@ ghost use Rattle.command_inputs.specs.Turns.{ComeInTurn};
 ghost use Rattle.command_inputs.specs.Texts.{ComesOfText};
 
 use crate::fault::Fault;
-use crate::files::Files;
 use crate::making::made_of_found;
 use crate::texts::{LogFiles, LogText};
+use files::Files;
 use legalpath::{LegalLog, PathFault};
 use retire::{Event, read_log_from_slice};
 use rvclass::Program;

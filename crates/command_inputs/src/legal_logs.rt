@@ -6,8 +6,8 @@ ghost use Rattle.command_inputs.specs.Found.{AreLegalLogs};
 ghost use Rattle.command_inputs.specs.steps.Legal.{AddsLegalLogs, AddsLegalLogsAt};
 
 use crate::fault::Fault;
-use crate::files::Files;
 use crate::judging::{JudgedLog, JudgedLogs, judged_logs_of};
+use files::Files;
 use legalpath::LegalLog;
 use rvclass::Program;
 use side_by_side::processors;

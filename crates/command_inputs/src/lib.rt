@@ -7,12 +7,10 @@
 
 mod error_reporting;
 mod fault;
-mod files;
 mod inputs;
 mod judging;
 mod legal_logs;
 mod making;
-mod rooms;
 mod status;
 mod texts;
 

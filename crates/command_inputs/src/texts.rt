@@ -4,8 +4,8 @@ ghost use Rattle.std.specs.Prelude.{◌≡◌, ◌-◌, Ok, length};
 ghost use Rattle.command_inputs.specs.Texts.{HaveRead};
 
 use crate::fault::Fault;
-use crate::files::Files;
-use crate::rooms::content_in_room;
+use crate::inputs::content_of;
+use files::Files;
 use side_by_side::Jobs;
 use std::alloc::Global;
 use std::thread::Threads;
@@ -34,9 +34,8 @@ pub struct LogFiles<'f, 'a, 'p, F> {
     pub place: usize,
     /// Why the next file was not read, if it was not.
     pub end: Result<(), Fault<'a>>,
-    /// Memory for the files that are not read yet, that for the next one last.
+    /// Memory for the files that are not read yet, of which none is taken.
     pub rooms: Vec<Vec<u8>>,
-    alloc: Global,
 }
 
 impl<'f, 'a, 'p, F: Files> LogFiles<'f, 'a, 'p, F> {
@@ -61,7 +60,6 @@ impl<'f, 'a, 'p, F: Files> LogFiles<'f, 'a, 'p, F> {
             place,
             end: Ok(()),
             rooms: Vec::new(alloc),
-            alloc,
         }
     }
 }
@@ -83,14 +81,9 @@ impl<'a, F: Files> Jobs<LogText<'a>> for LogFiles<'_, 'a, '_, F> {
             return None;
         }
         let path = self.paths[self.done];
-        // Rooms are taken once, beside the first file.
-        let from = if self.done == 0 { 1 } else { self.paths.len() };
-        let behind = &self.paths[from..];
-        let read = content_in_room(self.alloc, rt, self.files, path, behind, &mut self.rooms);
-        let bytes = match read {
+        let bytes = match content_of(self.files, path) {
             Ok(bytes) => bytes,
             Err(why) => {
-                self.rooms.clear();
                 self.end = Err(why);
                 return None;
             }

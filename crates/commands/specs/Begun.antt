@@ -2,7 +2,7 @@
 use Rattle.std.specs.Prelude.{ℕ, List, Option}
 use Rattle.subcommands.specs.declared.words.Asked.{Asked}
 use Rattle.command_inputs.specs.Begun.{IsCutOf}
-use Rattle.command_inputs.specs.Known.{Content}
+use Rattle.files.specs.Known.{Content}
 use Rattle.commands.specs.Meanings.{meaning_of}
 
 -- The run may write a part of its text before memory is refused, as those of `check`, `decode` and `list` may.

@@ -27,7 +27,7 @@ use Rattle.command_inputs.specs.Begun.{BeginsPrinted}
 use Rattle.command_inputs.specs.Faults.{Path, log_fault}
 use Rattle.command_inputs.specs.Found.{log_at}
 use Rattle.command_inputs.specs.Judged.{IsJudgedAt, IsUnjudgedAt, Judged, events_in, illegal_in}
-use Rattle.command_inputs.specs.Known.{Content}
+use Rattle.files.specs.Known.{Content}
 use Rattle.command_inputs.specs.Made.{IsMadeOf, IsNotMadeOf}
 use Rattle.command_inputs.specs.Printed.{IsPrinted, PrintsUnlessDenied}
 use Rattle.command_inputs.specs.Texts.{IsTextAt}

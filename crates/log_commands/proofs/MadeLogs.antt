@@ -17,7 +17,7 @@ use Rattle.command_inputs.proofs.TextLogs.{unread_at_path}
 use Rattle.command_inputs.proofs.Turns.{turns_end, turns_stop}
 use Rattle.command_inputs.specs.Faults.{Path}
 use Rattle.command_inputs.specs.Found.{IsFirstRefused, IsJudged, IsLegalLogAt, log_at}
-use Rattle.command_inputs.specs.Known.{Content}
+use Rattle.files.specs.Known.{Content}
 use Rattle.command_inputs.specs.Made.{AreMadeInTurn, IsMadeOf, IsNotMadeOf}
 use Rattle.command_inputs.specs.Texts.{ArePlacedFrom, AreTextsInTurn, IsTextAt, IsUnreadAt}
 use Rattle.command_inputs.specs.Turns.{ComeInTurn, StopsAt}

@@ -7,7 +7,7 @@ use Rattle.schedule.specs.declared.fault.ScheduleFault.{ScheduleFault}
 use Rattle.schedule.specs.declared.fault.ScheduleFault.TheVariants as schedule
 use Rattle.command_inputs.specs.Faults.{Path, schedule_fault}
 use Rattle.command_inputs.specs.Found.{IsRead}
-use Rattle.command_inputs.specs.Known.{Content}
+use Rattle.files.specs.Known.{Content}
 use Rattle.command_inputs.specs.declared.fault.Fault.{Fault}
 use Rattle.command_inputs.specs.declared.fault.Fault.TheVariants as fault
 use Rattle.log_commands.specs.Replaying.{IsSchedule}

@@ -14,7 +14,7 @@ use Rattle.retire.specs.Number.{number_of}
 use Rattle.subcommands.specs.declared.words.Bench.{Bench}
 use Rattle.command_inputs.specs.Finding.{Once}
 use Rattle.command_inputs.specs.Found.{AreAskedLogs}
-use Rattle.command_inputs.specs.Known.{Content}
+use Rattle.files.specs.Known.{Content}
 use Rattle.command_inputs.specs.Meaning.{Meaning, writing_at_once}
 use Rattle.command_inputs.specs.Order.{logs_fault}
 use Rattle.command_inputs.specs.Printed.{First, Printed}

@@ -17,7 +17,7 @@ use Rattle.command_inputs.specs.Faults.{Path}
 use Rattle.command_inputs.specs.Finding.{Once}
 use Rattle.command_inputs.specs.Found.{IsAskedProgram, IsLog}
 use Rattle.command_inputs.specs.Judged.{IsJudgedAt, Judged}
-use Rattle.command_inputs.specs.Known.{Content}
+use Rattle.files.specs.Known.{Content}
 use Rattle.command_inputs.specs.Meaning.{Meaning}
 use Rattle.command_inputs.specs.Order.{logs_fault}
 use Rattle.command_inputs.specs.Printed.{First, IsPrinted, Printed}

@@ -20,7 +20,7 @@ use Rattle.subcommands.specs.declared.words.Replay.{Replay}
 use Rattle.command_inputs.specs.Faults.{Path, schedule_fault}
 use Rattle.command_inputs.specs.Finding.{Once}
 use Rattle.command_inputs.specs.Found.{AreAskedLogs, IsRead}
-use Rattle.command_inputs.specs.Known.{Content}
+use Rattle.files.specs.Known.{Content}
 use Rattle.command_inputs.specs.Meaning.{Meaning, writing_at_once}
 use Rattle.command_inputs.specs.Order.{logs_fault}
 use Rattle.command_inputs.specs.Printed.{First, Printed}

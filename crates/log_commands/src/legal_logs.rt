@@ -7,7 +7,7 @@ ghost use Rattle.command_inputs.specs.Begun.{IsCutOf};
 ghost use Rattle.command_inputs.specs.Faults.{final_status};
 ghost use Rattle.command_inputs.specs.Finding.{Once};
 ghost use Rattle.command_inputs.specs.Found.{AreAskedLogs};
-ghost use Rattle.command_inputs.specs.Known.{Content};
+ghost use Rattle.files.specs.Known.{Content};
 ghost use Rattle.command_inputs.specs.Order.{logs_fault};
 ghost use Rattle.command_inputs.specs.Printed.{First, Printed, PrintsUnlessDenied};
 

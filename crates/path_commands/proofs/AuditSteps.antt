@@ -11,7 +11,7 @@ use Rattle.command_inputs.proofs.Runs.{ends_silently, leads_on}
 use Rattle.command_inputs.specs.Begun.{IsCutOf}
 use Rattle.command_inputs.specs.Faults.{sent_fault}
 use Rattle.command_inputs.specs.Found.{IsRead}
-use Rattle.command_inputs.specs.Known.{Content}
+use Rattle.files.specs.Known.{Content}
 use Rattle.command_inputs.specs.Printed.{Printed, PrintsUnlessDenied}
 use Rattle.command_inputs.specs.declared.fault.Fault.{Fault}
 use Rattle.command_inputs.specs.declared.fault.Fault.TheVariants as fault

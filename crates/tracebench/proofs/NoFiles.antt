@@ -16,7 +16,7 @@ use Rattle.command_inputs.specs.Faults.{Path, final_status, status_of}
 use Rattle.command_inputs.specs.Finding.{After, IsFoundFrom}
 use Rattle.command_inputs.specs.Found.{AreAskedLogs, AreFew, AreLegalLogs, AreSymbols, IsAskedProgram, IsBase}
 use Rattle.command_inputs.specs.Found.{IsProgramAt, IsRead, program_at}
-use Rattle.command_inputs.specs.Known.{Content, content_in}
+use Rattle.files.specs.Known.{Content, content_in}
 use Rattle.command_inputs.specs.Printed.{First, GoesOn, Printed}
 use Rattle.log_commands.specs.Measuring.{WritesTable}
 use Rattle.log_commands.specs.Replaying.{ReplaysLogs}

@@ -6,7 +6,7 @@ use Rattle.commands.specs.Begun.{IsBegun, IsCutOutput}
 use Rattle.commands.specs.CarriedOut.{IsCarriedOut}
 use Rattle.command_inputs.specs.Faults.{final_status}
 use Rattle.command_inputs.specs.FaultText.{error_line}
-use Rattle.command_inputs.specs.Known.{Content}
+use Rattle.files.specs.Known.{Content}
 use Rattle.commands.specs.Order.{early_fault}
 use Rattle.command_inputs.specs.Status.{code_of}
 use Rattle.command_inputs.specs.declared.fault.Fault.{Fault}

@@ -10,7 +10,7 @@ use Rattle.rvclass.specs.Image.{Image}
 use Rattle.command_inputs.specs.Faults.{Path}
 use Rattle.command_inputs.specs.Found.{log_at}
 use Rattle.command_inputs.specs.Judged.{IsJudgedAt, IsVerdict, Judged}
-use Rattle.command_inputs.specs.Known.{Content}
+use Rattle.files.specs.Known.{Content}
 use Rattle.command_inputs.specs.Texts.{IsNoLog}
 use Rattle.command_inputs.specs.declared.fault.Fault.{Fault}
 use Rattle.command_inputs.specs.declared.texts.LogText.{LogText}

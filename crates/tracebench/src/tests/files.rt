@@ -1,7 +1,7 @@
 //! Files in memory.
 
 ghost use Rattle.std.specs.Prelude.{◌≡◌, [], MatchOption, map, string_bytes};
-ghost use Rattle.command_inputs.specs.Known.{Absent, Present, content_in};
+ghost use Rattle.files.specs.Known.{Absent, Present, content_in};
 
 use commands::{FileFault, Files};
 use std::alloc::Global;

@@ -5,7 +5,7 @@ use Rattle.std.specs.Prelude.{IfSome}
 use Rattle.subcommands.specs.declared.words.Decode.{Decode}
 use Rattle.command_inputs.specs.Begun.{IsCutOf}
 use Rattle.command_inputs.specs.Found.{IsBase, IsProgramAt, IsRead}
-use Rattle.command_inputs.specs.Known.{Content}
+use Rattle.files.specs.Known.{Content}
 use Rattle.command_inputs.specs.Order.{base_fault}
 use Rattle.command_inputs.specs.Printed.{PrintsUnlessDenied}
 use Rattle.command_inputs.specs.declared.fault.Fault.{Fault}

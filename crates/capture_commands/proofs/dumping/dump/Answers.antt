@@ -8,7 +8,7 @@ use Rattle.message.specs.declared.fault.MessageFault.{MessageFault}
 use Rattle.subcommands.specs.declared.words.Dump.{Dump}
 use Rattle.command_inputs.specs.Begun.{IsCutOf}
 use Rattle.command_inputs.specs.Found.{IsRead}
-use Rattle.command_inputs.specs.Known.{Content}
+use Rattle.files.specs.Known.{Content}
 use Rattle.command_inputs.specs.declared.fault.Fault.TheVariants as fault
 use Rattle.command_inputs.proofs.Runs.{appends-keeps, ends_silently, output_failed, prints}
 use Rattle.capture_commands.specs.Dumping.{CanDump, Dumps, end_of_dump}

@@ -9,7 +9,7 @@ pub returns-clause-more : goal.returns-clause-more
 returns-clause-more g c = λ jobs last come.
     let d : Path = record { ref_ptr = (0, 0); now = [] } in
     let content = g.F.Files.content c.args.self.now.files.now in
-    let same = c.content_in_room-read.ensures.kept in
+    let same = c.content_of.ensures.kept in
     let next = c.saturating_add-self.ensures in record {
       texts_are = texts_from content c.args.self.now.place c.saturating_add-self.result c.args.self.now.paths.now
           c.args.self.now.done d _ jobs last.end c.if-self.false (refl, c.in-Ok.ensures.held) refl

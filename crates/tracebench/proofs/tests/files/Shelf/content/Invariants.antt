@@ -1,5 +1,5 @@
 use Rattle.std.proofs.Common.{◌≡◌, drop, map, string_bytes}
-use Rattle.command_inputs.specs.Known.{content_in}
+use Rattle.files.specs.Known.{content_in}
 use Rattle.tracebench.proofs.tests.files.Shelf.content.Given as goal
 
 -- No file before this one has the name.

@@ -1,0 +1,105 @@
+-- What is found of the logs at paths, from what was made of them as they were read.
+use Rattle.std.proofs.Common.{◌≡◌, ◌≤◌, ◌⊎◌, inl, inr, refl, ℕ, zero, suc, arith, sym, ap, subst, List, [], ◌∷◌, ◌++◌}
+use Rattle.std.proofs.Common.{Option, Some, Result, Ok, Err, length, slice_get, take}
+use Rattle.std.specs.List.{AllZip}
+use Rattle.legalpath.specs.declared.fault.PathFault.{PathFault}
+use Rattle.retire.specs.Log.{most_rows}
+use Rattle.retire.specs.declared.event.Event.{Event}
+use Rattle.retire.specs.declared.fault.LogFault.{LogFault}
+use Rattle.retire.specs.declared.fault.LogFault.TheVariants as log
+use Rattle.rvclass.specs.Image.{Image}
+use Rattle.files.specs.Known.{Content}
+use Rattle.log_streams.specs.Made.{AreMade, IsMadeOf, IsStopped}
+use Rattle.log_streams.specs.Read.{IsReadIn, IsUnread}
+use Rattle.log_streams.specs.declared.illegal_row.IllegalRow.{IllegalRow}
+use Rattle.log_streams.specs.declared.logs_fault.LogsFault.{LogsFault}
+use Rattle.log_streams.specs.declared.stop.Stop.{Stop}
+use Rattle.log_streams.specs.declared.stop.Stop.TheVariants as stop
+use Rattle.command_inputs.specs.Faults.{Path, log_fault, stop_fault}
+use Rattle.command_inputs.specs.Found.{IsLegalLogAt, IsLog}
+use Rattle.command_inputs.specs.Turns.{StopsAt}
+use Rattle.command_inputs.specs.declared.fault.Fault.{Fault}
+use Rattle.command_inputs.specs.declared.fault.Fault.TheVariants as fault
+use Rattle.command_inputs.proofs.FromFiles.{legal_unread, log_read, log_refused}
+
+-- The log in the file at a path is the log at that path.
+pub log_read_in : (content : Content) (path : Path) (events : List Event)
+    → IsReadIn (content path.now) most_rows (Ok events) → IsLog content path (Ok events)
+log_read_in content path events there = log_read content path there.bytes events there.held there.read
+
+-- A log that is not read to its end has no events.
+pub log_unread_in : (content : Content) (path : Path) (why : LogFault)
+    → (why ≡ log.Memory) ⊎ IsUnread (content path.now) most_rows why
+    → (log_fault path why ≡ fault.Memory) ⊎ IsLog content path (Err (log_fault path why))
+log_unread_in content path why (inl denied) = inl (ap (log_fault path) denied)
+log_unread_in content path why (inr (inl (is, lacks))) =
+    inr (subst (λ why. IsLog content path (Err (log_fault path why))) (sym is)
+    (record { bytes = Err (fault.Unreadable path); read = (refl, lacks); made = refl }))
+log_unread_in content path why (inr (inr there)) =
+    log_refused content path there.bytes why there.held (inr there.read)
+
+-- A log of which nothing is made is not legal.
+pub legal_stopped : (content : Content) (program : Image) (path : Path) (why : Stop)
+    → IsStopped (content path.now) program most_rows why
+    → (stop_fault path why ≡ fault.Memory) ⊎ IsLegalLogAt content program path (Err (stop_fault path why))
+legal_stopped content program path (stop.Unread why) there =
+    legal_unread content program path (log_fault path why) (log_unread_in content path why there)
+legal_stopped content program path (stop.Illegal illegal) (events, read, first) = inr (record {
+  events = Ok events;
+  read = log_read_in content path events read;
+  judged = (illegal, refl, first);
+})
+
+-- What holds at each place holds of the first of some things and all of others.
+pub front_by_place : {A B : Type 0} (R : A → B → Type 0) (xs : List A) (ys : List B) → length ys ≤ length xs
+    → ((i : ℕ) (x : A) (y : B) → slice_get xs i ≡ Some x → slice_get ys i ≡ Some y → R x y)
+    → AllZip R (take (length ys) xs) ys
+front_by_place R xs [] few each = tt
+front_by_place R [] (y ∷ ys) few each = absurd (omega (arith, few))
+front_by_place R (x ∷ xs) (y ∷ ys) few each =
+    (each 0 x y refl refl, front_by_place R xs ys (omega (arith, few)) (λ i. each (suc i)))
+
+-- What holds at each place holds of all of two lists.
+pub all_by_place : {A B : Type 0} (R : A → B → Type 0) (xs : List A) (ys : List B) → length ys ≡ length xs
+    → ((i : ℕ) (x : A) (y : B) → slice_get xs i ≡ Some x → slice_get ys i ≡ Some y → R x y) → AllZip R xs ys
+all_by_place R [] [] same each = tt
+all_by_place R [] (y ∷ ys) same each = absurd (omega (arith, same))
+all_by_place R (x ∷ xs) [] same each = absurd (omega (arith, same))
+all_by_place R (x ∷ xs) (y ∷ ys) same each =
+    (each 0 x y refl refl, all_by_place R xs ys (omega (arith, same)) (λ i. each (suc i)))
+
+-- A list is parted at a place within it.
+pub parted_at : {A : Type 0} (xs : List A) (i : ℕ) (x : A) → slice_get xs i ≡ Some x
+    → (rest : List A) × (xs ≡ take i xs ++ x ∷ rest)
+parted_at [] i x at = cc at
+parted_at (y ∷ xs) zero x at = (xs, ap (λ y. y ∷ xs) (cc at))
+parted_at (y ∷ xs) (suc i) x at =
+    let behind = parted_at xs i x at in (behind.0, ap (λ xs. y ∷ xs) behind.1)
+
+module _ {X : Type 0} (Makes : ℕ → List Event → X → Type 0) (OfIllegal : List Event → IllegalRow → X → Type 0)
+    (content : Content) (program : Image) (paths : List Path) (made : List X) (R : Path → X → Type 0)
+    (leads : (hart : ℕ) (path : Path) (one : X)
+    → IsMadeOf Makes OfIllegal (content path.now) program most_rows hart (Ok one) → R path one) where
+  -- Something is made of the log at each path.
+  pub made_whole : (u : Unit {0}) → AreMade Makes OfIllegal content program most_rows paths made (Ok u)
+      → AllZip R paths made
+  made_whole u are =
+      all_by_place R paths made (are.all refl)
+      (λ hart path one here there. leads hart path one (are.each hart path one here there))
+
+  -- Nothing is made of the log at a path, and something of those before.
+  pub made_stops : (Stops : Path → Fault → Type 0)
+      → ((path : Path) (why : Stop) → IsStopped (content path.now) program most_rows why
+      → Stops path (stop_fault path why))
+      → (end : LogsFault) → AreMade Makes OfIllegal content program most_rows paths made (Err end)
+      → StopsAt R Stops paths made (stop_fault end.path end.why)
+  made_stops Stops stops end are =
+      let parted = parted_at paths (length made) end.path are.fault.0 in record {
+        front = take (length made) paths;
+        next = end.path;
+        rest = parted.0;
+        whole = parted.1;
+        came = front_by_place R paths made are.few
+            (λ hart path one here there. leads hart path one (are.each hart path one here there));
+        stopped = stops end.path end.why are.fault.1;
+      }
