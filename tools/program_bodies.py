@@ -76,8 +76,6 @@ BODIES = [
         "    let status = match asked(alloc, words) {\n"),
     # Files that are read again, of which `/dev/stdin` has nothing the second time.
     ("the image is read twice", "command_inputs", "inputs.rt", *read_twice(IMAGE, "image")),
-    ("a log is read twice", "command_inputs", "rooms.rt",
-        "    let Some(sizes) = sizes_of(", read_twice("    let Some(sizes) = sizes_of(", "path")[1]),
     ("dump reads its capture twice", "capture_commands", "dumping.rt", *read_twice(CAPTURE, "asked.capture")),
     ("decode reads its capture twice", "capture_commands", "decoding.rt", *read_twice(CAPTURE, "asked.capture")),
     ("list reads its capture twice", "capture_commands", "message_listing.rt", *read_twice(CAPTURE, "asked.capture")),
@@ -89,5 +87,4 @@ BODIES = [
     # More logs at once than there are processors.
     ("check of 1,024 logs at once", "log_commands", "checking.rt", *all_at_once("logs")),
     ("encode of 1,024 logs at once", "log_commands", "made.rt", *all_at_once("paths")),
-    ("measure, replay and bench of 1,024 logs at once", "command_inputs", "legal_logs.rt", *all_at_once("paths")),
 ]

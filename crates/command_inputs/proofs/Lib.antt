@@ -1,10 +1,5 @@
 pub mod Beginnings
 pub mod FirstSteps
 pub mod FromFiles
-pub mod LegalLogs
-pub mod MadeOfTexts
 pub mod Runs
 pub mod StreamLemmas
-pub mod TextLogs
-pub mod TextsInTurn
-pub mod Turns

@@ -1,7 +1,8 @@
 -- What is found of the logs at paths, from what was made of them as they were read.
-use Rattle.std.proofs.Common.{◌≡◌, ◌≤◌, ◌⊎◌, inl, inr, refl, ℕ, zero, suc, arith, sym, ap, subst, List, [], ◌∷◌, ◌++◌}
-use Rattle.std.proofs.Common.{Option, Some, Result, Ok, Err, length, slice_get, take}
+use Rattle.std.proofs.Common.{◌≡◌, ◌∙◌, ◌≤◌, ◌⊎◌, inl, inr, refl, ℕ, zero, suc, arith, sym, ap, subst, List, []}
+use Rattle.std.proofs.Common.{◌∷◌, ◌++◌, Option, Some, Result, Ok, Err, length, slice_get, take}
 use Rattle.std.specs.List.{AllZip}
+use Rattle.legalpath.specs.ProgramLog.{ProgramLog, program_log}
 use Rattle.legalpath.specs.declared.fault.PathFault.{PathFault}
 use Rattle.retire.specs.Log.{most_rows}
 use Rattle.retire.specs.declared.event.Event.{Event}
@@ -16,8 +17,7 @@ use Rattle.log_streams.specs.declared.logs_fault.LogsFault.{LogsFault}
 use Rattle.log_streams.specs.declared.stop.Stop.{Stop}
 use Rattle.log_streams.specs.declared.stop.Stop.TheVariants as stop
 use Rattle.command_inputs.specs.Faults.{Path, log_fault, stop_fault}
-use Rattle.command_inputs.specs.Found.{IsLegalLogAt, IsLog}
-use Rattle.command_inputs.specs.Turns.{StopsAt}
+use Rattle.command_inputs.specs.Found.{IsFirstRefused, IsLegalLogAt, IsLog}
 use Rattle.command_inputs.specs.declared.fault.Fault.{Fault}
 use Rattle.command_inputs.specs.declared.fault.Fault.TheVariants as fault
 use Rattle.command_inputs.proofs.FromFiles.{legal_unread, log_read, log_refused}
@@ -76,6 +76,16 @@ parted_at (y ∷ xs) zero x at = (xs, ap (λ y. y ∷ xs) (cc at))
 parted_at (y ∷ xs) (suc i) x at =
     let behind = parted_at xs i x at in (behind.0, ap (λ xs. y ∷ xs) behind.1)
 
+-- Of the logs at the first paths something was made, and of the one at the next nothing, with this fault.
+pub record StopsAt {X : Type 0} (R : Path → X → Type 0) (Stops : Path → Fault → Type 0) (paths : List Path)
+    (made : List X) (why : Fault) : Type 0 where
+  pub front : List Path
+  pub next : Path
+  pub rest : List Path
+  pub whole : paths ≡ front ++ next ∷ rest
+  pub came : AllZip R front made
+  pub stopped : Stops next why
+
 module _ {X : Type 0} (Makes : ℕ → List Event → X → Type 0) (OfIllegal : List Event → IllegalRow → X → Type 0)
     (content : Content) (program : Image) (paths : List Path) (made : List X) (R : Path → X → Type 0)
     (leads : (hart : ℕ) (path : Path) (one : X)
@@ -103,3 +113,89 @@ module _ {X : Type 0} (Makes : ℕ → List Event → X → Type 0) (OfIllegal :
             (λ hart path one here there. leads hart path one (are.each hart path one here there));
         stopped = stops end.path end.why are.fault.1;
       }
+
+-- The paths of which each has a legal log have legal logs.
+logs_of : (content : Content) (program : Image) {X : Type 0} (paths : List Path) (ones : List X)
+    → AllZip (λ path one. (log : ProgramLog) × IsLegalLogAt content program path (Ok log)) paths ones
+    → (logs : List ProgramLog) × AllZip (λ path log. IsLegalLogAt content program path (Ok log)) paths logs
+logs_of content program [] [] all = ([], tt)
+logs_of content program [] (one ∷ ones) all = elim all [ ]
+logs_of content program (path ∷ paths) [] all = elim all [ ]
+logs_of content program (path ∷ paths) (one ∷ ones) (first, all) =
+    let behind = logs_of content program paths ones all in (first.0 ∷ behind.0, (first.1, behind.1))
+
+-- The log at which it stops is the first that is not legal, unless memory was refused.
+stop_refused : (content : Content) (program : Image) (paths front : List Path) (path : Path) (rest : List Path)
+    (logs : List ProgramLog) (why : Fault) → paths ≡ front ++ path ∷ rest
+    → AllZip (λ path log. IsLegalLogAt content program path (Ok log)) front logs
+    → (why ≡ fault.Memory) ⊎ IsLegalLogAt content program path (Err why)
+    → (why ≡ fault.Memory) ⊎ IsFirstRefused content program paths why
+stop_refused content program paths front path rest logs why whole legal (inl denied) = inl denied
+stop_refused content program paths front path rest logs why whole legal (inr refused) = inr (record {
+  front = front;
+  path = path;
+  rest = rest;
+  logs = logs;
+  whole = whole;
+  legal = legal;
+  refused = refused;
+})
+
+module _ {X : Type 0} (Makes : ℕ → List Event → X → Type 0) (OfIllegal : List Event → IllegalRow → X → Type 0)
+    (never : (events : List Event) (row : IllegalRow) (one : X) → OfIllegal events row one → ⊥)
+    (content : Content) (program : Image) where
+  -- What is made of the log at a path is made of a legal log.
+  pub legal_made : (hart : ℕ) (path : Path) (one : X)
+      → IsMadeOf Makes OfIllegal (content path.now) program most_rows hart (Ok one)
+      → (log : ProgramLog) × IsLegalLogAt content program path (Ok log)
+  legal_made hart path one (inl made) = (
+    program_log program made.events,
+    record {
+      events = Ok made.events;
+      read = log_read_in content path made.events made.read;
+      judged = (refl, made.legal.legal);
+    },
+  )
+  legal_made hart path one (inr made) = absurd (never made.events made.row one made.makes)
+
+  -- Where nothing is made of an illegal log, the log at which it stops is the first that is not legal, unless memory
+  -- was refused.
+  pub first_refused : (paths : List Path) (made : List X) (end : LogsFault)
+      → AreMade Makes OfIllegal content program most_rows paths made (Err end)
+      → (stop_fault end.path end.why ≡ fault.Memory)
+      ⊎ IsFirstRefused content program paths (stop_fault end.path end.why)
+  first_refused paths made end are =
+      let why = stop_fault end.path end.why in
+      let stop = made_stops Makes OfIllegal content program paths made
+      (λ path one. (log : ProgramLog) × IsLegalLogAt content program path (Ok log)) legal_made
+      (λ path why. (why ≡ fault.Memory) ⊎ IsLegalLogAt content program path (Err why))
+      (legal_stopped content program) end are in
+      let logs = logs_of content program stop.front made stop.came in
+      stop_refused content program paths stop.front stop.next stop.rest logs.0 why stop.whole logs.1 stop.stopped
+
+-- The events of a log are kept, with the program.
+abbrev pub IsKept : Image → ℕ → List Event → ProgramLog → Type 0
+IsKept program hart events log = (log.program ≡ program) × (log.events ≡ events)
+
+module _ (content : Content) (program : Image) where
+  -- A log that is kept is the legal log at its path.
+  legal_kept : (hart : ℕ) (path : Path) (log : ProgramLog)
+      → IsMadeOf (IsKept program) (λ events row log. ⊥) (content path.now) program most_rows hart (Ok log)
+      → IsLegalLogAt content program path (Ok log)
+  legal_kept hart path log (inl made) = record {
+    events = Ok made.events;
+    read = log_read_in content path made.events made.read;
+    judged = (
+      ap (λ program. program_log program log.events) made.makes.0 ∙ ap (program_log program) made.makes.1,
+      made.legal.legal,
+    );
+  }
+  legal_kept hart path log (inr made) = absurd made.makes
+
+  -- All logs are legal.
+  pub logs_kept : (u : Unit {0}) (paths : List Path) (logs : List ProgramLog)
+      → AreMade (IsKept program) (λ events row log. ⊥) content program most_rows paths logs (Ok u)
+      → AllZip (λ path log. IsLegalLogAt content program path (Ok log)) paths logs
+  logs_kept u paths logs are =
+      made_whole (IsKept program) (λ events row log. ⊥) content program paths logs
+      (λ path log. IsLegalLogAt content program path (Ok log)) legal_kept u are

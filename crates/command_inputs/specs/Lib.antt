@@ -4,11 +4,7 @@ pub mod FaultText
 pub mod Order
 pub mod Finding
 pub mod Found
-pub mod Turns
 pub mod Judged
-pub mod Texts
-pub mod Made
 pub mod Printed
 pub mod Begun
 pub mod Meaning
-pub mod steps

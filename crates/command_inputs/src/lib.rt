@@ -8,18 +8,13 @@
 mod error_reporting;
 mod fault;
 mod inputs;
-mod judging;
 mod legal_logs;
-mod making;
+mod listing;
 mod status;
-mod texts;
 
 pub use error_reporting::report_error;
 pub use fault::Fault;
-pub use files::{FileFault, Files};
+pub use files::{FileFault, FileReader, Files};
 pub use inputs::{asked_program, base_of, content_of, program_of, symbols_of};
-pub use judging::{JudgedLog, JudgedLogs, judged_logs_of, log_of_text};
 pub use legal_logs::legal_logs_of;
-pub use making::made_of_found;
 pub use status::Status;
-pub use texts::{LogFiles, LogText};

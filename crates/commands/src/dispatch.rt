@@ -22,7 +22,7 @@ use subcommands::Asked;
 /// logs, image, symbols, each log in turn, schedule, capture.
 ///
 /// Illegal logs are no fault of `check`, which has a line for each log on `out`.
-pub fn carry_out<'a, F: Files, O: Write, R: Threads + Wait + Sync>(
+pub fn carry_out<'a, F: Files + Sync, O: Write, R: Threads + Wait + Sync>(
     alloc: Global,
     rt: &R,
     files: &mut F,

@@ -9,7 +9,7 @@
 mod dispatch;
 
 pub use capture_commands::{decode, dump, list, salvage};
-pub use command_inputs::{Fault, FileFault, Files, Status, report_error};
+pub use command_inputs::{Fault, FileFault, FileReader, Files, Status, report_error};
 pub use dispatch::carry_out;
 pub use log_commands::{bench, check, encode, measure, replay};
 pub use path_commands::audit;

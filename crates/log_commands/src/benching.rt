@@ -30,7 +30,7 @@ use subcommands::Bench;
 /// Sends each hart's log through the funnel from a thread of its own, once all logs are found legal, and writes the
 /// report of what comes of them. All is done where each log comes back whole. A stop is printed in the report, and the
 /// status is then that of the machine.
-pub fn bench<'a, F: Files, O: Write, R: Threads + Wait + Sync>(
+pub fn bench<'a, F: Files + Sync, O: Write, R: Threads + Wait + Sync>(
     alloc: Global,
     rt: &R,
     files: &mut F,

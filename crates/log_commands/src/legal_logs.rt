@@ -59,7 +59,7 @@ pub(crate) trait OnLogs<'a> {
 }
 
 /// Finds the program and the legal logs that are asked for, and goes on with these.
-pub(crate) fn over_legal_logs<'a, F: Files, O: Write, T: OnLogs<'a>, R: Threads + Sync>(
+pub(crate) fn over_legal_logs<'a, F: Files + Sync, O: Write, T: OnLogs<'a>, R: Threads + Sync>(
     alloc: Global,
     rt: &R,
     files: &mut F,

@@ -25,7 +25,7 @@ use subcommands::Measure;
 
 /// Writes the table of what each hart's log costs, once all logs are found legal: how many packets of each kind it has
 /// at the period and in the mode, and how many bytes their payloads take.
-pub fn measure<'a, F: Files, O: Write, R: Threads + Sync>(
+pub fn measure<'a, F: Files + Sync, O: Write, R: Threads + Sync>(
     alloc: Global,
     rt: &R,
     files: &mut F,

@@ -29,7 +29,7 @@ use subcommands::Replay;
 /// Sends each hart's log through the funnel as the schedule says, once all logs are found legal, and writes the report
 /// of what comes of them. All is done where each log comes back whole. A stop is printed in the report, and the status
 /// is then that of the machine.
-pub fn replay<'a, F: Files, O: Write, R: Threads + Sync>(
+pub fn replay<'a, F: Files + Sync, O: Write, R: Threads + Sync>(
     alloc: Global,
     rt: &R,
     files: &mut F,

@@ -25,7 +25,7 @@ use subcommands::Asked;
 /// `err` fails, the status stays the same. Illegal logs are no fault of `check`, which has a line for each log on
 /// `out`. A subcommand that reads several logs checks them in threads. `bench` sends each log from a thread. Both wait
 /// for their threads.
-pub fn command<F: Files, O: Write, E: Write, R: Threads + Wait + Sync>(
+pub fn command<F: Files + Sync, O: Write, E: Write, R: Threads + Wait + Sync>(
     alloc: Global,
     rt: &R,
     files: &mut F,
@@ -58,7 +58,7 @@ pub fn command<F: Files, O: Write, E: Write, R: Threads + Wait + Sync>(
 }
 
 /// Carries out what is asked, and reports the fault that ends it.
-fn run<F: Files, O: Write, E: Write, R: Threads + Wait + Sync>(
+fn run<F: Files + Sync, O: Write, E: Write, R: Threads + Wait + Sync>(
     alloc: Global,
     rt: &R,
     files: &mut F,

@@ -2,8 +2,8 @@
 
 ghost use Rattle.std.specs.Prelude.{◌≢◌};
 
-use super::files::Shelf;
 use super::playing::{ends, words_of};
+use super::shelf::Shelf;
 use crate::command;
 use std::process::Abort;
 use std::sync::Wait;

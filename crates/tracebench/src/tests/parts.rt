@@ -1,6 +1,6 @@
 //! What the lines of a transcript add to a content.
 
-use super::files::Shelf;
+use super::shelf::Shelf;
 use std::fmt::Display;
 use std::process::Abort;
 

@@ -1,7 +1,7 @@
 //! Runs of a transcript, and the results that they must have.
 
-use super::files::Shelf;
 use super::parts::{number_of, push, range_at};
+use super::shelf::Shelf;
 use crate::command;
 use cli::asked;
 use std::alloc::Global;
@@ -203,33 +203,15 @@ fn times(path: &str, paths: &[String]) -> usize {
     times
 }
 
-/// No path was read more often than the arguments name it.
-fn none_is_read_again(rt: &impl Abort, shelf: &Shelf, words: &[String], line: &str) {
-    let read = shelf.read.as_slice();
-    let mut last = "";
-    for path in read {
-        let path = path.as_str();
-        if path != last {
-            assert!(rt;
-                times(path, read) <= times(path, words),
-                "{line}: {path} is read again"
-            );
-        }
-        last = path;
-    }
-}
-
-/// Each file was read as often as the arguments name it.
-fn all_are_read(rt: &impl Abort, shelf: &Shelf, words: &[String], line: &str) {
-    let read = shelf.read.as_slice();
+/// No file was read more often than the arguments name it, and where all is done, each was read as often.
+fn each_is_read_once(rt: &impl Abort, shelf: &Shelf, words: &[String], line: &str, is_done: bool) {
     let mut last = "";
     for word in words {
         let path = word.as_str();
         if path != last && shelf.content(path).is_some() {
-            assert!(rt;
-                times(path, read) == times(path, words),
-                "{line}: {path} is not read"
-            );
+            let (reads, named) = (shelf.reads(path), times(path, words) as u64);
+            assert!(rt; reads <= named, "{line}: {path} is read again");
+            assert!(rt; reads == named || !is_done, "{line}: {path} is not read");
         }
         last = path;
     }
@@ -244,15 +226,12 @@ fn is_run<R: Abort + AllocGlobal + Threads + Wait + Sync>(
 ) {
     let mut out = Vec::new(rt.alloc());
     let mut err = Vec::new(rt.alloc());
-    shelf.read.clear();
+    shelf.forget_reads();
     let status = command(rt.alloc(), rt, shelf, words, &mut out, &mut err);
     let found = (status, out.as_slice(), err.as_slice());
     let wanted = (run.status, run.written.as_slice(), run.reported.as_slice());
     ends(rt, (run.line, 0), found, wanted);
-    none_is_read_again(rt, shelf, words, run.line);
-    if status < 2 {
-        all_are_read(rt, shelf, words, run.line);
-    }
+    each_is_read_once(rt, shelf, words, run.line, status < 2);
     line_fails_at(rt, shelf, words, run, (ErrorKind::TimedOut, 1), &[]);
 }
 

@@ -19,9 +19,9 @@
 //! of one that had its name before. Each run is played once more with a standard error that fails. No run reads a file
 //! more often than its arguments name it, and one of status 0 or 1 reads each as often. A request has no status.
 
-use super::files::Shelf;
 use super::parts::{add_line, number_of};
 use super::playing::{Run, Way, is_played};
+use super::shelf::Shelf;
 use std::process::Abort;
 use std::sync::Wait;
 use std::thread::Threads;

@@ -1,6 +1,6 @@
 use Rattle.std.proofs.Common.{◌≡◌, drop, map, string_bytes}
 use Rattle.files.specs.Known.{content_in}
-use Rattle.tracebench.proofs.tests.files.Shelf.content.Given as goal
+use Rattle.tracebench.proofs.tests.shelf.Shelf.content.Given as goal
 
 -- No file before this one has the name.
 abbrev pub invariant-loop-file : goal.invariant-loop-file

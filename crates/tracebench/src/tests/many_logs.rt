@@ -1,15 +1,14 @@
-//! How many logs are held at once.
+//! Runs of many logs that the first of them ends.
 
-use super::files::Shelf;
 use super::playing::{ends, words_of};
-use super::rooms::processors;
+use super::shelf::Shelf;
 use crate::command;
 use std::process::Abort;
 use std::sync::Wait;
 use std::thread::Threads;
 
 /// Words for each subcommand that reads logs, and how many logs they name. The first of them is no log.
-const LINES: [(&str, usize); 5] = [
+const LINES: [(&str, u64); 5] = [
     (
         "tracebench check --base 80000000 image.bin bad.csv 1023*log.csv",
         1024,
@@ -35,10 +34,8 @@ const LINES: [(&str, usize); 5] = [
 /// What is reported of the first log.
 const REPORTED: &[u8] = b"tracebench: bad.csv: wrong header\n";
 
-/// Where the first log ends the run, as many logs were read as the machine has processors: so many are held at once.
-/// None of those after them was read.
-pub(super) fn are_small<R: Abort + AllocGlobal + Threads + Wait + Sync>(rt: &R) {
-    let many = processors(rt);
+/// The fault of the first log is reported, whatever becomes of the logs that are read beside it. No log is read twice.
+pub(super) fn end_at_the_first<R: Abort + AllocGlobal + Threads + Wait + Sync>(rt: &R) {
     let mut shelf = Shelf::new(rt.alloc());
     shelf.begin(rt, "image.bin");
     shelf.append(rt, b"\x13\x00\x00\x00");
@@ -49,15 +46,15 @@ pub(super) fn are_small<R: Abort + AllocGlobal + Threads + Wait + Sync>(rt: &R) 
         let words = words_of(rt, line, 0);
         let mut out = Vec::new(rt.alloc());
         let mut err = Vec::new(rt.alloc());
-        shelf.read.clear();
+        shelf.forget_reads();
         let words = words.as_slice();
         let status = command(rt.alloc(), rt, &mut shelf, words, &mut out, &mut err);
         let found = (status, out.as_slice(), err.as_slice());
         ends(rt, (line, 0), found, (2, b"", REPORTED));
-        let read = shelf.read.len();
+        let (first, later) = (shelf.reads("bad.csv"), shelf.reads("log.csv"));
         assert!(rt;
-            read == many.min(logs).saturating_add(1),
-            "{line}: {read} files are read"
+            first == 1 && later < logs,
+            "{line}: {first} and {later} reads"
         );
     }
 }

@@ -1,0 +1,175 @@
+//! Files in memory.
+
+ghost use Rattle.std.specs.Prelude.{◌≡◌, ◌⊎◌, [], MatchOption, MatchResult, map, string_bytes};
+ghost use Rattle.files.specs.Known.{Absent, Present, content_in};
+
+use commands::{FileFault, FileReader, Files};
+use retire::Given;
+use std::alloc::Global;
+use std::io::{Cursor, Read};
+use std::process::Abort;
+use std::sync::atomic::{AtomicU64, Ordering};
+
+/// A file in memory.
+#[derive(Drop)]
+struct File {
+    name: String,
+    bytes: Vec<u8>,
+    /// How often it was read or opened.
+    reads: AtomicU64,
+}
+
+/// Files, the newest first: where two have one name, the newest counts.
+#[derive(Drop)]
+pub(crate) struct Shelf {
+    alloc: Global,
+    files: Vec<File>,
+}
+
+impl Shelf {
+    /// No file.
+    pub(crate) fn new(alloc: Global) -> Shelf
+        ensures { result.files.items ≡ [] }
+    {
+        Shelf {
+            alloc,
+            files: Vec::new(alloc),
+        }
+    }
+
+    /// Adds a file of this name, with nothing in it.
+    pub(crate) fn begin(&mut self, rt: &impl Abort, name: &str) {
+        let file = File {
+            name: String::from_str(self.alloc, name).expect(rt, "memory"),
+            bytes: Vec::new(self.alloc),
+            reads: AtomicU64::new(0),
+        };
+        self.files.insert(0, file).expect(rt, "memory");
+    }
+
+    /// Appends to the newest file.
+    pub(crate) fn append(&mut self, rt: &impl Abort, bytes: &[u8]) {
+        let file = self.files.first_mut().expect(rt, "a file");
+        file.bytes.extend_from_slice(bytes).expect(rt, "memory");
+    }
+
+    /// Adds the file that a path `NAME:COUNT` names: this count of the first bytes of the file `NAME`. Any other path
+    /// adds none.
+    pub(crate) fn cut(&mut self, rt: &impl Abort, path: &str) {
+        let mut copy = Vec::new(self.alloc);
+        match self.beginning(path) {
+            Some(bytes) => copy.extend_from_slice(bytes).expect(rt, "memory"),
+            None => return,
+        }
+        self.begin(rt, path);
+        self.append(rt, copy.as_slice());
+    }
+
+    /// The bytes that a path `NAME:COUNT` means.
+    fn beginning(&self, path: &str) -> Option<&[u8]> {
+        let (name, count) = path.split_once(':')?;
+        let count = count.parse().ok()?;
+        self.content(name)?.get(..count)
+    }
+
+    /// The content of the file of this name.
+    pub(crate) fn content(&self, name: &str) -> Option<&[u8]>
+        ensures { let files = map (λ file. (string_bytes file.name, file.bytes.items)) self.now.files.items in
+            MatchOption result (content_in files name.now ≡ Absent) (λ bytes. content_in files name.now
+            ≡ Present bytes.now) }
+    {
+        for file in &self.files {
+            if file.name.as_str() == name {
+                return Some(file.bytes.as_slice());
+            }
+        }
+        None
+    }
+
+    /// Forgets how often files were read.
+    pub(crate) fn forget_reads(&self) {
+        for file in &self.files {
+            file.reads.store(0, Ordering::Relaxed);
+        }
+    }
+
+    /// How often the file of this name was read or opened.
+    pub(crate) fn reads(&self, name: &str) -> u64 {
+        for file in &self.files {
+            if file.name.as_str() == name {
+                return file.reads.load(Ordering::Relaxed);
+            }
+        }
+        0
+    }
+
+    /// Counts a read of the file of this name.
+    fn count_read(&self, name: &str) {
+        for file in &self.files {
+            if file.name.as_str() == name {
+                file.reads.fetch_add(1, Ordering::Relaxed);
+                return;
+            }
+        }
+    }
+
+    /// A copy of the content of the file of this name. Memory is refused for the file `full`.
+    fn copy(&self, name: &str) -> Result<Vec<u8>, FileFault>
+        ensures { let files = map (λ file. (string_bytes file.name, file.bytes.items)) self.now.files.items in
+            MatchResult result (λ bytes. content_in files name.now ≡ Present bytes.items)
+            (λ why. (why ≡ FileFault.Memory) ⊎ (content_in files name.now ≡ Absent)) }
+    {
+        self.count_read(name);
+        if name == "full" {
+            return Err(FileFault::Memory);
+        }
+        match self.content(name) {
+            Some(bytes) => Vec::from_slice(self.alloc, bytes).map_err(|_| FileFault::Memory),
+            None => Err(FileFault::CannotRead),
+        }
+    }
+}
+
+impl Files for Shelf {
+    ghost content = { λ shelf path.
+        content_in (map (λ file. (string_bytes file.name, file.bytes.items)) shelf.files.items) path };
+
+    type Reader = Opened;
+
+    fn read(&mut self, path: &str) -> Result<Vec<u8>, FileFault> {
+        self.copy(path)
+    }
+
+    fn open_file(&self, path: &str) -> Result<Opened, FileFault> {
+        match self.copy(path) {
+            Ok(bytes) => Ok(Opened {
+                rest: Cursor::new(bytes),
+                given: Given::new(),
+            }),
+            Err(why) => Err(why),
+        }
+    }
+}
+
+/// A file that is open.
+#[derive(Drop)]
+pub(crate) struct Opened {
+    rest: Cursor<Vec<u8>>,
+    given: Given,
+}
+
+impl FileReader for Opened {
+    ghost given = { λ file. file.given.bytes };
+
+    ghost left = { λ file. ⟦<Cursor<Vec<u8>> as Read>⟧.remaining file.rest };
+
+    fn read(&mut self, buffer: &mut [u8]) -> Result<usize, FileFault> {
+        match self.rest.read(buffer) {
+            Ok(count) => {
+                self.given.put(&buffer[..count]);
+                Ok(count)
+            }
+            Err(_) => Err(FileFault::Memory),
+        }
+    }
+}
