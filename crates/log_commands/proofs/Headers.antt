@@ -1,5 +1,5 @@
 -- The numbers of the header of a capture that is asked for.
-use Rattle.std.proofs.Common.{ℕ, ◌≤◌, ◌<◌, ◌^◌, arith}
+use Rattle.std.proofs.Common.{◌≤◌, ◌<◌, ◌^◌}
 use Rattle.captures.specs.Versions.{MayStart}
 use Rattle.message.specs.Version.{most_harts}
 use Rattle.message.specs.declared.header.Header.{Header}
@@ -12,8 +12,3 @@ pub may_start : (version : Version) (header : Header) → 1 ≤ header.period �
 may_start One header some_period period some_harts harts = tt
 may_start Two header some_period period some_harts harts =
     record { some_period = some_period; period = period; some_harts = some_harts; harts = harts }
-
--- No version has more harts than 16 bits can number.
-pub few_harts : (version : Version) (count : ℕ) → count ≤ most_harts version → count ≤ 2 ^ 16
-few_harts One count few = omega (arith, few)
-few_harts Two count few = omega (arith, few)

@@ -1,6 +1,7 @@
 mod CheckedLogs
 mod Gots
 mod Headers
+mod JoinedTexts
 mod MadeLogs
 mod Reports
 mod Schedules

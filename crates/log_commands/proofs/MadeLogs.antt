@@ -1,317 +1,225 @@
--- What is made of logs from their texts, and what is written of it.
-use Rattle.std.proofs.Common.{◌≡◌, ◌⊎◌, inl, inr, refl, ℕ, ◌+◌, ◌^◌, ◌<◌, ◌≤◌, List, [], ◌∷◌, ◌++◌, Option}
-use Rattle.std.proofs.Common.{None, Some, IfSome, Result, Ok, Err, length}
-use Rattle.std.proofs.Common.{zero, suc, zero-add, get_or, sym, ap, ◌∙◌, subst, arith}
-use Rattle.std.proofs.lemmas.Grind.{common_steps}
-use Rattle.std.proofs.lemmas.List.{length-append}
-use Rattle.std.proofs.lemmas.Slice.Zip.{AllZip-long}
-use Rattle.std.specs.List.{AllZip}
-use Rattle.legalpath.specs.ProgramLog.{ProgramLog}
+-- What is made of logs that all have to be legal, and what is written of it.
+use Rattle.std.proofs.Common.{◌≡◌, ◌⊎◌, inl, inr, refl, ℕ, suc, ◌+◌, ◌≤◌, List, [], ◌∷◌, ◌++◌, Result, Ok, Err}
+use Rattle.std.proofs.Common.{All, Bool, IfErr, IfOk, Some, false, if◌then◌else◌, true}
+use Rattle.std.proofs.Common.{ap, arith, length, slice_get, subst, sym, take, zero-add, ◌∙◌}
+use Rattle.std.proofs.lemmas.Grind.{flat_map-append}
+use Rattle.std.proofs.lemmas.List.{take_all}
+use Rattle.std.proofs.lemmas.List.Elements.{All-cons, All-nil}
+use Rattle.std.specs.List.{AllZip, flat_map}
+use Rattle.std.specs.declared.alloc.Global.{Global}
+use Rattle.std.specs.declared.vec.Vec.{Vec}
+use Rattle.captures.proofs.MessageTexts.{capture_is}
+use Rattle.captures.specs.HexLines.{hex_line, hex_text}
+use Rattle.captures.specs.Messages.{messages_of_harts}
+use Rattle.captures.specs.Versions.{capture_of, header_of, start_bytes}
+use Rattle.encoder.specs.Payloads.{payloads}
+use Rattle.files.specs.Known.{Content}
+use Rattle.legalpath.specs.ProgramLog.{ProgramLog, program_log}
+use Rattle.log_streams.specs.Made.{AreMade, IsMadeOf}
+use Rattle.log_streams.specs.declared.illegal_row.IllegalRow.{IllegalRow}
+use Rattle.log_streams.specs.declared.logs_fault.LogsFault.{LogsFault}
+use Rattle.measuring.specs.Bounds.{AreWithin, most_counted}
+use Rattle.measuring.specs.Measures.{measures_of_each}
+use Rattle.measuring.specs.declared.measures.Measures.{Measures}
+use Rattle.message.specs.Capture.{message_bytes}
+use Rattle.message.specs.Numbered.{messages_from}
 use Rattle.message.specs.declared.message.Message.{Message}
 use Rattle.payload.specs.declared.mode.Mode.{Mode}
+use Rattle.retire.specs.Log.{most_rows}
+use Rattle.retire.specs.declared.event.Event.{Event}
 use Rattle.rvclass.specs.Image.{Image}
-use Rattle.side_by_side.specs.declared.coming.Found.{Found}
-use Rattle.command_inputs.proofs.FromFiles.{legal_unread}
-use Rattle.command_inputs.proofs.LegalLogs.{group_refused}
-use Rattle.command_inputs.proofs.TextLogs.{unread_at_path}
-use Rattle.command_inputs.proofs.Turns.{turns_end, turns_stop}
-use Rattle.command_inputs.specs.Faults.{Path}
-use Rattle.command_inputs.specs.Found.{IsFirstRefused, IsJudged, IsLegalLogAt, log_at}
-use Rattle.files.specs.Known.{Content}
-use Rattle.command_inputs.specs.Made.{AreMadeInTurn, IsMadeOf, IsNotMadeOf}
-use Rattle.command_inputs.specs.Texts.{ArePlacedFrom, AreTextsInTurn, IsTextAt, IsUnreadAt}
-use Rattle.command_inputs.specs.Turns.{ComeInTurn, StopsAt}
+use Rattle.subcommands.specs.declared.words.Encode.{Encode}
+use Rattle.command_inputs.proofs.StreamLemmas.{legal_stopped, log_read_in, parted_at}
+use Rattle.command_inputs.specs.Faults.{Path, stop_fault}
+use Rattle.command_inputs.specs.Found.{AreLegalLogs, IsFirstRefused, IsLegalLogAt}
 use Rattle.command_inputs.specs.declared.fault.Fault.{Fault}
 use Rattle.command_inputs.specs.declared.fault.Fault.TheVariants as fault
-use Rattle.command_inputs.specs.declared.texts.LogText.{LogText}
-use Rattle.command_inputs.specs.steps.Legal.{AddsLegalLogsAt, AreLegalSoFar, IsRefusedAt}
-use Rattle.log_commands.specs.declared.made.MadeLog.{MadeLog}
-use Rattle.log_commands.specs.steps.Made.{AddsMade, AreMadeFrom, ComesOfMaking, HasLegalLog, IsMadeOfLog}
+use Rattle.log_commands.specs.Encoding.{written}
+use Rattle.log_commands.specs.steps.Made.{AreMadeFrom, AreMadeOfLogs, AreMeasuresOf, AreMessagesOf, all_or_fault}
+use Rattle.log_commands.specs.steps.Made.{form_text, joined, written_of}
 
--- A result, with its type said.
-abbrev ended : Result (Unit {0}) Fault → Result (Unit {0}) Fault
-ended result = result
-
--- A text has no legal log, or memory was refused.
-abbrev HasNone : Image → LogText → Fault → Type 0
-HasNone program text why = (why ≡ fault.Memory) ⊎ HasLegalLog program text (Err why)
-
-module _ (content : Content) (program : Image) where
-  -- What a text has of a legal log is what is found at its path.
-  at_path : (path : Path) (text : LogText) (found : Result ProgramLog Fault) → IsTextAt content path text
-      → HasLegalLog program text found → IsLegalLogAt content program path found
-  at_path path text found there has = record {
-    events = has.events;
-    read = record {
-      bytes = Ok text.bytes.items;
-      read = there.1;
-      made = has.read ∙ ap (λ path. log_at path (Ok text.bytes.items)) there.0;
-    };
-    judged = subst (λ path. IsJudged program path has.events found) there.0 has.judged;
-  }
-
-  none_at_path : (path : Path) (text : LogText) (why : Fault) → IsTextAt content path text → HasNone program text why
-      → IsRefusedAt content program path why
-  none_at_path path text why there (inl denied) = inl denied
-  none_at_path path text why there (inr has) = inr (at_path path text (Err why) there has)
-
-  unread : (path : Path) (why : Fault) → IsUnreadAt content path why → IsRefusedAt content program path why
-  unread path why is = legal_unread content program path why (unread_at_path content path why is)
-
-  -- All texts have legal logs. The end is that of reading.
-  pub legal_end : (paths : List Path) (texts : List LogText) (logs : List ProgramLog) (end : Result (Unit {0}) Fault)
-      → ComeInTurn (IsTextAt content) (IsUnreadAt content) paths texts end
-      → AllZip (λ text log. HasLegalLog program text (Ok log)) texts logs
-      → ComeInTurn (λ path log. IsLegalLogAt content program path (Ok log)) (IsRefusedAt content program) paths logs end
-  legal_end paths texts logs end first legal =
-      turns_end (IsTextAt content) (λ text log. HasLegalLog program text (Ok log))
-      (λ path log. IsLegalLogAt content program path (Ok log)) (λ path text log. at_path path text (Ok log))
-      (HasNone program) (IsRefusedAt content program) none_at_path (IsUnreadAt content) unread paths texts logs end
-      first legal
-
-  -- One of the texts has no legal log.
-  pub legal_stop : (paths : List Path) (texts : List LogText) (logs : List ProgramLog) (end : Result (Unit {0}) Fault)
-      (why : Fault) → ComeInTurn (IsTextAt content) (IsUnreadAt content) paths texts end
-      → StopsAt (λ text log. HasLegalLog program text (Ok log)) (HasNone program) texts logs why
-      → ComeInTurn (λ path log. IsLegalLogAt content program path (Ok log)) (IsRefusedAt content program) paths logs
-      (Err why)
-  legal_stop paths texts logs end why first stop =
-      turns_stop (IsTextAt content) (λ text log. HasLegalLog program text (Ok log))
-      (λ path log. IsLegalLogAt content program path (Ok log)) (λ path text log. at_path path text (Ok log))
-      (HasNone program) (IsRefusedAt content program) none_at_path (IsUnreadAt content) unread paths texts logs end why
-      first stop
-
-module _ (text_of : Message → List ℕ) (period : ℕ) (mode : Mode) where
+module _ {X : Type 0} (Makes : ℕ → ProgramLog → X → Type 0) where
   -- What was made belongs to as many logs.
-  pub made_long : (hart : ℕ) (logs : List ProgramLog) (all : List MadeLog) → AreMadeFrom text_of period mode hart logs
-      all → length logs ≡ length all
-  made_long hart [] [] made = refl
-  made_long hart [] (one ∷ all) made = elim made [ ]
-  made_long hart (log ∷ logs) [] made = elim made [ ]
-  made_long hart (log ∷ logs) (one ∷ all) made = ap (λ n. suc n) (made_long (hart + 1) logs all made.1)
+  pub made_long : (hart : ℕ) (logs : List ProgramLog) (made : List X) → AreMadeFrom Makes hart logs made
+      → length logs ≡ length made
+  made_long hart [] [] are = refl
+  made_long hart [] (one ∷ made) are = elim are [ ]
+  made_long hart (log ∷ logs) [] are = elim are [ ]
+  made_long hart (log ∷ logs) (one ∷ made) are = ap (λ n. suc n) (made_long (hart + 1) logs made are.1)
 
-  -- What was made of further logs stands behind it.
-  pub made_joined : (hart : ℕ) (logs more : List ProgramLog) (all further : List MadeLog)
-      → AreMadeFrom text_of period mode hart logs all
-      → AreMadeFrom text_of period mode (hart + length all) more further
-      → AreMadeFrom text_of period mode hart (logs ++ more) (all ++ further)
-  made_joined hart [] more [] further made behind =
-      subst (λ hart. AreMadeFrom text_of period mode hart more further) (omega arith) behind
-  made_joined hart [] more (one ∷ all) further made behind = elim made [ ]
-  made_joined hart (log ∷ logs) more [] further made behind = elim made [ ]
-  made_joined hart (log ∷ logs) more (one ∷ all) further made behind = (
-    made.0,
-    made_joined (hart + 1) logs more all further made.1
-        (subst (λ hart. AreMadeFrom text_of period mode hart more further) (omega arith) behind),
-  )
+  module _ (content : Content) (program : Image) where
+    -- This is made of the events of a log.
+    abbrev OfEvents : ℕ → List Event → X → Type 0
+    OfEvents hart events one = Makes hart (program_log program events) one
 
-  -- The log at a place, and what was made of it.
-  pub record MadeHere (hart : ℕ) (logs : List ProgramLog) (all : List MadeLog) (i : ℕ) (one : MadeLog) : Type 0 where
-    pub log : ProgramLog
-    pub within : i < length logs
-    pub here : log ≡ get_or logs i log
-    pub made : IsMadeOfLog text_of period mode (hart + i) log (get_or all i one)
+    -- Nothing is made of an illegal log.
+    abbrev OfIllegal : List Event → IllegalRow → X → Type 0
+    OfIllegal events row one = ⊥
 
-  pub made_here : (hart : ℕ) (logs : List ProgramLog) (all : List MadeLog) (i : ℕ) (one : MadeLog)
-      → AreMadeFrom text_of period mode hart logs all → i < length all → MadeHere hart logs all i one
-  made_here hart [] [] i one made within = grind (arith, common_steps, yes, no)
-  made_here hart [] (first ∷ all) i one made within = elim made [ ]
-  made_here hart (log ∷ logs) [] i one made within = elim made [ ]
-  made_here hart (log ∷ logs) (first ∷ all) zero one made within = record {
-    log = log;
-    within = omega arith;
-    here = refl;
-    made = subst (λ hart. IsMadeOfLog text_of period mode hart log first) (omega arith) made.0;
-  }
-  made_here hart (log ∷ logs) (first ∷ all) (suc i) one made within =
-      let there = made_here (hart + 1) logs all i one made.1 (omega arith) in record {
-        log = there.log;
-        within = omega (arith, there.within);
-        here = there.here;
-        made = subst (λ hart. IsMadeOfLog text_of period mode hart there.log (get_or all i one)) (omega arith)
-            there.made;
-      }
+    -- The legal log at a path, and what was made of it.
+    record MadeAt (hart : ℕ) (path : Path) (one : X) : Type 0 where
+      pub log : ProgramLog
+      pub legal : IsLegalLogAt content program path (Ok log)
+      pub makes : Makes hart log one
 
-  -- The log of the hart with this number, and what was made of it.
-  pub record MadeOne (logs : List ProgramLog) (hart : ℕ) (one : MadeLog) : Type 0 where
-    pub log : ProgramLog
-    pub within : hart < length logs
-    pub here : log ≡ get_or logs hart log
-    pub made : IsMadeOfLog text_of period mode hart log one
+    made_at : (hart : ℕ) (path : Path) (one : X)
+        → IsMadeOf OfEvents OfIllegal (content path.now) program most_rows hart (Ok one) → MadeAt hart path one
+    made_at hart path one (inl there) = record {
+      log = program_log program there.events;
+      legal = record {
+        events = Ok there.events;
+        read = log_read_in content path there.events there.read;
+        judged = (refl, there.legal.legal);
+      };
+      makes = there.makes;
+    }
+    made_at hart path one (inr there) = elim there.makes [ ]
 
-  pub made_one : (logs : List ProgramLog) (all : List MadeLog) (hart : ℕ) (one : MadeLog)
-      → AreMadeFrom text_of period mode 0 logs all → hart < length all → one ≡ get_or all hart one
-      → MadeOne logs hart one
-  made_one logs all hart one made within is =
-      let there = made_here 0 logs all hart one made within in record {
-        log = there.log;
-        within = there.within;
-        here = there.here;
-        made = subst (λ hart. IsMadeOfLog text_of period mode hart there.log one) (zero-add hart)
-            (subst (IsMadeOfLog text_of period mode (0 + hart) there.log) (sym is) there.made);
-      }
-
-  -- It stops at the first log that is not legal, unless memory was refused.
-  pub group_stops : (content : Content) (program : Image) (paths rest group more : List Path) (logs : List ProgramLog)
-      (old new : List MadeLog) (why : Fault) → AreLegalSoFar content program paths rest logs → rest ≡ group ++ more
-      → AddsMade text_of period mode content program group old new (Err why)
-      → (why ≡ fault.Memory) ⊎ IsFirstRefused content program paths why
-  group_stops content program paths rest group more logs old new why before parted (inl denied) = inl denied
-  group_stops content program paths rest group more logs old new why before parted (inr adds) =
-      group_refused content program paths rest group more logs (adds logs).0 why before parted (adds logs).1
-
-  -- The list grows by as many as there are paths.
-  pub group_long : (content : Content) (program : Image) (group : List Path) (logs more : List ProgramLog)
-      (old new : List MadeLog) (end : Unit {0}) → AreMadeFrom text_of period mode 0 logs old
-      → AddsLegalLogsAt content program group logs more (Ok end) → AreMadeFrom text_of period mode 0 more new
-      → length new ≡ length old + length group
-  group_long content program group logs more old new end before adds made =
-      let olds = made_long 0 logs old before in
-      let news = made_long 0 more new made in
-      let joined : length more ≡ length logs + length adds.added =
-      ap length adds.whole ∙ length-append logs adds.added in
-      let added = AllZip-long (λ path log. IsLegalLogAt content program path (Ok log)) group adds.added adds.turns in
-      omega (arith, olds, news, joined, added)
-
-  module _ (program : Image) where
-    -- What is found of texts, by the program.
-    abbrev Gives : ℕ → LogText → Result MadeLog Fault → Type 0
-    Gives place = ComesOfMaking text_of period mode program
-
-    -- The legal logs of texts of which something was made.
-    record LegalOnes (texts : List LogText) : Type 0 where
+    -- The logs at the first paths are legal, and this is made of them.
+    record FrontMade (hart : ℕ) (paths : List Path) (made : List X) : Type 0 where
       pub logs : List ProgramLog
-      pub legal : AllZip (λ text log. HasLegalLog program text (Ok log)) texts logs
+      pub legal : AllZip (λ path log. IsLegalLogAt content program path (Ok log)) (take (length made) paths) logs
+      pub each : AreMadeFrom Makes hart logs made
 
-    legal_ones : (texts : List LogText) (all : List MadeLog) → AllZip (IsMadeOf Gives) texts all → LegalOnes texts
-    legal_ones [] all made = record { logs = []; legal = tt }
-    legal_ones (text ∷ texts) [] made = elim made [ ]
-    legal_ones (text ∷ texts) (one ∷ all) made =
-        let rest = legal_ones texts all made.1 in
-        record { logs = made.0.1.0 ∷ rest.logs; legal = (made.0.1.1, rest.legal) }
-
-    -- And where the places of the texts follow on one another, it was made of these logs.
-    pub record PlacedOnes (hart : ℕ) (texts : List LogText) (all : List MadeLog) : Type 0 where
-      pub logs : List ProgramLog
-      pub legal : AllZip (λ text log. HasLegalLog program text (Ok log)) texts logs
-      pub made : AreMadeFrom text_of period mode hart logs all
-
-    pub placed_ones : (hart : ℕ) (texts : List LogText) (all : List MadeLog) → AllZip (IsMadeOf Gives) texts all
-        → ArePlacedFrom hart texts → PlacedOnes hart texts all
-    placed_ones hart [] [] made placed = record { logs = []; legal = tt; made = tt }
-    placed_ones hart [] (one ∷ all) made placed = elim made [ ]
-    placed_ones hart (text ∷ texts) [] made placed = elim made [ ]
-    placed_ones hart (text ∷ texts) (one ∷ all) made placed =
-        let rest = placed_ones (hart + 1) texts all made.1 placed.1 in
-        let log = made.0.1.0 in record {
-          logs = log ∷ rest.logs;
-          legal = (made.0.1.1, rest.legal);
-          made = (
-            subst (λ hart. IsMadeOfLog text_of period mode hart log one) placed.0 made.0.1.2,
-            rest.made,
-          );
+    front_made : (hart : ℕ) (paths : List Path) (made : List X) → length made ≤ length paths
+        → ((i : ℕ) (path : Path) (one : X) → slice_get paths i ≡ Some path → slice_get made i ≡ Some one
+        → MadeAt (hart + i) path one)
+        → FrontMade hart paths made
+    front_made hart paths [] few each = record { logs = []; legal = tt; each = tt }
+    front_made hart [] (one ∷ made) few each = absurd (omega (arith, few))
+    front_made hart (path ∷ paths) (one ∷ made) few each =
+        let here = each 0 path one refl refl in
+        let rest = front_made (hart + 1) paths made (omega (arith, few)) (λ i path one at is.
+        subst (λ hart. MadeAt hart path one) (omega arith) (each (suc i) path one at is)) in record {
+          logs = here.log ∷ rest.logs;
+          legal = (here.legal, rest.legal);
+          each = (subst (λ hart. Makes hart here.log one) (omega arith) here.makes, rest.each);
         }
 
-    -- The text of which nothing was made has no legal log.
-    has_none : (text : LogText) (why : Fault) → IsNotMadeOf Gives text why → HasNone program text why
-    has_none text why (inl denied) = inl denied
-    has_none text why (inr is) = is.1
+    module _ (paths : List Path) where
+      fronts : (made : List X) (end : Result (Unit {0}) LogsFault)
+          → AreMade OfEvents OfIllegal content program most_rows paths made end → FrontMade 0 paths made
+      fronts made end are =
+          front_made 0 paths made are.few (λ i path one at is.
+          subst (λ hart. MadeAt hart path one) (sym (zero-add i)) (made_at i path one (are.each i path one at is)))
 
-    module _ (content : Content) (paths : List Path) (texts : List LogText) (all : List MadeLog)
-        (end : Result (Unit {0}) Fault)
-        (read : ComeInTurn (IsTextAt content) (IsUnreadAt content) paths texts end) where
-      -- The logs before the text of which nothing was made are added, behind others.
-      pub adds_stopped : (why : Fault) → StopsAt (IsMadeOf Gives) (IsNotMadeOf Gives) texts all why
-          → (logs : List ProgramLog)
-          → (more : List ProgramLog) × AddsLegalLogsAt content program paths logs more (Err why)
-      adds_stopped why stop logs =
-          let ones = legal_ones stop.front all stop.came in (
-            logs ++ ones.logs,
-            record {
-              added = ones.logs;
-              whole = refl;
-              turns = legal_stop content program paths texts ones.logs end why read (record {
-                front = stop.front;
-                next = stop.next;
-                rest = stop.rest;
-                whole = stop.whole;
-                came = ones.legal;
-                stopped = has_none stop.next why stop.stopped;
-              });
-            },
-          )
+      all_legal : (made : List X) (end : Unit {0})
+          → AreMade OfEvents OfIllegal content program most_rows paths made (Ok end)
+          → AreMadeOfLogs Makes content program paths made
+      all_legal made end are =
+          let front = fronts made (Ok end) are in record {
+            logs = front.logs;
+            legal = subst (λ paths. AllZip (λ path log. IsLegalLogAt content program path (Ok log)) paths front.logs)
+                (take_all (length made) paths (omega (arith, are.all refl))) front.legal;
+            each = front.each;
+          }
 
-      -- The logs of all texts are added, behind others.
-      pub adds_all : AllZip (IsMadeOf Gives) texts all → (logs : List ProgramLog)
-          → (more : List ProgramLog) × AddsLegalLogsAt content program paths logs more end
-      adds_all made logs =
-          let ones = legal_ones texts all made in (
-            logs ++ ones.logs,
-            record {
-              added = ones.logs;
-              whole = refl;
-              turns = legal_end content program paths texts ones.logs end read ones.legal;
-            },
-          )
+      first_refused : (made : List X) (last : LogsFault)
+          → AreMade OfEvents OfIllegal content program most_rows paths made (Err last)
+          → (stop_fault last.path last.why ≡ fault.Memory)
+          ⊎ IsFirstRefused content program paths (stop_fault last.path last.why)
+      first_refused made last are = is_first (legal_stopped content program last.path last.why are.fault.1)
+        where
+          is_first : (stop_fault last.path last.why ≡ fault.Memory)
+              ⊎ IsLegalLogAt content program last.path (Err (stop_fault last.path last.why))
+              → (stop_fault last.path last.why ≡ fault.Memory)
+              ⊎ IsFirstRefused content program paths (stop_fault last.path last.why)
+          is_first (inl denied) = inl denied
+          is_first (inr refused) =
+              let front = fronts made (Err last) are in
+              let parted = parted_at paths (length made) last.path are.fault.0 in inr (record {
+                front = take (length made) paths;
+                path = last.path;
+                rest = parted.0;
+                logs = front.logs;
+                whole = parted.1;
+                legal = front.legal;
+                refused = refused;
+              })
 
-      -- The logs of all texts are added, and what was made of them, behind others.
-      pub adds_made : (old new : List MadeLog) → AllZip (IsMadeOf Gives) texts all
-          → ArePlacedFrom (length old) texts → new ≡ old ++ all → (logs : List ProgramLog)
-          → AreMadeFrom text_of period mode 0 logs old
-          → (more : List ProgramLog) × AddsLegalLogsAt content program paths logs more end
-          × AreMadeFrom text_of period mode 0 more new
-      adds_made old new made placed is logs before =
-          let ones = placed_ones (length old) texts all made placed in (
-            logs ++ ones.logs,
-            record {
-              added = ones.logs;
-              whole = refl;
-              turns = legal_end content program paths texts ones.logs end read ones.legal;
-            },
-            subst (AreMadeFrom text_of period mode 0 (logs ++ ones.logs)) (sym is)
-                (made_joined 0 logs ones.logs old all before
-                (subst (λ hart. AreMadeFrom text_of period mode hart ones.logs all) (omega arith) ones.made)),
-          )
+      -- Where something was made of each log, there is one thing for each.
+      pub made_count : (made : Vec X Global) (end : Result (Unit {0}) LogsFault)
+          (result : Result (Vec X Global) Fault)
+          → AreMade OfEvents OfIllegal content program most_rows paths made.items end
+          → result ≡ all_or_fault made end → IfOk result (λ all. length all.items ≡ length paths)
+      made_count made (Ok end) result are is =
+          subst (λ r. IfOk r (λ all. length all.items ≡ length paths)) (sym is) (are.all refl)
+      made_count made (Err last) result are is =
+          subst (λ r. IfOk r (λ all. length all.items ≡ length paths)) (sym is) tt
 
-    module _ (content : Content) (paths : List Path) (first : ℕ) (made old : List MadeLog)
-        (end : Result (Unit {0}) Fault) where
-      failed : (texts : List LogText) (why : Fault) → AreTextsInTurn content first paths texts end
-          → AreMadeInTurn Gives texts end made (Err why) → (logs : List ProgramLog)
-          → (more : List ProgramLog) × AddsLegalLogsAt content program paths logs more (Err why)
-      failed texts why are (inl all) =
-          subst (λ end. (logs : List ProgramLog)
-          → (more : List ProgramLog) × AddsLegalLogsAt content program paths logs more end) (sym all.0)
-          (adds_all content paths texts made end are.read all.1)
-      failed texts why are (inr (other, is, stop)) =
-          subst (λ end. (logs : List ProgramLog)
-          → (more : List ProgramLog) × AddsLegalLogsAt content program paths logs more end) (sym is)
-          (adds_stopped content paths texts made end are.read other stop)
+      -- Then all logs are legal.
+      pub made_of_legal : (made : Vec X Global) (end : Result (Unit {0}) LogsFault)
+          (result : Result (Vec X Global) Fault)
+          → AreMade OfEvents OfIllegal content program most_rows paths made.items end
+          → result ≡ all_or_fault made end
+          → IfOk result (λ all. AreMadeOfLogs Makes content program paths all.items)
+      made_of_legal made (Ok end) result are is =
+          subst (λ r. IfOk r (λ all. AreMadeOfLogs Makes content program paths all.items)) (sym is)
+          (all_legal made.items end are)
+      made_of_legal made (Err last) result are is =
+          subst (λ r. IfOk r (λ all. AreMadeOfLogs Makes content program paths all.items)) (sym is) tt
 
-      -- Nothing is added where something was not made, by what was found of the texts.
-      pub adds_failed : (found : Option (Found LogText (Result MadeLog Fault))) (why : Fault)
-          → IfSome found (λ all. AreTextsInTurn content first paths all.jobs.items end)
-          → IfSome found (λ all. AreMadeInTurn Gives all.jobs.items end made (Err why))
-          → (found ≡ None → (ended (Err why) ≡ Err fault.Memory) × (made ≡ []))
-          → AddsMade text_of period mode content program paths old old (Err why)
-      adds_failed None why are all none = let ends = (none refl).0 in inl (grind (arith, common_steps))
-      adds_failed (Some found) why are all none = inr (failed found.jobs.items why are all)
+      -- Else the fault is that of the first log that is not legal.
+      pub made_of_none : (made : Vec X Global) (end : Result (Unit {0}) LogsFault)
+          (result : Result (Vec X Global) Fault)
+          → AreMade OfEvents OfIllegal content program most_rows paths made.items end
+          → result ≡ all_or_fault made end
+          → IfErr result (λ why. (why ≡ fault.Memory) ⊎ AreLegalLogs content program paths (Err why))
+      made_of_none made (Ok end) result are is =
+          subst (λ r. IfErr r (λ why. (why ≡ fault.Memory) ⊎ AreLegalLogs content program paths (Err why))) (sym is) tt
+      made_of_none made (Err last) result are is =
+          subst (λ r. IfErr r (λ why. (why ≡ fault.Memory) ⊎ AreLegalLogs content program paths (Err why))) (sym is)
+          (first_refused made.items last are)
 
-      whole : (texts : List LogText) (new : List MadeLog) (e : Unit {0}) → first ≡ length old
-          → first + length paths ≤ 2 ^ 16 → new ≡ old ++ made → AreTextsInTurn content first paths texts end
-          → AreMadeInTurn Gives texts end made (Ok e)
-          → AddsMade text_of period mode content program paths old new (Ok e)
-      whole texts new e here few is are (inl all) =
-          adds_made content paths texts made (Ok e)
-          (subst (ComeInTurn (IsTextAt content) (IsUnreadAt content) paths texts) (sym all.0) are.read) old new all.1
-          (subst (λ n. ArePlacedFrom n texts) here (are.placed few)) is
-      whole texts new e here few is are (inr (why, ends, stop)) = cc
+-- The messages of logs, one after the other, are those of their harts.
+pub messages_joined : (text_of : Message → List ℕ) (period : ℕ) (mode : Mode) (hart : ℕ) (logs : List ProgramLog)
+    (made : List (Vec ℕ Global)) → AreMadeFrom (AreMessagesOf text_of period mode) hart logs made
+    → joined made ≡ flat_map text_of (messages_of_harts period mode hart logs)
+messages_joined text_of period mode hart [] [] are = refl
+messages_joined text_of period mode hart [] (one ∷ made) are = elim are [ ]
+messages_joined text_of period mode hart (log ∷ logs) [] are = elim are [ ]
+messages_joined text_of period mode hart (log ∷ logs) (one ∷ made) are =
+    ap (λ here. here ++ joined made) are.0
+    ∙ ap (λ rest. flat_map text_of (messages_from hart 0 (payloads period mode log)) ++ rest)
+    (messages_joined text_of period mode (hart + 1) logs made are.1)
+    ∙ sym (flat_map-append text_of (messages_from hart 0 (payloads period mode log))
+    (messages_of_harts period mode (hart + 1) logs))
 
-      -- What was made of all texts is added.
-      pub adds_whole : (found : Option (Found LogText (Result MadeLog Fault))) (new : List MadeLog) (e : Unit {0})
-          → first ≡ length old → first + length paths ≤ 2 ^ 16 → new ≡ old ++ made
-          → IfSome found (λ all. AreTextsInTurn content first paths all.jobs.items end)
-          → IfSome found (λ all. AreMadeInTurn Gives all.jobs.items end made (Ok e))
-          → (found ≡ None → (ended (Ok e) ≡ Err fault.Memory) × (made ≡ []))
-          → AddsMade text_of period mode content program paths old new (Ok e)
-      adds_whole None new e here few is are all none = let ends = (none refl).0 in cc
-      adds_whole (Some found) new e here few is are all none = whole found.jobs.items new e here few is are all
+module _ (asked : Encode) (logs : List ProgramLog) (made : List (Vec ℕ Global)) where
+  by_form : (hex : Bool) → AreMadeFrom (AreMessagesOf (form_text hex) asked.period asked.mode) 0 logs made
+      → (if hex then joined made
+      else start_bytes asked.version (record { mode = asked.mode; period = asked.period; harts = length made })
+      ++ joined made)
+      ≡ (if hex then hex_text (messages_of_harts asked.period asked.mode 0 logs)
+      else capture_of asked.version asked.period asked.mode logs)
+  by_form true are = messages_joined hex_line asked.period asked.mode 0 logs made are
+  by_form false are =
+      ap (λ harts. start_bytes asked.version (record { mode = asked.mode; period = asked.period; harts = harts })
+      ++ joined made) (sym (made_long (AreMessagesOf message_bytes asked.period asked.mode) 0 logs made are))
+      ∙ ap (λ bytes. start_bytes asked.version (header_of asked.period asked.mode logs) ++ bytes)
+      (messages_joined message_bytes asked.period asked.mode 0 logs made are
+      ∙ sym (capture_is (messages_of_harts asked.period asked.mode 0 logs)))
+
+  -- What is written of the messages of logs is what is asked for.
+  pub messages_written : AreMadeFrom (AreMessagesOf (form_text asked.hex) asked.period asked.mode) 0 logs made
+      → written_of asked made ≡ written asked logs
+  messages_written are = by_form asked.hex are
+
+-- The measures of logs are those of each.
+pub measures_each : (period : ℕ) (mode : Mode) (hart : ℕ) (logs : List ProgramLog) (made : List Measures)
+    → AreMadeFrom (AreMeasuresOf period mode) hart logs made → made ≡ measures_of_each period mode logs
+measures_each period mode hart [] [] are = refl
+measures_each period mode hart [] (one ∷ made) are = elim are [ ]
+measures_each period mode hart (log ∷ logs) [] are = elim are [ ]
+measures_each period mode hart (log ∷ logs) (one ∷ made) are =
+    let rest = measures_each period mode (hart + 1) logs made are.1 in
+    let here = are.0.0 in cc
+
+-- They can be added up.
+pub measures_within : (period : ℕ) (mode : Mode) (hart : ℕ) (logs : List ProgramLog) (made : List Measures)
+    → AreMadeFrom (AreMeasuresOf period mode) hart logs made → All (AreWithin most_counted) made
+measures_within period mode hart [] [] are = All-nil (AreWithin most_counted)
+measures_within period mode hart [] (one ∷ made) are = elim are [ ]
+measures_within period mode hart (log ∷ logs) [] are = elim are [ ]
+measures_within period mode hart (log ∷ logs) (one ∷ made) are =
+    All-cons (AreWithin most_counted) one made are.0.1 (measures_within period mode (hart + 1) logs made are.1)

@@ -1,30 +1,44 @@
 //! The subcommand `measure`.
 
-ghost use Rattle.std.specs.Prelude.{⊤, ◌≡◌, ◌≤◌, Err, IfErr, IfOk, IfSome, OnOk, length};
+ghost use Rattle.std.specs.Prelude.{◌≡◌, ◌⊎◌, ◌≤◌, ◌^◌, All, Err, IfErr, IfOk, IfSome, OnOk, length};
 ghost use Rattle.std.specs.Io.KnownBytes.{Appends};
-ghost use Rattle.retire.specs.Number.{number_of};
+ghost use Rattle.legalpath.specs.ProgramLog.{program_log};
+ghost use Rattle.measuring.specs.Bounds.{AreWithin, most_counted};
+ghost use Rattle.measuring.specs.HasCounted.{HasCounted};
+ghost use Rattle.measuring.specs.Table.{table_of};
 ghost use Rattle.message.specs.Version.{most_harts};
 ghost use Rattle.message.specs.declared.header.Version.TheVariants.{Two};
-ghost use Rattle.measuring.specs.Table.{measures_table};
 ghost use Rattle.output.specs.Begun.{AppendsBeginning};
+ghost use Rattle.retire.specs.Number.{number_of};
+ghost use Rattle.rvclass.specs.Fetch.{words_of};
 ghost use Rattle.command_inputs.specs.Begun.{IsCutOf};
 ghost use Rattle.command_inputs.specs.Faults.{final_status};
+ghost use Rattle.command_inputs.specs.Found.{AreLegalLogs};
 ghost use Rattle.command_inputs.specs.Order.{logs_fault};
 ghost use Rattle.command_inputs.specs.Printed.{PrintsUnlessDenied};
-ghost use Rattle.log_commands.specs.Measuring.{CanMeasure, Measures, WritesTable};
+ghost use Rattle.log_commands.specs.Measuring.{CanMeasure, Measures};
+ghost use Rattle.log_commands.specs.steps.Made.{AreMadeOfLogs, AreMeasuresOf};
 
-use crate::legal_logs::{AskedLogs, OnLogs, over_legal_logs};
-use command_inputs::{Fault, Files, Status};
-use legalpath::LegalLog;
-use measuring::write_measures;
+use crate::made::all_made;
+use command_inputs::{Fault, Status, asked_program};
+use files::Files;
+use legalpath::PathFault;
+use log_streams::{IllegalRow, LogTask, made_of_logs};
+use measuring::{LogMeasures, write_measures_of};
 use message::MOST_HARTS;
-use std::alloc::Global;
+use payload::Mode;
+use retire::{Event, MOST_ROWS};
+use rvclass::Program;
+use std::alloc::{AllocError, Global};
 use std::io::Write;
 use std::thread::Threads;
 use subcommands::Measure;
 
 /// Writes the table of what each hart's log costs, once all logs are found legal: how many packets of each kind it has
 /// at the period and in the mode, and how many bytes their payloads take.
+///
+/// The logs are read side by side, each a piece at a time, and counted while the events come. No list holds the events
+/// of a log.
 pub fn measure<'a, F: Files + Sync, O: Write, R: Threads + Sync>(
     alloc: Global,
     rt: &R,
@@ -42,66 +56,105 @@ pub fn measure<'a, F: Files + Sync, O: Write, R: Threads + Sync>(
         (O.contents out.old) (O.contents out.new) }
     ensures cut { IsCutOf (Measures (F.content files.old) asked.now) (O.contents out.old) (O.contents out.new) }
 {
-    let logs = AskedLogs {
-        most: MOST_HARTS,
-        base: asked.base,
-        image: asked.image,
-        paths: &asked.logs,
-    };
-    over_legal_logs(alloc, rt, files, &logs, asked, out)
+    let paths = asked.logs.as_slice();
+    let program = asked_program(files, MOST_HARTS, asked.base, asked.image, paths)?;
+    let measures = measures_of_logs(alloc, rt, &*files, &program, asked, paths)?;
+    write_table(measures.as_slice(), out)
 }
 
-impl<'a> OnLogs<'a> for Measure<'a> {
-    ghost Takes = { λ asked count. (1 ≤ asked.period) × (count ≤ most_harts Two) };
+/// How logs are measured.
+#[derive(Drop)]
+struct Measuring {
+    period: u16,
+    mode: Mode,
+    ghost some: { 1 ≤ period },
+}
 
-    ghost Prints = { λ asked content logs. WritesTable asked logs };
+impl LogTask<measuring::Measures> for Measuring {
+    type State = LogMeasures;
 
-    ghost CanWrite = { λ asked content logs. ⊤ };
+    ghost Keeps = { λ task program hart seen counted.
+        HasCounted (words_of program) task.period task.mode seen counted };
 
-    fn go_on<F: Files, O: Write>(
+    ghost Makes = { λ task program hart events measures.
+        AreMeasuresOf task.period task.mode hart (program_log program events) measures };
+
+    ghost MakesOfIllegal = { λ task program events row measures. ⊥ };
+
+    fn begin(&self, _: &Program, _: usize) -> Result<LogMeasures, AllocError> {
+        Ok(LogMeasures::new(self.period, self.mode))
+    }
+
+    fn add(
         &self,
-        _: Global,
-        _: &mut F,
-        logs: &[LegalLog<'_>],
-        out: &mut O,
-    ) -> Result<Status, Fault<'a>> {
-        measure_logs(self, logs, out)
+        program: &Program,
+        counted: &mut LogMeasures,
+        events: &[Event],
+    ) -> Result<(), AllocError> {
+        // No log has more events than 32 bits can count.
+        let Some(left) = u64::from(u32::MAX).checked_sub(counted.rows()) else {
+            return Err(AllocError);
+        };
+        if events.len() as u64 > left {
+            return Err(AllocError);
+        }
+        counted.add(program, events);
+        Ok(())
+    }
+
+    fn finish(
+        &self,
+        program: &Program,
+        counted: LogMeasures,
+    ) -> Result<measuring::Measures, AllocError> {
+        Ok(counted.finish(program))
+    }
+
+    fn refuse(&self, _: &Program, row: IllegalRow) -> Result<measuring::Measures, PathFault> {
+        Err(row.fault)
     }
 }
 
-/// Writes the table of legal logs, flushes the output, and returns that all is done.
-fn measure_logs<'a, O: Write>(
+/// The measures of the logs at these paths.
+fn measures_of_logs<'a, F: Files + Sync, R: Threads + Sync>(
+    alloc: Global,
+    rt: &R,
+    files: &F,
+    program: &Program,
     asked: &Measure<'a>,
-    logs: &[LegalLog<'_>],
-    out: &mut O,
-) -> Result<Status, Fault<'a>>
-    requires period { 1 ≤ asked.now.period }
-    requires few { length logs.now ≤ most_harts Two }
-    ensures fault { IfErr result (λ fault. fault ≡ Fault.Output) }
-    ensures ended { IfOk result (λ status. status ≡ Status.Whole) }
-    ensures text { OnOk result (Appends (O.contents out.old) (O.contents out.new)
-        (measures_table asked.now.period asked.now.mode logs.now)) }
-    ensures begun { AppendsBeginning (measures_table asked.now.period asked.now.mode logs.now)
-        (O.contents out.old) (O.contents out.new) }
+    paths: &[&'a str],
+) -> Result<Vec<measuring::Measures>, Fault<'a>>
+    requires { 1 ≤ asked.now.period }
+    ensures count { IfOk result (λ made. length made.items ≡ length paths.now) }
+    ensures logs { IfOk result (λ made.
+        AreMadeOfLogs (AreMeasuresOf asked.now.period asked.now.mode) (F.content files.now) program.now paths.now
+        made.items) }
+    ensures fault { IfErr result (λ why. (why ≡ Fault.Memory)
+        ⊎ AreLegalLogs (F.content files.now) program.now paths.now (Err why)) }
 {
-    write_table(asked, logs, out)?;
-    out.flush()?;
-    Ok(Status::Whole)
+    let measuring = Measuring {
+        period: asked.period,
+        mode: asked.mode,
+    };
+    all_made(made_of_logs(alloc, rt, files, program, MOST_ROWS, paths, &measuring))
 }
 
-/// Writes the table of legal logs.
+/// Writes the table of these measures, flushes the output, and returns that all is done.
 fn write_table<'a, O: Write>(
-    asked: &Measure<'a>,
-    logs: &[LegalLog<'_>],
+    measures: &[measuring::Measures],
     out: &mut O,
-) -> Result<(), Fault<'a>>
-    requires period { 1 ≤ asked.now.period }
-    requires few { length logs.now ≤ most_harts Two }
+) -> Result<Status, Fault<'a>>
+    requires few { length measures.now ≤ 2 ^ 16 }
+    requires within { All (AreWithin most_counted) measures.now }
     ensures fault { IfErr result (λ fault. fault ≡ Fault.Output) }
-    ensures text { OnOk result (Appends (O.contents out.old) (O.contents out.new)
-        (measures_table asked.now.period asked.now.mode logs.now)) }
-    ensures begun { AppendsBeginning (measures_table asked.now.period asked.now.mode logs.now)
-        (O.contents out.old) (O.contents out.new) }
+    ensures ended { IfOk result (λ status. status ≡ Status.Whole) }
+    ensures text { OnOk result (Appends (O.contents out.old) (O.contents out.new) (table_of measures.now)) }
+    ensures begun { AppendsBeginning (table_of measures.now) (O.contents out.old) (O.contents out.new) }
 {
-    write_measures(logs, asked.period, asked.mode, out).map_err(|_| Fault::Output)
+    match write_measures_of(measures, out) {
+        Ok(()) => {}
+        Err(_) => return Err(Fault::Output),
+    }
+    out.flush()?;
+    Ok(Status::Whole)
 }

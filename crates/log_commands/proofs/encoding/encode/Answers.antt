@@ -1,8 +1,10 @@
 -- The prover tries no chain of steps by itself: what each step found is handed to it, in order.
-use Rattle.std.proofs.Common.{◌≡◌, inr, refl, subst, sym, arith, Ok, Err, List, length}
+use Rattle.std.proofs.Common.{◌≡◌, ◌∙◌, ap, inr, refl, subst, arith, Ok, Err, List, length}
 use Rattle.std.proofs.lemmas.Grind.{common_steps}
-use Rattle.std.specs.Prelude.{⊤, IfSome}
+use Rattle.std.specs.Io.KnownBytes.{Appends}
+use Rattle.std.specs.Prelude.{⊤, IfSome, OnOk}
 use Rattle.legalpath.specs.ProgramLog.{ProgramLog}
+use Rattle.output.specs.Begun.{AppendsBeginning}
 use Rattle.retire.specs.Number.{number_of}
 use Rattle.command_inputs.specs.Begun.{IsCutOf}
 use Rattle.command_inputs.specs.Finding.{Once}
@@ -14,8 +16,9 @@ use Rattle.command_inputs.proofs.Beginnings.{cut_leads, printed_begun}
 use Rattle.command_inputs.proofs.FirstSteps.{early_ends, logs_end, logs_there, no_logs, passes}
 use Rattle.command_inputs.proofs.Runs as runs
 use Rattle.log_commands.specs.Encoding.{WritesMessages, written}
-use Rattle.log_commands.specs.steps.Made.{AreMadeFrom, form_text}
-use Rattle.log_commands.proofs.encoding.encode.Goals.{After-write_made}
+use Rattle.log_commands.specs.steps.Made.{written_of}
+use Rattle.log_commands.proofs.MadeLogs.{messages_written}
+use Rattle.log_commands.proofs.encoding.encode.Goals.{After-write_messages}
 use Rattle.log_commands.proofs.encoding.encode.Goals as goal
 
 pub returns-in_err-program-clause-early : goal.returns-in_err-program-clause-early
@@ -45,46 +48,46 @@ returns-in_err-program-clause-printed g c =
     (Once (AreAskedLogs content c.most_harts-most.result asked.base.now asked.image asked.logs.items) (λ _. ⊤)) out why
     c.from_residual.result is (WritesMessages asked) c.in_err-program.ensures.fault)
 
-pub returns-in_err-made-clause-early : goal.returns-in_err-made-clause-early
-returns-in_err-made-clause-early g c =
+pub returns-in_err-messages-clause-early : goal.returns-in_err-messages-clause-early
+returns-in_err-messages-clause-early g c =
     let asked = c.args.asked.now in
     subst (λ most. IfSome (logs_fault most (number_of asked.base.now) (length asked.logs.items))
-    (λ fault. c.from_residual-in_err-made.result ≡ Err fault)) c.most_harts-most.ensures
+    (λ fault. c.from_residual-in_err-messages.result ≡ Err fault)) c.most_harts-most.ensures
     (passes c.most_harts-most.result asked.base.now asked.logs.items c.as_slice-paths.result.now
-    c.asked_program.result c.in_ok-program.program c.from_residual-in_err-made.result c.as_slice-paths.ensures.value
+    c.asked_program.result c.in_ok-program.program c.from_residual-in_err-messages.result c.as_slice-paths.ensures.value
     c.in_ok-program.was c.asked_program.ensures.early)
 
-pub returns-in_err-made-clause-printed : goal.returns-in_err-made-clause-printed
-returns-in_err-made-clause-printed g c =
+pub returns-in_err-messages-clause-printed : goal.returns-in_err-messages-clause-printed
+returns-in_err-messages-clause-printed g c =
     let content = g.F.Files.content c.args.files.now in
     let asked = c.args.asked.now in
-    let why = c.in_err-made.field-0.0 in
+    let why = c.in_err-messages.field-0.0 in
     let out = g.O.Write.contents c.args.out.now in
-    let is : c.from_residual-in_err-made.result ≡ Err why = grind (arith, common_steps) in
+    let is : c.from_residual-in_err-messages.result ≡ Err why = grind (arith, common_steps) in
     subst (λ most. PrintsUnlessDenied
     (First (AreAskedLogs content most asked.base.now asked.image asked.logs.items) (WritesMessages asked))
     (Once (AreAskedLogs content most asked.base.now asked.image asked.logs.items) (λ _. ⊤))
-    c.from_residual-in_err-made.result out out) c.most_harts-most.ensures
+    c.from_residual-in_err-messages.result out out) c.most_harts-most.ensures
     (logs_end content c.most_harts-most.result asked.base.now asked.image asked.logs.items c.as_slice-paths.result.now
     c.as_slice-paths.ensures.value
     (Once (AreAskedLogs content c.most_harts-most.result asked.base.now asked.image asked.logs.items) (λ _. ⊤)) out why
-    c.from_residual-in_err-made.result is (WritesMessages asked) c.in_ok-program.program
+    c.from_residual-in_err-messages.result is (WritesMessages asked) c.in_ok-program.program
     (g.F.Files.content c.asked_program.new.files) c.in_ok-program.ensures.program c.in_ok-program.ensures.kept
-    c.in_err-made.ensures.fault)
+    c.in_err-messages.ensures.fault)
 
 pub returns-clause-early : goal.returns-clause-early
 returns-clause-early g c =
     let asked = c.args.asked.now in
     subst (λ most. IfSome (logs_fault most (number_of asked.base.now) (length asked.logs.items))
-    (λ fault. c.write_made.result ≡ Err fault)) c.most_harts-most.ensures
+    (λ fault. c.write_messages.result ≡ Err fault)) c.most_harts-most.ensures
     (passes c.most_harts-most.result asked.base.now asked.logs.items c.as_slice-paths.result.now
-    c.asked_program.result c.in_ok-program.program c.write_made.result c.as_slice-paths.ensures.value
+    c.asked_program.result c.in_ok-program.program c.write_messages.result c.as_slice-paths.ensures.value
     c.in_ok-program.was c.asked_program.ensures.early)
 
-module _ (g : _) (c : After-write_made g) where
+module _ (g : _) (c : After-write_messages g) where
   -- The logs that were found.
   abbrev logs : List ProgramLog
-  logs = c.in_ok-made.ensures.logs.logs
+  logs = c.in_ok-messages.ensures.logs.logs
 
   there : AreAskedLogs (g.F.Files.content c.args.files.now) c.most_harts-most.result c.args.asked.now.base.now
       c.args.asked.now.image c.args.asked.now.logs.items (Ok logs)
@@ -93,27 +96,26 @@ module _ (g : _) (c : After-write_made g) where
       logs_there (g.F.Files.content c.args.files.now) c.most_harts-most.result asked.base.now asked.image
       asked.logs.items c.as_slice-paths.result.now c.as_slice-paths.ensures.value c.in_ok-program.program
       (g.F.Files.content c.asked_program.new.files) (Ok logs) c.in_ok-program.ensures.program
-      c.in_ok-program.ensures.kept c.in_ok-made.ensures.logs.legal
+      c.in_ok-program.ensures.kept c.in_ok-messages.ensures.logs.legal
 
-  -- What was made of them is what is written.
-  each : AreMadeFrom (form_text c.args.asked.now.hex) c.args.asked.now.period c.args.asked.now.mode 0 logs
-      c.as_slice.result.now
-  each =
+  -- What is written of them is what is asked for.
+  text_is : written_of c.args.asked.now c.as_slice.result.now ≡ written c.args.asked.now logs
+  text_is =
       let asked = c.args.asked.now in
-      subst (AreMadeFrom (form_text asked.hex) asked.period asked.mode 0 logs) (sym c.as_slice.ensures.value)
-      c.in_ok-made.ensures.logs.each
+      ap (written_of asked) c.as_slice.ensures.value
+      ∙ messages_written asked logs c.in_ok-messages.messages.items c.in_ok-messages.ensures.logs.each
 
 pub returns-clause-printed : goal.returns-clause-printed
 returns-clause-printed g c =
-    let at = (goal.at.returns-clause-printed g c).After-write_made in
+    let at = (goal.at.returns-clause-printed g c).After-write_messages in
     let content = g.F.Files.content c.args.files.now in
     let asked = c.args.asked.now in
     let most = c.most_harts-most.result in
     let finds = AreAskedLogs content most asked.base.now asked.image asked.logs.items in
     let logs = logs g at in
-    let ended = c.write_made.result in
+    let ended = c.write_messages.result in
     let old = g.O.Write.contents c.args.out.now in
-    let new = g.O.Write.contents c.write_made.new.out in
+    let new = g.O.Write.contents c.write_messages.new.out in
     subst (λ most. PrintsUnlessDenied
     (First (AreAskedLogs content most asked.base.now asked.image asked.logs.items) (WritesMessages asked))
     (Once (AreAskedLogs content most asked.base.now asked.image asked.logs.items) (λ _. ⊤)) ended old new)
@@ -121,22 +123,23 @@ returns-clause-printed g c =
     (runs.leads_on (WritesMessages asked logs) (First finds (WritesMessages asked)) ⊤ (Once finds (λ _. ⊤)) ended old new
     (λ printed is. (Ok logs, there g at, is)) (λ is. (logs, there g at, is))
     (runs.written (WritesMessages asked logs) ⊤ (written asked logs) Whole ended old new refl tt
-    c.write_made.ensures.fault c.write_made.ensures.ended (c.write_made.ensures.text logs (each g at))))
+    c.write_messages.ensures.fault c.write_messages.ensures.ended
+    (subst (λ text. OnOk ended (Appends old new text)) (text_is g at) c.write_messages.ensures.text)))
 
 pub returns-clause-cut : goal.returns-clause-cut
 returns-clause-cut g c =
-    let at = (goal.at.returns-clause-cut g c).After-write_made in
+    let at = (goal.at.returns-clause-cut g c).After-write_messages in
     let content = g.F.Files.content c.args.files.now in
     let asked = c.args.asked.now in
     let most = c.most_harts-most.result in
     let finds = AreAskedLogs content most asked.base.now asked.image asked.logs.items in
     let logs = logs g at in
     let old = g.O.Write.contents c.args.out.now in
-    let new = g.O.Write.contents c.write_made.new.out in
+    let new = g.O.Write.contents c.write_messages.new.out in
     subst (λ most. IsCutOf
     (First (AreAskedLogs content most asked.base.now asked.image asked.logs.items) (WritesMessages asked)) old new)
     c.most_harts-most.ensures
     (cut_leads (WritesMessages asked logs) (First finds (WritesMessages asked)) old new
     (λ printed is. (Ok logs, there g at, is))
     (inr (printed_begun (WritesMessages asked logs) (written asked logs) (Ok Whole) old new refl
-    (c.write_made.ensures.begun logs (each g at)))))
+    (subst (λ text. AppendsBeginning text old new) (text_is g at) c.write_messages.ensures.begun))))

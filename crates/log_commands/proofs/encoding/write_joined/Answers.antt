@@ -1,0 +1,19 @@
+-- The prover does not part what is written at the bytes that are not written: a lemma on that is handed to it.
+use Rattle.std.proofs.Common.{Global, List, subst, ℕ}
+use Rattle.std.specs.declared.vec.Vec.{Vec}
+use Rattle.output.specs.Begun.{AppendsBeginning}
+use Rattle.log_commands.proofs.JoinedTexts.{one_begun}
+use Rattle.log_commands.proofs.encoding.write_joined.Goals as goal
+
+-- The bytes of one log.
+abbrev bytes_in : Vec ℕ Global → List ℕ
+bytes_in bytes = bytes.items
+
+pub returns-in_err-write_bytes-clause-begun : goal.returns-in_err-write_bytes-clause-begun
+returns-in_err-write_bytes-clause-begun g c =
+    let contents = g.O.Write.contents in
+    let mid = contents c.loop-bytes.out in
+    let new = contents c.write_bytes.new.out in
+    one_begun bytes_in c.args.messages.now c.loop-bytes.bytes-index c.bytes-item.result c.loop-bytes-test.true
+    c.bytes-item.is (contents c.args.out.now) mid new c.loop-bytes.invariant
+    (subst (λ text. AppendsBeginning text mid new) c.as_slice.ensures.value c.write_bytes.ensures.begun)

@@ -1,0 +1,20 @@
+-- What was made of logs comes by their places: the lemmas on all of them are handed to the prover.
+use Rattle.log_commands.specs.steps.Made.{AreMeasuresOf}
+use Rattle.log_commands.proofs.MadeLogs.{made_of_legal, made_of_none}
+use Rattle.log_commands.proofs.measures.measures_of_logs.Goals as goal
+
+pub returns-clause-logs : goal.returns-clause-logs
+returns-clause-logs g c =
+    let content = g.F.Files.content c.args.files.now in
+    let asked = c.args.asked.now in
+    let made = c.made_of_logs.result in
+    made_of_legal (AreMeasuresOf asked.period asked.mode) content c.args.program.now c.args.paths.now made.made
+    made.end c.all_made.result c.made_of_logs.ensures c.all_made.ensures
+
+pub returns-clause-fault : goal.returns-clause-fault
+returns-clause-fault g c =
+    let content = g.F.Files.content c.args.files.now in
+    let asked = c.args.asked.now in
+    let made = c.made_of_logs.result in
+    made_of_none (AreMeasuresOf asked.period asked.mode) content c.args.program.now c.args.paths.now made.made
+    made.end c.all_made.result c.made_of_logs.ensures c.all_made.ensures
