@@ -5,8 +5,8 @@
 #![tactic(auto)]
 
 mod benching;
-mod checked;
 mod checking;
+mod counting;
 mod encoding;
 mod legal_logs;
 mod made;

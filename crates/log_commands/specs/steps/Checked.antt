@@ -1,70 +1,58 @@
--- Logs that were checked, of which no more is kept than is written.
-use Rattle.std.specs.Prelude.{◌≡◌, ◌++◌, ℕ, Bool, true, false, List, [], None, Some, Result, Ok, Err, length}
-use Rattle.std.specs.declared.alloc.Global.{Global}
-use Rattle.std.specs.declared.vec.Vec.{Vec}
-use Rattle.legalpath.specs.ProgramLog.{ProgramLog}
-use Rattle.legalpath.specs.declared.fault.PathFault.{PathFault}
+-- What is kept of logs that were checked.
+use Rattle.std.specs.Prelude.{◌≡◌, ◌<◌, ◌^◌, ◌++◌, ℕ, Bool, true, false, List, [], None, Some, Result, Ok, Err, length}
+use Rattle.std.specs.Prelude.{if◌then◌else◌}
+use Rattle.std.specs.List.{flat_map, zip}
+use Rattle.explaining.specs.Explanation.{explained}
+use Rattle.log_streams.specs.declared.illegal_row.IllegalRow.{IllegalRow}
+use Rattle.log_streams.specs.declared.stop.Stop.{Stop}
+use Rattle.log_streams.specs.declared.stop.Stop.TheVariants as stop
 use Rattle.retire.specs.declared.event.Event.{Event}
-use Rattle.rvclass.specs.Fetch.{words_of}
 use Rattle.rvclass.specs.Image.{Image}
-use Rattle.command_inputs.specs.Faults.{Path}
-use Rattle.command_inputs.specs.Found.{log_at}
-use Rattle.command_inputs.specs.Judged.{IsJudgedAt, IsVerdict, Judged}
-use Rattle.files.specs.Known.{Content}
-use Rattle.command_inputs.specs.Texts.{IsNoLog}
+use Rattle.command_inputs.specs.Faults.{Path, log_fault}
 use Rattle.command_inputs.specs.declared.fault.Fault.{Fault}
-use Rattle.command_inputs.specs.declared.texts.LogText.{LogText}
-use Rattle.log_commands.specs.Checking.{log_lines, verdict_line}
-use Rattle.log_commands.specs.declared.checked.CheckedLog.{CheckedLog}
+use Rattle.command_inputs.specs.declared.fault.Fault.TheVariants as fault
+use Rattle.log_commands.specs.Checking.{verdict_line}
 
--- How many events a legal log has; else its first illegal row, and its events.
+-- How many events a legal log has; else its first illegal row.
 abbrev pub Verdict : Type 0
-Verdict = Result ℕ (PathFault × Vec Event Global)
+Verdict = Result ℕ IllegalRow
 
--- A verdict is the one on a log with these events and this first illegal row, if it has one.
-abbrev pub SaysOf : Verdict → Judged → Type 0
-SaysOf (Ok count) log = (count ≡ length log.events) × (log.illegal ≡ None)
-SaysOf (Err refused) log = (log.events ≡ refused.1.items) × (log.illegal ≡ Some refused.0)
+-- This is the count of the events, where it has at most 64 bits.
+abbrev pub IsCountOf : List Event → ℕ → Type 0
+IsCountOf events count = length events < 2 ^ 64 → count ≡ length events
 
--- What was kept of a log.
-abbrev pub IsKeptOf : CheckedLog → Judged → Type 0
-IsKeptOf kept log = (log.path ≡ kept.path.now) × SaysOf kept.verdict log
+-- This is the verdict on a legal log with these events, where their count has at most 64 bits.
+abbrev pub IsVerdictOnLegal : List Event → Verdict → Type 0
+IsVerdictOnLegal events verdict = length events < 2 ^ 64 → verdict ≡ Ok (length events)
 
--- The log at a path was read and checked by the program.
-abbrev pub IsCheckedLogAt : Content → Image → Path → CheckedLog → Type 0
-IsCheckedLogAt content program path kept =
-    (log : Judged) × IsJudgedAt content program path log × IsKeptOf kept log
+-- The line that explains an illegal row, if that is asked for.
+abbrev pub row_line : Bool → Image → IllegalRow → List ℕ
+row_line explain program row =
+    if explain then explained program row.before (Some row.event) row.fault.why else []
 
--- This is the log of a text, checked by the program.
-pub record IsCheckedLogOf (program : Image) (text : LogText) (kept : CheckedLog) : Type 0 where
-  pub log : Judged
-  pub named : kept.path ≡ text.path
-  pub read : Ok log.events ≡ log_at text.path (Ok text.bytes.items)
-  pub verdict : IsVerdict (words_of program) log.events log.illegal
-  pub is_kept : IsKeptOf kept log
+-- What is written of an illegal log: its line says nothing of the count of its events.
+abbrev pub illegal_lines : Bool → Image → List ℕ → IllegalRow → List ℕ
+illegal_lines explain program path row = verdict_line path 0 (Some row.fault) ++ row_line explain program row
 
--- What comes of a text: its log, or a fault.
-abbrev pub ComesOfCheck : Image → LogText → Result CheckedLog Fault → Type 0
-ComesOfCheck program text (Ok kept) = IsCheckedLogOf program text kept
-ComesOfCheck program text (Err why) = IsNoLog text why
-
--- A verdict with the count of a legal log's events in place of the log.
-abbrev pub counted : Result ProgramLog (PathFault × Vec Event Global) → Verdict
-counted (Ok legal) = Ok (length legal.events)
-counted (Err refused) = Err refused
-
--- What is written of a log by what was kept of it.
+-- What is written of a log at a path by the verdict on it.
 abbrev pub verdict_lines : Bool → Image → List ℕ → Verdict → List ℕ
-verdict_lines explain program path (Ok count) = verdict_line path count None ++ []
-verdict_lines explain program path (Err refused) = log_lines explain program path refused.1.items (Some refused.0)
+verdict_lines explain program path (Ok count) = verdict_line path count None
+verdict_lines explain program path (Err row) = illegal_lines explain program path row
 
-abbrev pub kept_lines : Bool → Image → CheckedLog → List ℕ
-kept_lines explain program kept = verdict_lines explain program kept.path.now kept.verdict
+-- What is written of a log, by its path and the verdict on it.
+abbrev pub lines_of : Bool → Image → Path × Verdict → List ℕ
+lines_of explain program log = verdict_lines explain program log.0.now log.1
 
--- The log is illegal.
+-- What is written of the first logs at these paths, by the verdicts on them.
+abbrev pub all_lines : Bool → Image → List Path → List Verdict → List ℕ
+all_lines explain program paths verdicts = flat_map (lines_of explain program) (zip paths verdicts)
+
+-- The verdict is that the log is illegal.
 abbrev pub is_refused : Verdict → Bool
 is_refused (Ok count) = false
-is_refused (Err refused) = true
+is_refused (Err row) = true
 
-abbrev pub was_refused : CheckedLog → Bool
-was_refused kept = is_refused kept.verdict
+-- The fault of the run at a log that was not read. An illegal log is read.
+abbrev pub fault_of_unread : Path → Stop → Fault
+fault_of_unread path (stop.Unread why) = log_fault path why
+fault_of_unread path (stop.Illegal why) = fault.Memory

@@ -35,7 +35,7 @@ pub returns-clause-early : goal.returns-clause-early
 returns-clause-early g c =
     let asked = c.args.asked.now in
     passes (most_harts Two) asked.base.now asked.logs.items c.as_slice-paths.result.now c.asked_program.result
-    c.in_ok-program.program c.judge_all-ended.result c.as_slice-paths.ensures.value c.in_ok-program.was
+    c.in_ok-program.program c.check_all-ended.result c.as_slice-paths.ensures.value c.in_ok-program.was
     c.asked_program.ensures.early
 
 pub returns-in_err-program-clause-printed : goal.returns-in_err-program-clause-printed
@@ -77,14 +77,14 @@ returns-clause-printed g c =
     let content = g.F.Files.content c.args.files.now in
     let program = c.in_ok-program.program in
     let there = there g (goal.at.returns-clause-printed g c).After-flush in
-    let ended = c.judge_all-ended.result in
-    let mid = contents c.judge_all-ended.new.out in
+    let ended = c.check_all-ended.result in
+    let mid = contents c.check_all-ended.new.out in
     let lines = subst (λ logs. PrintsUnlessDenied (WritesLines content asked.explain program logs) ⊤ ended
     (contents c.args.out.now)
     mid) c.as_slice-paths.ensures.value
     (subst (λ known. PrintsUnlessDenied (WritesLines known asked.explain program c.as_slice-paths.result.now) ⊤ ended
     (contents c.args.out.now) mid)
-    c.in_ok-program.ensures.kept c.judge_all-ended.ensures.printed) in
+    c.in_ok-program.ensures.kept c.check_all-ended.ensures.printed) in
     goes_on (WritesLines content asked.explain program asked.logs.items) (Checks content asked) ⊤
     (CanCheck content asked) ended
     (contents c.args.out.now) mid (contents c.flush.new.self)
@@ -98,11 +98,11 @@ returns-clause-begun g c = λ memory.
     let content = g.F.Files.content c.args.files.now in
     let program = c.in_ok-program.program in
     let old = contents c.args.out.now in
-    let mid = contents c.judge_all-ended.new.out in
+    let mid = contents c.check_all-ended.new.out in
     let lines = subst (λ logs. AppendsFirstLines content asked.explain program logs old mid)
     c.as_slice-paths.ensures.value
     (subst (λ known. AppendsFirstLines known asked.explain program c.as_slice-paths.result.now old mid)
-    c.in_ok-program.ensures.kept (c.judge_all-ended.ensures.begun memory)) in
+    c.in_ok-program.ensures.kept (c.check_all-ended.ensures.begun memory)) in
     inr (
       program,
       there g (goal.at.returns-clause-begun g c).After-flush,
@@ -119,12 +119,12 @@ cut g c =
     let content = g.F.Files.content c.args.files.now in
     let program = c.in_ok-program.program in
     let old = contents c.args.out.now in
-    let mid = contents c.judge_all-ended.new.out in
+    let mid = contents c.check_all-ended.new.out in
     let new = contents c.flush.new.self in
     let lines = subst (λ logs. BeginsPrinted (WritesFirstLines content asked.explain program logs) old mid)
     c.as_slice-paths.ensures.value
     (subst (λ known. BeginsPrinted (WritesFirstLines known asked.explain program c.as_slice-paths.result.now) old mid)
-    c.in_ok-program.ensures.kept c.judge_all-ended.ensures.cut) in
+    c.in_ok-program.ensures.kept c.check_all-ended.ensures.cut) in
     inr (cut_kept (WritesFirstLines content asked.explain program asked.logs.items) (ChecksFirst content asked) old
     mid new
     (λ printed lines. (program, there g c, lines)) lines c.flush.ensures.bytes)

@@ -1,0 +1,41 @@
+//! The events of a log, counted as they are read.
+
+ghost use Rattle.std.specs.Prelude.{◌≡◌, Err};
+ghost use Rattle.log_commands.specs.steps.Checked.{IsCountOf, IsVerdictOnLegal};
+
+use legalpath::PathFault;
+use log_streams::{IllegalRow, LogTask};
+use retire::Event;
+use rvclass::Program;
+use std::alloc::AllocError;
+
+/// Counts the events of a legal log. Of an illegal log it keeps the first illegal row.
+#[derive(Clone, Copy)]
+pub(crate) struct Counting;
+
+impl LogTask<Result<usize, IllegalRow>> for Counting {
+    type State = usize;
+
+    ghost Keeps = { λ task program hart seen count. IsCountOf seen count };
+
+    ghost Makes = { λ task program hart events verdict. IsVerdictOnLegal events verdict };
+
+    ghost MakesOfIllegal = { λ task program events row verdict. verdict ≡ Err row };
+
+    fn begin(&self, _: &Program, _: usize) -> Result<usize, AllocError> {
+        Ok(0)
+    }
+
+    fn add(&self, _: &Program, count: &mut usize, events: &[Event]) -> Result<(), AllocError> {
+        *count = count.saturating_add(events.len());
+        Ok(())
+    }
+
+    fn finish(&self, _: &Program, count: usize) -> Result<Result<usize, IllegalRow>, AllocError> {
+        Ok(Ok(count))
+    }
+
+    fn refuse(&self, _: &Program, row: IllegalRow) -> Result<Result<usize, IllegalRow>, PathFault> {
+        Ok(Err(row))
+    }
+}
