@@ -25,8 +25,8 @@ part : {A : Type 0} (seen piece front : List A) (event : A) (rest : List A) → 
 part [] piece front event rest whole long = record { first = front; front_is = refl; piece_is = whole }
 part (s ∷ seen) piece [] event rest whole long = absurd (none long)
   where
-  none : suc (length seen) ≤ 0 → ⊥
-  none h = omega arith
+    none : suc (length seen) ≤ 0 → ⊥
+    none h = omega arith
 part (s ∷ seen) piece (f ∷ front) event rest whole long =
     let same = cons-same s f (seen ++ piece) (front ++ event ∷ rest) whole in
     let p = part seen piece front event rest same.1 (omega arith) in record {
@@ -46,25 +46,25 @@ last-of-none : {A : Type 0} (before : Option A) (first : List A) → length firs
 last-of-none before [] none = refl
 last-of-none before (f ∷ first) none = absurd (some none)
   where
-  some : suc (length first) ≡ 0 → ⊥
-  some h = omega arith
+    some : suc (length first) ≡ 0 → ⊥
+    some h = omega arith
 
 -- The last of some events that end a front is in the piece.
 last-of-some : {A : Type 0} (before : Option A) (first : List A) (event : A) (rest : List A) (n : ℕ)
     → length first ≡ suc n → slice_get (first ++ event ∷ rest) n ≡ last_or before first
 last-of-some before [] event rest n long = absurd (none long)
   where
-  none : 0 ≡ suc n → ⊥
-  none h = omega arith
+    none : 0 ≡ suc n → ⊥
+    none h = omega arith
 last-of-some before (f ∷ []) event rest zero long = refl
 last-of-some before (f ∷ []) event rest (suc n) long = absurd (none long)
   where
-  none : suc 0 ≡ suc (suc n) → ⊥
-  none h = omega arith
+    none : suc 0 ≡ suc (suc n) → ⊥
+    none h = omega arith
 last-of-some before (f ∷ g ∷ more) event rest zero long = absurd (none long)
   where
-  none : suc (suc (length more)) ≡ suc 0 → ⊥
-  none h = omega arith
+    none : suc (suc (length more)) ≡ suc 0 → ⊥
+    none h = omega arith
 last-of-some before (f ∷ g ∷ more) event rest (suc n) long =
     last-of-some (Some f) (g ∷ more) event rest n (omega arith)
 
@@ -96,15 +96,15 @@ illegal-in words seen piece fault place event f row at =
     let p = part seen piece f.front f.event f.rest f.whole (within (length f.front) (length seen) place fault.row f.counted row) in
     let count : length f.front ≡ length seen + length p.first = ap length p.front_is ∙ length-append seen p.first in
     let long : length p.first ≡ place =
-            at-place (length f.front) (length seen) (length p.first) place fault.row f.counted row count in
+    at-place (length f.front) (length seen) (length p.first) place fault.row f.counted row count in
     let there : slice_get piece (length p.first) ≡ Some f.event =
-            ap (λ xs. slice_get xs (length p.first)) p.piece_is ∙ event-at p.first f.event f.rest in
+    ap (λ xs. slice_get xs (length p.first)) p.piece_is ∙ event-at p.first f.event f.rest in
     let same : f.event ≡ event =
-            some-same f.event event (sym there ∙ ap (λ n. slice_get piece n) long ∙ at) in
+    some-same f.event event (sym there ∙ ap (λ n. slice_get piece n) long ∙ at) in
     let last : last_or None f.front ≡ before_at (last_or None seen) piece place =
-            ap (λ xs. last_or None xs) p.front_is ∙ last_or-append None seen p.first
-            ∙ sym (ap (λ xs. before_at (last_or None seen) xs place) p.piece_is
-            ∙ before-is (last_or None seen) p.first f.event f.rest place long) in
+    ap (λ xs. last_or None xs) p.front_is ∙ last_or-append None seen p.first
+    ∙ sym (ap (λ xs. before_at (last_or None seen) xs place) p.piece_is
+    ∙ before-is (last_or None seen) p.first f.event f.rest place long) in
     subst (λ before. IsIllegalRow words (seen ++ piece) (record { fault = fault; before = before; event = event })) last
     (subst (λ event. IsIllegalRow words (seen ++ piece)
     (record { fault = fault; before = last_or None f.front; event = event })) same

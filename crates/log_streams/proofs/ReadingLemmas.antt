@@ -20,9 +20,10 @@ module _ {S : Type 0} (given : S → List ℕ) (left : S → Option (List ℕ)) 
   -- The events of a piece more.
   pub piece-more : (reader : LogReader S) (more before after : List Event)
       → GoesOn given left most (seen ++ more) before after reader → HasReadOn given left most seen reader
-  piece-more reader more before after on =
-      (more ++ on.piece,
-      subst (λ events. HasRead given left most events reader) (append_assoc seen more on.piece) on.read)
+  piece-more reader more before after on = (
+    more ++ on.piece,
+    subst (λ events. HasRead given left most events reader) (append_assoc seen more on.piece) on.read,
+  )
 
 -- The first illegal row of a log is that of a longer one.
 pub illegal-on : (words : Words) (seen more : List Event) (row : IllegalRow) → IsIllegalRow words seen row

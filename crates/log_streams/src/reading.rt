@@ -19,10 +19,7 @@ use rvclass::Program;
 use std::alloc::AllocError;
 
 /// Reads a log to its end.
-fn read_on<S: Source>(
-    reader: &mut LogReader<S>,
-    piece: &mut Vec<Event>,
-) -> Result<(), LogFault>
+fn read_on<S: Source>(reader: &mut LogReader<S>, piece: &mut Vec<Event>) -> Result<(), LogFault>
     ensures read { (most : ℕ) (seen : List AnyEvent) → HasRead S.given S.left most seen reader.old
         → OnOk result (IsReadOn S.given S.left most reader.new seen) }
     ensures fault { (most : ℕ) (seen : List AnyEvent) → HasRead S.given S.left most seen reader.old

@@ -5,8 +5,9 @@ use crate::fixtures::add;
 use crate::same::same_at;
 use linked_list_allocator::LocalHeap;
 use refusing::FailingReader;
-use retire::{Event, LogFault, LogReader, MOST_ROWS, PieceBuffer, ReaderSource, Source};
-use retire::read_log_from_slice;
+use retire::{
+    Event, LogFault, LogReader, MOST_ROWS, PieceBuffer, ReaderSource, Source, read_log_from_slice,
+};
 use std::io::{ErrorKind, Read};
 use std::process::Abort;
 
@@ -103,7 +104,10 @@ const QUOTED: [(&str, Result<usize, LogFault>); 26] = [
         "\"2\",\"0\",\"3\",\"\",\"\"\r\n\"4\",\"0\",\"3\",\"\",\"\"\r\n",
         Ok(2),
     ),
-    ("\"2\",\"0\",\"3\",\"\",\"\"\r\"4\",\"0\",\"3\",\"\",\"\"", Ok(2)),
+    (
+        "\"2\",\"0\",\"3\",\"\",\"\"\r\"4\",\"0\",\"3\",\"\",\"\"",
+        Ok(2),
+    ),
     (
         "\"00000002\",\"0\",\"3\",\"\",\"\"\n\"00000004\",\"0\",\"3\",\"\",\"\"",
         Ok(2),
@@ -113,8 +117,14 @@ const QUOTED: [(&str, Result<usize, LogFault>); 26] = [
         Ok(3),
     ),
     // Some fields in quotes.
-    ("\"2\",0,\"3\",,\"\"\n4,\"0\",3,\"\",\n\"6\",\"0\",\"3\",,\n", Ok(3)),
-    ("2,0,3,\"\",\n4,0,3,,\"\"\n6,0,3,,\"\"\"\"", Err(LogFault::Number(3))),
+    (
+        "\"2\",0,\"3\",,\"\"\n4,\"0\",3,\"\",\n\"6\",\"0\",\"3\",,\n",
+        Ok(3),
+    ),
+    (
+        "2,0,3,\"\",\n4,0,3,,\"\"\n6,0,3,,\"\"\"\"",
+        Err(LogFault::Number(3)),
+    ),
     // What follows a closing quote joins the field.
     ("\"\"2,0,3,,\n4,0,3,,\n6,0,3,,", Ok(3)),
     ("2,0,3,,\n\"\"4,\"0\",3,,\n6,0,3,,\n", Ok(3)),
@@ -123,13 +133,19 @@ const QUOTED: [(&str, Result<usize, LogFault>); 26] = [
     ("\"2\" ,0,3,,\n", Err(LogFault::Number(1))),
     // A doubled quote.
     ("\"2\"\"\",0,3,,\n4,0,3,,\n", Err(LogFault::Number(1))),
-    ("2,0,3,,\n4,0,3,,\n\"6\",\"\"\"0\",3,,", Err(LogFault::Number(3))),
+    (
+        "2,0,3,,\n4,0,3,,\n\"6\",\"\"\"0\",3,,",
+        Err(LogFault::Number(3)),
+    ),
     // A quote inside a field.
     ("2,0,3,,\n4\"\",0,3,,\n6,0,3,,\n", Err(LogFault::Number(2))),
     ("2,0,3,,\n4,0,3,,5\"", Err(LogFault::Number(2))),
     // A comma or the end of a line in quotes.
     ("2,0,3,,\n\"4,0\",3,,\n6,0,3,,\n", Err(LogFault::Fields(2))),
-    ("2,0,3,,\n4,0,\"3\n\",,\n6,0,3,,\n", Err(LogFault::Number(2))),
+    (
+        "2,0,3,,\n4,0,\"3\n\",,\n6,0,3,,\n",
+        Err(LogFault::Number(2)),
+    ),
     ("2,0,3,,\n4,0,3,,\"\r\n\"\n", Err(LogFault::Number(2))),
     // A record of one empty field.
     ("2,0,3,,\n\"\"\n6,0,3,,\n", Err(LogFault::Fields(2))),
@@ -213,11 +229,7 @@ fn rows_cut_at_each_place(rt: HostRuntime) {
 }
 
 /// This is read of a text in memory.
-fn is_read_in_memory<R: Abort + AllocGlobal>(
-    rt: &R,
-    text: &[u8],
-    want: Result<usize, LogFault>,
-) {
+fn is_read_in_memory<R: Abort + AllocGlobal>(rt: &R, text: &[u8], want: Result<usize, LogFault>) {
     let alloc = rt.alloc();
     let found = match read_log_from_slice(alloc, alloc, text) {
         Ok(events) => Ok(counted(&events)),

@@ -13,7 +13,7 @@ returns g c = λ most hart seen judged few.
     let passed = c.in_default.ensures.passed seen judged.passed in
     let numbers = All-append Is64Bit seen piece judged.numbers c.in_default.ensures.numbers in
     let legal : IsLegalUpTo most c.args.program.now (seen ++ piece) =
-            record { legal = passed.legal; short = few; numbers = numbers; image = c.byte_count.ensures.kept } in
+    record { legal = passed.legal; short = few; numbers = numbers; image = c.byte_count.ensures.kept } in
     record {
       passed = passed;
       numbers = numbers;

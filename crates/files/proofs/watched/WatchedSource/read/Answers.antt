@@ -9,5 +9,7 @@ pub invariant_of-self-in-Err-Memory : goal.invariant_of-self-in-Err-Memory
 invariant_of-self-in-Err-Memory g c = record { sound = λ failed. c.read.ensures.unknown (c.args.self.now.sound failed) }
 
 pub invariant_of-self-in-Err-CannotRead : goal.invariant_of-self-in-Err-CannotRead
-invariant_of-self-in-Err-CannotRead g c = record { sound = λ _. c.read.ensures.unknown
-    (other-reason c.in-Err-CannotRead.field-0 c.in-Err-CannotRead.field-0-is c.in-Err-CannotRead.ensures.lacked) }
+invariant_of-self-in-Err-CannotRead g c = record {
+  sound = λ _. c.read.ensures.unknown
+      (other-reason c.in-Err-CannotRead.field-0 c.in-Err-CannotRead.field-0-is c.in-Err-CannotRead.ensures.lacked);
+}
