@@ -1,0 +1,88 @@
+//! Logs that are read side by side, each a piece at a time (`log_streams`).
+
+mod faults;
+mod files_in_memory;
+mod many;
+mod seams;
+mod tasks;
+
+use self::files_in_memory::Table;
+use crate::fixtures::{BACK_JUMP, NOP, add, program_of, retired};
+use log_streams::{LogTask, LogsFault, MadeLogs, Stop, made_of_logs};
+use retire::{Event, MOST_ROWS};
+use rvclass::Program;
+use std::process::Abort;
+use std::thread::Threads;
+
+const HEADER: &[u8] = b"addr,itype,priv,cause,tval\n";
+
+/// The two rows of the program's loop.
+const ROWS: [&[u8]; 2] = [b"80000000,0,3,,\n", b"80000004,0,3,,\n"];
+
+/// A loop of two words.
+fn loop_of_two<R: Abort + AllocGlobal>(rt: &R) -> Program {
+    program_of(rt, &[NOP, BACK_JUMP])
+}
+
+/// The log of the loop that has so many rows. The row with the number `twice` stands twice, and the loop goes on behind
+/// it. In place of the row with the number `bad` stands one that is no row of a log. The first row has number 1.
+#[derive(Clone, Copy, Debug)]
+struct Rows {
+    rows: usize,
+    twice: usize,
+    bad: usize,
+}
+
+/// The text of a log.
+fn text_of<R: Abort + AllocGlobal>(rt: &R, log: Rows) -> Vec<u8> {
+    let mut text = Vec::new(rt.alloc());
+    add(rt, &mut text, HEADER);
+    let mut is_second = false;
+    for row in 1..log.rows.saturating_add(1) {
+        if row == log.bad {
+            add(rt, &mut text, b"x,0,3,,\n");
+        } else if is_second {
+            add(rt, &mut text, ROWS[1]);
+        } else {
+            add(rt, &mut text, ROWS[0]);
+        }
+        if row != log.twice {
+            is_second = !is_second;
+        }
+    }
+    text
+}
+
+/// The legal log of so many rows.
+fn legal(rows: usize) -> Rows {
+    Rows {
+        rows,
+        twice: 0,
+        bad: 0,
+    }
+}
+
+/// The event of a row, counted from 1, of a legal log.
+fn event_at(row: usize) -> Event {
+    let offset = if row.is_multiple_of(2) { 4 } else { 0 };
+    retired(offset, 0, 3)
+}
+
+/// What the task makes of the logs at these paths, by the program with the loop.
+fn made_of<'a, R: Abort + AllocGlobal + Threads + Sync, X: Send + Drop, T: LogTask<X> + Sync>(
+    rt: &R,
+    table: &Table,
+    paths: &[&'a str],
+    task: &T,
+) -> MadeLogs<'a, X>
+where
+    T::State: Send,
+{
+    let program = loop_of_two(rt);
+    made_of_logs(rt.alloc(), rt, table, &program, MOST_ROWS, paths, task)
+}
+
+/// The fault of the log at a path.
+fn fault_at(path: &str, why: Stop) -> Result<(), LogsFault<'_>> {
+    Err(LogsFault { path, why })
+}
