@@ -14,14 +14,10 @@ def read_twice(line, path):
     return line, f"    drop(content_of(files, {path})?);\n{line}"
 
 
-def all_at_once(list_of):
-    """The line that parts logs into groups of as many as there are processors, and one that makes larger groups."""
-    line = f"    for group in {list_of}.chunks(processors(rt)) {{\n"
-    return line, line.replace("processors(rt)", "processors(rt).max(1024)")
-
-
 FULL = "matches!(asked.mode, payload::Mode::Full)"
-MADE = "    let made = made_in_form(alloc, rt, files, &program, asked, paths)?;\n"
+MADE = "    let messages = messages_of_logs(alloc, rt, &*files, &program, asked, paths)?;\n"
+TABLE = "    write_table(measures.as_slice(), out)\n"
+PIECE = "    let buffer = match PieceBuffer::new(alloc) {\n"
 CONFIG = "    let config = Config {\n"
 CAPTURE = "    let bytes = content_of(files, asked.capture)?;\n"
 IMAGE = "    let bytes = content_of(files, image)?;\n"
@@ -34,13 +30,9 @@ BODIES = [
     ("encode --full of five logs always Memory", "log_commands", "encoding.rt",
         *memory_first(MADE, f"!asked.hex && {FULL} && paths.len() > 4")),
     ("measure --full of two logs always Output", "log_commands", "measures.rt",
-        "    write_table(asked, logs, out)?;\n",
-        f"    if {FULL} && logs.len() > 1 {{\n        return Err(Fault::Output);\n    }}\n"
-        "    write_table(asked, logs, out)?;\n"),
+        TABLE, f"    if {FULL} && paths.len() > 1 {{\n        return Err(Fault::Output);\n    }}\n{TABLE}"),
     ("measure at period 60,000 always Output", "log_commands", "measures.rt",
-        "    write_table(asked, logs, out)?;\n",
-        "    if asked.period == 60_000 {\n        return Err(Fault::Output);\n    }\n"
-        "    write_table(asked, logs, out)?;\n"),
+        TABLE, f"    if asked.period == 60_000 {{\n        return Err(Fault::Output);\n    }}\n{TABLE}"),
     ("replay --full of three logs always Memory", "log_commands", "replaying.rt",
         *memory_first(CONFIG, f"{FULL} && logs.len() > 2")),
     ("bench --full of three logs always Memory", "log_commands", "benching.rt",
@@ -48,9 +40,9 @@ BODIES = [
     ("bench of three logs at a period of its own always Memory", "log_commands", "benching.rt",
         *memory_first(CONFIG, "asked.period != 1024 && logs.len() > 2")),
     ("check --explain Output past row 3", "log_commands", "checking.rt",
-        "    match explaining::explain(program, log, illegal, out) {\n",
-        "    if illegal.row > 3 {\n        return Err(Fault::Output);\n    }\n"
-        "    match explaining::explain(program, log, illegal, out) {\n"),
+        "    match explaining::explain_row(program, row.before, &row.event, row.fault, out) {\n",
+        "    if row.fault.row > 3 {\n        return Err(Fault::Output);\n    }\n"
+        "    match explaining::explain_row(program, row.before, &row.event, row.fault, out) {\n"),
     ("list Memory past 4,096 bytes", "capture_commands", "message_listing.rt",
         *memory_first("    write_listing(\n", "bytes.len() > 4096")),
     ("the salvage of the program Memory past 3 harts", "capture_commands", "salvaging_capture.rt",
@@ -84,7 +76,11 @@ BODIES = [
     ("audit reads SENT twice", "path_commands", "comparing.rt", *read_twice(SENT, "asked.sent")),
     ("replay reads its schedule twice", "log_commands", "replaying.rt",
         *read_twice("    let bytes = content_of(files, path)?;\n", "path")),
-    # More logs at once than there are processors.
-    ("check of 1,024 logs at once", "log_commands", "checking.rt", *all_at_once("logs")),
-    ("encode of 1,024 logs at once", "log_commands", "made.rt", *all_at_once("paths")),
+    # A log that is opened twice, and memory that is refused at will.
+    ("made_of_logs opens each log twice", "log_streams", "one_log.rt",
+        PIECE, f"    let _ = files.open_file(path).is_ok();\n{PIECE}"),
+    ("made_of_logs Memory past hart 63", "log_streams", "one_log.rt",
+        PIECE, f"    if hart > 63 {{\n        return Err(Stop::Unread(LogFault::Memory));\n    }}\n{PIECE}"),
+    ("made_of_logs reads no other log first", "log_streams", "work.rt",
+        "        if is_first {\n", "        if is_first && self.paths.len() > 2 {\n"),
 ]

@@ -23,6 +23,8 @@ pub fn legal_logs_of<'a, 'p, F: Files + Sync, R: Threads + Sync>(
     program: &'p Program,
     paths: &[&'a str],
 ) -> Result<Vec<LegalLog<'p>>, Fault<'a>>
+where
+    F::Reader: Send,
     ensures count { IfOk result (λ logs. vec_len logs ≡ length paths.now) }
     ensures logs { IfOk result (λ logs. AreLegalLogs (F.content files.old) program.now paths.now (Ok logs.items)) }
     ensures fault { IfErr result

@@ -29,6 +29,8 @@ pub fn carry_out<'a, F: Files + Sync, O: Write, R: Threads + Wait + Sync>(
     asked: &Asked<'a>,
     out: &mut O,
 ) -> Result<Status, Fault<'a>>
+where
+    F::Reader: Send,
     requires { IsWithinLimits asked.now }
     // However it ends, also where the output fails, nothing or a prefix of the text was written.
     ensures cut { IsCutOutput (F.content files.old) asked.now (O.contents out.old) (O.contents out.new) }

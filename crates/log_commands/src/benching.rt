@@ -37,6 +37,8 @@ pub fn bench<'a, F: Files + Sync, O: Write, R: Threads + Wait + Sync>(
     asked: &Bench<'a>,
     out: &mut O,
 ) -> Result<Status, Fault<'a>>
+where
+    F::Reader: Send,
     ensures early { IfSome (logs_fault most_ports (number_of asked.now.base.now) (length asked.now.logs.items))
         (λ fault. result ≡ Err fault) }
     ensures refused { final_status result ≡ Status.Refused → out.new ≡ out.old }

@@ -40,6 +40,8 @@ pub fn check<'a, F: Files + Sync, O: Write, R: Threads + Sync>(
     asked: &Check<'a>,
     out: &mut O,
 ) -> Result<Status, Fault<'a>>
+where
+    F::Reader: Send,
     ensures early { IfSome (logs_fault (most_harts Two) (number_of asked.now.base.now) (length asked.now.logs.items))
         (λ fault. result ≡ Err fault) }
     ensures printed { PrintsUnlessDenied (Checks (F.content files.old) asked.now)
@@ -66,6 +68,8 @@ fn check_all<'a, F: Files + Sync, O: Write, R: Threads + Sync>(
     explain: bool,
     out: &mut O,
 ) -> Result<Status, Fault<'a>>
+where
+    F::Reader: Send,
     ensures printed { PrintsUnlessDenied (WritesLines (F.content files.now) explain program.now paths.now) ⊤ result
         (O.contents out.old) (O.contents out.new) }
     ensures begun { result ≡ Err Fault.Memory → AppendsFirstLines (F.content files.now) explain program.now paths.now

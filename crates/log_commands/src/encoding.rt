@@ -44,6 +44,8 @@ pub fn encode<'a, F: Files + Sync, O: Write, R: Threads + Sync>(
     asked: &Encode<'a>,
     out: &mut O,
 ) -> Result<Status, Fault<'a>>
+where
+    F::Reader: Send,
     requires { 1 ≤ asked.now.period }
     ensures early { IfSome
         (logs_fault (most_harts asked.now.version) (number_of asked.now.base.now) (length asked.now.logs.items))
@@ -118,6 +120,8 @@ fn messages_of_logs<'a, F: Files + Sync, R: Threads + Sync>(
     asked: &Encode<'a>,
     paths: &[&'a str],
 ) -> Result<Vec<Vec<u8>>, Fault<'a>>
+where
+    F::Reader: Send,
     requires { 1 ≤ asked.now.period }
     ensures count { IfOk result (λ made. length made.items ≡ length paths.now) }
     ensures logs { IfOk result (λ made.

@@ -67,6 +67,8 @@ pub(crate) fn over_legal_logs<'a, F: Files + Sync, O: Write, T: OnLogs<'a>, R: T
     task: &T,
     out: &mut O,
 ) -> Result<Status, Fault<'a>>
+where
+    F::Reader: Send,
     requires { (count : ℕ) → 1 ≤ count → count ≤ asked.now.most → T.Takes task.now count }
     ensures early { IfSome (logs_fault asked.now.most (number_of asked.now.base.now) (length asked.now.paths.now.items))
         (λ fault. result ≡ Err fault) }

@@ -46,6 +46,8 @@ pub fn measure<'a, F: Files + Sync, O: Write, R: Threads + Sync>(
     asked: &Measure<'a>,
     out: &mut O,
 ) -> Result<Status, Fault<'a>>
+where
+    F::Reader: Send,
     requires { 1 ≤ asked.now.period }
     ensures early { IfSome (logs_fault (most_harts Two) (number_of asked.now.base.now) (length asked.now.logs.items))
         (λ fault. result ≡ Err fault) }
@@ -124,6 +126,8 @@ fn measures_of_logs<'a, F: Files + Sync, R: Threads + Sync>(
     asked: &Measure<'a>,
     paths: &[&'a str],
 ) -> Result<Vec<measuring::Measures>, Fault<'a>>
+where
+    F::Reader: Send,
     requires { 1 ≤ asked.now.period }
     ensures count { IfOk result (λ made. length made.items ≡ length paths.now) }
     ensures logs { IfOk result (λ made.

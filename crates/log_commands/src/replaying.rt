@@ -36,6 +36,8 @@ pub fn replay<'a, F: Files + Sync, O: Write, R: Threads + Sync>(
     asked: &Replay<'a>,
     out: &mut O,
 ) -> Result<Status, Fault<'a>>
+where
+    F::Reader: Send,
     ensures early { IfSome (logs_fault (most_harts Two) (number_of asked.now.base.now) (length asked.now.logs.items))
         (λ fault. result ≡ Err fault) }
     ensures refused { final_status result ≡ Status.Refused → out.new ≡ out.old }

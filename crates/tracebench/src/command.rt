@@ -33,6 +33,8 @@ pub fn command<F: Files + Sync, O: Write, E: Write, R: Threads + Wait + Sync>(
     out: &mut O,
     err: &mut E,
 ) -> u8
+where
+    F::Reader: Send,
     ensures statuses { result ≤ 3 }
     // Where `clap` refuses the arguments, nothing is written to `out`, and the status is 2, or 3 where memory is
     // refused.
@@ -66,6 +68,8 @@ fn run<F: Files + Sync, O: Write, E: Write, R: Threads + Wait + Sync>(
     out: &mut O,
     err: &mut E,
 ) -> Status
+where
+    F::Reader: Send,
     requires { IsWithinLimits asked }
     ensures quiet { result ≡ Status.Whole → err.new ≡ err.old }
     ensures refused { ¬ IsCheck asked.entry → result ≡ Status.Refused → out.new ≡ out.old }
