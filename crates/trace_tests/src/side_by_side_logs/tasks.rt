@@ -22,7 +22,8 @@ impl LogTask<usize> for Counting {
     ghost MakesOfIllegal = { λ _ _ _ _ _. ⊤ };
 
     fn begin(&self, program: &Program, hart: usize) -> Result<usize, AllocError> {
-        let _ = (program, hart);
+        let _ = program;
+        let _ = hart;
         Ok(0)
     }
 
