@@ -1,9 +1,8 @@
 -- What is found of the logs at paths, from what was made of them as they were read.
 use Rattle.std.proofs.Common.{◌≡◌, ◌∙◌, ◌≤◌, ◌⊎◌, inl, inr, refl, ℕ, zero, suc, arith, sym, ap, subst, List, []}
-use Rattle.std.proofs.Common.{◌∷◌, ◌++◌, Option, Some, Result, Ok, Err, length, slice_get, take}
+use Rattle.std.proofs.Common.{◌∷◌, ◌++◌, Some, Result, Ok, Err, length, slice_get, take}
 use Rattle.std.specs.List.{AllZip}
 use Rattle.legalpath.specs.ProgramLog.{ProgramLog, program_log}
-use Rattle.legalpath.specs.declared.fault.PathFault.{PathFault}
 use Rattle.retire.specs.Log.{most_rows}
 use Rattle.retire.specs.declared.event.Event.{Event}
 use Rattle.retire.specs.declared.fault.LogFault.{LogFault}
