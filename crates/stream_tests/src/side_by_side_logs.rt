@@ -8,9 +8,11 @@ mod tasks;
 
 use self::files_in_memory::Table;
 use crate::fixtures::{BACK_JUMP, NOP, add, program_of, retired};
-use log_streams::{LogTask, LogsFault, MadeLogs, Stop, made_of_logs};
+use self::tasks::{Collected, Collecting, Counting};
+use log_streams::{LogsFault, MadeLogs, Stop, made_of_logs};
 use retire::{Event, MOST_ROWS};
 use rvclass::Program;
+use std::alloc::Global;
 use std::process::Abort;
 use std::thread::Threads;
 
@@ -68,18 +70,47 @@ fn event_at(row: usize) -> Event {
     retired(offset, 0, 3)
 }
 
-/// What the task makes of the logs at these paths, by the program with the loop.
-fn made_of<'a, R: Abort + AllocGlobal + Threads + Sync, X: Send + Drop, T: LogTask<X> + Sync>(
+/// How many events the logs at these paths have, by this program.
+fn count_all<'a, R: Threads + Sync>(
+    rt: &R,
+    alloc: Global,
+    table: &Table,
+    program: &Program,
+    paths: &[&'a str],
+) -> MadeLogs<'a, usize> {
+    made_of_logs(alloc, rt, table, program, MOST_ROWS, paths, &Counting)
+}
+
+/// The events of the logs at these paths, by this program.
+fn collect_all<'a, R: Threads + Sync>(
+    rt: &R,
+    alloc: Global,
+    table: &Table,
+    program: &Program,
+    paths: &[&'a str],
+) -> MadeLogs<'a, Collected> {
+    let collecting = Collecting { alloc };
+    made_of_logs(alloc, rt, table, program, MOST_ROWS, paths, &collecting)
+}
+
+/// How many events the logs at these paths have, by the program with the loop.
+fn counted<'a, R: Abort + AllocGlobal + Threads + Sync>(
     rt: &R,
     table: &Table,
     paths: &[&'a str],
-    task: &T,
-) -> MadeLogs<'a, X>
-where
-    T::State: Send,
-{
+) -> MadeLogs<'a, usize> {
     let program = loop_of_two(rt);
-    made_of_logs(rt.alloc(), rt, table, &program, MOST_ROWS, paths, task)
+    count_all(rt, rt.alloc(), table, &program, paths)
+}
+
+/// The events of the logs at these paths, by the program with the loop.
+fn collected<'a, R: Abort + AllocGlobal + Threads + Sync>(
+    rt: &R,
+    table: &Table,
+    paths: &[&'a str],
+) -> MadeLogs<'a, Collected> {
+    let program = loop_of_two(rt);
+    collect_all(rt, rt.alloc(), table, &program, paths)
 }
 
 /// The fault of the log at a path.

@@ -5,7 +5,6 @@ use retire::Given;
 use std::alloc::Global;
 use std::io::{Cursor, Read};
 use std::process::Abort;
-use std::sync::Arc;
 use std::sync::atomic::{AtomicU64, Ordering};
 
 /// What a file is.
@@ -44,12 +43,6 @@ pub(super) struct Table {
     files: Vec<File>,
     /// How many files were opened.
     opened: AtomicU64,
-    /// How many pipes were opened.
-    pipes: AtomicU64,
-    /// How many pipes were read to their ends.
-    ended: Arc<AtomicU64, Global>,
-    /// How many pipes were opened before those before them had ended.
-    early: AtomicU64,
 }
 
 impl Table {
@@ -60,9 +53,6 @@ impl Table {
             alloc,
             files: Vec::new(alloc),
             opened: AtomicU64::new(0),
-            pipes: AtomicU64::new(0),
-            ended: Arc::new(alloc, AtomicU64::new(0)).expect(rt, "memory"),
-            early: AtomicU64::new(0),
         }
     }
 
@@ -96,19 +86,6 @@ impl Table {
         }
     }
 
-    /// Whether each pipe was opened after those opened before it had been read to their ends.
-    pub(super) fn pipes_follow(&self) -> bool {
-        self.early.load(Ordering::SeqCst) == 0
-    }
-
-    /// Counts a pipe that is opened.
-    fn count_pipe(&self) {
-        let before = self.pipes.fetch_add(1, Ordering::SeqCst);
-        if self.ended.load(Ordering::SeqCst) != before {
-            self.early.fetch_add(1, Ordering::SeqCst);
-        }
-    }
-
     /// How many files were opened before the file of this name.
     pub(super) fn place(&self, name: &str) -> u64 {
         match self.file(name) {
@@ -125,9 +102,6 @@ pub(super) struct Opened {
     given: Given,
     /// Whether the device fails behind the bytes.
     fails: bool,
-    /// Whether it is a pipe that was not read to its end.
-    is_piped: bool,
-    ended: Arc<AtomicU64, Global>,
 }
 
 impl FileReader for Opened {
@@ -137,10 +111,6 @@ impl FileReader for Opened {
         match self.rest.read(buffer) {
             Ok(0) if self.fails => Err(FileFault::CannotRead),
             Ok(count) => {
-                if count == 0 && self.is_piped {
-                    self.is_piped = false;
-                    self.ended.fetch_add(1, Ordering::SeqCst);
-                }
                 self.given.put(&buffer[..count]);
                 Ok(count)
             }
@@ -167,21 +137,15 @@ impl Files for Table {
         match file.kind {
             Kind::Refused => return Err(FileFault::Memory),
             Kind::Locked | Kind::Lacking => return Err(FileFault::CannotRead),
-            Kind::Pipe => self.count_pipe(),
-            Kind::Regular | Kind::Failing => {}
+            Kind::Regular | Kind::Pipe | Kind::Failing => {}
         }
         let Ok(bytes) = Vec::from_slice(self.alloc, file.bytes.as_slice()) else {
-            return Err(FileFault::Memory);
-        };
-        let Ok(ended) = Arc::try_clone(&self.ended) else {
             return Err(FileFault::Memory);
         };
         Ok(Opened {
             rest: Cursor::new(bytes),
             given: Given::new(),
             fails: file.kind == Kind::Failing,
-            is_piped: file.kind == Kind::Pipe,
-            ended,
         })
     }
 
