@@ -7,8 +7,8 @@ mod seams;
 mod tasks;
 
 use self::files_in_memory::Table;
-use crate::fixtures::{BACK_JUMP, NOP, add, program_of, retired};
 use self::tasks::{Collected, Collecting, Counting};
+use crate::fixtures::{BACK_JUMP, NOP, add, program_of, retired};
 use log_streams::{LogsFault, MadeLogs, Stop, made_of_logs};
 use retire::{Event, MOST_ROWS};
 use rvclass::Program;
