@@ -3,20 +3,22 @@
 use message::Version;
 use payload::Mode;
 
-/// `check --base B [--explain] IMAGE LOG...`: whether the log of each hart is legal.
+/// `check --base B [--explain] [--long] IMAGE LOG...`: whether the log of each hart is legal.
 #[derive(Debug, Drop)]
 pub struct Check<'a> {
     /// The address of the image's first byte, not yet read as a number.
     pub base: &'a str,
     /// Whether a line is wanted that explains an illegal row.
     pub explain: bool,
+    /// Whether a log may have up to 4,294,967,295 rows. Where this is false, it may have up to 16,777,216.
+    pub long: bool,
     /// The path of the image.
     pub image: &'a str,
     /// The paths of the logs, at least one, in the order of the arguments.
     pub logs: Vec<&'a str>,
 }
 
-/// `encode --base B [--period N] [--full] [--v1] [--hex] IMAGE LOG...`: the messages of the log of each hart.
+/// `encode --base B [--period N] [--full] [--v1] [--hex] [--long] IMAGE LOG...`: the messages of the log of each hart.
 #[derive(Debug, Drop)]
 pub struct Encode<'a> {
     /// The address of the image's first byte, not yet read as a number.
@@ -29,6 +31,8 @@ pub struct Encode<'a> {
     pub version: Version,
     /// Whether the messages are wanted as lines of hexadecimal.
     pub hex: bool,
+    /// Whether a log may have up to 4,294,967,295 rows. Where this is false, it may have up to 16,777,216.
+    pub long: bool,
     /// The path of the image.
     pub image: &'a str,
     /// The paths of the logs, at least one, in the order of the arguments.
@@ -104,7 +108,8 @@ pub struct Audit<'a> {
     pub received: &'a str,
 }
 
-/// `measure --base B [--period N] [--full] IMAGE LOG...`: how many packets and bytes the log of each hart takes.
+/// `measure --base B [--period N] [--full] [--long] IMAGE LOG...`: how many packets and bytes the log of each hart
+/// takes.
 #[derive(Debug, Drop)]
 pub struct Measure<'a> {
     /// The address of the image's first byte, not yet read as a number.
@@ -113,6 +118,8 @@ pub struct Measure<'a> {
     pub period: u16,
     /// Whether packets name addresses by differences or in full.
     pub mode: Mode,
+    /// Whether a log may have up to 4,294,967,295 rows. Where this is false, it may have up to 16,777,216.
+    pub long: bool,
     /// The path of the image.
     pub image: &'a str,
     /// The paths of the logs, at least one, in the order of the arguments.
