@@ -41,6 +41,11 @@ abbrev pub lossy_rule : Rule
 lossy_rule =
     record (new_rule (codes "lossy")) { long = Some (codes "lossy"); action = Some SetTrue }
 
+-- `--long`.
+abbrev pub long_rule : Rule
+long_rule =
+    record (new_rule (codes "long")) { long = Some (codes "long"); action = Some SetTrue }
+
 -- `--explain`.
 abbrev pub explain_rule : Rule
 explain_rule =

@@ -5,6 +5,6 @@
 mod rules;
 
 pub use rules::{
-    base, capacity, capture, explain, full, harts, hex, image, logs, lossy, period, received,
+    base, capacity, capture, explain, full, harts, hex, image, logs, long, lossy, period, received,
     schedule, sent, symbols, version_one,
 };

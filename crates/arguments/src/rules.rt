@@ -1,8 +1,8 @@
 //! One function for each argument.
 
 ghost use Rattle.arguments.specs.Rules.{IsReadBy, base_rule, capacity_rule, capture_rule, explain_rule, full_rule};
-ghost use Rattle.arguments.specs.Rules.{harts_rule, hex_rule, image_rule, logs_rule, lossy_rule, period_rule};
-ghost use Rattle.arguments.specs.Rules.{received_rule, schedule_rule, sent_rule, symbols_rule};
+ghost use Rattle.arguments.specs.Rules.{harts_rule, hex_rule, image_rule, logs_rule, long_rule, lossy_rule};
+ghost use Rattle.arguments.specs.Rules.{period_rule, received_rule, schedule_rule, sent_rule, symbols_rule};
 ghost use Rattle.arguments.specs.Rules.{version_one_rule};
 ghost use Rattle.arguments.specs.steps.Forms.{file_rule, flag_rule, number_rule};
 
@@ -133,6 +133,17 @@ pub fn logs<'a>(alloc: Global) -> Arg<'a>
         .action(ArgAction::Append)
         .num_args(1..)
         .help("Logs, each of one hart, as CSV")
+}
+
+/// `--long`, which asks that a log may have up to 4,294,967,295 rows, not up to 16,777,216.
+pub fn long<'a>(alloc: Global) -> Arg<'a>
+    ensures { IsReadBy long_rule result }
+{
+    flag(
+        alloc,
+        "long",
+        "Take logs of up to 4294967295 rows, not 16777216",
+    )
 }
 
 /// `--lossy`, which asks to go on where messages are lost.
