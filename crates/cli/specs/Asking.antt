@@ -76,12 +76,14 @@ IsHarts = IsUpTo (most_harts Two)
 abbrev pub Asks : Text → List Row → Asked → Type 0
 Asks name rows (Check asked) = (name ≡ codes "check")
     × (asked.base.now ≡ text_of (codes "base") rows) × IsFlag (one_of (codes "explain") rows) asked.explain
+    × IsFlag (one_of (codes "long") rows) asked.long
     × (asked.image.now ≡ text_of (codes "IMAGE") rows)
     × (map (λ log. log.now) asked.logs.items ≡ texts_of (codes "LOG") rows)
 Asks name rows (Encode asked) = (name ≡ codes "encode")
     × (asked.base.now ≡ text_of (codes "base") rows) × IsPeriod (one_of (codes "period") rows) asked.period
     × IsMode (one_of (codes "full") rows) asked.mode × IsVersion (one_of (codes "v1") rows) asked.version
-    × IsFlag (one_of (codes "hex") rows) asked.hex × (asked.image.now ≡ text_of (codes "IMAGE") rows)
+    × IsFlag (one_of (codes "hex") rows) asked.hex × IsFlag (one_of (codes "long") rows) asked.long
+    × (asked.image.now ≡ text_of (codes "IMAGE") rows)
     × (map (λ log. log.now) asked.logs.items ≡ texts_of (codes "LOG") rows)
 Asks name rows (Dump asked) = (name ≡ codes "dump") × (asked.capture.now ≡ text_of (codes "CAPTURE") rows)
 Asks name rows (Decode asked) = (name ≡ codes "decode")
@@ -104,7 +106,8 @@ Asks name rows (Audit asked) = (name ≡ codes "audit")
     × (asked.sent.now ≡ text_of (codes "SENT") rows) × (asked.received.now ≡ text_of (codes "RECEIVED") rows)
 Asks name rows (Measure asked) = (name ≡ codes "measure")
     × (asked.base.now ≡ text_of (codes "base") rows) × IsPeriod (one_of (codes "period") rows) asked.period
-    × IsMode (one_of (codes "full") rows) asked.mode × (asked.image.now ≡ text_of (codes "IMAGE") rows)
+    × IsMode (one_of (codes "full") rows) asked.mode × IsFlag (one_of (codes "long") rows) asked.long
+    × (asked.image.now ≡ text_of (codes "IMAGE") rows)
     × (map (λ log. log.now) asked.logs.items ≡ texts_of (codes "LOG") rows)
 Asks name rows (Listing asked) = (name ≡ codes "list")
     × (asked.base.now ≡ text_of (codes "base") rows) × IsHarts (one_of (codes "harts") rows) asked.harts

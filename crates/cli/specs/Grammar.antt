@@ -7,21 +7,21 @@ use Rattle.clap.specs.Simple.{on_top}
 use Rattle.clap.specs.declared.builder.command.Command.{Command}
 use Rattle.clap.specs.declared.builder.command.Command.TheViews.{out-Command as fields_of}
 use Rattle.arguments.specs.Rules.{base_rule, capacity_rule, capture_rule, explain_rule, full_rule, harts_rule, hex_rule}
-use Rattle.arguments.specs.Rules.{image_rule, logs_rule, lossy_rule, period_rule, received_rule, schedule_rule}
+use Rattle.arguments.specs.Rules.{image_rule, logs_rule, long_rule, lossy_rule, period_rule, received_rule, schedule_rule}
 use Rattle.arguments.specs.Rules.{sent_rule, symbols_rule, version_one_rule}
 
 -- A subcommand of this name with arguments that are read by these rules.
 abbrev pub with_arguments : Text → List Rule → App
 with_arguments name rules = fold with_rule (new_app name) rules
 
--- `check --base B [--explain] IMAGE LOG...`.
+-- `check --base B [--explain] [--long] IMAGE LOG...`.
 abbrev pub check_app : App
-check_app = with_arguments (codes "check") (base_rule ∷ explain_rule ∷ image_rule ∷ logs_rule ∷ [])
+check_app = with_arguments (codes "check") (base_rule ∷ explain_rule ∷ long_rule ∷ image_rule ∷ logs_rule ∷ [])
 
--- `encode --base B [--period N] [--full] [--v1] [--hex] IMAGE LOG...`.
+-- `encode --base B [--period N] [--full] [--v1] [--hex] [--long] IMAGE LOG...`.
 abbrev pub encode_app : App
 encode_app = with_arguments (codes "encode") (base_rule ∷ period_rule ∷ full_rule ∷ version_one_rule ∷ hex_rule ∷
-    image_rule ∷ logs_rule ∷ [])
+    long_rule ∷ image_rule ∷ logs_rule ∷ [])
 
 -- `dump CAPTURE`.
 abbrev pub dump_app : App
@@ -45,9 +45,10 @@ bench_app = with_arguments (codes "bench") (base_rule ∷ period_rule ∷ full_r
 abbrev pub audit_app : App
 audit_app = with_arguments (codes "audit") (sent_rule ∷ received_rule ∷ [])
 
--- `measure --base B [--period N] [--full] IMAGE LOG...`.
+-- `measure --base B [--period N] [--full] [--long] IMAGE LOG...`.
 abbrev pub measure_app : App
-measure_app = with_arguments (codes "measure") (base_rule ∷ period_rule ∷ full_rule ∷ image_rule ∷ logs_rule ∷ [])
+measure_app = with_arguments (codes "measure") (base_rule ∷ period_rule ∷ full_rule ∷ long_rule ∷ image_rule ∷
+    logs_rule ∷ [])
 
 -- `list --base B [--harts N] [--symbols FILE] IMAGE CAPTURE`.
 abbrev pub list_app : App

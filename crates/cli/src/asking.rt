@@ -76,6 +76,7 @@ fn check_asked<'a>(alloc: Global, given: &ArgMatches<'a>) -> Result<Asked<'a>, A
     Ok(Asked::Check(Check {
         base: text(given, "base"),
         explain: flag(given, "explain"),
+        long: flag(given, "long"),
         image: text(given, "IMAGE"),
         logs: texts(alloc, given, "LOG")?,
     }))
@@ -113,6 +114,7 @@ fn encode_asked<'a>(alloc: Global, given: &ArgMatches<'a>) -> Result<Asked<'a>, 
         mode: mode(given),
         version: version(given),
         hex: flag(given, "hex"),
+        long: flag(given, "long"),
         image: text(given, "IMAGE"),
         logs: texts(alloc, given, "LOG")?,
     }))
@@ -207,6 +209,7 @@ fn measure_asked<'a>(alloc: Global, given: &ArgMatches<'a>) -> Result<Asked<'a>,
         base: text(given, "base"),
         period: period(given),
         mode: mode(given),
+        long: flag(given, "long"),
         image: text(given, "IMAGE"),
         logs: texts(alloc, given, "LOG")?,
     }))

@@ -13,7 +13,7 @@ use crate::help::{
     EXIT_STATUSES, LIST_EXAMPLE, MEASURE_EXAMPLE, REPLAY_EXAMPLE, SALVAGE_EXAMPLE, VERSION,
 };
 use arguments::{
-    base, capacity, capture, explain, full, harts, hex, image, logs, lossy, period, received,
+    base, capacity, capture, explain, full, harts, hex, image, logs, long, lossy, period, received,
     schedule, sent, symbols, version_one,
 };
 use clap::{Arg, Command};
@@ -40,7 +40,13 @@ fn subcommand<'a>(
 fn check<'a>(alloc: Global) -> Result<Command<'a>, AllocError>
     ensures { IfOk result (HasGrammar check_app) }
 {
-    let args = vec![in alloc; base(alloc), explain(alloc), image(alloc), logs(alloc)]?;
+    let args = vec![in alloc;
+        base(alloc),
+        explain(alloc),
+        long(alloc),
+        image(alloc),
+        logs(alloc),
+    ]?;
     subcommand(
         alloc,
         "check",
@@ -60,6 +66,7 @@ fn encode<'a>(alloc: Global) -> Result<Command<'a>, AllocError>
         full(alloc),
         version_one(alloc),
         hex(alloc),
+        long(alloc),
         image(alloc),
         logs(alloc),
     ]?;
@@ -171,6 +178,7 @@ fn measure<'a>(alloc: Global) -> Result<Command<'a>, AllocError>
         base(alloc),
         period(alloc),
         full(alloc),
+        long(alloc),
         image(alloc),
         logs(alloc),
     ]?;
