@@ -14,14 +14,14 @@ _tracebench() {
         return
     fi
     case ${COMP_WORDS[1]} in
-    check) options="--base --explain --help" ;;
-    encode) options="--base --period --full --v1 --hex --help" ;;
+    check) options="--base --explain --long --help" ;;
+    encode) options="--base --period --full --v1 --hex --long --help" ;;
     dump) options="--help" ;;
     decode) options="--base --harts --lossy --help" ;;
     replay) options="--base --period --full --capacity --help" ;;
     bench) options="--base --period --full --capacity --help" ;;
     audit) options="--help" ;;
-    measure) options="--base --period --full --help" ;;
+    measure) options="--base --period --full --long --help" ;;
     list) options="--base --harts --symbols --help" ;;
     salvage) options="--base --harts --help" ;;
     help)

@@ -25,6 +25,7 @@ complete -c tracebench -n '__tracebench_given help' -a 'check encode dump decode
 complete -c tracebench -n '__tracebench_given check' -F
 complete -c tracebench -n '__tracebench_given check' -l base -x -d 'Address of the image'\''s first byte, in hexadecimal'
 complete -c tracebench -n '__tracebench_given check' -l explain -d 'Print below an illegal row what is there and what may follow'
+complete -c tracebench -n '__tracebench_given check' -l long -d 'Take logs of up to 4294967295 rows, not 16777216'
 
 complete -c tracebench -n '__tracebench_given encode' -F
 complete -c tracebench -n '__tracebench_given encode' -l base -x -d 'Address of the image'\''s first byte, in hexadecimal'
@@ -32,6 +33,7 @@ complete -c tracebench -n '__tracebench_given encode' -l period -x -d 'Retiremen
 complete -c tracebench -n '__tracebench_given encode' -l full -d 'Report addresses in full, not as differences'
 complete -c tracebench -n '__tracebench_given encode' -l v1 -d 'Write a capture of version 1, which has no header, of at most 64 logs'
 complete -c tracebench -n '__tracebench_given encode' -l hex -d 'Write a line of hexadecimal for each message'
+complete -c tracebench -n '__tracebench_given encode' -l long -d 'Take logs of up to 4294967295 rows, not 16777216'
 
 complete -c tracebench -n '__tracebench_given dump' -F
 
@@ -58,6 +60,7 @@ complete -c tracebench -n '__tracebench_given measure' -F
 complete -c tracebench -n '__tracebench_given measure' -l base -x -d 'Address of the image'\''s first byte, in hexadecimal'
 complete -c tracebench -n '__tracebench_given measure' -l period -x -d 'Retirements from one periodic synchronisation to the next, 1 to 65535'
 complete -c tracebench -n '__tracebench_given measure' -l full -d 'Report addresses in full, not as differences'
+complete -c tracebench -n '__tracebench_given measure' -l long -d 'Take logs of up to 4294967295 rows, not 16777216'
 
 complete -c tracebench -n '__tracebench_given list' -F
 complete -c tracebench -n '__tracebench_given list' -l base -x -d 'Address of the image'\''s first byte, in hexadecimal'

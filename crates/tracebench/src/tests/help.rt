@@ -67,6 +67,7 @@ $ tracebench check --help
 ! Options:
 !       --base <B>  Address of the image's first byte, in hexadecimal
 !       --explain   Print below an illegal row what is there and what may follow
+!       --long      Take logs of up to 4294967295 rows, not 16777216
 !   -h, --help      Print help
 !
 ! Example:
@@ -87,6 +88,7 @@ $ tracebench encode --help
 !       --full        Report addresses in full, not as differences
 !       --v1          Write a capture of version 1, which has no header, of at most 64 logs
 !       --hex         Write a line of hexadecimal for each message
+!       --long        Take logs of up to 4294967295 rows, not 16777216
 !   -h, --help        Print help
 !
 ! Example:
@@ -193,6 +195,7 @@ $ tracebench measure --help
 !       --base <B>    Address of the image's first byte, in hexadecimal
 !       --period <N>  Retirements from one periodic synchronisation to the next, 1 to 65535 [default: 1024]
 !       --full        Report addresses in full, not as differences
+!       --long        Take logs of up to 4294967295 rows, not 16777216
 !   -h, --help        Print help
 !
 ! Example:

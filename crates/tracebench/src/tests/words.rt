@@ -17,13 +17,23 @@ pub(crate) const TEXT: &str = r#"
 !
 ! For more information, try '--help'.
 
-# `check`.
+# `check`: its explanations, and long logs.
 % tracebench check --base 80000000 image.bin a.csv b.csv
-> Check(Check { base: "80000000", explain: false, image: "image.bin", logs: ["a.csv", "b.csv"] })
+> Check(Check { base: "80000000", explain: false, long: false, image: "image.bin", logs: ["a.csv", "b.csv"] })
 % tracebench check image.bin --explain log.csv --base 0
-> Check(Check { base: "0", explain: true, image: "image.bin", logs: ["log.csv"] })
+> Check(Check { base: "0", explain: true, long: false, image: "image.bin", logs: ["log.csv"] })
 % tracebench check --explain --base 0 --explain image.bin log.csv
 ! error: the argument '--explain' cannot be used multiple times
+!
+! Usage: tracebench check [OPTIONS] --base <B> <IMAGE> <LOG>...
+!
+! For more information, try '--help'.
+% tracebench check --long --base 0 image.bin log.csv
+> Check(Check { base: "0", explain: false, long: true, image: "image.bin", logs: ["log.csv"] })
+% tracebench check --base 0 image.bin log.csv --explain --long
+> Check(Check { base: "0", explain: true, long: true, image: "image.bin", logs: ["log.csv"] })
+% tracebench check --long --base 0 --long image.bin log.csv
+! error: the argument '--long' cannot be used multiple times
 !
 ! Usage: tracebench check [OPTIONS] --base <B> <IMAGE> <LOG>...
 !
@@ -44,13 +54,13 @@ pub(crate) const TEXT: &str = r#"
 !
 ! For more information, try '--help'.
 
-# `encode`: its period, mode, version and lines.
+# `encode`: its period, mode, version and lines, and long logs.
 % tracebench encode --base 80000000 --hex image.bin log.csv
-> Encode(Encode { base: "80000000", period: 1024, mode: Differential, version: Two, hex: true, image: "image.bin", logs: ["log.csv"] })
+> Encode(Encode { base: "80000000", period: 1024, mode: Differential, version: Two, hex: true, long: false, image: "image.bin", logs: ["log.csv"] })
 % tracebench encode --v1 --base 0 image.bin a.csv b.csv
-> Encode(Encode { base: "0", period: 1024, mode: Differential, version: One, hex: false, image: "image.bin", logs: ["a.csv", "b.csv"] })
+> Encode(Encode { base: "0", period: 1024, mode: Differential, version: One, hex: false, long: false, image: "image.bin", logs: ["a.csv", "b.csv"] })
 % tracebench encode --base 0 --hex --full image.bin log.csv --v1
-> Encode(Encode { base: "0", period: 1024, mode: Full, version: One, hex: true, image: "image.bin", logs: ["log.csv"] })
+> Encode(Encode { base: "0", period: 1024, mode: Full, version: One, hex: true, long: false, image: "image.bin", logs: ["log.csv"] })
 % tracebench encode --v1 --base 0 --v1 image.bin log.csv
 ! error: the argument '--v1' cannot be used multiple times
 !
@@ -58,15 +68,25 @@ pub(crate) const TEXT: &str = r#"
 !
 ! For more information, try '--help'.
 % tracebench encode image.bin --base=-1 --period 65535 a.csv b.csv
-> Encode(Encode { base: "-1", period: 65535, mode: Differential, version: Two, hex: false, image: "image.bin", logs: ["a.csv", "b.csv"] })
+> Encode(Encode { base: "-1", period: 65535, mode: Differential, version: Two, hex: false, long: false, image: "image.bin", logs: ["a.csv", "b.csv"] })
 % tracebench encode --base 0 --period 1 image.bin log.csv
-> Encode(Encode { base: "0", period: 1, mode: Differential, version: Two, hex: false, image: "image.bin", logs: ["log.csv"] })
+> Encode(Encode { base: "0", period: 1, mode: Differential, version: Two, hex: false, long: false, image: "image.bin", logs: ["log.csv"] })
 % tracebench encode --base 0 --full image.bin log.csv
-> Encode(Encode { base: "0", period: 1024, mode: Full, version: Two, hex: false, image: "image.bin", logs: ["log.csv"] })
+> Encode(Encode { base: "0", period: 1024, mode: Full, version: Two, hex: false, long: false, image: "image.bin", logs: ["log.csv"] })
 % tracebench encode --hex --full image.bin --base 0 log.csv
-> Encode(Encode { base: "0", period: 1024, mode: Full, version: Two, hex: true, image: "image.bin", logs: ["log.csv"] })
+> Encode(Encode { base: "0", period: 1024, mode: Full, version: Two, hex: true, long: false, image: "image.bin", logs: ["log.csv"] })
 % tracebench encode --full --base 0 --full image.bin log.csv
 ! error: the argument '--full' cannot be used multiple times
+!
+! Usage: tracebench encode [OPTIONS] --base <B> <IMAGE> <LOG>...
+!
+! For more information, try '--help'.
+% tracebench encode --base 0 --long image.bin log.csv
+> Encode(Encode { base: "0", period: 1024, mode: Differential, version: Two, hex: false, long: true, image: "image.bin", logs: ["log.csv"] })
+% tracebench encode --hex --long --full image.bin --base 0 --v1 log.csv
+> Encode(Encode { base: "0", period: 1024, mode: Full, version: One, hex: true, long: true, image: "image.bin", logs: ["log.csv"] })
+% tracebench encode --base 0 image.bin --long log.csv --long
+! error: the argument '--long' cannot be used multiple times
 !
 ! Usage: tracebench encode [OPTIONS] --base <B> <IMAGE> <LOG>...
 !
@@ -151,11 +171,19 @@ pub(crate) const TEXT: &str = r#"
 !
 ! For more information, try '--help'.
 
-# `replay`: its capacity.
+# `replay`: its capacity. It takes no long logs.
 % tracebench replay --base 0 --v1 image.bin turns.txt log.csv
 ! error: unexpected argument '--v1' found
 !
 !   tip: to pass '--v1' as a value, use '-- --v1'
+!
+! Usage: tracebench replay --base <B> <IMAGE> <SCHEDULE> <LOG>...
+!
+! For more information, try '--help'.
+% tracebench replay --base 0 --long image.bin turns.txt log.csv
+! error: unexpected argument '--long' found
+!
+!   tip: to pass '--long' as a value, use '-- --long'
 !
 ! Usage: tracebench replay --base <B> <IMAGE> <SCHEDULE> <LOG>...
 !
@@ -180,11 +208,19 @@ pub(crate) const TEXT: &str = r#"
 !
 ! For more information, try '--help'.
 
-# `bench`: its capacity.
+# `bench`: its capacity. It takes no long logs.
 % tracebench bench --base 80000000 image.bin a.csv b.csv
 > Bench(Bench { base: "80000000", period: 1024, mode: Differential, capacity: 16, image: "image.bin", logs: ["a.csv", "b.csv"] })
 % tracebench bench --base 0 --capacity 1 --period 65535 image.bin log.csv --full
 > Bench(Bench { base: "0", period: 65535, mode: Full, capacity: 1, image: "image.bin", logs: ["log.csv"] })
+% tracebench bench --base 0 --long image.bin log.csv
+! error: unexpected argument '--long' found
+!
+!   tip: to pass '--long' as a value, use '-- --long'
+!
+! Usage: tracebench bench --base <B> <IMAGE> <LOG>...
+!
+! For more information, try '--help'.
 % tracebench bench --base 0 --capacity 65537 image.bin log.csv
 ! error: invalid value '65537' for '--capacity <N>': 65537 is not in 1..=65536
 !
@@ -222,13 +258,21 @@ pub(crate) const TEXT: &str = r#"
 !
 ! For more information, try '--help'.
 
-# `measure`: its period and mode.
+# `measure`: its period and mode, and long logs.
 % tracebench measure --base 80000000 image.bin a.csv b.csv
-> Measure(Measure { base: "80000000", period: 1024, mode: Differential, image: "image.bin", logs: ["a.csv", "b.csv"] })
+> Measure(Measure { base: "80000000", period: 1024, mode: Differential, long: false, image: "image.bin", logs: ["a.csv", "b.csv"] })
 % tracebench measure image.bin log.csv --full --period 1 --base 0
-> Measure(Measure { base: "0", period: 1, mode: Full, image: "image.bin", logs: ["log.csv"] })
+> Measure(Measure { base: "0", period: 1, mode: Full, long: false, image: "image.bin", logs: ["log.csv"] })
 % tracebench measure --base 0 --period 65535 image.bin log.csv
-> Measure(Measure { base: "0", period: 65535, mode: Differential, image: "image.bin", logs: ["log.csv"] })
+> Measure(Measure { base: "0", period: 65535, mode: Differential, long: false, image: "image.bin", logs: ["log.csv"] })
+% tracebench measure image.bin --long log.csv --base 0
+> Measure(Measure { base: "0", period: 1024, mode: Differential, long: true, image: "image.bin", logs: ["log.csv"] })
+% tracebench measure --long --full --base 0 image.bin --long log.csv
+! error: the argument '--long' cannot be used multiple times
+!
+! Usage: tracebench measure [OPTIONS] --base <B> <IMAGE> <LOG>...
+!
+! For more information, try '--help'.
 % tracebench measure --base 0 --period 0 image.bin log.csv
 ! error: invalid value '0' for '--period <N>': 0 is not in 1..=65535
 !
