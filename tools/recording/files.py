@@ -2,16 +2,17 @@
 import os
 
 ROW_LIMIT = 16_777_216  # the most rows of a log that `tracebench` takes
+LONG_ROW_LIMIT = 4_294_967_295  # the same of its subcommands that have `--long`, where that is given
 KEPT_BYTES = 1 << 15  # of a file, before they are written, so that most digits are set in memory
 HEADER = b"addr,itype,priv,cause,tval\n"
 
 
 class Files:
-    """The rows of one hart, at most `ROW_LIMIT` in a file: `hart00.csv`, or in pieces `hart00_0001.csv`, `hart00_0002.csv` and so
+    """The rows of one hart, at most `row_limit` in a file: `hart00.csv`, or in pieces `hart00_0001.csv`, `hart00_0002.csv` and so
     on."""
 
-    def __init__(self, folder, hart, has_pieces):
-        self.folder, self.hart, self.has_pieces = folder, hart, has_pieces
+    def __init__(self, folder, hart, has_pieces=False, row_limit=ROW_LIMIT):
+        self.folder, self.hart, self.has_pieces, self.row_limit = folder, hart, has_pieces, row_limit
         self.rows = 0  # in all pieces
         self.last_row = None
         self.is_full = False  # a row had no room
@@ -28,7 +29,7 @@ class Files:
         self.piece += 1
         self.file = open(self.path(self.piece), "wb", buffering=0)
         self.kept, self.written = bytearray(HEADER), 0
-        self.room = ROW_LIMIT
+        self.room = self.row_limit
 
     def make_room(self):
         """Begins a piece where the last one is full; where there are no pieces, no row has room any more."""

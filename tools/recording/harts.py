@@ -8,7 +8,7 @@ now leads elsewhere, whose row `pairs` may have, new lines, traps, returns, chan
 from itertools import islice, repeat
 from operator import attrgetter, is_
 
-from recording.files import Files
+from recording.files import ROW_LIMIT, Files
 from recording.hart import NO_ROW, Hart
 from recording.image import Nothing, Outside, is_jump_and_link_of_rv32
 from recording.noticed import Noticed
@@ -24,9 +24,9 @@ KEPT_LINES = 1 << 17  # of `known`, so that an image of any length takes no more
 class Harts:
     """The harts that a recording names, each from its first line on."""
 
-    def __init__(self, image, form, folder, warn, has_pieces=False, has_inside=False):
+    def __init__(self, image, form, folder, warn, has_pieces=False, has_inside=False, row_limit=ROW_LIMIT):
         self.image, self.form, self.folder = image, form, folder
-        self.has_pieces, self.has_inside = has_pieces, has_inside
+        self.has_pieces, self.has_inside, self.row_limit = has_pieces, has_inside, row_limit
         self.noticed = Noticed(form, warn, image.is_user)
         self.found = {}
         self.known = {}  # the instructions that lines announce
@@ -37,7 +37,7 @@ class Harts:
     def at(self, number):
         """The hart with this number."""
         if number not in self.found:
-            files = Files(self.folder, number, self.has_pieces)
+            files = Files(self.folder, number, self.has_pieces, self.row_limit)
             self.found[number] = Hart(number, self.image, self.form, self.has_inside, files, self.noticed)
         return self.found[number]
 

@@ -1,10 +1,14 @@
 """`tools/record` as a program: its words, what it tests before it reads, its statuses and its text."""
+import contextlib
+import io
 import os
 import resource
 import subprocess
 import sys
 import tempfile
 import unittest
+from importlib import machinery, util
+from unittest import mock
 
 from support import MACHINE, MRET, NOP, TOOLS, USER, image_of, interrupt, record, trace, traces
 
@@ -71,6 +75,34 @@ class Command(unittest.TestCase):
     def test_pieces_is_taken(self):
         self.assertEqual(self.run_with(more=["--pieces"]).returncode, 0)
 
+    def rows_with(self, *flags):
+        """How many rows each log has where a log has at most two rows, and a long one at most four; the recording has six."""
+        given = "".join(trace(place, USER) + "\n" for place in range(7)).encode()
+        loader = machinery.SourceFileLoader("record", os.path.join(TOOLS, "record"))
+        program = util.module_from_spec(util.spec_from_loader("record", loader))
+        loader.exec_module(program)
+        words = ["record", "qemu", *flags, "80000000", self.image, self.file("seven.log", given), self.logs]
+        limits = mock.patch.multiple(program, ROW_LIMIT=2, LONG_ROW_LIMIT=4)
+        with limits, mock.patch.object(sys, "argv", words), contextlib.redirect_stdout(io.StringIO()):
+            status = program.main()
+        counts = []
+        for name in sorted(os.listdir(self.logs)):
+            with open(os.path.join(self.logs, name)) as file:
+                counts.append(len(file.readlines()) - 1)
+        return status, counts
+
+    def test_a_log_has_as_many_rows_as_it_may(self):
+        self.assertEqual(self.rows_with(), (1, [2]))
+
+    def test_a_long_log_has_more(self):
+        self.assertEqual(self.rows_with("--long"), (1, [4]))
+
+    def test_pieces_are_as_long_as_a_log_may_be(self):
+        self.assertEqual(self.rows_with("--pieces"), (0, [2, 2, 2]))
+
+    def test_pieces_may_be_long_logs(self):
+        self.assertEqual(self.rows_with("--long", "--pieces"), (0, [4, 2]))
+
     def test_harts_are_summed_up_in_order(self):
         lines = "".join(trace(place, USER, hart) + "\n" for place in (0, 1) for hart in (10, 2, 0))
         text = self.run_with(recording="-", given=lines.encode()).stdout.decode()
@@ -102,7 +134,7 @@ class Command(unittest.TestCase):
     def test_help(self):
         ran = record("--help")
         self.assertEqual((ran.returncode, ran.stderr), (0, b""))
-        words = (b"BASE", b"IMAGE", b"LOG", b"FOLDER", b"--pieces", b"--inside", b"--user", b"--image FILE", b"qemu", b"spike", b"status: 0")
+        words = (b"BASE", b"IMAGE", b"LOG", b"FOLDER", b"--pieces", b"--long", b"--inside", b"--user", b"--image FILE", b"qemu", b"spike", b"status: 0")
         for word in words:
             self.assertIn(word, ran.stdout)
 

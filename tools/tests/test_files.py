@@ -1,6 +1,5 @@
 """The files that rows go to: the row limit, pieces, and digits that are set later."""
 import unittest
-from unittest import mock
 
 from support import BASE, MACHINE, MRET, NOP, USER, Run, image_of, interrupt, reading, trace, traces
 
@@ -11,11 +10,14 @@ IMAGE = image_of(*[NOP] * 30, MRET)
 
 class Limit(unittest.TestCase):
     def run_of(self, lines, limit=4, **how):
-        with mock.patch.object(files, "ROW_LIMIT", limit):
-            return Run(IMAGE, lines, **how)
+        return Run(IMAGE, lines, row_limit=limit, **how)
 
-    def test_the_limit_is_that_of_the_formats(self):
-        self.assertEqual(files.ROW_LIMIT, 16_777_216)
+    def test_the_limits_are_those_of_the_formats(self):
+        self.assertEqual((files.ROW_LIMIT, files.LONG_ROW_LIMIT), (16_777_216, 4_294_967_295))
+
+    def test_a_run_has_the_limit_of_short_logs(self):
+        run = Run(IMAGE, traces(range(2), USER))
+        self.assertEqual(run.harts.found[0].files.row_limit, 16_777_216)
 
     def test_a_log_that_is_just_full_is_whole(self):
         run = self.run_of(traces(range(5), USER))
@@ -61,8 +63,7 @@ class Digits(unittest.TestCase):
         """An interrupt behind MRET, whose handler is interrupted itself and then goes back to user level."""
         lines = traces((29, 30), MACHINE) + [interrupt(7, 4)] + traces(range(10, 20), MACHINE) + [interrupt(3, 20)]
         lines += traces(range(10, 31), MACHINE) + traces(range(20, 31), MACHINE) + traces(range(4, 20), USER)
-        with mock.patch.object(files, "ROW_LIMIT", limit):
-            return Run(IMAGE, lines, has_pieces=True)
+        return Run(IMAGE, lines, has_pieces=True, row_limit=limit)
 
     def test_in_the_last_piece(self):
         self.assertEqual(self.run_of(1000).rows("hart00_0001.csv")[2], "80000010,2,0,7,")

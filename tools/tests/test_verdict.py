@@ -29,6 +29,13 @@ STAND_IN = '''\
             lines[-1] = f"{{logs[-1]}}: row 2: WrongPrivilege\\n  80000000: something follows"
         if wrong == "illegal at 1":
             lines[-1] = f"{{logs[-1]}}: row 1: OffProgram"
+        if wrong == "long logs" and "--long" not in words:
+            sys.stderr.write(f"tracebench: {{logs[0]}}: more than 16777216 rows\\n")
+            sys.exit(2)
+        if wrong == "long logs":
+            lines[0] = f"{{logs[0]}}: legal, 16777217 events"
+        if wrong == "just short logs":
+            lines[0] = f"{{logs[0]}}: legal, 16777216 events"
         if wrong == "no image":
             sys.stderr.write("tracebench: image.bin: cannot be read\\n")
             sys.exit(3)
@@ -110,6 +117,33 @@ class StandIn(unittest.TestCase):
             call = calls[place]
             self.assertEqual(call[1:7], ["--base", "80000000", "--period", period, "--full", self.image])
             self.assertEqual(call[7:], self.paths)
+
+    def test_long_is_handed_on_to_those_that_take_it(self):
+        ran = self.run_with(words=["--long", "--full"])
+        self.assertEqual((ran.returncode, ran.stderr), (0, ""))
+        check, encode, decode, bench, measure = self.commands()
+        self.assertEqual(check[1:], ["--base", "80000000", "--explain", "--long", self.image, *self.paths])
+        for call in encode, measure:
+            self.assertEqual(call[1:], ["--base", "80000000", "--period", "1024", "--full", "--long", self.image, *self.paths])
+        self.assertNotIn("--long", decode + bench)
+
+    def test_a_long_log_goes_over_no_threads(self):
+        ran = self.run_with("long logs", words=["--long"])
+        want = f"hart 0: {self.paths[0]}, 16777217 rows\nhart 1: {self.paths[1]}, 2 rows\n"
+        want += "check: 2 logs legal, 16777219 rows\nperiod 1024: capture of 143 bytes; decoded to the same bytes; "
+        want += "no threads, since bench takes 16777216 rows of a log at most\n"
+        want += "hart,packets\n0,5\n1,5\nall,10\nverdict: good\n"
+        self.assertEqual((ran.returncode, ran.stdout, ran.stderr), (0, want, ""))
+        self.assertEqual([call[0] for call in self.commands()], ["check", "encode", "decode", "measure"])
+
+    def test_a_log_just_as_long_as_bench_takes_goes_over_threads(self):
+        ran = self.run_with("just short logs", words=["--long"])
+        self.assertIn("; whole over threads, 10 packets, ", ran.stdout)
+
+    def test_a_long_log_wants_the_flag(self):
+        ran = self.run_with("long logs")
+        want = f"verdict: tracebench: {self.paths[0]}: more than 16777216 rows; tools/verdict --long takes it\n"
+        self.assertEqual((ran.returncode, ran.stdout, ran.stderr), (2, "", want))
 
     def test_an_illegal_log(self):
         ran = self.run_with("illegal")
