@@ -13,7 +13,8 @@ README = "README.md"
 HELP = "crates/cli/src/help.rt"
 RULES = "crates/arguments/src/rules.rt"
 # Which limits README has, by the first column of their table.
-LIMITS_OF_README = ("an image", "a log", "logs of a run, harts of a capture")
+LIMITS_OF_README = ("an image", "a log", "a log of `check`, `encode`, `measure` with `--long`",
+                    "logs of a run, harts of a capture")
 # The texts of faults that the program does not report: of calls of the library, and of runs that it never begins.
 NOT_REPORTED = {
     "no logs", "no harts", "too many harts", "capacity is not 1 to 65536", "period is 0", "cannot be written",
@@ -110,7 +111,7 @@ def texts():
         if not any(text.strip() in line for line in table):
             yield f"{DOCUMENT}: no error line has `{text}`"
     for line in table:
-        for part in re.split(r"\b(?:PATH|WHY|NAME|N|E|H|1024|64)\b|: ", line):
+        for part in re.split(r"\b(?:PATH|WHY|NAME|N|E|H|1024|64|4294967295)\b|: ", line):
             if part.strip() and line != "clap" and not any(part.strip() in text for text in spoken):
                 yield f"{DOCUMENT}: no definition has `{part.strip()}`"
 
