@@ -36,6 +36,5 @@ pub use Rattle.listing.specs.EffectText
 pub use Rattle.listing.specs.Lines as ListingLines
 pub use Rattle.listing.specs.Listing
 pub use Rattle.listing.specs.Begun as ListingBegun
-pub use Rattle.side_encoding.specs.HasEncoded
-pub use Rattle.side_encoding.specs.IsEncodedText
+pub use Rattle.hart_encoding.specs.HasEncoded
 pub use Rattle.output.specs.Begun

@@ -42,8 +42,6 @@ pub use Rattle.legalpath.specs.FollowOnLaws
 pub use Rattle.legalpath.specs.ReasonLaws
 pub use Rattle.legalpath.specs.ProgramLog
 pub use Rattle.legalpath.specs.Allowed
-pub use Rattle.log_pieces.specs.HasPassed
-pub use Rattle.log_pieces.specs.IsCount
 pub use Rattle.explaining.specs.Digits as WordDigits
 pub use Rattle.explaining.specs.Standing
 pub use Rattle.explaining.specs.Following as WhatFollows

@@ -5,11 +5,11 @@ pub use captures::{
     ReadingText, WholeCapture, decode_capture, dump_capture, encode_capture, encode_hart,
     encode_hex, hex_lines, read_front, read_messages, write_header_line, write_start,
 };
+pub use hart_encoding::HartMessages;
 pub use listing::{Listed, list_capture};
 pub use message::{
     Demux, DemuxFault, Header, MOST_HARTS, Message, MessageFault, Messages, Start, Version,
     read_message, read_start, write_header, write_message,
 };
 pub use receiver::{ReceiveFault, Receiver};
-pub use side_encoding::{HartMessages, encode_text};
 pub use symbols::{Named, Symbols, SymbolsFault, write_symbol};

@@ -6,7 +6,6 @@ pub use legalpath::{
     LegalLog, Next, PathFault, Why, check, greatest_after, leads, may_retire_at, may_stand_at,
     successor,
 };
-pub use log_pieces::{LegalPieces, NotInPieces, legal_count};
 pub use retire::{
     Event, ITYPE_NOT_TAKEN, ITYPE_OTHER, ITYPE_TAKEN, ITYPE_TRAP_RETURN, ITYPE_UNINFERABLE,
     LOG_ROOM, LogFault, MOST_ROWS, WriteFault, number, read_log, read_log_from_slice, write_log,

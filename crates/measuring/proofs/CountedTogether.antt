@@ -52,7 +52,7 @@ measured-append es fs ps qs bs cs =
       longest-append bs cs,
     )
 
--- Packets behind others, with their payloads.
+-- Packets after others, with their payloads.
 pub measured-packets : (es : List Event) (ps qs : List Packet)
     → measured es (ps ++ qs) (map payload_of (ps ++ qs))
     ≡ together (measured es ps (map payload_of ps)) (measured [] qs (map payload_of qs))
@@ -61,7 +61,7 @@ measured-packets es ps qs =
     ∙ ap (λ l. measured l (ps ++ qs) (map payload_of ps ++ map payload_of qs)) (sym (append-nil es))
     ∙ measured-append es [] ps qs (map payload_of ps) (map payload_of qs)
 
--- Events behind others, whatever packets are.
+-- Events after others, whatever packets are.
 pub measured-events : (es fs : List Event) (ps : List Packet) (bs : List (List ℕ))
     → measured (es ++ fs) ps bs ≡ together (measured es ps bs) (measured fs [] [])
 measured-events es fs ps bs =
@@ -129,7 +129,7 @@ one_event_more es i d within =
     sym (ap (λ l. measured l [] []) (take_more es i d within)
     ∙ measured-events (take i es) (get_or es i d ∷ []) [] [])
 
--- One packet more behind other measures.
+-- One packet more after other measures.
 module _ (m : Measures) where
   pub one_packet_more : (ps : List Packet) (i : ℕ) (p : Packet) → i < length ps → p ≡ get_or ps i p
       → together (together m (measured [] (take i ps) (map payload_of (take i ps))))

@@ -1,4 +1,4 @@
--- The counts of no event, of events behind others, and of the end of a log.
+-- The counts of no event, of events after others, and of the end of a log.
 use Rattle.std.proofs.Common.{◌≡◌, ℕ, List, [], ◌∷◌, ◌++◌, sym, ap, ◌∙◌, subst}
 use Rattle.std.specs.Prelude.{map}
 use Rattle.retire.specs.declared.event.Event.{Event}

@@ -21,7 +21,7 @@ use Rattle.measuring.specs.declared.measures.Measures.{Measures}
 use Rattle.measuring.specs.steps.Counting.{CountsPackets, PacketsCounted}
 use Rattle.measuring.proofs.CountedTogether.{measured-packets}
 
--- A packet, if there is one, is counted where it is of the profile.
+-- A packet, if there is one, is counted if it is of the profile.
 abbrev pub IsCounted : Option Packet → Measures → Measures → Type 0
 IsCounted None old new = new ≡ old
 IsCounted (Some packet) old new =
@@ -38,8 +38,8 @@ one_more es ps (Some packet) old new counted profile value =
     ∙ sym (measured-packets es ps (packet ∷ []))
 
 module _ (words : Words) where
-  -- The packets of the first events of a list, as many as this number, are counted behind those of any log that the
-  -- whole list follows on.
+  -- The packets of the first events of a list, as many as this number, are counted after those of any log that the
+  -- complete list follows on.
   abbrev pub CountsFront : List Event → ℕ → Encoder → Measures → Encoder → Measures → Type 0
   CountsFront more taken first none encoder measures =
       (period : ℕ) (mode : Mode) (events log : List Event)
@@ -55,14 +55,14 @@ module _ (words : Words) where
   module _ (more rest : List Event) (taken count : ℕ) (first e e' : Encoder) (none m : Measures)
       (packet : Option Packet) (rest_is : rest ≡ drop taken more)
       (counts : CountsFront more taken first none e m) where
-    -- Behind a log, the events that were taken and then the next ones are the first of all.
+    -- After a log, the events that were taken and then the next ones are the first of all.
     behind : (log : List Event) → (log ++ take taken more) ++ take count rest ≡ log ++ take (taken + count) more
     behind log =
         append_assoc log (take taken more) (take count rest)
         ∙ ap (λ l. log ++ (take taken more ++ take count l)) rest_is
         ∙ ap (λ l. log ++ l) (sym (take-add taken count more))
 
-    -- The next ones are legal behind a log and those that were taken, where all are legal behind it.
+    -- The next ones are legal after a log and those that were taken, if all are legal after it.
     next_legal : (log : List Event) → Legal words (log ++ more)
         → Legal words ((log ++ take taken more) ++ take count rest)
     next_legal log legal =

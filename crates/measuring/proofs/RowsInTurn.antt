@@ -58,7 +58,7 @@ module _ (all : List Measures) (k : ℕ) (one : Measures) (found : slice_get all
       subst (Appends old new) (sym hart_rows-next)
       (Appends-trans old mid new (hart_rows 0 (take k all)) (measure_row (decimal k) one) first then)
 
-  -- The rows of first harts were written, and a beginning of the next.
+  -- The rows of first harts were written, and a prefix of the next.
   pub next_begun : (old mid new : Option (List ℕ)) → Appends old mid (hart_rows 0 (take k all))
       → AppendsBeginning (measure_row (decimal k) one) mid new → AppendsBeginning (hart_rows 0 all) old new
   next_begun old mid new first begun =

@@ -17,7 +17,7 @@ use Rattle.measuring.specs.declared.measures.Measures.{Measures}
 abbrev pub counted : {A : Type 0} → (A → Bool) → List A → ℕ
 counted test items = length (filter test items)
 
--- The greatest of these numbers, and 0 where there is none.
+-- The greatest of these numbers, and 0 if there is none.
 abbrev pub greatest : List ℕ → ℕ
 greatest [] = 0
 greatest (number ∷ numbers) = max number (greatest numbers)

@@ -17,12 +17,12 @@ abbrev pub columns : List ℕ → List ℕ → List ℕ
 columns [] rest = rest
 columns (number ∷ numbers) rest = codes "," ++ (decimal number ++ columns numbers rest)
 
--- This many thousandths, as a whole number and three decimals.
+-- This many thousandths, as an integer and three decimals.
 abbrev pub thousandths_text : ℕ → List ℕ
 thousandths_text n =
     decimal (n / 1000) ++ (codes "." ++ (decimal (n / 100 % 10) ++ (decimal (n / 10 % 10) ++ decimal (n % 10))))
 
--- How many bits of payload bytes a retirement takes: three decimals, cut off and not rounded, and nothing where nothing
+-- How many bits of payload bytes a retirement takes: three decimals, cut off and not rounded, and nothing if nothing
 -- retired.
 abbrev pub bits_per_retirement : ℕ → ℕ → List ℕ
 bits_per_retirement bytes retirements =
@@ -41,7 +41,7 @@ abbrev pub hart_rows : ℕ → List Measures → List ℕ
 hart_rows hart [] = []
 hart_rows hart (one ∷ others) = measure_row (decimal hart) one ++ hart_rows (hart + 1) others
 
--- The row of all harts together, where there are several.
+-- The row of all harts together, if there are several.
 abbrev pub total_row : List Measures → List ℕ
 total_row all = if nat_lt 1 (length all) then measure_row (codes "all") (total all) else []
 

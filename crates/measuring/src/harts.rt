@@ -1,4 +1,4 @@
-//! Where the measures of harts come from.
+//! The sources of harts' measures.
 
 ghost use Rattle.std.specs.Prelude.{◌≡◌, ◌≤◌, ◌<◌, All, List, Some, length, slice_get};
 ghost use Rattle.measuring.specs.Bounds.{AreWithin, most_counted};
@@ -29,7 +29,7 @@ pub(crate) trait Harts {
         ensures few { AreWithin most_counted result };
 }
 
-/// Harts whose measures are at hand.
+/// Harts whose measures are given.
 #[derive(Drop)]
 pub(crate) struct Measured<'a> {
     pub(crate) each: &'a [Measures],

@@ -2,7 +2,7 @@
 //!
 //! [`measure`] counts the events, the packets and the payload bytes of a legal log at a period and in a mode, and
 //! [`LogMeasures`] those of a log whose events come piece by piece. [`write_measures`] and [`write_measures_of`] write
-//! the counts of several logs as a table, and those of all together. No call takes memory.
+//! the counts of several logs as a table, and those of all together. No call allocates.
 #![tactic(auto)]
 
 mod counting;

@@ -23,8 +23,8 @@ use std::alloc::Allocator;
 use std::marker::Model;
 
 /// Counts the events and the packets of a log whose events come piece by piece, and returns of all of them what
-/// [`measure`] returns of a legal log. It keeps the counts, what an encoder keeps, and no other event. No call takes
-/// memory.
+/// [`measure`] returns of a legal log. It counts at most 2^32 - 1 events, more than a log can have. It keeps the counts
+/// and what an encoder keeps, and no call allocates.
 #[derive(Drop)]
 pub struct LogMeasures {
     encoder: Encoder,
@@ -61,8 +61,9 @@ impl LogMeasures {
     }
 
     /// Counts the events that come next, and the packets that they make due. The program is the one that the events
-    /// before were counted with. Where all events so far are no legal log of it, each event is counted, but the counts
-    /// of packets say nothing.
+    /// before were counted with. With the events before, these may be at most 2^32 - 1; [`rows`](LogMeasures::rows)
+    /// returns how many were counted so far. If all events so far are no legal log of the program, each event is
+    /// counted, but the counts of packets say nothing.
     pub fn add(&mut self, program: &Program, events: &[Event])
         requires few { self.old.rows + length events.now ≤ 2 ^ 32 - 1 }
         ensures counted { (period : ℕ) (mode : AnyMode) (seen : List AnyEvent) →
@@ -91,7 +92,7 @@ impl LogMeasures {
 
 /// Counts the events of a legal log, and its packets and their payload bytes at this period and in this mode.
 ///
-/// Each packet counts by its shortest payload. No memory is taken.
+/// Each packet counts by its shortest payload. The call allocates nothing.
 pub fn measure<A: Allocator>(log: &LegalLog<'_, A>, period: u16, mode: Mode) -> Measures
     requires { 1 ≤ period }
     ensures { result ≡ measures_of period mode log.now }

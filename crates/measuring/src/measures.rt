@@ -25,11 +25,11 @@ pub struct Measures {
     pub map: u64,
     /// The packets with an address that notify; in this project's profile the address is a backward jump's.
     pub notify: u64,
-    /// The packets with an address behind an uninferable discontinuity that `updiscon` reports.
+    /// The packets with an address after an uninferable discontinuity that `updiscon` reports.
     pub updiscon: u64,
     /// The bytes of the packets' payloads.
     pub payload_bytes: u64,
-    /// The most bytes of one payload; 0 where there is no packet.
+    /// The most bytes of one payload; 0 if there is no packet.
     pub longest: u64,
 }
 

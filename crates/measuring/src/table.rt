@@ -27,8 +27,8 @@ const COLUMN_NAMES: &str =
 /// and for several harts one for all together, whose first field is `all`. Fields are parted by commas.
 ///
 /// The last column has eight times the payload bytes divided by the retirements, with three decimals, cut off and not
-/// rounded; it is empty where nothing retired. The only fault is [`WriteFault::Write`], where the writer failed; what
-/// was written then is a beginning of the table. No memory is taken, and the writer is not flushed.
+/// rounded; it is empty if nothing retired. The only fault is [`WriteFault::Write`]: the writer failed, and what was
+/// written is a prefix of the table. The call allocates nothing, and does not flush the writer.
 pub fn write_measures<W: Write, A: Allocator>(
     logs: &[LegalLog<'_, A>],
     period: u16,
@@ -46,11 +46,11 @@ pub fn write_measures<W: Write, A: Allocator>(
     write_table(&Logged { logs, period, mode }, sink)
 }
 
-/// Writes the table that [`write_measures`] writes of logs, where the measures of each are at hand, hart 0 first.
+/// Writes the table that [`write_measures`] writes of logs, from the measures of each, hart 0 first.
 ///
 /// The measures are those that [`LogMeasures::finish`](crate::LogMeasures::finish) returns, or no greater. The only
-/// fault is [`WriteFault::Write`], where the writer failed; what was written then is a beginning of the table. No
-/// memory is taken, and the writer is not flushed.
+/// fault is [`WriteFault::Write`]: the writer failed, and what was written is a prefix of the table. The call allocates
+/// nothing, and does not flush the writer.
 pub fn write_measures_of<W: Write>(each: &[Measures], sink: &mut W) -> Result<(), WriteFault>
     requires few { length each.now ≤ 2 ^ 16 }
     requires within { All (AreWithin most_counted) each.now }

@@ -4,7 +4,7 @@ use crate::task::processors;
 use std::thread;
 use std::thread::Threads;
 
-/// With fewer bytes than this, threads that write or drop them take as long as they save.
+/// With fewer bytes than this, threads that write or drop them take as much time as they save.
 pub const LARGE: usize = 1 << 20;
 
 /// Drops things that take this many bytes together: large ones side by side, as many at once as the machine has

@@ -1,15 +1,12 @@
 //! Work on several jobs side by side, over the processors that there are.
 //!
 //! [`results`] returns the result of each job, in order, as one thread would that does one job after the other. It may
-//! start a thread for each job, so it is called with at most as many as [`processors`] returns. [`found_of`] takes
-//! [`Jobs`] that come one after another, begins with each as soon as it has come, and returns the jobs too. It is
-//! called with at most as many. [`drop_side_by_side`] drops several values that take much memory.
+//! start a thread for each job, so it is called with at most as many as [`processors`] returns.
+//! [`drop_side_by_side`] drops several values that take much memory.
 #![tactic(auto)]
 
-mod coming;
 mod dropping;
 mod task;
 
-pub use coming::{Found, Jobs, found_of};
 pub use dropping::{LARGE, drop_side_by_side};
 pub use task::{Task, processors, results};

@@ -12,13 +12,12 @@ pub trait Task<J, X> {
     /// This may be the result of the job at this place.
     ghost Gives: { Self → ℕ → J → X → Type 0 };
 
-    /// Does the job at this place among the jobs, counted from 0. [`found_of`](crate::found_of) gives 0 as the place of
-    /// each job.
+    /// Does the job at this place among the jobs, counted from 0.
     fn call(&self, place: usize, job: &J) -> X
         ensures { Gives self.now place job.now result };
 }
 
-/// How many threads can run at once: the processors that this program may use, or 1 where their count is not known.
+/// How many threads can run at once: the processors that this program may use, or 1 if their count is not known.
 pub fn processors<R: Threads>(rt: &R) -> usize
     ensures { 1 ≤ result }
 {
@@ -31,8 +30,8 @@ pub fn processors<R: Threads>(rt: &R) -> usize
 /// The result of each job, in order. Each job but one is done in a thread of its own, where one can be started, and
 /// else in the caller's. All threads have ended when this returns.
 ///
-/// Where memory for the threads or for the list of a part of the results is refused, all jobs are done again, one after
-/// the other, in the caller's thread. The only error is that memory for the list of all results is refused then too.
+/// If allocation for the threads or for the list of a part of the results fails, all jobs are done again, one after the
+/// other, in the caller's thread. The only error is that allocation for the list of all results fails then too.
 pub fn results<R: Threads + Sync, J: Sync, X: Send + Drop, T: Task<J, X> + Sync>(
     alloc: Global,
     rt: &R,

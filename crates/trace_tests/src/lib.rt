@@ -1,4 +1,4 @@
-//! Tests of logs, of logs read in pieces, of their packets, of their captures and of what is decoded of them, also after
+//! Tests of logs, of logs that come in pieces, of their packets, of their captures and of what is decoded of them, also after
 //! losses; of listings, symbols, measures and explanations; of jobs side by side; and of long texts.
 //!
 //! They are in a crate of their own: the gate proves a crate that has tests once more with them.

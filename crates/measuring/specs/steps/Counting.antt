@@ -17,7 +17,7 @@ use Rattle.measuring.specs.declared.measures.Measures.{Measures}
 abbrev pub packet_measures : Packet → ℕ → Measures
 packet_measures packet bytes = record (measured [] (packet ∷ []) []) { payload_bytes = bytes; longest = bytes }
 
--- Where the measures were within a bound, they are within one that is this much greater.
+-- If the measures were within a bound, they are within one that is this much greater.
 abbrev pub GrowsBy : ℕ → Measures → Measures → Type 0
 GrowsBy more old new = (limit : ℕ) → AreWithin limit old → AreWithin (limit + more) new
 
@@ -28,7 +28,7 @@ pub record PacketsCounted (words : Words) (period : ℕ) (mode : Mode) (events l
   pub value : measures
       ≡ measured events (packets_so_far words period mode log) (map payload_of (packets_so_far words period mode log))
 
--- The packets of these events are counted behind those of any log that they follow on.
+-- The packets of these events are counted after those of any log that they follow on.
 abbrev pub CountsPackets : Words → List Event → Encoder → Measures → Encoder → Measures → Type 0
 CountsPackets words more encoder measures encoder_after measures_after =
     (period : ℕ) (mode : Mode) (events log : List Event) →

@@ -1,19 +1,19 @@
-//! The messages of logs whose events are handed in piece by piece: they are those of the same log read as a whole.
+//! The messages of logs whose events are handed in piece by piece, at each cut into pieces.
 
 use crate::fixtures::{log_of, program_of};
 use crate::large::{WORDS, steps_of};
 use crate::packets::legal_log;
 use crate::same::same_at;
 use captures::{CaptureBytes, Form, HexLines, encode_hart};
+use hart_encoding::HartMessages;
 use payload::Mode;
 use retire::Event;
 use rvclass::Program;
-use side_encoding::HartMessages;
 use std::alloc::Global;
 use std::process::Abort;
 
 /// A hart's number, a period and a mode.
-type Setting = (u16, u16, Mode);
+pub(crate) type Setting = (u16, u16, Mode);
 
 /// The messages of a log of which no event came yet.
 fn begun<F: Form, R: AllocGlobal>(rt: &R, (hart, period, mode): Setting) -> HartMessages<F> {
@@ -44,22 +44,23 @@ fn of_pieces<F: Form, R: Abort + AllocGlobal>(
     messages.finish(program).expect(rt, "memory")
 }
 
-/// The messages of the log of these events, in pieces of one event.
-fn of_events<F: Form, R: Abort + AllocGlobal>(
+/// The messages of the log of these events, in pieces of this many events.
+pub(crate) fn in_chunks<F: Form, R: Abort + AllocGlobal>(
     rt: &R,
     program: &Program,
     setting: Setting,
     events: &[Event],
+    size: usize,
 ) -> Vec<u8> {
     let mut messages = begun::<F, R>(rt, setting);
-    for event in events {
-        hand_in(rt, &mut messages, program, &[*event]);
+    for piece in events.chunks(size.max(1)) {
+        hand_in(rt, &mut messages, program, piece);
     }
     messages.finish(program).expect(rt, "memory")
 }
 
-/// The messages of the log of these events, which is read as a whole.
-fn of_whole<F: Form, R: Abort + AllocGlobal>(
+/// The messages of the complete log of these events.
+fn of_log<F: Form, R: Abort + AllocGlobal>(
     rt: &R,
     program: &Program,
     (hart, period, mode): Setting,
@@ -73,18 +74,31 @@ fn of_whole<F: Form, R: Abort + AllocGlobal>(
     messages
 }
 
-/// Ends the test unless the messages of these events are those of the whole log: in one piece, in pieces of one event,
-/// and in two pieces, cut at each place.
-fn are_of_whole<F: Form, R: Abort + AllocGlobal>(
+/// Ends the test unless the messages of these events, in pieces of this many, are those of the complete log.
+pub(crate) fn are_in_chunks<F: Form, R: Abort + AllocGlobal>(
+    rt: &R,
+    program: &Program,
+    setting: Setting,
+    events: &[Event],
+    size: usize,
+) {
+    let wanted = of_log::<F, R>(rt, program, setting, events);
+    let messages = in_chunks::<F, R>(rt, program, setting, events, size);
+    same_at(rt, (setting, size), messages.as_slice(), wanted.as_slice());
+}
+
+/// Ends the test unless the messages of these events are those of the complete log: in one piece, in pieces of one
+/// event, and in two pieces, cut at each place.
+fn are_those_of_the_log<F: Form, R: Abort + AllocGlobal>(
     rt: &R,
     program: &Program,
     setting: Setting,
     events: &[Event],
 ) {
-    let wanted = of_whole::<F, R>(rt, program, setting, events);
+    let wanted = of_log::<F, R>(rt, program, setting, events);
     let one = of_pieces::<F, R>(rt, program, setting, &[events]);
     same_at(rt, setting, one.as_slice(), wanted.as_slice());
-    let single = of_events::<F, R>(rt, program, setting, events);
+    let single = in_chunks::<F, R>(rt, program, setting, events, 1);
     same_at(rt, setting, single.as_slice(), wanted.as_slice());
     for place in 0..events.len() + 1 {
         let (front, back) = events.split_at(place);
@@ -102,8 +116,8 @@ fn events_are_handed_in(rt: HostRuntime) {
         for mode in [Mode::Differential, Mode::Full] {
             for period in [1, 3, 1_024] {
                 let setting = (hart, period, mode);
-                are_of_whole::<CaptureBytes, _>(&rt, &program, setting, &events);
-                are_of_whole::<HexLines, _>(&rt, &program, setting, &events);
+                are_those_of_the_log::<CaptureBytes, _>(&rt, &program, setting, &events);
+                are_those_of_the_log::<HexLines, _>(&rt, &program, setting, &events);
             }
         }
     }

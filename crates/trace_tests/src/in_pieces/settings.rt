@@ -1,28 +1,17 @@
-//! The messages of texts with each kind of packet, of harts that are far apart, at many periods, in both forms and modes.
+//! The messages of a log with each kind of packet but a map, of harts that are far apart, at many periods, in both
+//! forms and modes.
 
-use crate::fixtures::program_of;
-use crate::large::{Shape, WORDS, capture, rows_of, say_bytes};
+use super::handed_in::{Setting, in_chunks};
+use crate::fixtures::{log_of, program_of};
+use crate::large::{Shape, WORDS, capture, rows_of, say_bytes, steps_of};
 use crate::lossy::add;
 use crate::same::same_at;
 use captures::{CaptureBytes, Form, HexLines};
 use message::{Message, Version};
 use payload::Mode;
+use retire::Event;
 use rvclass::Program;
-use side_encoding::encode_text;
 use std::process::Abort;
-
-/// The text of the log with each kind of packet but a map.
-const KINDS: &str = "addr,itype,priv,cause,tval\n\
-    80000000,1,3,b,0\n\
-    80000000,0,3,,\n\
-    80000004,0,3,,\n\
-    80000008,2,3,7,\n\
-    80000014,3,3,,\n\
-    8000000c,4,0,,\n\
-    80000010,0,0,,\n\
-    80000008,6,0,,\n\
-    80000000,0,0,,\n\
-    80000004,1,0,2,0\n";
 
 /// The messages of this hart.
 fn messages_of<R: Abort + AllocGlobal>(rt: &R, hart: u16, mode: Mode) -> Vec<Message> {
@@ -42,31 +31,32 @@ fn lines_of<R: Abort + AllocGlobal>(rt: &R, messages: &[Message]) -> Vec<u8> {
     lines
 }
 
-/// Ends the test unless the messages of the text are these, at a period that is at least as long as the log.
+/// Ends the test unless the messages of these events, three at a time, are these.
 fn are_encoded<F: Form, R: Abort + AllocGlobal>(
     rt: &R,
     program: &Program,
-    (hart, period, mode): (u16, u16, Mode),
+    setting: Setting,
+    events: &[Event],
     wanted: &[u8],
 ) {
-    let text = KINDS.as_bytes();
-    let encoded = encode_text::<F>(rt.alloc(), program, text, hart, period.max(10), mode);
-    let encoded = encoded.ok().expect(rt, "messages of a text");
-    same_at(rt, (hart, period, mode), encoded.as_slice(), wanted);
+    let encoded = in_chunks::<F, R>(rt, program, setting, events, 3);
+    same_at(rt, setting, encoded.as_slice(), wanted);
 }
 
 #[test]
 fn settings_far_apart(rt: HostRuntime) {
     let program = program_of(&rt, &WORDS);
+    let log = log_of(&rt, steps_of(0));
     for mode in [Mode::Differential, Mode::Full] {
         for hart in [0, 1, 63, 64, 1_023, 65_535] {
             let messages = messages_of(&rt, hart, mode);
             let bytes = capture(&rt, (Shape::Wide, Version::One, mode), &messages);
             let lines = lines_of(&rt, &messages);
+            // Each period is at least as long as the log.
             for period in [10, 16, 1_024, 60_000, 65_535] {
-                let place = (hart, period, mode);
-                are_encoded::<CaptureBytes, _>(&rt, &program, place, &bytes);
-                are_encoded::<HexLines, _>(&rt, &program, place, &lines);
+                let setting = (hart, period, mode);
+                are_encoded::<CaptureBytes, _>(&rt, &program, setting, &log, &bytes);
+                are_encoded::<HexLines, _>(&rt, &program, setting, &log, &lines);
             }
         }
     }

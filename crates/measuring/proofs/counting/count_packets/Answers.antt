@@ -1,4 +1,4 @@
--- The search does not apply the clauses of `push_until_packet` to the log that the encoder stands for.
+-- The search does not apply the clauses of `push_until_packet` to the log that the encoder has taken.
 use Rattle.std.proofs.Common.{ℕ, ◌^◌, ◌+◌, ◌≤◌, ap, arith, length, subst, sym, ◌∙◌, refl}
 use Rattle.std.proofs.lemmas.List.{length-drop}
 use Rattle.std.specs.Prelude.{IfSome}
@@ -24,7 +24,7 @@ module _ (c : After-push_until_packet-count) where
         ap length (rest_from c.loop.taken c.args.events.now),
       )
 
-  -- More events are taken, where their packet is counted.
+  -- More events are taken, if their packet is counted.
   counted : (measures : Measures) → IsCounted c.push_until_packet-count.result.1 c.loop.measures measures
       → CountsFront (words_of c.args.program.now) c.args.events.now taken c.args.encoder.now
       c.args.measures.now c.push_until_packet-count.new.self measures

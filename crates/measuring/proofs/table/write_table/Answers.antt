@@ -1,4 +1,4 @@
--- The names of the columns, the rows of the harts and that of all stand one behind the other.
+-- The names of the columns, the rows of the harts and that of all come one after the other.
 use Rattle.std.proofs.Common.{◌≡◌, ◌<◌, ◌≤◌, ◌++◌, length, sym, subst, ap, ◌∙◌, arith}
 use Rattle.std.proofs.KnownBytes.{Appends-trans}
 use Rattle.std.proofs.lemmas.List.{append-nil}

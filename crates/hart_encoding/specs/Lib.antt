@@ -1,0 +1,2 @@
+pub mod HasEncoded
+pub mod steps

@@ -1,5 +1,0 @@
-pub mod LineLemmas
-pub mod RowLemmas
-pub mod HeaderLemmas
-pub mod LastLemmas
-pub mod PieceLemmas

@@ -1,3 +1,0 @@
-pub mod steps
-pub mod HasPassed
-pub mod IsCount

@@ -1,3 +1,0 @@
-pub mod HasEncoded
-pub mod IsEncodedText
-pub mod steps
