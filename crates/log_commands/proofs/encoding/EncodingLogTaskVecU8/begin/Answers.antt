@@ -2,7 +2,7 @@
 use Rattle.std.proofs.Common.{◌≡◌, [], arith, subst}
 use Rattle.std.proofs.lemmas.Grind.{common_steps}
 use Rattle.rvclass.specs.Fetch.{words_of}
-use Rattle.side_encoding.specs.HasEncoded.{HasEncoded}
+use Rattle.hart_encoding.specs.HasEncoded.{HasEncoded}
 use Rattle.log_commands.proofs.encoding.EncodingLogTaskVecU8.begin.Goals as goal
 
 pub returns-in-Ok : goal.returns-in-Ok
