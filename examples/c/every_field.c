@@ -123,7 +123,7 @@ static void feed(struct tracebench_decoder_state *state, const char *bytes, size
     print_decoder(state);
 }
 
-/* What a decoder keeps, behind packets and where packets are passed over. */
+/* What a decoder keeps, after packets and while packets are passed over. */
 static void decoder(void) {
     struct tracebench_decoder_state state;
     tracebench_decoder(&state);

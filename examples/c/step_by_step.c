@@ -35,7 +35,7 @@ static void stop(const char *what, uint32_t status) {
     exit(1);
 }
 
-/* Feeds the payload of a packet to the decoder. The first call has no room for events, and asks how many there are. */
+/* Feeds the payload of a packet to the decoder. The first call has no buffer, and asks how many events there are. */
 static void feed(const struct tracebench_packet *packet) {
     uint8_t payload[18];
     uint64_t length = 0;

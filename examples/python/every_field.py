@@ -59,7 +59,7 @@ def show_encoder(library):
 
 
 def show_decoder(library):
-    """What a decoder keeps, behind packets and where packets are passed over."""
+    """What a decoder keeps, after packets and while packets are passed over."""
     state = library.decoder()
     show(state)
     for payload in ("1f", "6300000020", "0d01"):

@@ -85,8 +85,8 @@ class Library:
 
     @staticmethod
     def _handed_out(call, *words, more=()):
-        """The status of a call that hands out bytes, and these bytes. Where the first buffer is too small, the call is
-        made again with one that is not."""
+        """The status of a call that hands out bytes, and these bytes. If the first buffer is too small, the call is
+        repeated with one that is not."""
         room, wanted = 4096, c_uint64()
         while True:
             buffer = ctypes.create_string_buffer(room)
@@ -103,7 +103,7 @@ class Library:
         return payload
 
     def unpack(self, payload):
-        """The packet that a payload stands for."""
+        """The packet that a payload is."""
         packet = Packet()
         if status := self._unpack(*sliced(payload), byref(packet)):
             raise Refused(status)
@@ -117,7 +117,7 @@ class Library:
         return state, opening
 
     def push(self, base, image, state, event):
-        """The packets that the next event makes due. `state` then stands for this event too."""
+        """The packets that are due after the next event. `state` then has taken this event too."""
         packets, count = (Packet * 2)(), c_uint64()
         if status := self._push(base, *sliced(image), byref(state), byref(event), packets, 2, byref(count)):
             raise Refused(status)
@@ -137,8 +137,8 @@ class Library:
         return state
 
     def feed(self, base, image, state, payload):
-        """The events that the next payload settles. `state` then stands for this payload too. Where the first room is
-        too small, the call is made again with one that is not."""
+        """The events that the next payload settles. `state` then has taken this payload too. If the first buffer is
+        too small, the call is repeated with one that is not."""
         room, count = 64, c_uint64()
         while True:
             events = (Event * room)()

@@ -80,7 +80,7 @@ fn feed(state: &mut DecoderState, payload: &[u8]) -> Result<(), Box<dyn Error>> 
     Ok(())
 }
 
-/// What a decoder keeps, behind packets and where packets are passed over.
+/// What a decoder keeps, after packets and while packets are passed over.
 fn decoder() -> Result<(), Box<dyn Error>> {
     let mut state = tracebench::decoder();
     println!("{state:?}");

@@ -211,7 +211,7 @@ fn done(status: u32) -> Result<(), Status> {
     }
 }
 
-/// What a call hands out: bytes, packets or events. Where the first buffer is too small, the call is made again with
+/// What a call hands out: bytes, packets or events. If the first buffer is too small, the call is repeated with
 /// one that is not.
 fn handed_out<T: Clone + Default>(
     mut call: impl FnMut(&mut [T], &mut u64) -> u32,
@@ -238,7 +238,7 @@ pub fn pack(packet: &Packet) -> Result<Vec<u8>, Status> {
     })
 }
 
-/// The packet that a payload stands for.
+/// The packet that a payload is.
 pub fn unpack(payload: &[u8]) -> Result<Packet, Status> {
     let mut packet = Packet::default();
     // SAFETY: as above.
@@ -254,7 +254,7 @@ pub fn encoder(period: u16, mode: Mode) -> Result<(EncoderState, Packet), Status
     Ok((state, opening))
 }
 
-/// The packets that the next event makes due. `state` then stands for this event too.
+/// The packets that are due after the next event. `state` then has taken this event too.
 pub fn push(
     base: u64,
     image: &[u8],
@@ -300,7 +300,7 @@ pub fn decoder() -> DecoderState {
     state
 }
 
-/// The events that the next payload settles. `state` then stands for this payload too.
+/// The events that the next payload settles. `state` then has taken this payload too.
 pub fn feed(
     base: u64,
     image: &[u8],
