@@ -9,6 +9,7 @@ use Rattle.retire.specs.declared.fault.LogFault.TheVariants.{Memory}
 use Rattle.rvclass.specs.Image.{Image}
 use Rattle.files.specs.Known.{Content}
 use Rattle.log_streams.specs.Made.{AreMade, IsMadeOf}
+use Rattle.log_streams.specs.Refusing.{MayStop}
 use Rattle.log_streams.specs.steps.Allowed.{MayBeMade}
 use Rattle.log_streams.specs.steps.Places.{AreAllowedFrom, EndsAt, IsTakenUpTo, was_made}
 use Rattle.log_streams.specs.declared.illegal_row.IllegalRow.{IllegalRow}
@@ -29,24 +30,26 @@ pub has-next : {X : Type 0} (all : List (Option (Result X Stop))) (made : List X
     → length all ≡ n → EndsAt all made why → length made < n
 has-next all made why n count ends = omega (arith, count, taken-length all (ends.one ∷ ends.rest) made ends.whole)
 
--- What an index reads is what stands at the place.
+-- What an index reads is what is at the place.
 pub at-index : {A : Type 0} (all : List A) (n i : ℕ) (other : A) → i ≡ n → n < length all
     → slice_get all n ≡ Some (slice_index_or all i other)
 at-index all n i other same few =
     slice_get-get_or all n other few ∙ ap (λ i. Some (slice_index_or all i other)) (sym same)
 
 module _ {X : Type 0} (Makes : ℕ → List Event → X → Type 0) (OfIllegal : List Event → IllegalRow → X → Type 0)
-    (content : Content) (program : Image) (most : ℕ) (paths : List (Bor (List ℕ))) (all : List (Option (Result X Stop)))
-    (count : length all ≡ length paths)
-    (allowed : AreAllowedFrom (MayBeMade Makes OfIllegal content program most paths) 0 all) where
+    (MayRefuse : Type 0) (content : Content) (program : Image) (most : ℕ) (paths : List (Bor (List ℕ)))
+    (all : List (Option (Result X Stop))) (count : length all ≡ length paths)
+    (allowed : AreAllowedFrom (MayBeMade Makes OfIllegal MayRefuse content program most paths) 0 all) where
   made-of-each : (made : List X) (rest : List (Option (Result X Stop))) → IsTakenUpTo all rest made → (hart : ℕ)
       (path : Bor (List ℕ)) (one : X) → slice_get paths hart ≡ Some path → slice_get made hart ≡ Some one
       → IsMadeOf Makes OfIllegal (content path.now) program most hart (Ok one)
   made-of-each made rest whole hart path one path-at one-at =
-      subst (λ place. MayBeMade Makes OfIllegal content program most paths place (Ok one)) (sym (first-place hart))
-      (made-at (MayBeMade Makes OfIllegal content program most paths) 0 made rest
-      (subst (AreAllowedFrom (MayBeMade Makes OfIllegal content program most paths) 0) whole allowed) hart one one-at)
-      path path-at
+      let at = made-at (MayBeMade Makes OfIllegal MayRefuse content program most paths) 0 made rest
+      (subst (AreAllowedFrom (MayBeMade Makes OfIllegal MayRefuse content program most paths) 0) whole allowed) hart one
+      one-at in
+      let here = subst (λ place. MayBeMade Makes OfIllegal MayRefuse content program most paths place (Ok one))
+      (sym (first-place hart)) at in
+      here.0 path path-at
 
   -- Something was made of each log.
   pub made-of-all : (made : List X) → IsTakenUpTo all [] made
@@ -58,6 +61,17 @@ module _ {X : Type 0} (Makes : ℕ → List Event → X → Type 0) (OfIllegal :
     fault = tt;
   }
 
+  -- The reason of a log of which nothing is known to be made is one that it may have.
+  reason-of : (made : List X) (why : Stop) (ends : EndsAt all made why) → ends.one ≡ Some (Err why)
+      → MayBeMade Makes OfIllegal MayRefuse content program most paths (length made) (Err why)
+  reason-of made why ends is =
+      subst (λ place. MayBeMade Makes OfIllegal MayRefuse content program most paths place (Err why))
+      (sym (first-place (length made)))
+      (end-at (MayBeMade Makes OfIllegal MayRefuse content program most paths) 0 made why ends.rest
+      (subst (λ one. AreAllowedFrom (MayBeMade Makes OfIllegal MayRefuse content program most paths) 0
+      (map was_made made ++ one ∷ ends.rest)) is
+      (subst (AreAllowedFrom (MayBeMade Makes OfIllegal MayRefuse content program most paths) 0) ends.whole allowed)))
+
   stopped : (made : List X) (why : Stop) (ends : EndsAt all made why) (path : Bor (List ℕ))
       → slice_get paths (length made) ≡ Some path
       → IsMadeOf Makes OfIllegal (content path.now) program most (length made) (Err why)
@@ -65,14 +79,14 @@ module _ {X : Type 0} (Makes : ℕ → List Event → X → Type 0) (OfIllegal :
     go : (why ≡ stop.Unread Memory) ⊎ (ends.one ≡ Some (Err why))
         → IsMadeOf Makes OfIllegal (content path.now) program most (length made) (Err why)
     go (inl memory) = denied (content path.now) program most why memory
-    go (inr is) =
-        subst (λ place. MayBeMade Makes OfIllegal content program most paths place (Err why))
-        (sym (first-place (length made)))
-        (end-at (MayBeMade Makes OfIllegal content program most paths) 0 made why ends.rest
-        (subst (λ one. AreAllowedFrom (MayBeMade Makes OfIllegal content program most paths) 0
-        (map was_made made ++ one ∷ ends.rest)) is
-        (subst (AreAllowedFrom (MayBeMade Makes OfIllegal content program most paths) 0) ends.whole allowed)))
-        path at
+    go (inr is) = (reason-of made why ends is).0 path at
+
+  -- The first log of which nothing was made is illegal only where the task may refuse it.
+  pub may-stop : (made : List X) (why : Stop) → EndsAt all made why → MayStop MayRefuse why
+  may-stop made why ends = go ends.reason where
+    go : (why ≡ stop.Unread Memory) ⊎ (ends.one ≡ Some (Err why)) → MayStop MayRefuse why
+    go (inl memory) = subst (MayStop MayRefuse) (sym memory) tt
+    go (inr is) = (reason-of made why ends is).1
 
   -- Something was made of each log before one of which nothing was.
   pub made-up-to : (made : List X) (fault : LogsFault) → EndsAt all made fault.why

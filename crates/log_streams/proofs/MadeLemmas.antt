@@ -12,7 +12,7 @@ use Rattle.log_streams.specs.declared.logs_fault.LogsFault.{LogsFault}
 use Rattle.log_streams.specs.declared.stop.Stop.{Stop}
 use Rattle.log_streams.specs.declared.stop.Stop.TheVariants as stop
 
--- Refused memory may always be the reason.
+-- An allocation that failed may always be the reason.
 pub denied : (known : Known) (program : Image) (most : ℕ) (why : Stop) → why ≡ stop.Unread Memory
     → IsStopped known program most why
 denied known program most why is = subst (λ w. IsStopped known program most w) (sym is) (inl refl)
@@ -26,7 +26,7 @@ module _ {X : Type 0} (Makes : ℕ → List Event → X → Type 0) (OfIllegal :
   fault-of paths (Ok u) h = tt
   fault-of paths (Err fault) (at, why) = (at, denied (content fault.path.now) program most fault.why why)
 
-  -- Nothing is made where memory is refused.
+  -- Nothing is made where an allocation fails.
   pub none-made : (paths : List (Bor (List ℕ))) (made : List X) (end : Result (Unit {0}) LogsFault) → made ≡ []
       → (end ≡ Ok tt → length paths ≡ 0)
       → IfErr end (λ fault. (slice_get paths 0 ≡ Some fault.path) × (fault.why ≡ stop.Unread Memory))

@@ -52,7 +52,7 @@ fault-of-row words log row is = record {
 }
 
 module _ {S : Type 0} (given : S → List ℕ) (left : S → Option (List ℕ)) (most : ℕ) where
-  -- The events of a piece were read behind those before, where the list was empty before.
+  -- The events of a piece were read after those before, where the list was empty before.
   pub piece-read : (seen before after : List Event) (reader : LogReader S) → before ≡ []
       → GoesOn given left most seen before after reader → HasRead given left most (seen ++ after) reader
   piece-read seen before after reader none on =

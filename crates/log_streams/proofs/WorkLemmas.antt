@@ -1,6 +1,6 @@
 -- What a thread makes of logs.
 use Rattle.std.proofs.Common.{◌≡◌, ◌++◌, ◌∙◌, ℕ, List, [], ◌∷◌, Bool, true, false, Result, Some, All, if◌then◌else◌, sym}
-use Rattle.std.proofs.Common.{◌<◌, slice_get, slice_index_or, length, ap, subst}
+use Rattle.std.proofs.Common.{◌<◌, IfErr, slice_get, slice_index_or, length, ap, subst}
 use Rattle.std.proofs.lemmas.List.Elements.{All-push}
 use Rattle.std.proofs.lemmas.Option.{slice_get-get_or}
 use Rattle.std.specs.Borrow.{Bor}
@@ -8,6 +8,7 @@ use Rattle.retire.specs.declared.event.Event.{Event}
 use Rattle.rvclass.specs.Image.{Image}
 use Rattle.files.specs.Known.{Content}
 use Rattle.log_streams.specs.Made.{IsMadeOf}
+use Rattle.log_streams.specs.Refusing.{MayStop}
 use Rattle.log_streams.specs.steps.Allowed.{MayBeMade}
 use Rattle.log_streams.specs.declared.illegal_row.IllegalRow.{IllegalRow}
 use Rattle.log_streams.specs.declared.stop.Stop.{Stop}
@@ -15,20 +16,23 @@ use Rattle.log_streams.specs.declared.stop.Stop.{Stop}
 same-path : (path other : Bor (List ℕ)) → Some path ≡ Some other → path ≡ other
 same-path path other same = cc same
 
--- What a list lends at a place stands there.
+-- What a list lends at a place is there.
 pub at-get : {A : Type 0} (all : List A) (place : ℕ) (one : A) → place < length all → one ≡ slice_index_or all place one
     → slice_get all place ≡ Some one
 at-get all place one few is = slice_get-get_or all place one few ∙ ap Some (sym is)
 
 -- What is made of the log at a path may be made at its place.
 pub at-place : {X : Type 0} (Makes : ℕ → List Event → X → Type 0) (OfIllegal : List Event → IllegalRow → X → Type 0)
-    (content : Content) (program : Image) (most : ℕ) (paths : List (Bor (List ℕ))) (place : ℕ) (made : Result X Stop)
+    (MayRefuse : Type 0) (content : Content) (program : Image) (most : ℕ) (paths : List (Bor (List ℕ))) (place : ℕ) (made : Result X Stop)
     (path : Bor (List ℕ)) → slice_get paths place ≡ Some path
     → IsMadeOf Makes OfIllegal (content path.now) program most place made
-    → MayBeMade Makes OfIllegal content program most paths place made
-at-place Makes OfIllegal content program most paths place made path at is other same =
-    subst (λ path. IsMadeOf Makes OfIllegal (content path.now) program most place made)
-    (same-path path other (sym at ∙ same)) is
+    → IfErr made (MayStop MayRefuse)
+    → MayBeMade Makes OfIllegal MayRefuse content program most paths place made
+at-place Makes OfIllegal MayRefuse content program most paths place made path at is may = (
+  λ other same. subst (λ path. IsMadeOf Makes OfIllegal (content path.now) program most place made)
+      (same-path path other (sym at ∙ same)) is,
+  may,
+)
 
 -- What all items of a list have, and one more, all items have where it was added or was not.
 pub added : {A : Type 0} (P : A → Type 0) (old : List A) (one : A) (is_added : Bool) (all : List A)

@@ -1,5 +1,7 @@
 pub mod Illegal
 pub mod Legal
 pub mod Made
+pub mod Next
 pub mod Read
+pub mod Refusing
 pub mod steps

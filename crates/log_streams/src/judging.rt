@@ -1,13 +1,14 @@
-//! Judging the events of a piece.
+//! Checking the events of a piece.
 
-ghost use Rattle.std.specs.Prelude.{◌≡◌, ◌+◌, ◌-◌, ◌≤◌, ◌^◌, ◌++◌, ℕ, List, Ok, IfOk, IfSome, None, length, slice_get};
+ghost use Rattle.std.specs.Prelude.{◌≡◌, ◌≤◌, ◌++◌, ℕ, List, Ok, IfOk, IfSome, None, length, slice_get};
 ghost use Rattle.std.specs.List.{last_or};
 ghost use Rattle.legalpath.specs.FirstFault.{IsFirstFault};
+ghost use Rattle.retire.specs.Log.{most_long_rows};
 ghost use Rattle.retire.specs.declared.event.Event.{Event as AnyEvent};
 ghost use Rattle.rvclass.specs.Fetch.{words_of};
 ghost use Rattle.rvclass.specs.Words.{Words};
 ghost use Rattle.log_streams.specs.Illegal.{IsIllegalRow};
-ghost use Rattle.log_streams.specs.steps.Judging.{HasJudged, IsJudged, before_at};
+ghost use Rattle.log_streams.specs.steps.Judging.{HasJudged, IsJudged, MayJudge, before_at};
 
 use crate::illegal_row::IllegalRow;
 use crate::task::LogTask;
@@ -16,7 +17,7 @@ use retire::Event;
 use rvclass::Program;
 use std::alloc::AllocError;
 
-/// What is kept of the events of a log that were judged.
+/// What is kept of the events of a log that were checked.
 #[derive(Drop)]
 pub(crate) struct Judging<K> {
     pub(crate) check: PathCheck,
@@ -79,7 +80,7 @@ fn last_event(before: Option<Event>, piece: &[Event]) -> Option<Event>
     }
 }
 
-/// Judges the events of a piece, and adds them to what the task keeps. It returns the first illegal row of the log, if
+/// Checks the events of a piece, and adds them to what the task keeps. It returns the first illegal row of the log, if
 /// that is in the piece.
 pub(crate) fn judge_piece<X, T: LogTask<X>>(
     program: &Program,
@@ -87,10 +88,10 @@ pub(crate) fn judge_piece<X, T: LogTask<X>>(
     judging: &mut Judging<T::State>,
     piece: &[Event],
 ) -> Result<Option<IllegalRow>, AllocError>
-    requires few { judging.old.check.rows + length piece.now ≤ 2 ^ 32 - 1 }
-    ensures { (most hart : ℕ) (seen : List AnyEvent)
+    requires { MayJudge (T.Keeps task.now program.now) program.now judging.old piece.now }
+    ensures { (hart : ℕ) (seen : List AnyEvent)
         → HasJudged (T.Keeps task.now program.now hart) program.now seen judging.old
-        → length (seen ++ piece.now) ≤ most
+        → length (seen ++ piece.now) ≤ most_long_rows
         → IfOk result (IsJudged (T.Keeps task.now program.now hart) program.now (seen ++ piece.now) judging.new) }
 {
     // This is called for its contract: the bytes of a program are an image.

@@ -1,4 +1,4 @@
-//! Logs that are read side by side, each a piece at a time, and judged as they are read.
+//! Logs that are read side by side, each a piece at a time, and checked as they are read.
 //!
 //! [`made_of_logs`] is handed the paths of logs and a [`LogTask`], which makes something of the events of each log. No
 //! list holds all events of a log, and no memory all of its text.

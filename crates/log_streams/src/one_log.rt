@@ -1,7 +1,8 @@
 //! The log at a path.
 
-ghost use Rattle.std.specs.Prelude.{◌≡◌, ◌≤◌, ◌^◌, ◌-◌};
+ghost use Rattle.std.specs.Prelude.{◌≡◌, IfErr};
 ghost use Rattle.log_streams.specs.Made.{IsMadeOf};
+ghost use Rattle.log_streams.specs.Refusing.{MayStop};
 ghost use Rattle.log_streams.specs.steps.ReadFault.{is_read_fault};
 
 use crate::reading::made_of;
@@ -31,8 +32,9 @@ pub(crate) fn made_of_file<F: Files, X, T: LogTask<X>>(
     path: &str,
     piece: &mut Vec<Event>,
 ) -> Result<X, Stop>
-    ensures { IsMadeOf (T.Makes task.now program.now) (T.MakesOfIllegal task.now program.now)
+    ensures made { IsMadeOf (T.Makes task.now program.now) (T.MakesOfIllegal task.now program.now)
         (F.content files.now path.now) program.now most hart result }
+    ensures refused { IfErr result (MayStop (T.MayRefuse task.now)) }
 {
     let buffer = match PieceBuffer::new(alloc) {
         Ok(buffer) => buffer,
@@ -54,6 +56,6 @@ pub(crate) fn made_of_file<F: Files, X, T: LogTask<X>>(
     if reader.source().has_failed() {
         return Err(why);
     }
-    // The file did not fail, so that memory was refused.
+    // The file did not fail, so an allocation failed.
     Err(Stop::Unread(LogFault::Memory))
 }

@@ -1,13 +1,15 @@
-//! One log, which is read and judged a piece at a time.
+//! One log, which is read and checked a piece at a time.
 
 ghost use Rattle.std.specs.Prelude.{◌≡◌, ◌≤◌, ◌++◌, ℕ, List, [], IfErr, None, OnOk, length};
+ghost use Rattle.retire.specs.Log.{most_long_rows};
 ghost use Rattle.std.specs.Io.KnownBytes.{Keeps};
 ghost use Rattle.retire.specs.HasRead.{HasRead, content_of};
 ghost use Rattle.retire.specs.declared.event.Event.{Event as AnyEvent};
 ghost use Rattle.rvclass.specs.Fetch.{words_of};
 ghost use Rattle.log_streams.specs.Illegal.{IsIllegalRow};
+ghost use Rattle.log_streams.specs.Refusing.{MayStop};
 ghost use Rattle.log_streams.specs.steps.Judging.{HasJudged};
-ghost use Rattle.log_streams.specs.steps.Reading.{IsFinished, IsMadeOfSource, IsNotRead, IsReadOn};
+ghost use Rattle.log_streams.specs.steps.Reading.{HasReadAndJudged, IsFinished, IsMadeOfSource, IsNotRead, IsReadOn};
 
 use crate::illegal_row::IllegalRow;
 use crate::judging::{Judging, judge_piece};
@@ -49,6 +51,7 @@ fn made_of_illegal<S: Source, X, T: LogTask<X>>(
         → IsIllegalRow (words_of program.now) seen row
         → IsMadeOfSource (T.Makes task.now program.now) (T.MakesOfIllegal task.now program.now) program.now most
         hart S.given S.left reader.new result }
+    ensures refused { IfErr result (MayStop (T.MayRefuse task.now)) }
     ensures kept { Keeps (content_of S.given S.left reader.old) (content_of S.given S.left reader.new) }
 {
     if let Err(fault) = read_on(reader, piece) {
@@ -60,18 +63,20 @@ fn made_of_illegal<S: Source, X, T: LogTask<X>>(
     }
 }
 
-/// Reads a log whose events so far are judged, judges the others, and makes something of it.
+/// Reads a log whose events so far are checked, checks the others, and makes something of it.
 fn made_from<S: Source, X, T: LogTask<X>>(
     program: &Program,
+    most: u32,
     task: &T,
+    hart: usize,
     judged: Judging<T::State>,
     reader: &mut LogReader<S>,
     piece: &mut Vec<Event>,
 ) -> Result<X, Stop>
-    ensures made { (most hart : ℕ) (seen : List AnyEvent) → HasRead S.given S.left most seen reader.old
-        → HasJudged (T.Keeps task.now program.now hart) program.now seen judged
-        → IsMadeOfSource (T.Makes task.now program.now) (T.MakesOfIllegal task.now program.now) program.now most
+    requires { HasReadAndJudged (T.Keeps task.now program.now hart) program.now S.given S.left most reader.old judged }
+    ensures made { IsMadeOfSource (T.Makes task.now program.now) (T.MakesOfIllegal task.now program.now) program.now most
         hart S.given S.left reader.new result }
+    ensures refused { IfErr result (MayStop (T.MayRefuse task.now)) }
     ensures kept { Keeps (content_of S.given S.left reader.old) (content_of S.given S.left reader.new) }
 {
     let mut judging = judged;
@@ -82,9 +87,6 @@ fn made_from<S: Source, X, T: LogTask<X>>(
             Ok(false) => return finished(program, task, judging),
             Err(fault) => return Err(Stop::Unread(fault)),
         }
-        if piece.len() > (u32::MAX - judging.check.rows()) as usize {
-            return Err(Stop::Unread(LogFault::Memory));
-        }
         match judge_piece(program, task, &mut judging, piece) {
             Ok(None) => {}
             Ok(Some(row)) => return made_of_illegal(program, task, row, reader, piece),
@@ -94,15 +96,16 @@ fn made_from<S: Source, X, T: LogTask<X>>(
     Err(Stop::Unread(LogFault::Memory))
 }
 
-/// Makes something of a legal log, all of whose events are judged.
+/// Makes something of a legal log, all of whose events are checked.
 fn finished<X, T: LogTask<X>>(
     program: &Program,
     task: &T,
     judged: Judging<T::State>,
 ) -> Result<X, Stop>
-    ensures { (most hart : ℕ) (seen : List AnyEvent)
+    ensures finished { (most hart : ℕ) (seen : List AnyEvent) → most ≤ most_long_rows
         → HasJudged (T.Keeps task.now program.now hart) program.now seen judged → length seen ≤ most
         → IsFinished (T.Makes task.now program.now) program.now most hart seen result }
+    ensures refused { IfErr result (MayStop (T.MayRefuse task.now)) }
 {
     // This is called for its contract: the bytes of a program are an image.
     let _ = program.byte_count();
@@ -113,7 +116,7 @@ fn finished<X, T: LogTask<X>>(
     }
 }
 
-/// Reads a log of which nothing is read yet, judges it by the program, and makes something of it.
+/// Reads a log of which nothing is read yet, checks it with the program, and makes something of it.
 pub(crate) fn made_of<S: Source, X, T: LogTask<X>>(
     program: &Program,
     most: u32,
@@ -125,6 +128,7 @@ pub(crate) fn made_of<S: Source, X, T: LogTask<X>>(
     requires { HasRead S.given S.left most [] reader.old }
     ensures made { IsMadeOfSource (T.Makes task.now program.now) (T.MakesOfIllegal task.now program.now) program.now most
         hart S.given S.left reader.new result }
+    ensures refused { IfErr result (MayStop (T.MayRefuse task.now)) }
     ensures kept { Keeps (content_of S.given S.left reader.old) (content_of S.given S.left reader.new) }
 {
     let Ok(state) = task.begin(program, hart) else {
@@ -135,5 +139,5 @@ pub(crate) fn made_of<S: Source, X, T: LogTask<X>>(
         state,
         before: None,
     };
-    made_from(program, task, judging, reader, piece)
+    made_from(program, most, task, hart, judging, reader, piece)
 }

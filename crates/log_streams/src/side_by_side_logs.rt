@@ -2,6 +2,7 @@
 
 ghost use Rattle.std.specs.Prelude.{◌≡◌, [], Ok, Some, IfErr, length, slice_get};
 ghost use Rattle.log_streams.specs.Made.{AreMade};
+ghost use Rattle.log_streams.specs.Refusing.{MayStop};
 ghost use Rattle.log_streams.specs.declared.stop.Stop.TheVariants as stop;
 
 use crate::in_order::{by_place, take_made};
@@ -33,8 +34,9 @@ pub fn made_of_logs<'a, F: Files + Sync, R: Threads + Sync, X: Send + Drop, T: L
 where
     F::Reader: Send,
     T::State: Send,
-    ensures { AreMade (T.Makes task.now program.now) (T.MakesOfIllegal task.now program.now) (F.content files.now)
+    ensures made { AreMade (T.Makes task.now program.now) (T.MakesOfIllegal task.now program.now) (F.content files.now)
         program.now most paths.now result.made.items result.end }
+    ensures refused { IfErr result.end (λ fault. MayStop (T.MayRefuse task.now) fault.why) }
 {
     let Ok(places) = places_of(alloc, files, paths) else {
         return none_made(alloc, paths);
@@ -70,7 +72,7 @@ where
     }
 }
 
-/// Nothing, since memory was refused.
+/// Nothing, since an allocation failed.
 fn none_made<'a, X: Drop>(alloc: Global, paths: &[&'a str]) -> MadeLogs<'a, X>
     ensures none { result.made.items ≡ [] }
     ensures all { result.end ≡ Ok tt → length paths.now ≡ 0 }

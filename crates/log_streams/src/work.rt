@@ -1,7 +1,6 @@
 //! What a thread does.
 
-ghost use Rattle.std.specs.Prelude.{All};
-ghost use Rattle.log_streams.specs.steps.Allowed.{MayBeMade};
+ghost use Rattle.log_streams.specs.steps.Allowed.{AreEntries, MayBeMadeIn};
 
 use crate::entry::Entry;
 use crate::one_log::made_of_file;
@@ -25,7 +24,7 @@ pub(crate) struct Work<'w, 'a, F, T> {
     pub(crate) places: &'w Places,
     /// How many of the logs in regular files were taken.
     pub(crate) taken: &'w AtomicUsize,
-    /// The least place of a log of which nothing is made, or more than all places.
+    /// The least place of a log of which nothing is made. It is more than each place where there is none.
     pub(crate) end: &'w AtomicUsize,
 }
 
@@ -34,9 +33,7 @@ where
     F::Reader: Send,
     T::State: Send,
 {
-    ghost Allows = { λ work place made. MayBeMade (T.Makes work.task.now work.program.now)
-        (T.MakesOfIllegal work.task.now work.program.now) (F.content work.files.now) work.program.now work.most
-        work.paths.now place made };
+    ghost Allows = { λ work place made. MayBeMadeIn T.Makes T.MakesOfIllegal T.MayRefuse F.content work place made };
 
     fn work(&self, is_first: bool) -> Vec<Entry<X>> {
         let mut entries = Vec::new(self.alloc);
@@ -53,12 +50,8 @@ fn read_others<F: Files, X: Drop, T: LogTask<X>>(
     work: &Work<'_, '_, F, T>,
     entries: &mut Vec<Entry<X>>,
 )
-    requires { All (λ entry. MayBeMade (T.Makes work.now.task.now work.now.program.now)
-        (T.MakesOfIllegal work.now.task.now work.now.program.now) (F.content work.now.files.now) work.now.program.now
-        work.now.most work.now.paths.now entry.place entry.made) entries.old.items }
-    ensures { All (λ entry. MayBeMade (T.Makes work.now.task.now work.now.program.now)
-        (T.MakesOfIllegal work.now.task.now work.now.program.now) (F.content work.now.files.now) work.now.program.now
-        work.now.most work.now.paths.now entry.place entry.made) entries.new.items }
+    requires { AreEntries T.Makes T.MakesOfIllegal T.MayRefuse F.content work.now entries.old.items }
+    ensures { AreEntries T.Makes T.MakesOfIllegal T.MayRefuse F.content work.now entries.new.items }
 {
     for place in &work.places.others {
         if !read_log(work, *place, entries) {
@@ -72,12 +65,8 @@ fn read_regular<F: Files, X: Drop, T: LogTask<X>>(
     work: &Work<'_, '_, F, T>,
     entries: &mut Vec<Entry<X>>,
 )
-    requires { All (λ entry. MayBeMade (T.Makes work.now.task.now work.now.program.now)
-        (T.MakesOfIllegal work.now.task.now work.now.program.now) (F.content work.now.files.now) work.now.program.now
-        work.now.most work.now.paths.now entry.place entry.made) entries.old.items }
-    ensures { All (λ entry. MayBeMade (T.Makes work.now.task.now work.now.program.now)
-        (T.MakesOfIllegal work.now.task.now work.now.program.now) (F.content work.now.files.now) work.now.program.now
-        work.now.most work.now.paths.now entry.place entry.made) entries.new.items }
+    requires { AreEntries T.Makes T.MakesOfIllegal T.MayRefuse F.content work.now entries.old.items }
+    ensures { AreEntries T.Makes T.MakesOfIllegal T.MayRefuse F.content work.now entries.new.items }
 {
     for _ in 0..work.places.regular.len() {
         let next = work.taken.fetch_add(1, Ordering::SeqCst);
@@ -96,12 +85,8 @@ fn read_log<F: Files, X: Drop, T: LogTask<X>>(
     place: usize,
     entries: &mut Vec<Entry<X>>,
 ) -> bool
-    requires { All (λ entry. MayBeMade (T.Makes work.now.task.now work.now.program.now)
-        (T.MakesOfIllegal work.now.task.now work.now.program.now) (F.content work.now.files.now) work.now.program.now
-        work.now.most work.now.paths.now entry.place entry.made) entries.old.items }
-    ensures { All (λ entry. MayBeMade (T.Makes work.now.task.now work.now.program.now)
-        (T.MakesOfIllegal work.now.task.now work.now.program.now) (F.content work.now.files.now) work.now.program.now
-        work.now.most work.now.paths.now entry.place entry.made) entries.new.items }
+    requires { AreEntries T.Makes T.MakesOfIllegal T.MayRefuse F.content work.now entries.old.items }
+    ensures { AreEntries T.Makes T.MakesOfIllegal T.MayRefuse F.content work.now entries.new.items }
 {
     if place > work.end.load(Ordering::SeqCst) || entries.reserve(1).is_err() {
         return false;

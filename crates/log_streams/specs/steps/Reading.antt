@@ -1,4 +1,4 @@
--- How far a log is read, judged and made something of.
+-- How far a log is read and checked, and what is made of it.
 use Rattle.std.specs.Prelude.{◌≡◌, ◌⊎◌, ◌++◌, ℕ, List, Option, Result, Ok, Err}
 use Rattle.std.specs.Io.KnownBytes.{IsAtEnd}
 use Rattle.legalpath.specs.FirstFault.{IsFirstFault}
@@ -31,7 +31,7 @@ IsMadeOfEvents Makes OfIllegal program most hart events made =
     (IsLegalUpTo most program events × Makes hart events made)
     ⊎ ((row : IllegalRow) × IsIllegalRow (words_of program) events row × OfIllegal events row made)
 
--- A log was not read: its source failed, memory was refused, or it has this fault.
+-- A log was not read: its source failed, an allocation failed, or it has this fault.
 abbrev pub IsNotRead : {S : Type 0} → (S → List ℕ) → (S → Option (List ℕ)) → ℕ → LogReader S → LogFault → Type 0
 IsNotRead given left most reader why =
     IsReadOrMemory why ⊎ IsFirstFaultOfLog most (given_to given reader) (left_to left reader) why
@@ -57,14 +57,14 @@ pub record IsReadOn {S : Type 0} (given : S → List ℕ) (left : S → Option (
 abbrev pub HasReadOn : {S : Type 0} → (S → List ℕ) → (S → Option (List ℕ)) → ℕ → List Event → LogReader S → Type 0
 HasReadOn given left most seen reader = (more : List Event) × HasRead given left most (seen ++ more) reader
 
--- This is made of a legal log with these events, or memory was refused.
+-- This is made of a legal log with these events, or an allocation failed.
 abbrev pub IsFinished : {X : Type 0} → (ℕ → List Event → X → Type 0) → Image → ℕ → ℕ → List Event → Result X Stop → Type 0
 IsFinished Makes program most hart events (Ok made) = IsLegalUpTo most program events × Makes hart events made
 IsFinished Makes program most hart events (Err why) = why ≡ stop.Unread Memory
 
--- Of a log these events were read and judged, and then others.
-pub record HasJudgedOn {S K : Type 0} (Keeps : List Event → K → Type 0) (program : Image) (given : S → List ℕ)
-    (left : S → Option (List ℕ)) (most : ℕ) (seen : List Event) (reader : LogReader S) (judging : Judging K) : Type 0 where
-  pub more : List Event
-  pub read : HasRead given left most (seen ++ more) reader
-  pub judged : HasJudged Keeps program (seen ++ more) judging
+-- Some events of a log were read and checked, and no others.
+pub record HasReadAndJudged {S K : Type 0} (Keeps : List Event → K → Type 0) (program : Image) (given : S → List ℕ)
+    (left : S → Option (List ℕ)) (most : ℕ) (reader : LogReader S) (judging : Judging K) : Type 0 where
+  pub seen : List Event
+  pub read : HasRead given left most seen reader
+  pub judged : HasJudged Keeps program seen judging

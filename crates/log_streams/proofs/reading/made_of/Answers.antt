@@ -4,10 +4,14 @@ use Rattle.retire.specs.Is64Bit.{Is64Bit}
 use Rattle.rvclass.specs.Fetch.{words_of}
 use Rattle.log_streams.proofs.reading.made_of.Goals as goal
 
-pub returns-clause-made : goal.returns-clause-made
-returns-clause-made g c = c.made_from.ensures.made c.args.most c.args.hart [] c.requires (record {
-  passed = c.new.ensures.none (words_of c.args.program.now);
-  numbers = All-from_recursion Is64Bit [] tt;
-  keeps = c.in-Ok.ensures;
-  last = refl;
-})
+pub made_from-requires : goal.made_from-requires
+made_from-requires g c = record {
+  seen = [];
+  read = c.requires;
+  judged = record {
+    passed = c.new.ensures.none (words_of c.args.program.now);
+    numbers = All-from_recursion Is64Bit [] tt;
+    keeps = c.in-Ok.ensures;
+    last = refl;
+  };
+}
