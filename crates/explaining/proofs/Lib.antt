@@ -1,4 +1,5 @@
 pub mod DigitsLemmas
+mod ElfLemmas
 pub mod RowLemmas
 mod WorkedLines
 pub mod ListedLemmas

@@ -1,4 +1,4 @@
--- What a log has at the row of an event that stands in it, and at the row before.
+-- What a log has at the row of an event that is in it, and at the row before.
 use Rattle.std.proofs.Common.{◌≡◌, ℕ, ◌+◌, ◌-◌, List, [], ◌∷◌, ◌++◌, Option, Some, None, length, arith, refl, sym}
 use Rattle.std.proofs.Common.{ap, ◌∙◌, cond}
 use Rattle.std.proofs.lemmas.Bool.{ne_eqb}

@@ -1,5 +1,5 @@
 -- Lines that were worked by hand, as the definition gives them.
-use Rattle.std.proofs.Common.{◌≡◌, ℕ, ◌+◌, true, false, List, [], ◌∷◌, refl}
+use Rattle.std.proofs.Common.{◌≡◌, ℕ, ◌+◌, true, false, List, [], ◌∷◌, ◌++◌, refl}
 use Rattle.std.specs.Prelude.{codes}
 use Rattle.retire.specs.declared.event.Event.{Event}
 use Rattle.retire.specs.declared.event.Event.TheVariants.{Retire, Trap}
@@ -99,27 +99,27 @@ unfolding words_of class16 class32 digits
 value_of_an_interrupt = refl
 
 behind_a_branch_not_taken : line (at 0 4 3 ∷ at 0xc 0 3 ∷ []) 2 WrongNext
-    ≡ codes "  80000000: 00000463 is a branch, not taken: 80000004 follows\n"
+    ≡ codes "  80000000: 00000463 is a branch, not taken: 80000004 follows, not 8000000c\n"
 unfolding words_of class16 class32 digits
 behind_a_branch_not_taken = refl
 
 behind_a_branch_taken : line (at 0 5 3 ∷ at 4 0 3 ∷ []) 2 WrongNext
-    ≡ codes "  80000000: 00000463 is a branch, taken: 80000008 follows\n"
+    ≡ codes "  80000000: 00000463 is a branch, taken: 80000008 follows, not 80000004\n"
 unfolding words_of class16 class32 digits
 behind_a_branch_taken = refl
 
 behind_a_short_word : line (at 0x18 6 3 ∷ at 0x1c 0 3 ∷ at 0 4 3 ∷ []) 3 WrongNext
-    ≡ codes "  8000001c: 0001 is a plain word: 8000001e follows\n"
+    ≡ codes "  8000001c: 0001 is a plain word: 8000001e follows, not 80000000\n"
 unfolding words_of class16 class32 digits
 behind_a_short_word = refl
 
 behind_a_jump : line (at 0xc 0 3 ∷ at 0x10 3 3 ∷ []) 2 WrongNext
-    ≡ codes "  8000000c: 0080006f is a jump: 80000014 follows\n"
+    ≡ codes "  8000000c: 0080006f is a jump: 80000014 follows, not 80000010\n"
 unfolding words_of class16 class32 digits
 behind_a_jump = refl
 
 behind_a_short_jump : line (at 0x1e 0 3 ∷ at 0x10 3 3 ∷ []) 2 WrongNext
-    ≡ codes "  8000001e: a001 is a jump: 8000001e follows\n"
+    ≡ codes "  8000001e: a001 is a jump: 8000001e follows, not 80000010\n"
 unfolding words_of class16 class32 digits
 behind_a_short_jump = refl
 
@@ -144,22 +144,22 @@ unfolding words_of class16 class32 digits
 no_level_of_a_trap = refl
 
 level_behind_a_word : line (at 0x18 6 1 ∷ exception 4 3 2 ∷ []) 2 WrongPrivilege
-    ≡ codes "  80000018: 00008067 is an uninferable jump: privilege 1 follows\n"
+    ≡ codes "  80000018: 00008067 is an uninferable jump: privilege 1 follows, not 3\n"
 unfolding words_of class16 class32 digits
 level_behind_a_word = refl
 
 level_behind_sret : line (at 0x14 3 1 ∷ at 4 0 3 ∷ []) 2 WrongPrivilege
-    ≡ codes "  80000014: 10200073 is SRET: privilege 0 or 1 follows\n"
+    ≡ codes "  80000014: 10200073 is SRET: privilege 0 or 1 follows, not 3\n"
 unfolding words_of class16 class32 digits
 level_behind_sret = refl
 
 level_behind_a_trap : line (exception 4 1 2 ∷ at 4 0 0 ∷ []) 2 WrongPrivilege
-    ≡ codes "  80000004: an exception from privilege 1: privilege 1 or 3 follows\n"
+    ≡ codes "  80000004: an exception from privilege 1: privilege 1 or 3 follows, not 0\n"
 unfolding words_of class16 class32 digits
 level_behind_a_trap = refl
 
 level_behind_a_trap_at_machine_level : line (interrupt 4 3 0 ∷ at 4 0 1 ∷ []) 2 WrongPrivilege
-    ≡ codes "  80000004: an interrupt from privilege 3: privilege 3 follows\n"
+    ≡ codes "  80000004: an interrupt from privilege 3: privilege 3 follows, not 1\n"
 unfolding words_of class16 class32 digits
 level_behind_a_trap_at_machine_level = refl
 
@@ -169,9 +169,29 @@ unfolding words_of class16 class32 digits
 odd_address_of_a_trap = refl
 
 trap_behind_a_plain_word : line (at 4 0 3 ∷ interrupt 4 3 0 ∷ []) 2 WrongEpc
-    ≡ codes "  80000004: 00000013 is a plain word: 80000008 follows\n"
+    ≡ codes "  80000004: 00000013 is a plain word: 80000008 follows, not 80000004\n"
 unfolding words_of class16 class32 digits
 trap_behind_a_plain_word = refl
+
+-- The lines of the first row of a log, which is off this image.
+abbrev off : List ℕ → List ℕ
+off bytes = explanation (image_at base bytes) (at 0x20 0 3 ∷ []) (record { row = 1; why = OffProgram })
+
+elf_file : off (0x7f ∷ 0x45 ∷ 0x4c ∷ 0x46 ∷ 0x02 ∷ [])
+    ≡ codes "  80000020: no whole word: the image is 80000000 to 80000004\n"
+    ++ codes "  the image looks like an ELF file: give it the raw bytes (objcopy -O binary)\n"
+unfolding words_of class16 class32 digits
+elf_file = refl
+
+first_bytes_of_an_elf_file : off (0x7f ∷ 0x45 ∷ 0x4c ∷ [])
+    ≡ codes "  80000020: no whole word: the image is 80000000 to 80000002\n"
+unfolding words_of class16 class32 digits
+first_bytes_of_an_elf_file = refl
+
+no_elf_file : off (0x7f ∷ 0x45 ∷ 0x4c ∷ 0x47 ∷ [])
+    ≡ codes "  80000020: no whole word: the image is 80000000 to 80000003\n"
+unfolding words_of class16 class32 digits
+no_elf_file = refl
 
 no_such_row : line (at 4 0 3 ∷ []) 2 WrongNext ≡ []
 no_such_row = refl

@@ -2,7 +2,7 @@
 use Rattle.std.specs.Prelude.{ℕ, ◌-◌, ◌++◌, ◌==◌, if◌then◌else◌, List, length, replicate}
 use Rattle.retire.specs.LogText.{hex}
 
--- A number in lower-case hexadecimal, with leading zeros where it has fewer digits than this.
+-- A number in lower-case hexadecimal, with leading zeros if it has fewer digits than this.
 abbrev pub hex_filled : ℕ → ℕ → List ℕ
 hex_filled width n = replicate (width - length (hex n)) 48 ++ hex n
 

@@ -1,4 +1,4 @@
--- Why a row of a log is illegal, in a line of text.
+-- Why a row of a log is illegal, in lines of text.
 use Rattle.std.specs.Prelude.{ℕ, ◌+◌, ◌-◌, ◌%◌, ◌++◌, ◌&&◌, ◌==◌, nat_lt, if◌then◌else◌, Bool, List, [], codes}
 use Rattle.std.specs.Prelude.{Option, Some, None, length, slice_get}
 use Rattle.isa.specs.Privilege.{is_privilege}
@@ -17,6 +17,7 @@ use Rattle.legalpath.specs.declared.fault.PathFault.{PathFault}
 use Rattle.legalpath.specs.declared.fault.Why.{Why}
 use Rattle.legalpath.specs.declared.fault.Why.TheVariants.{OffProgram, NotRetirable, WrongType, WrongNext}
 use Rattle.legalpath.specs.declared.fault.Why.TheVariants.{WrongPrivilege, WrongEpc}
+use Rattle.explaining.specs.ElfImage.{elf_line}
 use Rattle.explaining.specs.Following.{place_text, privileges_text}
 use Rattle.explaining.specs.Standing.{before_text, standing_text}
 
@@ -51,23 +52,24 @@ abbrev pub retires_at : Option Word → ℕ → Bool
 retires_at None priv = is_privilege priv
 retires_at (Some word) priv = is_privilege priv && may_retire_at word.0 priv
 
--- What stands at the row before, and what follows it.
-abbrev pub follows_text : Image → Option Event → List ℕ → List ℕ
-follows_text image before what = before_text image before ++ (codes ": " ++ (what ++ codes " follows"))
+-- What is at the row before, what follows it, and what the row has in place of that.
+abbrev pub follows_text : Image → Option Event → List ℕ → ℕ → List ℕ
+follows_text image before what found =
+    before_text image before ++ (codes ": " ++ (what ++ (codes " follows, not " ++ hex found)))
 
--- What stands at the row itself, and what some part of it is.
+-- What is at the row itself, and what some part of it is.
 abbrev pub needs_text : Image → Event → List ℕ → List ℕ → List ℕ
 needs_text image event part what =
     standing_text image event ++ (codes ": its " ++ (part ++ (codes " is " ++ what)))
 
--- Where the row has to stand, by the event before.
-abbrev pub place_line : Image → Option Event → List ℕ
-place_line image before = follows_text image before (place_text (words_of image) before)
+-- Where the row has to be, by the event before, and where it is.
+abbrev pub place_line : Image → Option Event → ℕ → List ℕ
+place_line image before place = follows_text image before (place_text (words_of image) before) place
 
--- The privileges that the row may have, by the event before.
-abbrev pub privilege_line : Image → Option Event → List ℕ
-privilege_line image before =
-    follows_text image before (codes "privilege " ++ privileges_text (words_of image) before)
+-- The privileges that the row may have, by the event before, and the one that it has.
+abbrev pub privilege_line : Image → Option Event → ℕ → List ℕ
+privilege_line image before priv =
+    follows_text image before (codes "privilege " ++ privileges_text (words_of image) before) priv
 
 -- Why a retirement is illegal.
 abbrev pub retirement_line : Image → Option Event → ℕ → ℕ → ℕ → Why → List ℕ
@@ -76,11 +78,11 @@ retirement_line image before addr itype priv OffProgram =
 retirement_line image before addr itype priv NotRetirable = standing_text image (Retire addr itype priv)
 retirement_line image before addr itype priv WrongType =
     needs_text image (Retire addr itype priv) (codes "type") (word_types_text (words_of image addr))
-retirement_line image before addr itype priv WrongNext = place_line image before
+retirement_line image before addr itype priv WrongNext = place_line image before addr
 retirement_line image before addr itype priv WrongPrivilege =
-    if retires_at (words_of image addr) priv then privilege_line image before else
+    if retires_at (words_of image addr) priv then privilege_line image before priv else
     needs_text image (Retire addr itype priv) (codes "privilege") (word_privileges_text (words_of image addr))
-retirement_line image before addr itype priv WrongEpc = place_line image before
+retirement_line image before addr itype priv WrongEpc = place_line image before addr
 
 -- Why a trap is illegal.
 abbrev pub trap_line : Image → Option Event → ℕ → Bool → ℕ → ℕ → ℕ → Why → List ℕ
@@ -88,10 +90,10 @@ trap_line image before priv interrupt cause epc tval WrongType =
     if nat_lt cause 64 then needs_text image (Trap priv interrupt cause epc tval) (codes "value") (codes "0") else
     needs_text image (Trap priv interrupt cause epc tval) (codes "cause") (codes "at most 3f")
 trap_line image before priv interrupt cause epc tval WrongPrivilege =
-    if is_privilege priv then privilege_line image before else
+    if is_privilege priv then privilege_line image before priv else
     needs_text image (Trap priv interrupt cause epc tval) (codes "privilege") (codes "0, 1 or 3")
 trap_line image before priv interrupt cause epc tval WrongEpc =
-    if epc % 2 == 0 then place_line image before else
+    if epc % 2 == 0 then place_line image before epc else
     needs_text image (Trap priv interrupt cause epc tval) (codes "address") (codes "even")
 trap_line image before priv interrupt cause epc tval _ = standing_text image (Trap priv interrupt cause epc tval)
 
@@ -105,13 +107,15 @@ event_line image before (Trap priv interrupt cause epc tval) why =
 abbrev pub at_row : List Event → ℕ → Option Event
 at_row log row = if row == 0 then None else slice_get log (row - 1)
 
--- The line of an event, if there is one, behind two blanks.
+-- The line of an event, if there is one, after two blanks; and the line below it, if the image begins as an ELF file
+-- does.
 abbrev pub explained : Image → Option Event → Option Event → Why → List ℕ
 explained image before None why = []
-explained image before (Some event) why = codes "  " ++ (event_line image before event why ++ codes "\n")
+explained image before (Some event) why =
+    codes "  " ++ (event_line image before event why ++ (codes "\n" ++ elf_line image))
 
--- The line that explains a fault of a log: what stands at the row, or at the row before where that leads elsewhere, and
--- what may stand there. A row that the log does not have has no line.
+-- The lines that explain a fault of a log: what is at the row, or at the row before where that leads elsewhere, and
+-- what may be there. A row that the log does not have has no line.
 abbrev pub explanation : Image → List Event → PathFault → List ℕ
 explanation image log fault =
     explained image (at_row log (fault.row - 1)) (at_row log fault.row) fault.why

@@ -10,13 +10,13 @@ use Rattle.legalpath.specs.Successor.{successor}
 use Rattle.legalpath.specs.declared.next.Next.{Next}
 use Rattle.legalpath.specs.declared.next.Next.TheVariants.{One, Any, NoneInside}
 
--- Where an event may stand, by where the event before leads.
+-- Where an event may be, by where the event before leads.
 abbrev pub next_text : Next → List ℕ
 next_text (One to) = hex to
 next_text Any = codes "any address"
 next_text NoneInside = codes "no address"
 
--- Where an event may stand behind the event before, if there is one.
+-- Where an event may be after the event before, if there is one.
 abbrev pub place_text : Words → Option Event → List ℕ
 place_text words None = codes "any address"
 place_text words (Some before) = next_text (successor words before)

@@ -1,4 +1,4 @@
--- What stands at a row of a log.
+-- What is at a row of a log.
 use Rattle.std.specs.Prelude.{ℕ, ◌++◌, if◌then◌else◌, Bool, true, false, List, [], Option, Some, None, codes}
 use Rattle.retire.specs.Events.{is_branch, is_taken}
 use Rattle.retire.specs.LogText.{hex}
@@ -22,7 +22,7 @@ class_text (TrapReturn Mret) = codes "is MRET"
 class_text (TrapReturn Sret) = codes "is SRET"
 class_text NotRetirable = codes "does not retire"
 
--- The bits of a word and its class, if a whole word stands there.
+-- The bits of a word and its class, if a complete word is there.
 abbrev pub word_text : Option Instruction → List ℕ
 word_text None = codes "no whole word"
 word_text (Some word) = code_text word.length word.code ++ (codes " " ++ class_text word.class)
@@ -32,7 +32,7 @@ abbrev pub trap_text : Bool → List ℕ
 trap_text true = codes "an interrupt"
 trap_text false = codes "an exception"
 
--- What stands at an event's row: the address of a retirement and the word there; the exception program counter of a
+-- What is at an event's row: the address of a retirement and the word there; the exception program counter of a
 -- trap, its kind, and the privilege that it was taken from.
 abbrev pub standing_text : Image → Event → List ℕ
 standing_text image (Retire addr itype priv) = hex addr ++ (codes ": " ++ word_text (instruction_of image addr))
@@ -45,7 +45,7 @@ way_text event =
     if is_taken event then codes ", taken" else
     if is_branch event then codes ", not taken" else []
 
--- What stands at the row before, and which way it went if it is a branch.
+-- What is at the row before, and which way it went if it is a branch.
 abbrev pub before_text : Image → Option Event → List ℕ
 before_text image None = codes "no row before"
 before_text image (Some event) = standing_text image event ++ way_text event

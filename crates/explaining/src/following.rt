@@ -9,7 +9,7 @@ use retire::Event;
 use rvclass::{Class, Program, Return};
 use std::fmt;
 
-/// Where an event may stand, by where the event before leads.
+/// Where an event may be, by where the event before leads.
 #[derive(Clone, Copy)]
 struct Target(Next);
 
@@ -25,7 +25,7 @@ impl fmt::Display for Target {
     }
 }
 
-/// Where an event may stand behind the event before, if there is one.
+/// Where an event may be after the event before, if there is one.
 #[derive(Clone, Copy)]
 pub(crate) struct Place<'a> {
     pub(crate) program: &'a Program,

@@ -1,4 +1,4 @@
-//! What the texts of explanations have to do with what is judged.
+//! How the texts of explanations relate to what is legal.
 
 ghost use Rattle.std.specs.Prelude.{Some, Option, IfSome};
 ghost use Rattle.isa.specs.Privilege.{IsPrivilege};

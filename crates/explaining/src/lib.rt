@@ -1,8 +1,11 @@
-//! Why a row of a log is illegal, in a line of text: what stands at the row, or at the row before, and what may stand
-//! there. The facts are those that `legalpath` judges by. No call takes memory.
+//! Why a row of a log is illegal, in lines of text: what is at the row, or at the row before, and what may be there.
+//! The facts are those that `legalpath` checks by. No call allocates.
+//!
+//! [`explain`] is handed the complete log, and [`explain_row`] the row and the row before alone.
 #![tactic(auto)]
 
 mod code;
+mod elf_image;
 mod following;
 mod laws;
 mod line;

@@ -9,37 +9,40 @@ use retire::Event;
 use rvclass::Program;
 use std::fmt;
 
-/// Where the row has to stand, by the event before.
+/// Where the row has to be, by the event before, and where it is.
 #[derive(Clone, Copy)]
 pub(crate) struct PlaceLine<'a> {
     pub(crate) program: &'a Program,
     pub(crate) before: Option<Event>,
+    pub(crate) place: u64,
 }
 
 impl fmt::Display for PlaceLine<'_> {
-    ghost output = { λ text. Some (place_line text.program.now text.before) };
+    ghost output = { λ text. Some (place_line text.program.now text.before text.place) };
 
     fn fmt<W: fmt::Write>(&self, f: &mut fmt::Formatter<W>) -> fmt::Result {
         let program = self.program;
         let event = self.before;
         let before = Before { program, event };
-        let place = Place {
+        let wanted = Place {
             program,
             before: event,
         };
-        write!(f, "{before}: {place} follows")
+        let place = self.place;
+        write!(f, "{before}: {wanted} follows, not {place:x}")
     }
 }
 
-/// The privileges that the row may have, by the event before.
+/// The privileges that the row may have, by the event before, and the one that it has.
 #[derive(Clone, Copy)]
 pub(crate) struct PrivilegeLine<'a> {
     pub(crate) program: &'a Program,
     pub(crate) before: Option<Event>,
+    pub(crate) privilege: u8,
 }
 
 impl fmt::Display for PrivilegeLine<'_> {
-    ghost output = { λ text. Some (privilege_line text.program.now text.before) };
+    ghost output = { λ text. Some (privilege_line text.program.now text.before text.privilege) };
 
     fn fmt<W: fmt::Write>(&self, f: &mut fmt::Formatter<W>) -> fmt::Result {
         let program = self.program;
@@ -49,6 +52,10 @@ impl fmt::Display for PrivilegeLine<'_> {
             program,
             before: event,
         };
-        write!(f, "{before}: privilege {privileges} follows")
+        let privilege = self.privilege;
+        write!(
+            f,
+            "{before}: privilege {privileges} follows, not {privilege:x}"
+        )
     }
 }

@@ -66,13 +66,25 @@ impl fmt::Display for RetirementLine<'_> {
             }
             Why::WrongPrivilege => {
                 if retires_at(program, self.addr, self.privilege) {
-                    write!(f, "{}", PrivilegeLine { program, before })
+                    let line = PrivilegeLine {
+                        program,
+                        before,
+                        privilege: self.privilege,
+                    };
+                    write!(f, "{line}")
                 } else {
                     let privileges = privileges_text(program, self.addr);
                     write!(f, "{standing}: its privilege is {privileges}")
                 }
             }
-            Why::WrongNext | Why::WrongEpc => write!(f, "{}", PlaceLine { program, before }),
+            Why::WrongNext | Why::WrongEpc => {
+                let line = PlaceLine {
+                    program,
+                    before,
+                    place: self.addr,
+                };
+                write!(f, "{line}")
+            }
         }
     }
 }

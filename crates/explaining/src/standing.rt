@@ -1,4 +1,4 @@
-//! What stands at a row of a log.
+//! What is at a row of a log.
 
 ghost use Rattle.std.specs.Prelude.{◌≡◌, Some};
 ghost use Rattle.explaining.specs.Standing.{before_text, class_text, standing_text, trap_text, way_text};
@@ -8,7 +8,7 @@ use retire::Event;
 use rvclass::{Class, Program, Return};
 use std::fmt;
 
-/// What stands at an event's row: the address of a retirement and the word there, or the exception program counter of a
+/// What is at an event's row: the address of a retirement and the word there, or the exception program counter of a
 /// trap, its kind and the privilege that it was taken from.
 #[derive(Clone, Copy)]
 pub(crate) struct Standing<'a> {
@@ -45,7 +45,7 @@ impl fmt::Display for Standing<'_> {
     }
 }
 
-/// What stands at the row before, and which way it went if it is a branch.
+/// What is at the row before, and which way it went if it is a branch.
 #[derive(Clone, Copy)]
 pub(crate) struct Before<'a> {
     pub(crate) program: &'a Program,

@@ -49,14 +49,24 @@ impl fmt::Display for TrapLine<'_> {
             }
             Why::WrongPrivilege => {
                 if is_privilege(u64::from(self.privilege)) {
-                    write!(f, "{}", PrivilegeLine { program, before })
+                    let line = PrivilegeLine {
+                        program,
+                        before,
+                        privilege: self.privilege,
+                    };
+                    write!(f, "{line}")
                 } else {
                     write!(f, "{standing}: its privilege is 0, 1 or 3")
                 }
             }
             Why::WrongEpc => {
                 if self.epc.is_multiple_of(2) {
-                    write!(f, "{}", PlaceLine { program, before })
+                    let line = PlaceLine {
+                        program,
+                        before,
+                        place: self.epc,
+                    };
+                    write!(f, "{line}")
                 } else {
                     write!(f, "{standing}: its address is even")
                 }

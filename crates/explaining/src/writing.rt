@@ -1,4 +1,4 @@
-//! Writing the line that explains a fault.
+//! Writing the lines that explain a fault.
 
 ghost use Rattle.std.specs.Prelude.{◌≡◌, IfErr, List, OnOk, Some};
 ghost use Rattle.std.specs.Io.KnownBytes.{Appends};
@@ -7,6 +7,7 @@ ghost use Rattle.retire.specs.declared.event.Event.{Event as AnyEvent};
 ghost use Rattle.explaining.specs.Explanation.{at_row, event_line, explained, explanation};
 ghost use Rattle.explaining.specs.StandsAt.{StandsAt};
 
+use crate::elf_image::ElfLine;
 use crate::retirement::RetirementLine;
 use crate::trap::TrapLine;
 use legalpath::{PathFault, Why};
@@ -16,7 +17,7 @@ use rvclass::Program;
 use std::fmt;
 use std::io::Write;
 
-/// Why an event is illegal: what stands at its row, or at the row before, and what may stand there.
+/// Why an event is illegal: what is at its row, or at the row before, and what may be there.
 #[derive(Clone, Copy)]
 struct EventLine<'a> {
     program: &'a Program,
@@ -81,12 +82,13 @@ fn at_row(log: &[Event], row: u32) -> Option<Event>
     log.get((row - 1) as usize).copied()
 }
 
-/// Writes the line that explains a fault of a log: what stands at the row, or at the row before where that leads
-/// elsewhere, and what may stand there. Two blanks stand before the text, and a line feed behind it.
+/// Writes the line that explains a fault of a log: what is at the row, or at the row before where that leads elsewhere,
+/// and what may be there. The line begins with two blanks and ends with a line feed. If the image begins with the bytes
+/// 7f 45 4c 46, a line below says that it looks like an ELF file.
 ///
 /// The fault is one that [`check`](legalpath::check) returns for this program and this log. For a row that the log does
-/// not have, nothing is written. The only fault is [`WriteFault::Write`], where the writer failed; what was written
-/// then is a beginning of the text. No memory is taken, and the writer is not flushed.
+/// not have, nothing is written. The only fault is [`WriteFault::Write`]: the writer failed, and what was written is a
+/// prefix of the text. The call allocates nothing, and does not flush the writer.
 pub fn explain<W: Write>(
     program: &Program,
     log: &[Event],
@@ -106,12 +108,12 @@ pub fn explain<W: Write>(
     explain_row(program, before, &event, fault, sink)
 }
 
-/// Writes the line that explains a fault of a log, of which the caller has two events: the one at the fault's row, and
-/// the one at the row before, if there is one. It writes what [`explain`] writes of the whole log.
+/// Writes what [`explain`] writes of a fault of a log, of which the caller has two events: the one at the fault's row,
+/// and the one at the row before, if there is one. So the fault of a log whose events come piece by piece is explained.
 ///
-/// So the fault of a log whose events come piece by piece is explained. The line is made of the two events alone; of
-/// the fault it has the reason. The only fault is [`WriteFault::Write`], where the writer failed; what was written then
-/// is a beginning of the text. No memory is taken, and the writer is not flushed.
+/// The text depends on the program, the two events and the reason alone. The only fault is [`WriteFault::Write`]: the
+/// writer failed, and what was written is a prefix of the text. The call allocates nothing, and does not flush the
+/// writer.
 pub fn explain_row<W: Write>(
     program: &Program,
     before: Option<Event>,
@@ -137,6 +139,7 @@ pub fn explain_row<W: Write>(
         event: *event,
         why: fault.why,
     };
-    write_text(sink, format_args!("  {line}\n"))?;
+    let below = ElfLine(program);
+    write_text(sink, format_args!("  {line}\n{below}"))?;
     Ok(())
 }

@@ -1,7 +1,10 @@
-//! Why rows are illegal, in a line each, at the first rows and far after them (`explaining`).
+//! Why rows are illegal, in a line each, at the first rows and far after them, and of an image that is an ELF file
+//! (`explaining`).
 
 use crate::fixtures::Step::{self, Retires, Traps};
-use crate::fixtures::{BACK_JUMP, BASE, BEQ, ECALL, MRET, NOP, event_of, program_of, retired};
+use crate::fixtures::{
+    BACK_JUMP, BASE, BEQ, ECALL, MRET, NOP, add, event_of, program_of, program_with, retired,
+};
 use crate::same::same_at;
 use explaining::{explain, explain_row};
 use legalpath::{PathFault, Why, check};
@@ -44,7 +47,7 @@ const ROWS: [Row; 10] = [
     (
         Retires(0xc, 4, 3),
         Why::WrongNext,
-        "  80000004: ffdff06f is a jump: 80000000 follows\n",
+        "  80000004: ffdff06f is a jump: 80000000 follows, not 8000000c\n",
     ),
     (
         Retires(0, 0, 2),
@@ -54,7 +57,7 @@ const ROWS: [Row; 10] = [
     (
         Retires(0, 0, 1),
         Why::WrongPrivilege,
-        "  80000004: ffdff06f is a jump: privilege 3 follows\n",
+        "  80000004: ffdff06f is a jump: privilege 3 follows, not 1\n",
     ),
     (
         Traps(BASE + 1, 3, false, 2, 0),
@@ -64,7 +67,7 @@ const ROWS: [Row; 10] = [
     (
         Traps(BASE + 0x10, 3, true, 7, 0),
         Why::WrongEpc,
-        "  80000004: ffdff06f is a jump: 80000000 follows\n",
+        "  80000004: ffdff06f is a jump: 80000000 follows, not 80000010\n",
     ),
 ];
 
@@ -77,17 +80,17 @@ fn turns<R: Abort + AllocGlobal>(rt: &R, count: u32) -> Vec<Event> {
     log
 }
 
-/// Ends the test unless this line explains the fault of a log, and the fault's row without the log.
+/// Ends the test unless this text explains the fault of a log, and the fault's row without the log.
 fn is_explained<R: Abort + AllocGlobal>(
     rt: &R,
     program: &Program,
     log: &[Event],
     fault: PathFault,
-    wanted: &str,
+    wanted: &[u8],
 ) {
     let mut text = Vec::new(rt.alloc());
     same_at(rt, fault, explain(program, log, fault, &mut text), Ok(()));
-    same_at(rt, fault, text.as_slice(), wanted.as_bytes());
+    same_at(rt, fault, text.as_slice(), wanted);
     let row = fault.row as usize;
     let event = log
         .get(row.wrapping_sub(1))
@@ -96,7 +99,7 @@ fn is_explained<R: Abort + AllocGlobal>(
     let mut line = Vec::new(rt.alloc());
     let end = explain_row(program, before, event, fault, &mut line);
     same_at(rt, fault, end, Ok(()));
-    same_at(rt, fault, line.as_slice(), wanted.as_bytes());
+    same_at(rt, fault, line.as_slice(), wanted);
 }
 
 /// Ends the test unless each row is refused and explained where it comes after so many legal ones.
@@ -110,7 +113,7 @@ fn are_explained<R: Abort + AllocGlobal>(rt: &R, program: &Program, count: u32) 
             why,
         };
         same_at(rt, fault, check(program, &log), Err(fault));
-        is_explained(rt, program, &log, fault, wanted);
+        is_explained(rt, program, &log, fault, wanted.as_bytes());
     }
 }
 
@@ -137,6 +140,59 @@ fn each_row(rt: HostRuntime) {
             row,
             why: Why::WrongType,
         };
-        is_explained(&rt, &program, &log, fault, wanted);
+        is_explained(&rt, &program, &log, fault, wanted.as_bytes());
     }
 }
+
+/// An image that is not legal to run from its first byte on, the line of its first row, and whether it begins as an ELF
+/// file does.
+type ImageRow = (&'static [u8], &'static str, bool);
+
+const IMAGES: [ImageRow; 9] = [
+    (b"\x7fELF", "  80000000: 457f does not retire\n", true),
+    (
+        b"\x7fELF\x02\x01\x01\0\0\0\0\0\0\0\0\0\x02\0\xf3\0",
+        "  80000000: 457f does not retire\n",
+        true,
+    ),
+    (b"\x7fELG", "  80000000: 457f does not retire\n", false),
+    (b"\x7fEMF", "  80000000: 457f does not retire\n", false),
+    (b"\x7fFLF", "  80000000: 467f does not retire\n", false),
+    (b"\x7fEL", "  80000000: 457f does not retire\n", false),
+    (
+        b"\x7f",
+        "  80000000: no whole word: the image is 80000000 to 80000000\n",
+        false,
+    ),
+    (
+        b"",
+        "  80000000: no whole word: the image is empty\n",
+        false,
+    ),
+    (b"\0\0\x7fELF", "  80000000: 0000 does not retire\n", false),
+];
+
+#[test]
+fn images_that_are_elf_files(rt: HostRuntime) {
+    for (bytes, line, is_elf) in IMAGES {
+        let program = program_with(&rt, &[], bytes);
+        let log = [retired(0, 0, 3)];
+        let why = if bytes.len() < 2 {
+            Why::OffProgram
+        } else {
+            Why::NotRetirable
+        };
+        let fault = PathFault { row: 1, why };
+        same_at(&rt, bytes, check(&program, &log), Err(fault));
+        let mut wanted = Vec::new(rt.alloc());
+        add(&rt, &mut wanted, line.as_bytes());
+        if is_elf {
+            add(&rt, &mut wanted, ELF_LINE.as_bytes());
+        }
+        is_explained(&rt, &program, &log, fault, wanted.as_slice());
+    }
+}
+
+/// The line below that of a row.
+const ELF_LINE: &str =
+    "  the image looks like an ELF file: give it the raw bytes (objcopy -O binary)\n";

@@ -77,7 +77,7 @@ $ tracebench check --base 80000000 --explain image.bin sret.csv
 > sret.csv: row 1: WrongType
 >   80000014: 10200073 is SRET: its type is 3
 ? 2
-# Retirements that do not stand where the row before leads.
+# Retirements that are not where the row before leads.
 file passed.csv
 | addr,itype,priv,cause,tval
 | 80000000,4,3,,
@@ -102,15 +102,15 @@ file around.csv
 | 8000001c,0,3,,
 $ tracebench check --base 80000000 --explain image.bin passed.csv taken.csv jumped.csv behind.csv around.csv
 > passed.csv: row 2: WrongNext
->   80000000: 00000463 is a branch, not taken: 80000004 follows
+>   80000000: 00000463 is a branch, not taken: 80000004 follows, not 8000000c
 > taken.csv: row 2: WrongNext
->   80000000: 00000463 is a branch, taken: 80000008 follows
+>   80000000: 00000463 is a branch, taken: 80000008 follows, not 80000004
 > jumped.csv: row 2: WrongNext
->   8000000c: 0080006f is a jump: 80000014 follows
+>   8000000c: 0080006f is a jump: 80000014 follows, not 80000010
 > behind.csv: row 3: WrongNext
->   8000001c: 0001 is a plain word: 8000001e follows
+>   8000001c: 0001 is a plain word: 8000001e follows, not 80000004
 > around.csv: row 3: WrongNext
->   8000001e: a001 is a jump: 8000001e follows
+>   8000001e: a001 is a jump: 8000001e follows, not 8000001c
 ? 2
 # Privileges that a word, or the row before, does not allow.
 file mret.csv
@@ -145,19 +145,19 @@ $ tracebench check --base 80000000 --explain image.bin mret.csv sret.csv kept.cs
 > sret.csv: row 1: WrongPrivilege
 >   80000014: 10200073 is SRET: its privilege is 1 or 3
 > kept.csv: row 2: WrongPrivilege
->   80000018: 00008067 is an uninferable jump: privilege 1 follows
+>   80000018: 00008067 is an uninferable jump: privilege 1 follows, not 3
 > lowered.csv: row 2: WrongPrivilege
->   80000014: 10200073 is SRET: privilege 0 or 1 follows
+>   80000014: 10200073 is SRET: privilege 0 or 1 follows, not 3
 ? 2
 $ tracebench check --base 80000000 --explain image.bin raised.csv handled.csv trapped.csv
 > raised.csv: row 2: WrongPrivilege
->   80000004: an interrupt from privilege 1: privilege 1 or 3 follows
+>   80000004: an interrupt from privilege 1: privilege 1 or 3 follows, not 0
 > handled.csv: row 2: WrongPrivilege
->   80000004: an exception from privilege 3: privilege 3 follows
+>   80000004: an exception from privilege 3: privilege 3 follows, not 1
 > trapped.csv: row 2: WrongPrivilege
->   80000004: 00000013 is a plain word: privilege 3 follows
+>   80000004: 00000013 is a plain word: privilege 3 follows, not 1
 ? 2
-# A trap that does not stand where the row before leads; a legal log has no second line.
+# A trap that is not where the row before leads; a legal log has no second line.
 file trap.csv
 | addr,itype,priv,cause,tval
 | 80000000,5,3,,
@@ -170,16 +170,16 @@ file legal.csv
 $ tracebench check --base 80000000 --explain image.bin legal.csv trap.csv legal.csv
 > legal.csv: legal, 3 events
 > trap.csv: row 2: WrongEpc
->   80000000: 00000463 is a branch, taken: 80000008 follows
+>   80000000: 00000463 is a branch, taken: 80000008 follows, not 80000004
 > legal.csv: legal, 3 events
 ? 2
-# A log that is refused ends the run, behind the lines of those before it.
+# A log that is refused ends the run, after the lines of those before it.
 file cut.csv
 | addr,itype,priv,cause,tval
 | 80000000,5
 $ tracebench check --base 80000000 --explain image.bin trap.csv cut.csv legal.csv
 > trap.csv: row 2: WrongEpc
->   80000000: 00000463 is a branch, taken: 80000008 follows
+>   80000000: 00000463 is a branch, taken: 80000008 follows, not 80000004
 ! tracebench: cut.csv: row 1: wrong number of fields
 ? 2
 # C.EBREAK, and a word of more than 32 bits.
@@ -196,5 +196,24 @@ $ tracebench check --base 80000000 --explain short.bin ebreak.csv long.csv
 >   80000000: 9002 does not retire
 > long.csv: row 1: NotRetirable
 >   80000002: 001f does not retire
+? 2
+# An image that is an ELF file: each illegal log has a line on it, and a legal one has none.
+file elf.bin
+|= 7f454c46 02010100
+file empty.csv
+| addr,itype,priv,cause,tval
+$ tracebench check --base 80000000 --explain elf.bin first.csv empty.csv off.csv
+> first.csv: row 1: NotRetirable
+>   80000000: 457f does not retire
+>   the image looks like an ELF file: give it the raw bytes (objcopy -O binary)
+> empty.csv: legal, 0 events
+> off.csv: row 1: OffProgram
+>   80000020: no whole word: the image is 80000000 to 80000007
+>   the image looks like an ELF file: give it the raw bytes (objcopy -O binary)
+? 2
+# The same without the flag.
+$ tracebench check --base 80000000 elf.bin first.csv empty.csv
+> first.csv: row 1: NotRetirable
+> empty.csv: legal, 0 events
 ? 2
 ";

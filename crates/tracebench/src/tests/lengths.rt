@@ -86,11 +86,11 @@ $ tracebench check --base 80000000 --explain tail.bin type.csv next.csv privileg
 > type.csv: row 70001: WrongType
 >   800222e0: 0001 is a plain word: its type is 0
 > next.csv: row 70001: WrongNext
->   800222de: 0001 is a plain word: 800222e0 follows
+>   800222de: 0001 is a plain word: 800222e0 follows, not 80000000
 > privilege.csv: row 70001: WrongPrivilege
->   800222de: 0001 is a plain word: privilege 3 follows
+>   800222de: 0001 is a plain word: privilege 3 follows, not 1
 > epc.csv: row 70001: WrongEpc
->   800222de: 0001 is a plain word: 800222e0 follows
+>   800222de: 0001 is a plain word: 800222e0 follows, not 80000000
 > retired.csv: row 70002: NotRetirable
 >   800222e2: 9002 does not retire
 ? 2

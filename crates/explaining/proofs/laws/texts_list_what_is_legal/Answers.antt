@@ -1,4 +1,4 @@
--- The laws are tables over the classes of words, which no search makes.
+-- The theorems are tables over the classes of words, which no search writes.
 use Rattle.explaining.proofs.ListedLemmas.{following_listed, levels_listed, types_listed}
 use Rattle.explaining.proofs.laws.texts_list_what_is_legal.Goals as goal
 

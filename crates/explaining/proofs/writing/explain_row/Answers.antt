@@ -1,4 +1,4 @@
--- The clauses on logs hold of any log that has these events, by a lemma on what stands at its rows.
+-- The clauses on logs hold of any log that has these events, by a lemma on what is at its rows.
 use Rattle.std.proofs.Common.{subst}
 use Rattle.std.specs.Io.KnownBytes.{Appends}
 use Rattle.output.specs.Begun.{AppendsBeginning}
