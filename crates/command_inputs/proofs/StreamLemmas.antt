@@ -1,9 +1,8 @@
 -- What is found of the logs at paths, from what was made of them as they were read.
 use Rattle.std.proofs.Common.{◌≡◌, ◌∙◌, ◌≤◌, ◌⊎◌, inl, inr, refl, ℕ, zero, suc, arith, sym, ap, subst, List, []}
-use Rattle.std.proofs.Common.{◌∷◌, ◌++◌, Some, Result, Ok, Err, length, slice_get, take}
+use Rattle.std.proofs.Common.{◌∷◌, ◌++◌, Some, Ok, Err, length, slice_get, take}
 use Rattle.std.specs.List.{AllZip}
 use Rattle.legalpath.specs.ProgramLog.{ProgramLog, program_log}
-use Rattle.retire.specs.Log.{most_rows}
 use Rattle.retire.specs.declared.event.Event.{Event}
 use Rattle.retire.specs.declared.fault.LogFault.{LogFault}
 use Rattle.retire.specs.declared.fault.LogFault.TheVariants as log
@@ -16,36 +15,37 @@ use Rattle.log_streams.specs.declared.logs_fault.LogsFault.{LogsFault}
 use Rattle.log_streams.specs.declared.stop.Stop.{Stop}
 use Rattle.log_streams.specs.declared.stop.Stop.TheVariants as stop
 use Rattle.command_inputs.specs.Faults.{Path, log_fault, stop_fault}
-use Rattle.command_inputs.specs.Found.{IsFirstRefused, IsLegalLogAt, IsLog}
+use Rattle.command_inputs.specs.FoundLogs.{IsFirstRefusedUpTo, IsLegalLogUpTo, IsLogUpTo}
 use Rattle.command_inputs.specs.declared.fault.Fault.{Fault}
 use Rattle.command_inputs.specs.declared.fault.Fault.TheVariants as fault
 use Rattle.command_inputs.proofs.FromFiles.{legal_unread, log_read, log_refused}
 
 -- The log in the file at a path is the log at that path.
-pub log_read_in : (content : Content) (path : Path) (events : List Event)
-    → IsReadIn (content path.now) most_rows (Ok events) → IsLog content path (Ok events)
-log_read_in content path events there = log_read content path there.bytes events there.held there.read
+pub log_read_in : {W : Type 0} (rows : ℕ) (content : Content) (path : Path) (events : List Event)
+    → IsReadIn (content path.now) rows (Ok events) → IsLogUpTo {W = W} rows content path (Ok events)
+log_read_in rows content path events there = log_read rows content path there.bytes events there.held there.read
 
 -- A log that is not read to its end has no events.
-pub log_unread_in : (content : Content) (path : Path) (why : LogFault)
-    → (why ≡ log.Memory) ⊎ IsUnread (content path.now) most_rows why
-    → (log_fault path why ≡ fault.Memory) ⊎ IsLog content path (Err (log_fault path why))
-log_unread_in content path why (inl denied) = inl (ap (log_fault path) denied)
-log_unread_in content path why (inr (inl (is, lacks))) =
-    inr (subst (λ why. IsLog content path (Err (log_fault path why))) (sym is)
+pub log_unread_in : {W : Type 0} (rows : ℕ) (content : Content) (path : Path) (why : LogFault)
+    → (why ≡ log.Memory) ⊎ IsUnread (content path.now) rows why
+    → (log_fault {W = W} path why ≡ fault.Memory) ⊎ IsLogUpTo {W = W} rows content path (Err (log_fault path why))
+log_unread_in {W} rows content path why (inl denied) = inl (ap (log_fault {W = W} path) denied)
+log_unread_in {W} rows content path why (inr (inl (is, lacks))) =
+    inr (subst (λ why. IsLogUpTo {W = W} rows content path (Err (log_fault path why))) (sym is)
     (record { bytes = Err (fault.Unreadable path); read = (refl, lacks); made = refl }))
-log_unread_in content path why (inr (inr there)) =
-    log_refused content path there.bytes why there.held (inr there.read)
+log_unread_in rows content path why (inr (inr there)) =
+    log_refused rows content path there.bytes why there.held (inr there.read)
 
 -- A log of which nothing is made is not legal.
-pub legal_stopped : (content : Content) (program : Image) (path : Path) (why : Stop)
-    → IsStopped (content path.now) program most_rows why
-    → (stop_fault path why ≡ fault.Memory) ⊎ IsLegalLogAt content program path (Err (stop_fault path why))
-legal_stopped content program path (stop.Unread why) there =
-    legal_unread content program path (log_fault path why) (log_unread_in content path why there)
-legal_stopped content program path (stop.Illegal illegal) (events, read, first) = inr (record {
+pub legal_stopped : {W : Type 0} (rows : ℕ) (content : Content) (program : Image) (path : Path) (why : Stop)
+    → IsStopped (content path.now) program rows why
+    → (stop_fault {W = W} path why ≡ fault.Memory)
+    ⊎ IsLegalLogUpTo {W = W} rows content program path (Err (stop_fault path why))
+legal_stopped rows content program path (stop.Unread why) there =
+    legal_unread rows content program path (log_fault path why) (log_unread_in rows content path why there)
+legal_stopped rows content program path (stop.Illegal illegal) (events, read, first) = inr (record {
   events = Ok events;
-  read = log_read_in content path events read;
+  read = log_read_in rows content path events read;
   judged = (illegal, refl, first);
 })
 
@@ -73,11 +73,11 @@ pub parted_at : {A : Type 0} (xs : List A) (i : ℕ) (x : A) → slice_get xs i 
 parted_at [] i x at = cc at
 parted_at (y ∷ xs) zero x at = (xs, ap (λ y. y ∷ xs) (cc at))
 parted_at (y ∷ xs) (suc i) x at =
-    let behind = parted_at xs i x at in (behind.0, ap (λ xs. y ∷ xs) behind.1)
+    let more = parted_at xs i x at in (more.0, ap (λ xs. y ∷ xs) more.1)
 
 -- Of the logs at the first paths something was made, and of the one at the next nothing, with this fault.
-pub record StopsAt {X : Type 0} (R : Path → X → Type 0) (Stops : Path → Fault → Type 0) (paths : List Path)
-    (made : List X) (why : Fault) : Type 0 where
+pub record StopsAt {W X : Type 0} (R : Path → X → Type 0) (Stops : Path → Fault W → Type 0) (paths : List Path)
+    (made : List X) (why : Fault W) : Type 0 where
   pub front : List Path
   pub next : Path
   pub rest : List Path
@@ -85,22 +85,23 @@ pub record StopsAt {X : Type 0} (R : Path → X → Type 0) (Stops : Path → Fa
   pub came : AllZip R front made
   pub stopped : Stops next why
 
-module _ {X : Type 0} (Makes : ℕ → List Event → X → Type 0) (OfIllegal : List Event → IllegalRow → X → Type 0)
+module _ {X : Type 0} (rows : ℕ) (Makes : ℕ → List Event → X → Type 0)
+    (OfIllegal : List Event → IllegalRow → X → Type 0)
     (content : Content) (program : Image) (paths : List Path) (made : List X) (R : Path → X → Type 0)
     (leads : (hart : ℕ) (path : Path) (one : X)
-    → IsMadeOf Makes OfIllegal (content path.now) program most_rows hart (Ok one) → R path one) where
+    → IsMadeOf Makes OfIllegal (content path.now) program rows hart (Ok one) → R path one) where
   -- Something is made of the log at each path.
-  pub made_whole : (u : Unit {0}) → AreMade Makes OfIllegal content program most_rows paths made (Ok u)
+  pub made_whole : (u : Unit {0}) → AreMade Makes OfIllegal content program rows paths made (Ok u)
       → AllZip R paths made
   made_whole u are =
       all_by_place R paths made (are.all refl)
       (λ hart path one here there. leads hart path one (are.each hart path one here there))
 
   -- Nothing is made of the log at a path, and something of those before.
-  pub made_stops : (Stops : Path → Fault → Type 0)
-      → ((path : Path) (why : Stop) → IsStopped (content path.now) program most_rows why
+  pub made_stops : {W : Type 0} (Stops : Path → Fault W → Type 0)
+      → ((path : Path) (why : Stop) → IsStopped (content path.now) program rows why
       → Stops path (stop_fault path why))
-      → (end : LogsFault) → AreMade Makes OfIllegal content program most_rows paths made (Err end)
+      → (end : LogsFault) → AreMade Makes OfIllegal content program rows paths made (Err end)
       → StopsAt R Stops paths made (stop_fault end.path end.why)
   made_stops Stops stops end are =
       let parted = parted_at paths (length made) end.path are.fault.0 in record {
@@ -114,23 +115,24 @@ module _ {X : Type 0} (Makes : ℕ → List Event → X → Type 0) (OfIllegal :
       }
 
 -- The paths of which each has a legal log have legal logs.
-logs_of : (content : Content) (program : Image) {X : Type 0} (paths : List Path) (ones : List X)
-    → AllZip (λ path one. (log : ProgramLog) × IsLegalLogAt content program path (Ok log)) paths ones
-    → (logs : List ProgramLog) × AllZip (λ path log. IsLegalLogAt content program path (Ok log)) paths logs
-logs_of content program [] [] all = ([], tt)
-logs_of content program [] (one ∷ ones) all = elim all [ ]
-logs_of content program (path ∷ paths) [] all = elim all [ ]
-logs_of content program (path ∷ paths) (one ∷ ones) (first, all) =
-    let behind = logs_of content program paths ones all in (first.0 ∷ behind.0, (first.1, behind.1))
+logs_of : {X : Type 0} (W : Type 0) (rows : ℕ) (content : Content) (program : Image) (paths : List Path) (ones : List X)
+    → AllZip (λ path one. (log : ProgramLog) × IsLegalLogUpTo {W = W} rows content program path (Ok log)) paths ones
+    → (logs : List ProgramLog)
+    × AllZip (λ path log. IsLegalLogUpTo {W = W} rows content program path (Ok log)) paths logs
+logs_of W rows content program [] [] all = ([], tt)
+logs_of W rows content program [] (one ∷ ones) all = elim all [ ]
+logs_of W rows content program (path ∷ paths) [] all = elim all [ ]
+logs_of W rows content program (path ∷ paths) (one ∷ ones) (first, all) =
+    let more = logs_of W rows content program paths ones all in (first.0 ∷ more.0, (first.1, more.1))
 
--- The log at which it stops is the first that is not legal, unless memory was refused.
-stop_refused : (content : Content) (program : Image) (paths front : List Path) (path : Path) (rest : List Path)
-    (logs : List ProgramLog) (why : Fault) → paths ≡ front ++ path ∷ rest
-    → AllZip (λ path log. IsLegalLogAt content program path (Ok log)) front logs
-    → (why ≡ fault.Memory) ⊎ IsLegalLogAt content program path (Err why)
-    → (why ≡ fault.Memory) ⊎ IsFirstRefused content program paths why
-stop_refused content program paths front path rest logs why whole legal (inl denied) = inl denied
-stop_refused content program paths front path rest logs why whole legal (inr refused) = inr (record {
+-- The log at which it stops is the first that is not legal, unless allocation failed.
+stop_refused : {W : Type 0} (rows : ℕ) (content : Content) (program : Image) (paths front : List Path) (path : Path)
+    (rest : List Path) (logs : List ProgramLog) (why : Fault W) → paths ≡ front ++ path ∷ rest
+    → AllZip (λ path log. IsLegalLogUpTo {W = W} rows content program path (Ok log)) front logs
+    → (why ≡ fault.Memory) ⊎ IsLegalLogUpTo rows content program path (Err why)
+    → (why ≡ fault.Memory) ⊎ IsFirstRefusedUpTo rows content program paths why
+stop_refused rows content program paths front path rest logs why whole legal (inl denied) = inl denied
+stop_refused rows content program paths front path rest logs why whole legal (inr refused) = inr (record {
   front = front;
   path = path;
   rest = rest;
@@ -140,50 +142,52 @@ stop_refused content program paths front path rest logs why whole legal (inr ref
   refused = refused;
 })
 
-module _ {X : Type 0} (Makes : ℕ → List Event → X → Type 0) (OfIllegal : List Event → IllegalRow → X → Type 0)
+module _ {X : Type 0} (rows : ℕ) (Makes : ℕ → List Event → X → Type 0)
+    (OfIllegal : List Event → IllegalRow → X → Type 0)
     (never : (events : List Event) (row : IllegalRow) (one : X) → OfIllegal events row one → ⊥)
     (content : Content) (program : Image) where
   -- What is made of the log at a path is made of a legal log.
-  pub legal_made : (hart : ℕ) (path : Path) (one : X)
-      → IsMadeOf Makes OfIllegal (content path.now) program most_rows hart (Ok one)
-      → (log : ProgramLog) × IsLegalLogAt content program path (Ok log)
+  pub legal_made : {W : Type 0} (hart : ℕ) (path : Path) (one : X)
+      → IsMadeOf Makes OfIllegal (content path.now) program rows hart (Ok one)
+      → (log : ProgramLog) × IsLegalLogUpTo {W = W} rows content program path (Ok log)
   legal_made hart path one (inl made) = (
     program_log program made.events,
     record {
       events = Ok made.events;
-      read = log_read_in content path made.events made.read;
+      read = log_read_in rows content path made.events made.read;
       judged = (refl, made.legal.legal);
     },
   )
   legal_made hart path one (inr made) = absurd (never made.events made.row one made.makes)
 
-  -- Where nothing is made of an illegal log, the log at which it stops is the first that is not legal, unless memory
-  -- was refused.
-  pub first_refused : (paths : List Path) (made : List X) (end : LogsFault)
-      → AreMade Makes OfIllegal content program most_rows paths made (Err end)
-      → (stop_fault end.path end.why ≡ fault.Memory)
-      ⊎ IsFirstRefused content program paths (stop_fault end.path end.why)
-  first_refused paths made end are =
-      let why = stop_fault end.path end.why in
-      let stop = made_stops Makes OfIllegal content program paths made
-      (λ path one. (log : ProgramLog) × IsLegalLogAt content program path (Ok log)) legal_made
-      (λ path why. (why ≡ fault.Memory) ⊎ IsLegalLogAt content program path (Err why))
-      (legal_stopped content program) end are in
-      let logs = logs_of content program stop.front made stop.came in
-      stop_refused content program paths stop.front stop.next stop.rest logs.0 why stop.whole logs.1 stop.stopped
+  -- Where nothing is made of an illegal log, the log at which it stops is the first that is not legal, unless
+  -- allocation failed.
+  pub first_refused : {W : Type 0} (paths : List Path) (made : List X) (end : LogsFault)
+      → AreMade Makes OfIllegal content program rows paths made (Err end)
+      → (stop_fault {W = W} end.path end.why ≡ fault.Memory)
+      ⊎ IsFirstRefusedUpTo {W = W} rows content program paths (stop_fault end.path end.why)
+  first_refused {W} paths made end are =
+      let why : Fault W = stop_fault end.path end.why in
+      let stop = made_stops rows Makes OfIllegal content program paths made
+      (λ path one. (log : ProgramLog) × IsLegalLogUpTo {W = W} rows content program path (Ok log))
+      (legal_made {W = W})
+      (λ path (why : Fault W). (why ≡ fault.Memory) ⊎ IsLegalLogUpTo rows content program path (Err why))
+      (legal_stopped rows content program) end are in
+      let logs = logs_of W rows content program stop.front made stop.came in
+      stop_refused rows content program paths stop.front stop.next stop.rest logs.0 why stop.whole logs.1 stop.stopped
 
 -- The events of a log are kept, with the program.
 abbrev pub IsKept : Image → ℕ → List Event → ProgramLog → Type 0
 IsKept program hart events log = (log.program ≡ program) × (log.events ≡ events)
 
-module _ (content : Content) (program : Image) where
+module _ (rows : ℕ) (content : Content) (program : Image) where
   -- A log that is kept is the legal log at its path.
-  legal_kept : (hart : ℕ) (path : Path) (log : ProgramLog)
-      → IsMadeOf (IsKept program) (λ events row log. ⊥) (content path.now) program most_rows hart (Ok log)
-      → IsLegalLogAt content program path (Ok log)
+  legal_kept : {W : Type 0} (hart : ℕ) (path : Path) (log : ProgramLog)
+      → IsMadeOf (IsKept program) (λ events row log. ⊥) (content path.now) program rows hart (Ok log)
+      → IsLegalLogUpTo {W = W} rows content program path (Ok log)
   legal_kept hart path log (inl made) = record {
     events = Ok made.events;
-    read = log_read_in content path made.events made.read;
+    read = log_read_in rows content path made.events made.read;
     judged = (
       ap (λ program. program_log program log.events) made.makes.0 ∙ ap (program_log program) made.makes.1,
       made.legal.legal,
@@ -192,9 +196,9 @@ module _ (content : Content) (program : Image) where
   legal_kept hart path log (inr made) = absurd made.makes
 
   -- All logs are legal.
-  pub logs_kept : (u : Unit {0}) (paths : List Path) (logs : List ProgramLog)
-      → AreMade (IsKept program) (λ events row log. ⊥) content program most_rows paths logs (Ok u)
-      → AllZip (λ path log. IsLegalLogAt content program path (Ok log)) paths logs
-  logs_kept u paths logs are =
-      made_whole (IsKept program) (λ events row log. ⊥) content program paths logs
-      (λ path log. IsLegalLogAt content program path (Ok log)) legal_kept u are
+  pub logs_kept : (W : Type 0) (u : Unit {0}) (paths : List Path) (logs : List ProgramLog)
+      → AreMade (IsKept program) (λ events row log. ⊥) content program rows paths logs (Ok u)
+      → AllZip (λ path log. IsLegalLogUpTo {W = W} rows content program path (Ok log)) paths logs
+  logs_kept W u paths logs are =
+      made_whole rows (IsKept program) (λ events row log. ⊥) content program paths logs
+      (λ path log. IsLegalLogUpTo {W = W} rows content program path (Ok log)) (legal_kept {W = W}) u are

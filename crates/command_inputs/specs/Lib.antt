@@ -4,6 +4,7 @@ pub mod FaultText
 pub mod Order
 pub mod Finding
 pub mod Found
+pub mod FoundLogs
 pub mod Judged
 pub mod Printed
 pub mod Begun

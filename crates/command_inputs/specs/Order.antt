@@ -4,12 +4,12 @@ use Rattle.command_inputs.specs.declared.fault.Fault.{Fault}
 use Rattle.command_inputs.specs.declared.fault.Fault.TheVariants as fault
 
 -- The fault of a base that is no number.
-abbrev pub base_fault : Option ℕ → Option Fault
+abbrev pub base_fault : {W : Type 0} → Option ℕ → Option (Fault W)
 base_fault None = Some fault.Base
 base_fault (Some base) = None
 
 -- The fault of a base that is no number; then that of no log; then that of more logs than `most`.
-abbrev pub logs_fault : ℕ → Option ℕ → ℕ → Option Fault
+abbrev pub logs_fault : {W : Type 0} → ℕ → Option ℕ → ℕ → Option (Fault W)
 logs_fault most None count = Some fault.Base
 logs_fault most (Some base) count =
     if count == 0 then Some fault.NoLogs else if nat_lt most count then Some (fault.ManyLogs most) else None

@@ -1,31 +1,30 @@
-//! The inputs of a command: a base, a file, an image and symbols.
+//! The inputs of a subcommand: a base, a file and an image.
 
-ghost use Rattle.std.specs.Prelude.{◌≡◌, ◌⊎◌, ◌≤◌, ◌<◌, IfErr, IfOk, IfSome, Err, Ok, length};
-ghost use Rattle.command_inputs.specs.Faults.{status_of};
+ghost use Rattle.std.specs.Prelude.{◌≡◌, ◌⊎◌, ◌≤◌, ◌<◌, IfErr, IfOk, IfSome, Err, Ok, Some, length};
 ghost use Rattle.command_inputs.specs.declared.fault.Fault.TheVariants as fault;
-ghost use Rattle.command_inputs.specs.Found.{AreFew, AreSymbols, IsAskedProgram, IsBase, IsProgramAt, IsRead};
+ghost use Rattle.command_inputs.specs.Found.{AreFew, IsAskedProgram, IsBase, IsProgramAt, IsRead};
 ghost use Rattle.command_inputs.specs.Order.{logs_fault};
 ghost use Rattle.retire.specs.Number.{number_of};
 
 use crate::fault::Fault;
-use crate::status::Status;
 use files::Files;
 use retire::number;
 use rvclass::Program;
-use std::alloc::Global;
-use symbols::Symbols;
 
 /// The number that a base is.
-pub fn base_of<'a>(text: &str) -> Result<u64, Fault<'a>>
+pub fn base_of<'a, W>(text: &str) -> Result<u64, Fault<'a, W>>
     ensures found { IsBase text.now result }
     ensures number { IfOk result (λ base. number_of text.now ≡ Some base) }
     ensures none { IfErr result (λ fault. (fault ≡ Fault.Base) × (number_of text.now ≡ None)) }
 {
-    number(text.as_bytes()).ok_or(Fault::Base)
+    match number(text.as_bytes()) {
+        Some(base) => Ok(base),
+        None => Err(Fault::Base),
+    }
 }
 
 /// Refuses a count of logs that is 0 or more than this many.
-fn check_count<'a>(logs: &[&'a str], most: u16) -> Result<(), Fault<'a>>
+fn check_count<'a, W>(logs: &[&'a str], most: u16) -> Result<(), Fault<'a, W>>
     ensures found { AreFew most logs.now result }
     ensures some { IfOk result (λ _. 1 ≤ length logs.now) }
     ensures few { IfOk result (λ _. length logs.now ≤ most) }
@@ -42,9 +41,9 @@ fn check_count<'a>(logs: &[&'a str], most: u16) -> Result<(), Fault<'a>>
 }
 
 /// The content of the file at a path.
-pub fn content_of<'a, F: Files>(files: &mut F, path: &'a str) -> Result<Vec<u8>, Fault<'a>>
-    ensures machine { IfErr result (λ why. status_of why ≡ Status.Machine) }
-    ensures held { IfOk result (λ bytes. IsRead (F.content files.old) path.entry (Ok bytes.items)) }
+pub fn content_of<'a, W, F: Files>(files: &mut F, path: &'a str) -> Result<Vec<u8>, Fault<'a, W>>
+    ensures machine { IfErr result (λ why. (why ≡ Fault.Memory) ⊎ (why ≡ fault.Unreadable path.entry)) }
+    ensures held { IfOk result (λ bytes. IsRead {W = W} (F.content files.old) path.entry (Ok bytes.items)) }
     ensures lacked { IfErr result (λ why. (why ≡ Fault.Memory) ⊎ IsRead (F.content files.old) path.entry (Err why)) }
     ensures kept { F.content files.new ≡ F.content files.old }
 {
@@ -55,12 +54,13 @@ pub fn content_of<'a, F: Files>(files: &mut F, path: &'a str) -> Result<Vec<u8>,
 }
 
 /// The program of an image at a base.
-pub fn program_of<'a, F: Files>(
+pub fn program_of<'a, W, F: Files>(
     files: &mut F,
     base: u64,
     image: &'a str,
-) -> Result<Program, Fault<'a>>
-    ensures program { IfOk result (λ program. IsProgramAt (F.content files.old) base image.entry (Ok program)) }
+) -> Result<Program, Fault<'a, W>>
+    ensures program { IfOk result
+        (λ program. IsProgramAt {W = W} (F.content files.old) base image.entry (Ok program)) }
     ensures fault { IfErr result
         (λ why. (why ≡ Fault.Memory) ⊎ IsProgramAt (F.content files.old) base image.entry (Err why)) }
     ensures kept { F.content files.new ≡ F.content files.old }
@@ -69,41 +69,18 @@ pub fn program_of<'a, F: Files>(
     Ok(Program::new(base, bytes)?)
 }
 
-/// The symbols of the file at a path, if one is given.
-pub fn symbols_of<'a, F: Files>(
-    alloc: Global,
-    files: &mut F,
-    path: Option<&'a str>,
-) -> Result<Option<Symbols>, Fault<'a>>
-    ensures symbols { IfOk result (λ symbols. AreSymbols (F.content files.old) path.entry (Ok symbols)) }
-    ensures fault { IfErr result (λ why. (why ≡ Fault.Memory) ⊎ AreSymbols (F.content files.old) path.entry (Err why)) }
-    ensures kept { F.content files.new ≡ F.content files.old }
-{
-    let Some(path) = path else {
-        return Ok(None);
-    };
-    let bytes = match content_of(files, path) {
-        Ok(bytes) => bytes,
-        Err(why) => return Err(why),
-    };
-    match Symbols::new(alloc, bytes) {
-        Ok(symbols) => Ok(Some(symbols)),
-        Err(why) => Err(Fault::of_symbols(path, why)),
-    }
-}
-
 /// The program that is asked for together with logs. The base is looked at first, then the count of logs, then the
 /// image.
-pub fn asked_program<'a, F: Files>(
+pub fn asked_program<'a, W, F: Files>(
     files: &mut F,
     most: u16,
     base: &str,
     image: &'a str,
     paths: &[&'a str],
-) -> Result<Program, Fault<'a>>
+) -> Result<Program, Fault<'a, W>>
     ensures early { IfSome (logs_fault most (number_of base.now) (length paths.now)) (λ fault. result ≡ Err fault) }
     ensures program { IfOk result (λ program.
-        IsAskedProgram (F.content files.old) most base.now image.entry paths.now (Ok program)) }
+        IsAskedProgram {W = W} (F.content files.old) most base.now image.entry paths.now (Ok program)) }
     ensures fault { IfErr result (λ why.
         (why ≡ Fault.Memory) ⊎ IsAskedProgram (F.content files.old) most base.now image.entry paths.now (Err why)) }
     ensures some { IfOk result (λ _. 1 ≤ length paths.now) }

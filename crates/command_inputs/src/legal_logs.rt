@@ -1,8 +1,7 @@
 //! Logs that are all legal.
 
 ghost use Rattle.std.specs.Prelude.{◌≡◌, ◌⊎◌, Err, IfErr, IfOk, Ok, length, vec_len};
-ghost use Rattle.command_inputs.specs.declared.fault.Fault.TheVariants as fault;
-ghost use Rattle.command_inputs.specs.Found.{AreLegalLogs};
+ghost use Rattle.command_inputs.specs.FoundLogs.{AreLegalLogs};
 
 use crate::fault::Fault;
 use crate::listing::Listing;
@@ -14,19 +13,20 @@ use rvclass::Program;
 use std::alloc::Global;
 use std::thread::Threads;
 
-/// The logs at these paths, in order, where each is legal for the program. Each is judged as it is read, and as many are
+/// The logs at these paths, in order, where each is legal for the program. Each is checked as it is read, and as many are
 /// read side by side as the machine has processors.
-pub fn legal_logs_of<'a, 'p, F: Files + Sync, R: Threads + Sync>(
+pub fn legal_logs_of<'a, 'p, W, F: Files + Sync, R: Threads + Sync>(
     alloc: Global,
     rt: &R,
     files: &mut F,
     program: &'p Program,
     paths: &[&'a str],
-) -> Result<Vec<LegalLog<'p>>, Fault<'a>>
+) -> Result<Vec<LegalLog<'p>>, Fault<'a, W>>
 where
     F::Reader: Send,
     ensures count { IfOk result (λ logs. vec_len logs ≡ length paths.now) }
-    ensures logs { IfOk result (λ logs. AreLegalLogs (F.content files.old) program.now paths.now (Ok logs.items)) }
+    ensures logs { IfOk result
+        (λ logs. AreLegalLogs {W = W} (F.content files.old) program.now paths.now (Ok logs.items)) }
     ensures fault { IfErr result
         (λ why. (why ≡ Fault.Memory) ⊎ AreLegalLogs (F.content files.old) program.now paths.now (Err why)) }
     ensures kept { F.content files.new ≡ F.content files.old }

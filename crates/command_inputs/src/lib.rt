@@ -1,8 +1,9 @@
-//! What the subcommands of `tracebench` begin with and end by, whatever they do in between.
+//! How the subcommands of `tracebench` begin and end, whatever they do in between.
 //!
-//! A subcommand reads its inputs from [`Files`]: a base, an image, symbols, logs or a capture, each found in turn, or a
-//! [`Fault`] that ends it. It ends with a [`Status`], or at a fault, whose line [`report_error`] writes. What a run
-//! prints, and what it may have written where it is cut short, is said here for any subcommand.
+//! A subcommand reads its inputs from [`Files`]: a base, an image, logs or a capture, each in order, or a [`Fault`]
+//! that ends it. It ends with a [`Status`], or at a fault, whose line [`report_error`] writes. A subcommand stops for
+//! faults that any subcommand may have, or for a [`Reason`] of its own. What a run prints, and what it may have written
+//! where it is cut short, is said here for any subcommand.
 #![tactic(auto)]
 
 mod error_reporting;
@@ -10,11 +11,13 @@ mod fault;
 mod inputs;
 mod legal_logs;
 mod listing;
+mod reason;
 mod status;
 
 pub use error_reporting::report_error;
 pub use fault::Fault;
 pub use files::{FileFault, FileReader, Files};
-pub use inputs::{asked_program, base_of, content_of, program_of, symbols_of};
+pub use inputs::{asked_program, base_of, content_of, program_of};
 pub use legal_logs::legal_logs_of;
+pub use reason::Reason;
 pub use status::Status;

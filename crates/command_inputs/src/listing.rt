@@ -11,7 +11,7 @@ use std::alloc::{AllocError, Global};
 /// Keeps the events of each log that is legal for a program. An illegal log ends at its first illegal row.
 #[derive(Clone, Copy)]
 pub(crate) struct Listing<'p> {
-    /// The program that the logs are judged by.
+    /// The program that the logs are checked against.
     pub(crate) program: &'p Program,
     pub(crate) alloc: Global,
 }
@@ -35,7 +35,7 @@ impl<'p> LogTask<LegalLog<'p>> for Listing<'p> {
     }
 
     fn finish(&self, _: &Program, list: Vec<Event>) -> Result<LegalLog<'p>, AllocError> {
-        // The program is the one that the log was judged by, so that no list of this many events is refused.
+        // The log was checked against this program, so that no list of so many events is refused.
         if list.len() > MOST_ROWS as usize {
             return Err(AllocError);
         }

@@ -1,19 +1,19 @@
-//! How a command ends.
+//! How the program ends.
 
 ghost use Rattle.std.specs.Prelude.{◌≡◌};
 ghost use Rattle.command_inputs.specs.Status.{code_of};
 
-/// How a command ended, which decides its exit status.
+/// How a subcommand ended, which decides the exit status.
 #[derive(Clone, Copy, Debug, PartialEq, Eq)]
 pub enum Status {
     /// All that was asked for is done.
     Whole,
     /// Reading or decoding a capture stopped at a fault, a payload of it is bad, a hart's closing packet did not come
-    /// or there are gaps; or not every log came back whole.
+    /// or there are gaps; or not every log came back complete.
     NotWhole,
-    /// The words, the image, a log or the schedule is refused.
+    /// The arguments, the image, a log, the symbols or the schedule is refused.
     Refused,
-    /// A file was not read or the output not written, memory was refused, or there was a stop of `replay` or `bench`.
+    /// A file was not read, the output failed, allocation failed, or there was a stop of `replay` or `bench`.
     Machine,
 }
 
