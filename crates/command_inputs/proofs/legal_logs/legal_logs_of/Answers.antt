@@ -17,7 +17,7 @@ returns-in-Ok-clause-logs g c =
     let is : c.made_of_logs-made.result.end ≡ Ok c.in-Ok.field-0 = grind (arith, common_steps) in
     logs_kept most_rows content program _ c.in-Ok.field-0 paths made
     (subst (AreMade (IsKept program) (λ events row log. ⊥) content program most_rows paths made) is
-    c.made_of_logs-made.ensures)
+    c.made_of_logs-made.ensures.made)
 
 pub returns-clause-fault : goal.returns-clause-fault
 returns-clause-fault g c =
@@ -30,4 +30,4 @@ returns-clause-fault g c =
     subst (λ why. (why ≡ fault.Memory) ⊎ IsFirstRefused content program paths why) (sym c.of_stop.ensures)
     (first_refused most_rows (IsKept program) (λ events row log. ⊥) (λ events row log none. none) content program paths made end
     (subst (AreMade (IsKept program) (λ events row log. ⊥) content program most_rows paths made) is
-    c.made_of_logs-made.ensures))
+    c.made_of_logs-made.ensures.made))
