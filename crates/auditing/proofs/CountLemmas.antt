@@ -16,7 +16,7 @@ use Rattle.auditing.specs.declared.fate.Fate.TheVariants as fate
 use Rattle.auditing.specs.steps.Taking.{counted, one_more, strangers_after}
 
 -- One more, where the greatest count stays.
-capped_more : (count more : ℕ) → more ≡ count + 1 → one_more (capped count) ≡ capped more
+pub capped_more : (count more : ℕ) → more ≡ count + 1 → one_more (capped count) ≡ capped more
 capped_more count more is = omega (arith, is)
 
 -- A count that stays.

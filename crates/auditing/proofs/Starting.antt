@@ -37,7 +37,7 @@ pub started : (header : Option Header) (harts count highest number : ℕ) (bytes
     → count ≡ harts_by header highest
     → ((messages : List Message) → All IsMessage messages → bytes ≡ capture messages
     → AreIndexed count messages index)
-    → IsStarted bytes harts (record { header = header; harts = index; strangers = 0 })
+    → IsStarted bytes harts (record { header = header; harts = index; strangers = 0; taken = 0; first = None })
 started header harts count highest number bytes counts index harts_is has count_is indexed =
     let sent = has.messages in
     let whole : bytes ≡ capture sent = has.whole ∙ append-nil (capture sent) in

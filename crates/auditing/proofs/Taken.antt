@@ -3,38 +3,41 @@ use Rattle.std.proofs.Common.{◌≡◌, ◌≢◌, ◌⊎◌, inl, inr, ℕ, �
 use Rattle.std.proofs.Common.{length, slice_get, refl, sym, ap, subst, ◌∙◌, arith}
 use Rattle.std.specs.List.{list_any}
 use Rattle.std.proofs.lemmas.Bool.{cases_lt}
-use Rattle.std.proofs.lemmas.List.{length-set}
+use Rattle.std.proofs.lemmas.List.{length-set, length_push}
 use Rattle.std.proofs.lemmas.Option.{slice_get_within}
 use Rattle.message.proofs.AcceptedLemmas.{slice_get-set}
 use Rattle.message.proofs.Elements.{slice_get-some}
 use Rattle.message.specs.declared.message.Message.{Message}
-use Rattle.auditing.proofs.CountLemmas.{strangers-next}
+use Rattle.auditing.proofs.CountLemmas.{capped_more, strangers-next}
+use Rattle.auditing.proofs.FindingLemmas.{first-next, found_by_past}
 use Rattle.auditing.proofs.OwnMessages.{any_of_hart}
 use Rattle.auditing.proofs.TakingLemmas.{chosen, fate_is, of_its_hart, takes, takes_other}
 use Rattle.auditing.specs.Audits.{Audits, AuditsHart, capped}
 use Rattle.auditing.specs.Fates.{fate_of, has_greater, has_number, is_numbered, is_true, true_ones}
+use Rattle.auditing.specs.Findings.{fate_of_finding, finding_by, finding_of, greatest_number}
 use Rattle.auditing.specs.Judged.{strangers_in}
 use Rattle.auditing.specs.Ledger.{HartLedger, Ledger}
+use Rattle.auditing.specs.declared.fate.Fate.{Fate}
 use Rattle.auditing.specs.declared.fate.Fate.TheVariants as fate
-use Rattle.auditing.specs.steps.Taking.{fate_found, fate_from, hart_after, harts_found, ledger_after, strangers_after}
+use Rattle.auditing.specs.steps.Taking.{fate_found, fate_from, fate_in, finding_at, finding_found, finding_from, first_after}
+use Rattle.auditing.specs.steps.Taking.{hart_after, harts_found, ledger_after, one_more, strangers_after}
+
+-- Where nothing is found, the hart is none of SENT's.
+pub beyond_end : (harts : List HartLedger) (hart : ℕ) → slice_get harts hart ≡ None → length harts ≤ hart
+beyond_end harts hart is = go (cases_lt hart (length harts))
+  where
+    go : (hart < length harts) ⊎ (length harts ≤ hart) → length harts ≤ hart
+    go (inr past) = past
+    go (inl within) =
+        let found = slice_get-some harts hart within in
+        absurd (never found.0 (sym found.1 ∙ is))
+      where
+        never : (own : HartLedger) → Some own ≡ None → ⊥
+        never own e = cc
 
 module _ (sent received : List Message) (ledger : Ledger) (audits : Audits sent received ledger) (message : Message) where
   abbrev more : List Message
   more = received ++ message ∷ []
-
-  -- Where nothing is found, the hart is none of SENT's.
-  beyond : slice_get ledger.harts message.hart ≡ None → length ledger.harts ≤ message.hart
-  beyond is = go (cases_lt message.hart (length ledger.harts))
-    where
-      go : (message.hart < length ledger.harts) ⊎ (length ledger.harts ≤ message.hart)
-          → length ledger.harts ≤ message.hart
-      go (inr past) = past
-      go (inl within) =
-          let found = slice_get-some ledger.harts message.hart within in
-          absurd (never found.0 (sym found.1 ∙ is))
-        where
-          never : (own : HartLedger) → Some own ≡ None → ⊥
-          never own e = cc
 
   -- The fate of a message of another hart.
   stranger : slice_get ledger.harts message.hart ≡ None → fate.Stranger ≡ fate_of sent received message
@@ -43,7 +46,7 @@ module _ (sent received : List Message) (ledger : Ledger) (audits : Audits sent 
       (has_number (true_ones sent received) message.hart message.number)
       (has_greater (true_ones sent received) message.hart message.number))
       (any_of_hart message.hart (is_numbered message.hart message.number) (of_its_hart message.hart message.number) sent
-      ∙ ap (list_any (is_numbered message.hart message.number)) (audits.others message.hart (beyond is))))
+      ∙ ap (list_any (is_numbered message.hart message.number)) (audits.others message.hart (beyond_end ledger.harts message.hart is))))
 
   -- The fate is the one of the definition.
   pub fate_is_from : fate_from ledger message ≡ fate_of sent received message
@@ -54,12 +57,28 @@ module _ (sent received : List Message) (ledger : Ledger) (audits : Audits sent 
       go None is = stranger is
       go (Some own) is = fate_is sent received message own (audits.each message.hart own is)
 
+  -- What is found is what the definition says.
+  pub finding_is_from : finding_from ledger message ≡ finding_of sent received message
+  finding_is_from = go (slice_get ledger.harts message.hart) refl
+    where
+      greatest : Option ℕ
+      greatest = greatest_number (true_ones sent received) message.hart
+
+      go : (o : Option HartLedger) → slice_get ledger.harts message.hart ≡ o
+          → finding_found o message ≡ finding_of sent received message
+      go None is = ap (λ f. finding_by f greatest message.number) (stranger is)
+      go (Some own) is =
+          let each = audits.each message.hart own is in
+          ap (λ f. finding_at f own.past message.number) (fate_is sent received message own each)
+          ∙ ap (λ p. finding_at (fate_of sent received message) p message.number) each.past_is
+          ∙ found_by_past (fate_of sent received message) greatest message.number
+
   -- What is kept of each hart.
   each_of : (o : Option HartLedger) → slice_get ledger.harts message.hart ≡ o → (hart : ℕ) (own : HartLedger)
       → slice_get (harts_found ledger.harts message o) hart ≡ Some own → AuditsHart sent more hart own
   each_of None found hart own is =
       let within = slice_get_within ledger.harts hart own is in
-      let past = beyond found in
+      let past = beyond_end ledger.harts message.hart found in
       takes_other sent received message hart own (λ same. omega (arith, same, within, past)) (audits.each hart own is)
   each_of (Some its) found hart own is =
       go (slice_get-set ledger.harts message.hart
@@ -94,4 +113,24 @@ module _ (sent received : List Message) (ledger : Ledger) (audits : Audits sent 
         strangers = ap (λ n. strangers_after n (fate_from ledger message)) audits.strangers
             ∙ ap (strangers_after (capped (strangers_in sent received))) fate_is_from
             ∙ strangers-next sent received message (fate_of sent received message) refl;
+        taken = ap one_more audits.taken
+            ∙ capped_more (length received) (length more) (length_push received message);
+        first = (λ i. first_after (audits.first i) (audits.taken i) (finding_is_from i))
+            ∙ first-next sent received message;
       }
+
+-- The fate in what is found.
+pub fate_in_at : (its : Fate) (past number : ℕ) → fate_of_finding (finding_at its past number) ≡ its
+fate_in_at fate.Stranger past number = refl
+fate_in_at fate.Changed past number = refl
+fate_in_at fate.Repeat past number = refl
+fate_in_at fate.Late past number = refl
+fate_in_at fate.InOrder past number = refl
+
+pub fate_in_found : (ledger : Ledger) (message : Message)
+    → fate_of_finding (finding_from ledger message) ≡ fate_from ledger message
+fate_in_found ledger message = go (slice_get ledger.harts message.hart)
+  where
+    go : (o : Option HartLedger) → fate_of_finding (finding_found o message) ≡ fate_found o message
+    go None = refl
+    go (Some own) = fate_in_at (fate_in own message.number message.payload) own.past message.number

@@ -2,7 +2,7 @@
 use Rattle.std.proofs.Common.{◌≡◌, ◌≢◌, ℕ, ◌+◌, ◌<◌, ◌≤◌, Bool, true, false, eqb, ltb, List, []}
 use Rattle.std.proofs.Common.{◌∷◌, ◌++◌, Option, Some, None, get_or, map, set, slice_get, refl, sym, ap, subst, ◌∙◌}
 use Rattle.std.proofs.Common.{arith, zero-add}
-use Rattle.std.specs.Prelude.{◌&&◌, ◌||◌, if◌then◌else◌, is_some, not}
+use Rattle.std.specs.Prelude.{◌-◌, ◌&&◌, ◌||◌, if◌then◌else◌, is_some, max, not}
 use Rattle.std.specs.List.{list_any}
 use Rattle.std.specs.Str.{bytes_eq}
 use Rattle.std.proofs.lemmas.Bool.{and_from, and_parts, eq-eqb, eqb-true, le-ltb, lt-ltb, ltb-false, ltb-true, ne_eqb}
@@ -11,13 +11,15 @@ use Rattle.message.specs.OfHart.{of_hart}
 use Rattle.message.specs.declared.message.Message.{Message}
 use Rattle.auditing.proofs.Appending.{any-next, any-other, any_weaker, or_false, true_ones-same}
 use Rattle.auditing.proofs.CountLemmas.{counts-next, counts-other}
+use Rattle.auditing.proofs.FindingLemmas.{greatest_above, latest-other, latest-own, past-false, past-other, past-true}
 use Rattle.auditing.proofs.OwnMessages.{any_of_hart, fits, flag_at, flags, numbered_in, same_in, set_flag}
-use Rattle.auditing.specs.Audits.{AuditsHart}
+use Rattle.auditing.specs.Audits.{AuditsHart, number_after}
 use Rattle.auditing.specs.Fates.{fate_of, has_greater, has_number, is_numbered, is_same, is_true, true_ones}
+use Rattle.auditing.specs.Findings.{greatest_number, late_by, latest}
 use Rattle.auditing.specs.Ledger.{HartLedger}
 use Rattle.auditing.specs.declared.fate.Fate.{Fate}
 use Rattle.auditing.specs.declared.fate.Fate.TheVariants as fate
-use Rattle.auditing.specs.steps.Taking.{counted, fate_by, fate_in, hart_after}
+use Rattle.auditing.specs.steps.Taking.{counted, fate_by, fate_in, finding_at, hart_after}
 
 -- The fate by four tests: SENT has the number; the message is true; a true one with its number came before; one with a
 -- greater number came before.
@@ -119,15 +121,40 @@ module _ (sent received : List Message) (message : Message) (own : HartLedger)
   abbrev before : List Message
   before = true_ones sent received
 
+  -- The most by which a message is late.
+  latest_is : (its : Fate) → fate_of sent received message ≡ its
+      → max own.latest (late_by (finding_at its own.past message.number)) ≡ latest sent more message.hart
+  latest_is its is =
+      ap (λ n. max n (late_by (finding_at its own.past message.number))) stands.latest
+      ∙ sym (latest-own sent received message its own.past is stands.past_is)
+
+  -- It stays where this one is not late.
+  as_late : (its : Fate) → fate_of sent received message ≡ its
+      → late_by (finding_at its own.past message.number) ≡ 0 → own.latest ≡ latest sent more message.hart
+  as_late its is none =
+      sym (max_zero own.latest) ∙ ap (max own.latest) (sym none) ∙ latest_is its is
+    where
+      max_zero : (n : ℕ) → max n 0 ≡ n
+      max_zero n = omega arith
+
+  -- The number after the greatest, where one more came that is true.
+  past_more : is_true sent message ≡ true
+      → max own.past (message.number + 1) ≡ number_after (greatest_number (true_ones sent more) message.hart)
+  past_more is =
+      ap (λ p. max p (message.number + 1)) stands.past_is ∙ sym (past-true sent received message is)
+
   -- Of a message that is not true nothing but the counts changes.
   not_true : (its : Fate) → fate_of sent received message ≡ its → is_true sent message ≡ false
+      → late_by (finding_at its own.past message.number) ≡ 0
       → AuditsHart sent more message.hart (record own { counts = counted own.counts its })
-  not_true its is false_one =
+  not_true its is false_one none =
       let same = sym (true_ones-same sent received message false_one) in
       record {
         payloads = stands.payloads;
         came = stands.came ∙ ap (λ trues. flags (has_number trues message.hart) (of_hart message.hart sent)) same;
         past = λ number. ap (λ trues. has_greater trues message.hart number) (sym same) ∙ stands.past number;
+        past_is = stands.past_is ∙ ap number_after (sym (past-false sent received message message.hart false_one));
+        latest = as_late its is none;
         counts = ap (λ counts. counted counts its) stands.counts ∙ counts-next sent received message its is;
       }
 
@@ -160,10 +187,18 @@ module _ (sent received : List Message) (message : Message) (own : HartLedger)
     payloads = stands.payloads;
     came = stands.came ∙ (λ i. map (λ (m : Message). sym (same m.number) i) (of_hart message.hart sent));
     past = past;
+    past_is = sym (below own.past message.number (lower stands.past_is)) ∙ past_more is;
+    latest = as_late fate.Repeat its refl;
     counts = ap (λ counts. counted counts fate.Repeat) stands.counts
         ∙ counts-next sent received message fate.Repeat its;
   }
     where
+      lower : own.past ≡ number_after (greatest_number before message.hart) → message.number < own.past
+      lower past = let above = greatest_above message.hart message.number before has in omega (arith, past, above)
+
+      below : (past number : ℕ) → number < past → max past (number + 1) ≡ past
+      below past number low = omega (arith, low)
+
       same : (number : ℕ)
           → has_number (true_ones sent more) message.hart number ≡ has_number before message.hart number
       same number =
@@ -206,15 +241,24 @@ module _ (sent received : List Message) (message : Message) (own : HartLedger)
   late : fate_of sent received message ≡ fate.Late → is_true sent message ≡ true
       → has_greater before message.hart message.number ≡ true
       → AuditsHart sent more message.hart
-      (record own { came = set own.came message.number true; counts = counted own.counts fate.Late })
+      (record own {
+        came = set own.came message.number true;
+        latest = max own.latest (own.past - 1 - message.number);
+        counts = counted own.counts fate.Late;
+      })
   late its is greater = record {
     payloads = stands.payloads;
     came = marked is;
     past = past;
+    past_is = sym (below own.past message.number low) ∙ past_more is;
+    latest = latest_is fate.Late its;
     counts = ap (λ counts. counted counts fate.Late) stands.counts
         ∙ counts-next sent received message fate.Late its;
   }
     where
+      below : (past number : ℕ) → number + 1 < past → max past (number + 1) ≡ past
+      below past number low = omega (arith, low)
+
       low : message.number + 1 < own.past
       low = ltb-true (message.number + 1) own.past (sym (stands.past message.number) ∙ greater)
 
@@ -237,10 +281,15 @@ module _ (sent received : List Message) (message : Message) (own : HartLedger)
     payloads = stands.payloads;
     came = marked is;
     past = past;
+    past_is = sym (above own.past message.number high) ∙ past_more is;
+    latest = as_late fate.InOrder its refl;
     counts = ap (λ counts. counted counts fate.InOrder) stands.counts
         ∙ counts-next sent received message fate.InOrder its;
   }
     where
+      above : (past number : ℕ) → past ≤ number + 1 → max past (number + 1) ≡ number + 1
+      above past number high = omega (arith, high)
+
       high : own.past ≤ message.number + 1
       high = ltb-false (message.number + 1) own.past (sym (stands.past message.number) ∙ none)
 
@@ -283,11 +332,11 @@ module _ (sent received : List Message) (message : Message) (own : HartLedger)
           → has_greater before message.hart message.number ≡ d
           → AuditsHart sent more message.hart (hart_after own message.number (chosen a b c d))
       go false false c d known same again greater =
-          not_true fate.Stranger (fate_by_tests false false c d known same again greater) same
+          not_true fate.Stranger (fate_by_tests false false c d known same again greater) same refl
       go false true c d known same again greater =
           absurd (true≢false (sym (true_is_known sent message same) ∙ known))
       go true false c d known same again greater =
-          not_true fate.Changed (fate_by_tests true false c d known same again greater) same
+          not_true fate.Changed (fate_by_tests true false c d known same again greater) same refl
       go true true true d known same again greater =
           repeats (fate_by_tests true true true d known same again greater) same again
       go true true false true known same again greater =
@@ -303,6 +352,8 @@ takes_other sent received message hart own other stands = record {
   came = stands.came ∙ (λ i. map (λ (m : Message). sym (same m.number) i) (of_hart hart sent));
   past = λ number. any-other (λ (m : Message). eqb m.hart hart && ltb number m.number) sent received message
       (ap (λ b. b && ltb number message.number) (ne_eqb message.hart hart other)) ∙ stands.past number;
+  past_is = stands.past_is ∙ ap number_after (sym (past-other sent received message hart other));
+  latest = stands.latest ∙ sym (latest-other sent received message hart other);
   counts = stands.counts ∙ counts-other sent received message hart other;
 }
   where

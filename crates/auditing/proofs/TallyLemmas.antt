@@ -29,12 +29,14 @@ no_flags [] = refl
 no_flags (message ∷ messages) = ap (λ rest. false ∷ rest) (no_flags messages)
 
 -- What is kept of a hart before the first message of RECEIVED.
-starts_hart : (harts hart : ℕ) (sent : List Message) → AreInTurn harts [] sent
+pub starts_hart : (harts hart : ℕ) (sent : List Message) → AreInTurn harts [] sent
     → AuditsHart sent [] hart (fresh (payloads_of (of_hart hart sent)))
 starts_hart harts hart sent turn = record {
   payloads = numbered harts hart [] sent turn;
   came = no_flags (of_hart hart sent);
   past = λ number. sym (le-ltb (number + 1) 0 (omega arith));
+  past_is = refl;
+  latest = refl;
   counts = refl;
 }
 
@@ -47,13 +49,15 @@ others_none (Some header) sent turn hart beyond = none_beyond header.harts hart 
 -- What is kept of all harts then.
 pub starts : (header : Option Header) (sent : List Message) (index : List HartLedger)
     → AreInTurn (known_harts header) [] sent → AreIndexed (harts_of header sent) sent index
-    → Audits sent [] (record { header = header; harts = index; strangers = 0 })
+    → Audits sent [] (record { header = header; harts = index; strangers = 0; taken = 0; first = None })
 starts header sent index turn indexed = record {
   count = indexed.count;
   each = λ hart own is. subst (AuditsHart sent [] hart) (sym (indexed.each hart own is))
       (starts_hart (known_harts header) hart sent turn);
   others = λ hart beyond. others_none header sent turn hart (omega (arith, indexed.count, beyond));
   strangers = refl;
+  taken = refl;
+  first = refl;
 }
 
 -- The numbers that are lost are those whose flags are not set.
@@ -73,17 +77,20 @@ lost_from marked hart start (payload ∷ payloads) =
     go true numbers rest same = same
     go false numbers rest same = ap (λ l. start ∷ l) same
 
--- The longest runs of them.
-pub runs_are : (sent received : List Message) (hart : ℕ) (own : HartLedger) → AuditsHart sent received hart own
-    → runs_of (lost_in 0 own.came) ≡ lost_runs sent received hart
-runs_are sent received hart own stands =
+pub lost_are : (sent received : List Message) (hart : ℕ) (own : HartLedger) → AuditsHart sent received hart own
+    → lost_in 0 own.came ≡ lost_numbers sent received hart
+lost_are sent received hart own stands =
     let marked = has_number (true_ones sent received) hart in
-    ap runs_of (
     ap (lost_in 0) (stands.came ∙ ap (flags marked) stands.payloads)
     ∙ sym (lost_from marked hart 0 own.payloads)
     ∙ ap (λ (messages : List Message).
     filter (λ number. not (marked number)) (map (λ (message : Message). message.number) messages))
-    (sym stands.payloads))
+    (sym stands.payloads)
+
+-- The longest runs of them.
+pub runs_are : (sent received : List Message) (hart : ℕ) (own : HartLedger) → AuditsHart sent received hart own
+    → runs_of (lost_in 0 own.came) ≡ lost_runs sent received hart
+runs_are sent received hart own stands = ap runs_of (lost_are sent received hart own stands)
 
 -- How many are lost.
 unset_counted : (marked : ℕ → Bool) (messages : List Message)

@@ -12,10 +12,11 @@ use Rattle.std.proofs.lemmas.List.Sums.{sum_by-cons}
 use Rattle.std.proofs.lemmas.Slice.Eq.{bytes_eq-Decides, slice_eq-Decides}
 use Rattle.message.specs.OfHart.{of_hart}
 use Rattle.message.specs.declared.message.Message.{Message}
-use Rattle.auditing.proofs.TallyLemmas.{came_exact, fates_exact, lost_counted}
+use Rattle.auditing.proofs.TallyLemmas.{came_exact, fates_exact, lost_counted, runs_are}
 use Rattle.auditing.proofs.WholeLemmas.{same_again, untouched}
 use Rattle.auditing.specs.Audits.{AuditsHart, counts_of}
 use Rattle.auditing.specs.Fates.{is_same}
+use Rattle.auditing.specs.HartRows.{longest_of, row_of}
 use Rattle.auditing.specs.Judged.{Judged, fates_counted, is_fate, judged}
 use Rattle.auditing.specs.Ledger.{HartLedger}
 use Rattle.auditing.specs.Losing.{lost_numbers}
@@ -24,7 +25,7 @@ use Rattle.auditing.specs.Untouched.{IsUntouched, is_touched}
 use Rattle.auditing.specs.declared.fate.Fate.{Fate}
 use Rattle.auditing.specs.declared.fate.Fate.TheVariants as fate
 use Rattle.auditing.specs.declared.tally.Counts.{Counts}
-use Rattle.auditing.specs.steps.Taking.{is_whole_by, tally_in}
+use Rattle.auditing.specs.steps.Taking.{is_whole_by, row_in, tally_in}
 
 -- Messages with the same hart, number and payload are equal.
 same-Decides : (a b : Message) → Decides (is_same a b) (a ≡ b)
@@ -200,3 +201,13 @@ module _ (sent received : List Message) (hart : ℕ) (own : HartLedger) (stands 
     where
       sent_is : length own.came ≡ length (of_hart hart sent)
       sent_is = ap length stands.came ∙ length-map (of_hart hart sent) _
+
+  -- The row is the one of the definition.
+  pub row_is : row_in own ≡ row_of sent received hart
+  row_is = λ i. record {
+    tally = tally_is i;
+    strange = strange_is i;
+    runs = length (runs_are sent received hart own stands i);
+    longest = longest_of (runs_are sent received hart own stands i);
+    latest = stands.latest i;
+  }

@@ -4,15 +4,19 @@ use Rattle.message.specs.declared.header.Header.{Header}
 use Rattle.auditing.specs.declared.tally.Counts.{Counts}
 
 -- Of a hart: the payloads of its messages in SENT, and whether a true one came, by number; the number after the
--- greatest of those that came; and the counts of what came.
+-- greatest of those that came; the most by which one was late; and the counts of what came.
 pub record HartLedger : Type 0 where
   pub payloads : List (List ℕ)
   pub came : List Bool
   pub past : ℕ
+  pub latest : ℕ
   pub counts : Counts
 
--- SENT's header, if it has one; what is kept of each hart; and how many strangers came.
+-- SENT's header, if it has one; what is kept of each hart; how many strangers came; how many messages came; and the
+-- place of the first that was not in order or skipped a number, if there was one.
 pub record Ledger : Type 0 where
   pub header : Option Header
   pub harts : List HartLedger
   pub strangers : ℕ
+  pub taken : ℕ
+  pub first : Option ℕ

@@ -2,7 +2,10 @@ pub mod Fates
 pub mod FateText
 pub mod Judged
 pub mod Losing
+pub mod Findings
+pub mod SentPayload
 pub mod Tallies
+pub mod HartRows
 pub mod Ledger
 pub mod Audits
 pub mod Sent

@@ -1,26 +1,31 @@
 //! The audit of a path.
 
-ghost use Rattle.std.specs.Prelude.{◌≡◌, ◌<◌, ◌^◌, ◌++◌, All, List, [], ◌∷◌, IfErr, IfOk, Option, length};
+ghost use Rattle.std.specs.Prelude.{◌≡◌, ◌<◌, ◌^◌, ◌++◌, All, List, [], ◌∷◌, IfErr, IfOk, Option, length, option_map};
 ghost use Rattle.message.specs.Capture.{capture};
 ghost use Rattle.message.specs.Cut.{IsMessage};
 ghost use Rattle.message.specs.declared.header.Header.{Header as AnyHeader};
 ghost use Rattle.message.specs.declared.message.Message.{Message as AnyMessage};
 ghost use Rattle.auditing.specs.Audits.{Audits};
 ghost use Rattle.auditing.specs.Fates.{fate_of};
+ghost use Rattle.auditing.specs.Findings.{finding_of, first_found};
+ghost use Rattle.auditing.specs.HartRows.{row_of};
 ghost use Rattle.auditing.specs.Judged.{strangers_in};
 ghost use Rattle.auditing.specs.Ledger.{Ledger};
 ghost use Rattle.auditing.specs.Losing.{lost_runs};
+ghost use Rattle.auditing.specs.SentPayload.{payload_sent};
 ghost use Rattle.auditing.specs.Sent.{AreInTurn, IsSent, IsSentFault, known_harts};
 ghost use Rattle.auditing.specs.Tallies.{tally_of};
 ghost use Rattle.auditing.specs.steps.Indexing.{IsCountFault, harts_by};
-ghost use Rattle.auditing.specs.steps.Taking.{fate_from, ledger_after};
+ghost use Rattle.auditing.specs.steps.Taking.{finding_from, first_after, ledger_after};
 
 use crate::fate::Fate;
 use crate::fault::SentFault;
+use crate::finding::Finding;
 use crate::hart::HartAudit;
 use crate::indexing::index_messages;
 use crate::judging::count_messages;
 use crate::lost::LostRuns;
+use crate::row::HartRow;
 use crate::tally::Tally;
 use message::{Header, MOST_HARTS, Message, Messages};
 use std::alloc::{Allocator, Global};
@@ -38,12 +43,22 @@ pub struct Audit<'a, A: Allocator = Global> {
     harts: Vec<HartAudit<'a, A>, A>,
     /// How many strangers came.
     strangers: u64,
+    /// How many messages came.
+    taken: u64,
+    /// The place of the first message that was not in order or skipped a number, if there was one.
+    first: Option<u64>,
 }
 
 impl<'a, A: Allocator> Model for Audit<'a, A> {
     ghost Value = { Ledger };
 
-    ghost view = { λ a. record { header = a.header; harts = a.harts.items; strangers = a.strangers } };
+    ghost view = { λ a. record {
+      header = a.header;
+      harts = a.harts.items;
+      strangers = a.strangers;
+      taken = a.taken;
+      first = a.first;
+    } };
 }
 
 impl<'a, A: Allocator + Copy> Audit<'a, A> {
@@ -104,6 +119,8 @@ impl<'a, A: Allocator + Copy> Audit<'a, A> {
             header,
             harts: index,
             strangers: 0,
+            taken: 0,
+            first: None,
         })
     }
 }
@@ -132,22 +149,48 @@ impl<'a, A: Allocator> Audit<'a, A> {
         ensures header { self.new.header ≡ self.old.header }
         ensures harts { length self.new.harts ≡ length self.old.harts }
     {
+        self.take_by_hart(message).fate()
+    }
+
+    /// Takes the next message of RECEIVED as [`Audit::take`] does, and returns what is found of it: its fate, and how many
+    /// numbers it skips or by how much it is late. Takes no memory.
+    pub fn examine(&mut self, message: &Message) -> Finding
+        ensures finding { (sent received : List AnyMessage) → Audits sent received self.old
+            → result ≡ finding_of sent received message.now }
+        ensures taken { (sent received : List AnyMessage) → Audits sent received self.old
+            → Audits sent (received ++ message.now ∷ []) self.new }
+        ensures header { self.new.header ≡ self.old.header }
+        ensures harts { length self.new.harts ≡ length self.old.harts }
+    {
         self.take_by_hart(message)
     }
 
-    /// As [`Audit::take`], by what is kept.
-    fn take_by_hart(&mut self, message: &Message) -> Fate
-        ensures fate { result ≡ fate_from self.old message.now }
+    /// As [`Audit::examine`], by what is kept.
+    fn take_by_hart(&mut self, message: &Message) -> Finding
+        ensures finding { result ≡ finding_from self.old message.now }
         ensures after { self.new ≡ ledger_after self.old message.now }
     {
-        let fate = match self.harts.get_mut(usize::from(message.hart)) {
+        let finding = match self.harts.get_mut(usize::from(message.hart)) {
             Some(hart) => hart.take(message.number, message.payload.bytes()),
-            None => Fate::Stranger,
+            None => Finding::Stranger,
         };
-        if let Fate::Stranger = fate {
+        if let Finding::Stranger = finding {
             self.strangers = self.strangers.saturating_add(1);
         }
-        fate
+        self.first = first_after(self.first, self.taken, finding);
+        self.taken = self.taken.saturating_add(1);
+        finding
+    }
+
+    /// The payload that SENT has with this hart and this number; `None` where it has none. Takes no memory.
+    pub fn sent(&self, hart: u16, number: u64) -> Option<&'a [u8]>
+        ensures { (sent received : List AnyMessage) → Audits sent received self.now
+            → option_map (λ payload. payload.now) result ≡ payload_sent sent hart number }
+    {
+        match self.harts.get(usize::from(hart)) {
+            Some(own) => own.payload(number),
+            None => None,
+        }
     }
 
     /// What became of the messages of a hart of SENT, counted. No count is above 2^64 - 1. Takes no memory.
@@ -170,6 +213,26 @@ impl<'a, A: Allocator> Audit<'a, A> {
         LostRuns::new(own.came.as_slice())
     }
 
+    /// What is found of a hart of SENT: what became of its messages, its strangers, the runs of its lost numbers, and the
+    /// most by which one is late. No count is above 2^64 - 1. Takes no memory.
+    pub fn row(&self, hart: usize) -> HartRow
+        requires known { hart < length self.now.harts }
+        ensures { (sent received : List AnyMessage) → Audits sent received self.now → length received < 2 ^ 64
+            → result ≡ row_of sent received hart }
+    {
+        let own = &self.harts[hart];
+        own.row()
+    }
+
+    /// The place of the first message of RECEIVED that is not in order or skips a number, counted from 0; `None` where
+    /// there is none. The place is not above 2^64 - 1.
+    pub fn first(&self) -> Option<u64>
+        ensures { (sent received : List AnyMessage) → Audits sent received self.now → length received < 2 ^ 64
+            → result ≡ first_found sent received }
+    {
+        self.first
+    }
+
     /// How many strangers came, of whatever hart. The count is not above 2^64 - 1.
     pub fn strangers(&self) -> u64
         ensures { (sent received : List AnyMessage) → Audits sent received self.now → length received < 2 ^ 64
@@ -187,5 +250,16 @@ fn count_of_harts(header: Option<Header>, highest: u16) -> u16
     match header {
         Some(header) => header.harts,
         None => highest,
+    }
+}
+
+/// The place of the first message that is not in order or skips a number, after one more with this finding at this place.
+fn first_after(first: Option<u64>, place: u64, finding: Finding) -> Option<u64>
+    ensures { result ≡ first_after first place finding }
+{
+    if first.is_some() || finding.is_plain() {
+        first
+    } else {
+        Some(place)
     }
 }

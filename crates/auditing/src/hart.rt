@@ -1,11 +1,14 @@
 //! What an audit keeps of a hart.
 
-ghost use Rattle.std.specs.Prelude.{◌≡◌, [], IfOk, OnOk, length, map};
+ghost use Rattle.std.specs.Prelude.{◌≡◌, [], IfOk, OnOk, length, map, option_map, slice_get};
 ghost use Rattle.auditing.specs.Ledger.{HartLedger};
 ghost use Rattle.auditing.specs.steps.Indexing.{fresh, longer};
-ghost use Rattle.auditing.specs.steps.Taking.{counted, fate_in, hart_after, tally_in};
+ghost use Rattle.auditing.specs.steps.Taking.{counted, fate_in, finding_in, hart_after, row_in, tally_in};
 
 use crate::fate::Fate;
+use crate::finding::{Finding, finding_at};
+use crate::lost::run_lengths;
+use crate::row::HartRow;
 use crate::tally::{Counts, Tally};
 use std::alloc::{AllocError, Allocator};
 use std::marker::Model;
@@ -19,6 +22,8 @@ pub(crate) struct HartAudit<'a, A: Allocator> {
     pub(crate) came: Vec<bool, A>,
     /// The number after the greatest of the true messages that came, 0 where none came.
     pub(crate) past: u64,
+    /// The most by which a message was late, 0 where none was.
+    pub(crate) latest: u64,
     pub(crate) counts: Counts,
 }
 
@@ -29,6 +34,7 @@ impl<'a, A: Allocator> Model for HartAudit<'a, A> {
       payloads = map (λ payload. payload.now) h.payloads.items;
       came = h.came.items;
       past = h.past;
+      latest = h.latest;
       counts = h.counts;
     } };
 
@@ -44,6 +50,7 @@ impl<'a, A: Allocator + Copy> HartAudit<'a, A> {
             payloads: Vec::with_capacity(alloc, count)?,
             came: Vec::with_capacity(alloc, count)?,
             past: 0,
+            latest: 0,
             counts: Counts::NONE,
         })
     }
@@ -82,23 +89,49 @@ impl<'a, A: Allocator> HartAudit<'a, A> {
         }
     }
 
-    /// Takes the hart's message with this number and this payload, and returns its fate.
-    pub(crate) fn take(&mut self, number: u64, payload: &[u8]) -> Fate
-        ensures fate { result ≡ fate_in self.old number payload.now }
-        ensures after { self.new ≡ hart_after self.old number result }
+    /// Takes the hart's message with this number and this payload, and returns what is found of it.
+    pub(crate) fn take(&mut self, number: u64, payload: &[u8]) -> Finding
+        ensures finding { result ≡ finding_in self.old number payload.now }
+        ensures after { self.new ≡ hart_after self.old number (fate_in self.old number payload.now) }
     {
         let fate = self.fate(number, payload);
         let place = number as usize;
+        let past = self.past;
         self.counts = counted(self.counts, fate);
         match fate {
-            Fate::Late => self.came[place] = true,
+            Fate::Late => {
+                self.came[place] = true;
+                let by = past.saturating_sub(1).saturating_sub(number);
+                self.latest = self.latest.max(by);
+            }
             Fate::InOrder => {
                 self.came[place] = true;
                 self.past = number + 1;
             }
             _ => {}
         }
-        fate
+        finding_at(fate, past, number)
+    }
+
+    /// The payload that SENT has with this number, if it has one.
+    pub(crate) fn payload(&self, number: u64) -> Option<&'a [u8]>
+        ensures { option_map (λ payload. payload.now) result ≡ slice_get self.now.payloads number }
+    {
+        self.payloads.get(number as usize).copied()
+    }
+
+    /// What is found of the hart.
+    pub(crate) fn row(&self) -> HartRow
+        ensures { result ≡ row_in self.now }
+    {
+        let lengths = run_lengths(self.came.as_slice());
+        HartRow {
+            tally: self.tally(),
+            strange: self.counts.strange,
+            runs: lengths.runs,
+            longest: lengths.longest,
+            latest: self.latest,
+        }
     }
 
     /// What became of the hart's messages.

@@ -1,6 +1,6 @@
 //! What the definitions of an audit promise.
 
-ghost use Rattle.std.specs.Prelude.{ℕ, ◌≡◌, ◌↔◌, Bool, true, None, List, [], Option};
+ghost use Rattle.std.specs.Prelude.{ℕ, ◌+◌, ◌-◌, length, ◌≡◌, ◌↔◌, Bool, true, None, List, [], Option};
 ghost use Rattle.retire.specs.declared.event.Event.{Event};
 ghost use Rattle.rvclass.specs.Words.{Words, IsProgram};
 ghost use Rattle.payload.specs.declared.mode.Mode.{Mode};
@@ -14,6 +14,10 @@ ghost use Rattle.message.specs.declared.header.Header.{Header};
 ghost use Rattle.message.specs.declared.message.Message.{Message};
 ghost use Rattle.receiver.specs.NotReceived.{IsNotReceived};
 ghost use Rattle.receiver.specs.declared.fault.ReceiveFault.{ReceiveFault};
+ghost use Rattle.auditing.specs.declared.fate.Fate.TheVariants as Fate;
+ghost use Rattle.auditing.specs.Findings.{skips_in};
+ghost use Rattle.auditing.specs.HartRows.{lost_below, row_of};
+ghost use Rattle.auditing.specs.Judged.{fates_counted};
 ghost use Rattle.auditing.specs.DecodedAgain.{AreAllWhole, AreDecodedAgain};
 ghost use Rattle.auditing.specs.Sent.{AreInTurn, IsSent};
 ghost use Rattle.auditing.specs.Tallies.{is_whole};
@@ -26,6 +30,32 @@ pub fn whole_is_untouched()
         → (is_whole sent received hart ≡ true) ↔ IsUntouched sent received hart }
     ensures same_list { (harts hart : ℕ) (sent received : List Message) → AreInTurn harts [] sent
         → IsUntouched sent received hart ↔ (of_hart hart received ≡ of_hart hart sent) }
+{}
+
+/// The counts of a hart add up. Each number that was sent is lost, or came in order or late. Each message that came has
+/// one fate. So what was sent and is not lost is what came and is no repeat, not changed and no stranger.
+pub fn rows_add_up()
+    ensures sent { (harts hart : ℕ) (sent received : List Message) → AreInTurn harts [] sent
+        → (row_of sent received hart).tally.sent
+        ≡ (row_of sent received hart).tally.lost + fates_counted sent received hart Fate.InOrder
+        + (row_of sent received hart).tally.late }
+    ensures came { (hart : ℕ) (sent received : List Message)
+        → (row_of sent received hart).tally.came
+        ≡ fates_counted sent received hart Fate.InOrder + (row_of sent received hart).tally.late
+        + (row_of sent received hart).tally.repeated + (row_of sent received hart).tally.changed
+        + (row_of sent received hart).strange }
+    ensures balance { (harts hart : ℕ) (sent received : List Message) → AreInTurn harts [] sent
+        → (row_of sent received hart).tally.sent - (row_of sent received hart).tally.lost
+        ≡ (row_of sent received hart).tally.came - (row_of sent received hart).tally.repeated
+        - (row_of sent received hart).tally.changed - (row_of sent received hart).strange }
+{}
+
+/// The numbers that the messages of a hart skip are, in sum, as many as its late messages and its lost numbers below the
+/// greatest true number that came.
+pub fn skips_add_up()
+    ensures { (harts hart : ℕ) (sent received : List Message) → AreInTurn harts [] sent
+        → skips_in sent received hart
+        ≡ fates_counted sent received hart Fate.Late + length (lost_below sent received hart) }
 {}
 
 /// RECEIVED decodes to the same logs and flags as SENT, without a fault, unless memory is refused. This holds if SENT

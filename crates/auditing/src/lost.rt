@@ -3,6 +3,7 @@
 ghost use Rattle.std.specs.Prelude.{◌≡◌, ◌++◌, ◌+◌, ◌<◌, ◌^◌, List, [], None, length, not};
 ghost use Rattle.std.specs.List.{position_or_len};
 ghost use Rattle.std.specs.Option.{option_to_list};
+ghost use Rattle.auditing.specs.HartRows.{longest_of};
 ghost use Rattle.auditing.specs.Losing.{runs_of};
 ghost use Rattle.auditing.specs.steps.Scanning.{lost_in};
 ghost use Rattle.auditing.specs.declared.lost.Lost.{Lost as AnyLost};
@@ -62,6 +63,28 @@ impl<'a> LostRuns<'a> {
             last: self.number - 1,
         })
     }
+}
+
+/// How many longest runs of numbers were lost, and how many numbers the longest of them has.
+#[derive(Clone, Copy)]
+pub(crate) struct RunLengths {
+    pub(crate) runs: u64,
+    pub(crate) longest: u64,
+}
+
+/// The lengths of the runs of the numbers from 0 on whose flags are not set.
+pub(crate) fn run_lengths(came: &[bool]) -> RunLengths
+    ensures runs { result.runs ≡ length (runs_of (lost_in 0 came.now)) }
+    ensures longest { result.longest ≡ longest_of (runs_of (lost_in 0 came.now)) }
+{
+    let mut left = LostRuns::new(came);
+    let mut runs: u64 = 0;
+    let mut longest: u64 = 0;
+    while let Some(run) = left.next() {
+        runs = runs.saturating_add(1);
+        longest = longest.max(run.last.saturating_sub(run.first).saturating_add(1));
+    }
+    RunLengths { runs, longest }
 }
 
 /// The place of the first flag that is not set, or the count of flags where each is set.

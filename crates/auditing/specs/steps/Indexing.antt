@@ -54,6 +54,7 @@ fresh payloads = record {
   payloads = payloads;
   came = map (λ _. false) payloads;
   past = 0;
+  latest = 0;
   counts = record { came = 0; strange = 0; changed = 0; repeated = 0; late = 0 };
 }
 

@@ -1,14 +1,21 @@
 -- Taking one message.
 use Rattle.std.specs.Prelude.{ℕ, ◌+◌, ◌-◌, ◌^◌, ◌==◌, ◌&&◌, not, nat_lt, Bool, true, false, if◌then◌else◌, List, Option, Some, None}
-use Rattle.std.specs.Prelude.{length, min, slice_get, slice_index_or, slice_set}
+use Rattle.std.specs.Prelude.{length, max, min, slice_get, slice_index_or, slice_set}
 use Rattle.std.specs.List.{count_by}
 use Rattle.std.specs.Str.{bytes_eq}
 use Rattle.message.specs.declared.message.Message.{Message}
+use Rattle.auditing.specs.Findings.{is_plain}
+use Rattle.auditing.specs.HartRows.{longest_of}
 use Rattle.auditing.specs.Ledger.{HartLedger, Ledger}
+use Rattle.auditing.specs.Losing.{runs_of}
 use Rattle.auditing.specs.declared.fate.Fate.{Fate}
 use Rattle.auditing.specs.declared.fate.Fate.TheVariants as fate
+use Rattle.auditing.specs.declared.finding.Finding.{Finding}
+use Rattle.auditing.specs.declared.finding.Finding.TheVariants as finding
+use Rattle.auditing.specs.declared.row.HartRow.{HartRow}
 use Rattle.auditing.specs.declared.tally.Counts.{Counts}
 use Rattle.auditing.specs.declared.tally.Tally.{Tally}
+use Rattle.auditing.specs.steps.Scanning.{lost_in}
 
 -- The fate of a message of a hart, by the payload that SENT has with its number, if it has one.
 abbrev pub fate_by : HartLedger → ℕ → List ℕ → Option (List ℕ) → Fate
@@ -37,14 +44,30 @@ counted counts fate.InOrder = record counts { came = one_more counts.came }
 
 -- What is kept of the hart after its message with this number and this fate.
 abbrev pub hart_after : HartLedger → ℕ → Fate → HartLedger
-hart_after own number fate.Late =
-    record own { came = slice_set own.came number true; counts = counted own.counts fate.Late }
+hart_after own number fate.Late = record own {
+  came = slice_set own.came number true;
+  latest = max own.latest (own.past - 1 - number);
+  counts = counted own.counts fate.Late;
+}
 hart_after own number fate.InOrder = record own {
   came = slice_set own.came number true;
   past = number + 1;
   counts = counted own.counts fate.InOrder;
 }
 hart_after own number other = record own { counts = counted own.counts other }
+
+-- What is found of a message of this fate and this number, where this is the number after the greatest true one of its
+-- hart before it, 0 where there is none.
+abbrev pub finding_at : Fate → ℕ → ℕ → Finding
+finding_at fate.Stranger past number = finding.Stranger
+finding_at fate.Changed past number = finding.Changed
+finding_at fate.Repeat past number = finding.Repeat
+finding_at fate.Late past number = finding.Late (past - 1 - number)
+finding_at fate.InOrder past number = finding.InOrder (number - past)
+
+-- What is found of a message of a hart with this number and this payload.
+abbrev pub finding_in : HartLedger → ℕ → List ℕ → Finding
+finding_in own number payload = finding_at (fate_in own number payload) own.past number
 
 -- The fate of a message, by what is kept of its hart, if the hart is one of SENT's.
 abbrev pub fate_found : Option HartLedger → Message → Fate
@@ -54,6 +77,20 @@ fate_found (Some own) message = fate_in own message.number message.payload
 -- The fate of a message, by what is kept.
 abbrev pub fate_from : Ledger → Message → Fate
 fate_from ledger message = fate_found (slice_get ledger.harts message.hart) message
+
+-- What is found of a message, by what is kept of its hart, if the hart is one of SENT's.
+abbrev pub finding_found : Option HartLedger → Message → Finding
+finding_found None message = finding.Stranger
+finding_found (Some own) message = finding_in own message.number message.payload
+
+-- What is found of a message, by what is kept.
+abbrev pub finding_from : Ledger → Message → Finding
+finding_from ledger message = finding_found (slice_get ledger.harts message.hart) message
+
+-- The place of the first message that is not in order or skips a number, after one more with this finding at this place.
+abbrev pub first_after : Option ℕ → ℕ → Finding → Option ℕ
+first_after (Some first) place its = Some first
+first_after None place its = if is_plain its then None else Some place
 
 -- What is kept of all harts after a message, by what is kept of its hart, if the hart is one of SENT's.
 abbrev pub harts_found : List HartLedger → Message → Option HartLedger → List HartLedger
@@ -72,6 +109,8 @@ ledger_after ledger message = record {
   header = ledger.header;
   harts = harts_found ledger.harts message (slice_get ledger.harts message.hart);
   strangers = strangers_after ledger.strangers (fate_from ledger message);
+  taken = one_more ledger.taken;
+  first = first_after ledger.first ledger.taken (finding_from ledger message);
 }
 
 -- A hart is whole, by its counts and how many of its numbers are lost: none is lost, and none of its messages has
@@ -91,4 +130,15 @@ tally_in own =
       late = own.counts.late;
       changed = own.counts.changed;
       whole = is_whole_by own.counts lost;
+    }
+
+-- What is found of a hart, by what is kept of it.
+abbrev pub row_in : HartLedger → HartRow
+row_in own =
+    let runs = runs_of (lost_in 0 own.came) in record {
+      tally = tally_in own;
+      strange = own.counts.strange;
+      runs = length runs;
+      longest = longest_of runs;
+      latest = own.latest;
     }

@@ -1,12 +1,15 @@
 -- What is kept and the fate are those of the definitions, by the laws on one more message.
-use Rattle.std.proofs.Common.{◌∙◌, subst, sym}
-use Rattle.auditing.proofs.Taken.{fate_is_from, takes_all}
+use Rattle.std.proofs.Common.{◌∙◌, ap, subst, sym}
+use Rattle.auditing.proofs.Taken.{fate_in_found, fate_is_from, takes_all}
 use Rattle.auditing.specs.Audits.{Audits}
+use Rattle.auditing.specs.Findings.{fate_of_finding}
 use Rattle.auditing.proofs.audit.Audit.take.Goals as goal
 
 pub returns-clause-fate : goal.returns-clause-fate
 returns-clause-fate g c = λ sent received audits.
-    c.take_by_hart.ensures.fate ∙ fate_is_from sent received c.args.self.now audits c.args.message.now
+    c.fate.ensures ∙ ap fate_of_finding c.take_by_hart.ensures.finding
+    ∙ fate_in_found c.args.self.now c.args.message.now
+    ∙ fate_is_from sent received c.args.self.now audits c.args.message.now
 
 pub returns-clause-taken : goal.returns-clause-taken
 returns-clause-taken g c = λ sent received audits.
