@@ -1,0 +1,5 @@
+mod FrameLemmas
+mod Places
+mod ScatteredLemmas
+mod SpanLemmas
+mod TakenLemmas

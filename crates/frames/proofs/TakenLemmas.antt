@@ -1,0 +1,57 @@
+-- Firm frames at a row of places.
+use Rattle.std.proofs.Common.{◌≡◌, ◌<◌, ◌≤◌, ◌+◌, ◌-◌, ◌||◌, ℕ, zero, suc, Bool, true, false, List, drop, refl, ap}
+use Rattle.std.proofs.Common.{◌∙◌, arith}
+use Rattle.std.proofs.lemmas.List.{drop-drop}
+use Rattle.message.proofs.Answering.{not_both}
+use Rattle.frames.specs.Frame.{frame_size}
+use Rattle.frames.specs.Taken.{has_firm, has_firm_inside, is_firm}
+
+pub or_at_left : (x y : Bool) → x ≡ true → (x || y) ≡ true
+or_at_left true y e = refl
+or_at_left false y e = absurd (not_both false e refl)
+
+pub or_at_right : (x y : Bool) → y ≡ true → (x || y) ≡ true
+or_at_right true y e = refl
+or_at_right false y e = e
+
+or_neither : (x y : Bool) → x ≡ false → y ≡ false → (x || y) ≡ false
+or_neither true y e f = absurd (not_both true refl e)
+or_neither false y e f = f
+
+-- A place after the first is a place of what follows the first byte.
+pub drop_later : (k : ℕ) (xs : List ℕ) → drop k (drop 1 xs) ≡ drop (suc k) xs
+drop_later k xs = drop-drop k 1 xs ∙ ap (λ (n : ℕ). drop n xs) (let e : 1 + k ≡ suc k = omega arith in e)
+
+-- A firm frame at one of the places is one among them.
+pub has_firm-here : (known n k : ℕ) (xs : List ℕ) → k < n → is_firm known (drop k xs) ≡ true
+    → has_firm known n xs ≡ true
+has_firm-here known zero k xs less firm = absurd (omega (arith, less))
+has_firm-here known (suc n) zero xs less firm = or_at_left (is_firm known xs) _ firm
+has_firm-here known (suc n) (suc k) xs less firm =
+    or_at_right (is_firm known xs) _
+    (has_firm-here known n k (drop 1 xs) (omega (arith, less))
+    (ap (is_firm known) (drop_later k xs) ∙ firm))
+
+-- Where none begins at any of the places, there is none among them.
+pub has_firm-none : (known n : ℕ) (xs : List ℕ) → ((k : ℕ) → k < n → is_firm known (drop k xs) ≡ false)
+    → has_firm known n xs ≡ false
+has_firm-none known zero xs none = refl
+has_firm-none known (suc n) xs none =
+    or_neither (is_firm known xs) _ (none 0 (omega arith))
+    (has_firm-none known n (drop 1 xs)
+    (λ k less. ap (is_firm known) (drop_later k xs) ∙ none (suc k) (omega (arith, less))))
+
+-- The same inside a frame.
+pub inside-here : (known k : ℕ) (xs : List ℕ) → 1 ≤ k → k < frame_size xs → is_firm known (drop k xs) ≡ true
+    → has_firm_inside known xs ≡ true
+inside-here known zero xs some less firm = absurd (omega (arith, some))
+inside-here known (suc k) xs some less firm =
+    has_firm-here known (frame_size xs - 1) k (drop 1 xs) (omega (arith, less))
+    (ap (is_firm known) (drop_later k xs) ∙ firm)
+
+pub inside-none : (known : ℕ) (xs : List ℕ)
+    → ((k : ℕ) → 1 ≤ k → k < frame_size xs → is_firm known (drop k xs) ≡ false)
+    → has_firm_inside known xs ≡ false
+inside-none known xs none =
+    has_firm-none known (frame_size xs - 1) (drop 1 xs)
+    (λ k less. ap (is_firm known) (drop_later k xs) ∙ none (suc k) (omega arith) (omega (arith, less)))

@@ -1,0 +1,4 @@
+pub mod Frame
+pub mod Taken
+pub mod Spans
+pub mod Written
