@@ -2,7 +2,7 @@
 use Rattle.std.proofs.Common.{◌≡◌, inl, inr, refl, ℕ, ◌+◌, ◌<◌, ◌≤◌, ◌||◌, Bool, true, false, sym, ap, ◌∙◌, subst, List}
 use Rattle.std.proofs.Common.{[], ◌∷◌, ◌++◌, Option, Some, None, Result, Ok, Err, length, get_or, take, drop, slice_get}
 use Rattle.std.proofs.Common.{arith}
-use Rattle.std.specs.Prelude.{◌⊎◌, IfErr, if◌then◌else◌, is_err, ⊤}
+use Rattle.std.specs.Prelude.{◌⊎◌, IfErr, OnOk, if◌then◌else◌, is_err, ⊤}
 use Rattle.std.specs.Io.KnownBytes.{Appends, Keeps}
 use Rattle.std.specs.List.{AllZip, flat_map, list_any, zip}
 use Rattle.std.proofs.KnownBytes.{Appends-trans}
@@ -13,28 +13,28 @@ use Rattle.std.proofs.lemmas.List.Folds.{list_any-append}
 use Rattle.std.proofs.lemmas.Slice.Zip.{get_or-zip}
 use Rattle.explaining.proofs.RowLemmas.{explanation-of_row}
 use Rattle.log_streams.specs.Made.{AreMade, IsMadeOf, IsMadeOfIllegal, IsMadeOfLegal, IsStopped}
+use Rattle.log_streams.specs.Refusing.{MayStop}
 use Rattle.log_streams.specs.declared.logs_fault.LogsFault.{LogsFault}
 use Rattle.log_streams.specs.declared.stop.Stop.{Stop}
 use Rattle.log_streams.specs.declared.stop.Stop.TheVariants as stop
 use Rattle.files.specs.Known.{Content}
-use Rattle.retire.specs.Log.{most_rows}
 use Rattle.rvclass.specs.Image.{Image}
 use Rattle.output.specs.Begun.{AppendsBeginning}
 use Rattle.output.proofs.Beginnings.{begun_between}
 use Rattle.command_inputs.proofs.Runs.{appends-keeps}
 use Rattle.command_inputs.proofs.StreamLemmas.{front_by_place, log_read_in, log_unread_in, parted_at}
 use Rattle.command_inputs.specs.Begun.{BeginsPrinted}
-use Rattle.command_inputs.specs.Faults.{Path}
-use Rattle.command_inputs.specs.Found.{IsLog}
-use Rattle.command_inputs.specs.Judged.{IsJudgedAt, Judged}
+use Rattle.command_inputs.specs.Faults.{Path, stop_fault}
+use Rattle.command_inputs.specs.FoundLogs.{IsLogUpTo}
+use Rattle.command_inputs.specs.Judged.{IsJudgedUpTo, Judged}
 use Rattle.command_inputs.specs.Printed.{PrintsUnlessDenied}
 use Rattle.command_inputs.specs.declared.fault.Fault.TheVariants as fault
 use Rattle.command_inputs.specs.declared.status.Status.{Status}
 use Rattle.command_inputs.specs.declared.status.Status.TheVariants.{Refused}
+use Rattle.log_commands.specs.declared.reason.LogReason.{LogReason}
 use Rattle.log_commands.specs.Checking.{AppendsFirstLines, ChecksAll, WritesFirstLines, WritesLines, check_lines}
 use Rattle.log_commands.specs.Checking.{is_illegal, status_with, verdict_line}
-use Rattle.log_commands.specs.steps.Checked.{IsVerdictOnLegal, Verdict, all_lines, fault_of_unread, is_refused}
-use Rattle.log_commands.specs.steps.Checked.{lines_of, verdict_lines}
+use Rattle.log_commands.specs.steps.Checked.{IsVerdictOnLegal, Verdict, all_lines, is_refused, lines_of, verdict_lines}
 
 -- The status with one log more.
 status_more : (before now : Bool) → status_with (before || now) ≡ (if now then Refused else status_with before)
@@ -152,23 +152,23 @@ zip_front [] (y ∷ ys) = refl
 zip_front (x ∷ xs) [] = refl
 zip_front (x ∷ xs) (y ∷ ys) = ap (λ pairs. (x, y) ∷ pairs) (zip_front xs ys)
 
-module _ (content : Content) (explain : Bool) (program : Image) where
+module _ (most : ℕ) (content : Content) (explain : Bool) (program : Image) where
   -- The log at a path was read and checked by the program, and this is the verdict on it.
   pub record IsVerdictAt (path : Path) (verdict : Verdict) : Type 0 where
     pub log : Judged
-    pub judged : IsJudgedAt content program path log
+    pub judged : IsJudgedUpTo most content program path log
     pub lines : verdict_lines explain program path.now verdict ≡ check_lines explain program log
     pub illegal : is_refused verdict ≡ is_illegal log
 
   legal_verdict : (path : Path) (hart : ℕ) (verdict : Verdict)
-      → IsMadeOfLegal (λ hart. IsVerdictOnLegal) (content path.now) program most_rows hart verdict
+      → IsMadeOfLegal (λ hart. IsVerdictOnLegal) (content path.now) program most hart verdict
       → IsVerdictAt path verdict
   legal_verdict path hart verdict is =
-      let counted : verdict ≡ Ok (length is.events) = is.makes (omega (arith, is.legal.short)) in record {
+      let counted : verdict ≡ Ok (length is.events) = is.makes in record {
         log = record { path = path.now; events = is.events; illegal = None };
         judged = record {
           named = refl;
-          read = log_read_in content path is.events is.read;
+          read = log_read_in most content path is.events is.read;
           verdict = is.legal.legal;
         };
         lines = ap (verdict_lines explain program path.now) counted
@@ -177,7 +177,7 @@ module _ (content : Content) (explain : Bool) (program : Image) where
       }
 
   illegal_verdict : (path : Path) (verdict : Verdict)
-      → IsMadeOfIllegal (λ events row verdict. verdict ≡ Err row) (content path.now) program most_rows verdict
+      → IsMadeOfIllegal (λ events row verdict. verdict ≡ Err row) (content path.now) program most verdict
       → IsVerdictAt path verdict
   illegal_verdict path verdict is =
       let row = is.row in
@@ -185,7 +185,7 @@ module _ (content : Content) (explain : Bool) (program : Image) where
         log = record { path = path.now; events = is.events; illegal = Some row.fault };
         judged = record {
           named = refl;
-          read = log_read_in content path is.events is.read;
+          read = log_read_in most content path is.events is.read;
           verdict = record {
             front = at.front;
             event = row.event;
@@ -210,7 +210,7 @@ module _ (content : Content) (explain : Bool) (program : Image) where
 
   verdict_at : (path : Path) (hart : ℕ) (verdict : Verdict)
       → IsMadeOf (λ hart. IsVerdictOnLegal) (λ events row verdict. verdict ≡ Err row) (content path.now) program
-      most_rows hart (Ok verdict)
+      most hart (Ok verdict)
       → IsVerdictAt path verdict
   verdict_at path hart verdict (inl is) = legal_verdict path hart verdict is
   verdict_at path hart verdict (inr is) = illegal_verdict path verdict is
@@ -218,7 +218,7 @@ module _ (content : Content) (explain : Bool) (program : Image) where
   -- The logs on which these are the verdicts.
   record AllChecked (paths : List Path) (verdicts : List Verdict) : Type 0 where
     pub logs : List Judged
-    pub judged : AllZip (IsJudgedAt content program) paths logs
+    pub judged : AllZip (IsJudgedUpTo most content program) paths logs
     pub lines : all_lines explain program paths verdicts ≡ flat_map (check_lines explain program) logs
     pub illegal : list_any is_refused verdicts ≡ list_any is_illegal logs
 
@@ -238,14 +238,15 @@ module _ (content : Content) (explain : Bool) (program : Image) where
             ∙ ap (λ b. is_illegal first.log || b) rest.illegal;
       }
 
-  -- There is no log at the path of one that is not read, unless memory was refused.
-  unread : (path : Path) (why : Stop) → IsStopped (content path.now) program most_rows why
-      → (fault_of_unread path why ≡ fault.Memory) ⊎ IsLog content path (Err (fault_of_unread path why))
-  unread path (stop.Unread why) is = log_unread_in content path why is
-  unread path (stop.Illegal why) is = inl refl
+  -- There is no log at the path of one that is not read, unless an allocation failed. An illegal log is read.
+  unread : (path : Path) (why : Stop) → MayStop ⊥ why → IsStopped (content path.now) program most why
+      → (stop_fault {W = LogReason} path why ≡ fault.Memory)
+      ⊎ IsLogUpTo {W = LogReason} most content path (Err (stop_fault path why))
+  unread path (stop.Unread why) may is = log_unread_in most content path why is
+  unread path (stop.Illegal why) may is = absurd may
 
   module _ (paths : List Path) (verdicts : List Verdict) (end : Result (Unit {0}) LogsFault)
-      (are : AreMade (λ hart. IsVerdictOnLegal) (λ events row verdict. verdict ≡ Err row) content program most_rows
+      (are : AreMade (λ hart. IsVerdictOnLegal) (λ events row verdict. verdict ≡ Err row) content program most
       paths verdicts end) (old new : Option (List ℕ)) where
     -- The paths of the logs that were read.
     abbrev front : List Path
@@ -260,7 +261,7 @@ module _ (content : Content) (explain : Bool) (program : Image) where
     lines = ap (flat_map (lines_of explain program)) (zip_front paths verdicts) ∙ checked.lines
 
     -- The lines of the logs that were read are what a run of these logs prints.
-    first_lines : ChecksAll content explain program front (all_lines explain program paths verdicts)
+    first_lines : ChecksAll most content explain program front (all_lines explain program paths verdicts)
         (status_with (list_any is_refused verdicts))
     first_lines = record {
       logs = checked.logs;
@@ -272,23 +273,23 @@ module _ (content : Content) (explain : Bool) (program : Image) where
     -- All logs were read, and their lines are written.
     pub lines_whole : (status : Status) → end ≡ Ok tt → status ≡ status_with (list_any is_refused verdicts)
         → Appends old new (all_lines explain program paths verdicts)
-        → PrintsUnlessDenied (WritesLines content explain program paths) ⊤ (Ok status) old new
+        → PrintsUnlessDenied (WritesLines most content explain program paths) ⊤ (Ok status) old new
     lines_whole status is same written =
         let text = all_lines explain program paths verdicts in
         let long : length verdicts ≡ length paths = are.all is in
         let all : front ≡ paths = take_all (length verdicts) paths (omega (arith, long)) in record {
           text = text;
-          prints = subst (λ all. ChecksAll content explain program all text status) all
-              (subst (ChecksAll content explain program front text) (sym same) first_lines);
+          prints = subst (λ all. ChecksAll most content explain program all text status) all
+              (subst (ChecksAll most content explain program front text) (sym same) first_lines);
           appended = written;
         }
 
     unread_at : (last : LogsFault) → slice_get paths (length verdicts) ≡ Some last.path
         → Appends old new (all_lines explain program paths verdicts)
-        → (fault_of_unread last.path last.why ≡ fault.Memory)
-        ⊎ IsLog content last.path (Err (fault_of_unread last.path last.why))
-        → PrintsUnlessDenied (WritesLines content explain program paths) ⊤
-        (Err (fault_of_unread last.path last.why)) old new
+        → (stop_fault {W = LogReason} last.path last.why ≡ fault.Memory)
+        ⊎ IsLogUpTo {W = LogReason} most content last.path (Err (stop_fault last.path last.why))
+        → PrintsUnlessDenied (WritesLines most content explain program paths) ⊤
+        (Err (stop_fault last.path last.why)) old new
     unread_at last there written (inl denied) = inl (inl denied)
     unread_at last there written (inr none) =
         let parted = parted_at paths (length verdicts) last.path there in inr (record {
@@ -307,19 +308,19 @@ module _ (content : Content) (explain : Bool) (program : Image) where
         })
 
     -- A log was not read. The lines of those before it are written.
-    pub lines_unread : (last : LogsFault) → end ≡ Err last
+    pub lines_unread : (last : LogsFault) → end ≡ Err last → MayStop ⊥ last.why
         → Appends old new (all_lines explain program paths verdicts)
-        → PrintsUnlessDenied (WritesLines content explain program paths) ⊤
-        (Err (fault_of_unread last.path last.why)) old new
-    lines_unread last is written =
+        → PrintsUnlessDenied (WritesLines most content explain program paths) ⊤
+        (Err (stop_fault last.path last.why)) old new
+    lines_unread last is may written =
         let stop = subst (λ end. IfErr end (λ last. (slice_get paths (length verdicts) ≡ Some last.path)
         × IsMadeOf (λ hart. IsVerdictOnLegal) (λ events row (verdict : Verdict). verdict ≡ Err row)
-        (content last.path.now) program most_rows (length verdicts) (Err last.why))) is are.fault in
-        unread_at last stop.0 written (unread last.path last.why stop.1)
+        (content last.path.now) program most (length verdicts) (Err last.why))) is are.fault in
+        unread_at last stop.0 written (unread last.path last.why may stop.1)
 
     -- The lines of the logs that were read are written.
     pub lines_first : Appends old new (all_lines explain program paths verdicts)
-        → AppendsFirstLines content explain program paths old new
+        → AppendsFirstLines most content explain program paths old new
     lines_first written = record {
       front = front;
       rest = drop (length verdicts) paths;
@@ -334,7 +335,7 @@ module _ (content : Content) (explain : Bool) (program : Image) where
 
     -- A beginning of the lines of the logs that were read is written.
     pub lines_cut : AppendsBeginning (all_lines explain program paths verdicts) old new
-        → BeginsPrinted (WritesFirstLines content explain program paths) old new
+        → BeginsPrinted (WritesFirstLines most content explain program paths) old new
     lines_cut begun = record {
       printed = record {
         text = all_lines explain program paths verdicts;
@@ -349,12 +350,18 @@ module _ (content : Content) (explain : Bool) (program : Image) where
       begun = begun;
     }
 
+-- A line is written, and then what explains it.
+pub both_written : {A E : Type 0} (line more : List ℕ) (old mid new : Option (List ℕ)) (ended : Result A E)
+    → Appends old mid line → OnOk ended (Appends mid new more) → OnOk ended (Appends old new (line ++ more))
+both_written line more old mid new (Ok done) first next = Appends-trans old mid new line more first next
+both_written line more old mid new (Err why) first next = tt
+
 -- First lines were appended, and then nothing more.
-pub lines_kept : (content : Content) (explain : Bool) (program : Image) (paths : List Path)
+pub lines_kept : (most : ℕ) (content : Content) (explain : Bool) (program : Image) (paths : List Path)
     (old mid new : Option (List ℕ))
-    → AppendsFirstLines content explain program paths old mid → Keeps mid new → AppendsFirstLines content explain
+    → AppendsFirstLines most content explain program paths old mid → Keeps mid new → AppendsFirstLines most content explain
     program paths old new
-lines_kept content explain program paths old mid new begun kept = record {
+lines_kept most content explain program paths old mid new begun kept = record {
   front = begun.front;
   rest = begun.rest;
   status = begun.status;

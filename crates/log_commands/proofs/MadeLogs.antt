@@ -25,15 +25,15 @@ use Rattle.message.specs.Capture.{message_bytes}
 use Rattle.message.specs.Numbered.{messages_from}
 use Rattle.message.specs.declared.message.Message.{Message}
 use Rattle.payload.specs.declared.mode.Mode.{Mode}
-use Rattle.retire.specs.Log.{most_rows}
 use Rattle.retire.specs.declared.event.Event.{Event}
 use Rattle.rvclass.specs.Image.{Image}
 use Rattle.subcommands.specs.declared.words.Encode.{Encode}
 use Rattle.command_inputs.proofs.StreamLemmas.{legal_stopped, log_read_in, parted_at}
 use Rattle.command_inputs.specs.Faults.{Path, stop_fault}
-use Rattle.command_inputs.specs.Found.{AreLegalLogs, IsFirstRefused, IsLegalLogAt}
-use Rattle.command_inputs.specs.declared.fault.Fault.{Fault}
+use Rattle.command_inputs.specs.FoundLogs.{AreLegalLogsUpTo, IsFirstRefusedUpTo, IsLegalLogUpTo}
 use Rattle.command_inputs.specs.declared.fault.Fault.TheVariants as fault
+use Rattle.log_commands.specs.Faults.{Fault}
+use Rattle.log_commands.specs.declared.reason.LogReason.{LogReason}
 use Rattle.log_commands.specs.Encoding.{written}
 use Rattle.log_commands.specs.steps.Made.{AreMadeFrom, AreMadeOfLogs, AreMeasuresOf, AreMessagesOf, all_or_fault}
 use Rattle.log_commands.specs.steps.Made.{form_text, joined, written_of}
@@ -47,7 +47,7 @@ module _ {X : Type 0} (Makes : ℕ → ProgramLog → X → Type 0) where
   made_long hart (log ∷ logs) [] are = elim are [ ]
   made_long hart (log ∷ logs) (one ∷ made) are = ap (λ n. suc n) (made_long (hart + 1) logs made are.1)
 
-  module _ (content : Content) (program : Image) where
+  module _ (most : ℕ) (content : Content) (program : Image) where
     -- This is made of the events of a log.
     abbrev OfEvents : ℕ → List Event → X → Type 0
     OfEvents hart events one = Makes hart (program_log program events) one
@@ -59,16 +59,16 @@ module _ {X : Type 0} (Makes : ℕ → ProgramLog → X → Type 0) where
     -- The legal log at a path, and what was made of it.
     record MadeAt (hart : ℕ) (path : Path) (one : X) : Type 0 where
       pub log : ProgramLog
-      pub legal : IsLegalLogAt content program path (Ok log)
+      pub legal : IsLegalLogUpTo {W = LogReason} most content program path (Ok log)
       pub makes : Makes hart log one
 
     made_at : (hart : ℕ) (path : Path) (one : X)
-        → IsMadeOf OfEvents OfIllegal (content path.now) program most_rows hart (Ok one) → MadeAt hart path one
+        → IsMadeOf OfEvents OfIllegal (content path.now) program most hart (Ok one) → MadeAt hart path one
     made_at hart path one (inl there) = record {
       log = program_log program there.events;
       legal = record {
         events = Ok there.events;
-        read = log_read_in content path there.events there.read;
+        read = log_read_in most content path there.events there.read;
         judged = (refl, there.legal.legal);
       };
       makes = there.makes;
@@ -78,7 +78,7 @@ module _ {X : Type 0} (Makes : ℕ → ProgramLog → X → Type 0) where
     -- The logs at the first paths are legal, and this is made of them.
     record FrontMade (hart : ℕ) (paths : List Path) (made : List X) : Type 0 where
       pub logs : List ProgramLog
-      pub legal : AllZip (λ path log. IsLegalLogAt content program path (Ok log)) (take (length made) paths) logs
+      pub legal : AllZip (λ path log. IsLegalLogUpTo {W = LogReason} most content program path (Ok log)) (take (length made) paths) logs
       pub each : AreMadeFrom Makes hart logs made
 
     front_made : (hart : ℕ) (paths : List Path) (made : List X) → length made ≤ length paths
@@ -98,32 +98,32 @@ module _ {X : Type 0} (Makes : ℕ → ProgramLog → X → Type 0) where
 
     module _ (paths : List Path) where
       fronts : (made : List X) (end : Result (Unit {0}) LogsFault)
-          → AreMade OfEvents OfIllegal content program most_rows paths made end → FrontMade 0 paths made
+          → AreMade OfEvents OfIllegal content program most paths made end → FrontMade 0 paths made
       fronts made end are =
           front_made 0 paths made are.few (λ i path one at is.
           subst (λ hart. MadeAt hart path one) (sym (zero-add i)) (made_at i path one (are.each i path one at is)))
 
       all_legal : (made : List X) (end : Unit {0})
-          → AreMade OfEvents OfIllegal content program most_rows paths made (Ok end)
-          → AreMadeOfLogs Makes content program paths made
+          → AreMade OfEvents OfIllegal content program most paths made (Ok end)
+          → AreMadeOfLogs Makes most content program paths made
       all_legal made end are =
           let front = fronts made (Ok end) are in record {
             logs = front.logs;
-            legal = subst (λ paths. AllZip (λ path log. IsLegalLogAt content program path (Ok log)) paths front.logs)
+            legal = subst (λ paths. AllZip (λ path log. IsLegalLogUpTo {W = LogReason} most content program path (Ok log)) paths front.logs)
                 (take_all (length made) paths (omega (arith, are.all refl))) front.legal;
             each = front.each;
           }
 
       first_refused : (made : List X) (last : LogsFault)
-          → AreMade OfEvents OfIllegal content program most_rows paths made (Err last)
-          → (stop_fault last.path last.why ≡ fault.Memory)
-          ⊎ IsFirstRefused content program paths (stop_fault last.path last.why)
-      first_refused made last are = is_first (legal_stopped content program last.path last.why are.fault.1)
+          → AreMade OfEvents OfIllegal content program most paths made (Err last)
+          → (stop_fault {W = LogReason} last.path last.why ≡ fault.Memory)
+          ⊎ IsFirstRefusedUpTo {W = LogReason} most content program paths (stop_fault last.path last.why)
+      first_refused made last are = is_first (legal_stopped most content program last.path last.why are.fault.1)
         where
-          is_first : (stop_fault last.path last.why ≡ fault.Memory)
-              ⊎ IsLegalLogAt content program last.path (Err (stop_fault last.path last.why))
-              → (stop_fault last.path last.why ≡ fault.Memory)
-              ⊎ IsFirstRefused content program paths (stop_fault last.path last.why)
+          is_first : (stop_fault {W = LogReason} last.path last.why ≡ fault.Memory)
+              ⊎ IsLegalLogUpTo {W = LogReason} most content program last.path (Err (stop_fault last.path last.why))
+              → (stop_fault {W = LogReason} last.path last.why ≡ fault.Memory)
+              ⊎ IsFirstRefusedUpTo {W = LogReason} most content program paths (stop_fault last.path last.why)
           is_first (inl denied) = inl denied
           is_first (inr refused) =
               let front = fronts made (Err last) are in
@@ -140,7 +140,7 @@ module _ {X : Type 0} (Makes : ℕ → ProgramLog → X → Type 0) where
       -- Where something was made of each log, there is one thing for each.
       pub made_count : (made : Vec X Global) (end : Result (Unit {0}) LogsFault)
           (result : Result (Vec X Global) Fault)
-          → AreMade OfEvents OfIllegal content program most_rows paths made.items end
+          → AreMade OfEvents OfIllegal content program most paths made.items end
           → result ≡ all_or_fault made end → IfOk result (λ all. length all.items ≡ length paths)
       made_count made (Ok end) result are is =
           subst (λ r. IfOk r (λ all. length all.items ≡ length paths)) (sym is) (are.all refl)
@@ -150,25 +150,25 @@ module _ {X : Type 0} (Makes : ℕ → ProgramLog → X → Type 0) where
       -- Then all logs are legal.
       pub made_of_legal : (made : Vec X Global) (end : Result (Unit {0}) LogsFault)
           (result : Result (Vec X Global) Fault)
-          → AreMade OfEvents OfIllegal content program most_rows paths made.items end
+          → AreMade OfEvents OfIllegal content program most paths made.items end
           → result ≡ all_or_fault made end
-          → IfOk result (λ all. AreMadeOfLogs Makes content program paths all.items)
+          → IfOk result (λ all. AreMadeOfLogs Makes most content program paths all.items)
       made_of_legal made (Ok end) result are is =
-          subst (λ r. IfOk r (λ all. AreMadeOfLogs Makes content program paths all.items)) (sym is)
+          subst (λ r. IfOk r (λ all. AreMadeOfLogs Makes most content program paths all.items)) (sym is)
           (all_legal made.items end are)
       made_of_legal made (Err last) result are is =
-          subst (λ r. IfOk r (λ all. AreMadeOfLogs Makes content program paths all.items)) (sym is) tt
+          subst (λ r. IfOk r (λ all. AreMadeOfLogs Makes most content program paths all.items)) (sym is) tt
 
       -- Else the fault is that of the first log that is not legal.
       pub made_of_none : (made : Vec X Global) (end : Result (Unit {0}) LogsFault)
           (result : Result (Vec X Global) Fault)
-          → AreMade OfEvents OfIllegal content program most_rows paths made.items end
+          → AreMade OfEvents OfIllegal content program most paths made.items end
           → result ≡ all_or_fault made end
-          → IfErr result (λ why. (why ≡ fault.Memory) ⊎ AreLegalLogs content program paths (Err why))
+          → IfErr result (λ why. (why ≡ fault.Memory) ⊎ AreLegalLogsUpTo most content program paths (Err why))
       made_of_none made (Ok end) result are is =
-          subst (λ r. IfErr r (λ why. (why ≡ fault.Memory) ⊎ AreLegalLogs content program paths (Err why))) (sym is) tt
+          subst (λ r. IfErr r (λ why. (why ≡ fault.Memory) ⊎ AreLegalLogsUpTo most content program paths (Err why))) (sym is) tt
       made_of_none made (Err last) result are is =
-          subst (λ r. IfErr r (λ why. (why ≡ fault.Memory) ⊎ AreLegalLogs content program paths (Err why))) (sym is)
+          subst (λ r. IfErr r (λ why. (why ≡ fault.Memory) ⊎ AreLegalLogsUpTo most content program paths (Err why))) (sym is)
           (first_refused made.items last are)
 
 -- The messages of logs, one after the other, are those of their harts.

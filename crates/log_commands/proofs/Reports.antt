@@ -4,7 +4,7 @@ use Rattle.legalpath.specs.ProgramLog.{ProgramLog}
 use Rattle.bench.specs.Got.{Got}
 use Rattle.bench.specs.Report.{is_whole, report_text}
 use Rattle.bench.specs.declared.stop.Stop.{Stop}
-use Rattle.command_inputs.specs.Printed.{Printed}
+use Rattle.log_commands.specs.Faults.{Printed}
 use Rattle.log_commands.specs.Sending.{end_of_report}
 
 -- The text of a report, and how it ends.

@@ -5,11 +5,12 @@ use Rattle.funnel.specs.declared.turn.Turn.{Turn}
 use Rattle.schedule.specs.Schedule.{schedule_of}
 use Rattle.schedule.specs.declared.fault.ScheduleFault.{ScheduleFault}
 use Rattle.schedule.specs.declared.fault.ScheduleFault.TheVariants as schedule
-use Rattle.command_inputs.specs.Faults.{Path, schedule_fault}
+use Rattle.command_inputs.specs.Faults.{Path}
 use Rattle.command_inputs.specs.Found.{IsRead}
 use Rattle.files.specs.Known.{Content}
-use Rattle.command_inputs.specs.declared.fault.Fault.{Fault}
 use Rattle.command_inputs.specs.declared.fault.Fault.TheVariants as fault
+use Rattle.log_commands.specs.Faults.{Fault, schedule_fault}
+use Rattle.log_commands.specs.declared.reason.LogReason.{LogReason}
 use Rattle.log_commands.specs.Replaying.{IsSchedule}
 
 -- A schedule that is not read has no turns.
@@ -21,7 +22,7 @@ schedule_unread content harts path why (inr read) = inr (record { bytes = Err wh
 
 -- A text with a fault has no turns.
 pub schedule_refused : (content : Content) (harts : ℕ) (path : Path) (bytes : List ℕ) (why : ScheduleFault)
-    → IsRead content path (Ok bytes) → (why ≡ schedule.Memory) ⊎ (schedule_of harts bytes ≡ Err why)
+    → IsRead {W = LogReason} content path (Ok bytes) → (why ≡ schedule.Memory) ⊎ (schedule_of harts bytes ≡ Err why)
     → (schedule_fault why ≡ fault.Memory) ⊎ IsSchedule content harts path (Err (schedule_fault why))
 schedule_refused content harts path bytes why read (inl denied) = inl (ap schedule_fault denied)
 schedule_refused content harts path bytes why read (inr is) = inr (record {
@@ -32,6 +33,6 @@ schedule_refused content harts path bytes why read (inr is) = inr (record {
 
 -- The turns that a text spells are those of the schedule.
 pub schedule_read : (content : Content) (harts : ℕ) (path : Path) (bytes : List ℕ) (turns : List Turn)
-    → IsRead content path (Ok bytes) → schedule_of harts bytes ≡ Ok turns → IsSchedule content harts path (Ok turns)
+    → IsRead {W = LogReason} content path (Ok bytes) → schedule_of harts bytes ≡ Ok turns → IsSchedule content harts path (Ok turns)
 schedule_read content harts path bytes turns read is =
     record { bytes = Ok bytes; read = read; made = sym (ap (result_map_both (λ turns. turns) schedule_fault) is) }

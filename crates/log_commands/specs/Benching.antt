@@ -12,12 +12,12 @@ use Rattle.bench.specs.declared.outcome.HartOutcome.{HartOutcome}
 use Rattle.bench.specs.declared.stop.Stop.{Stop}
 use Rattle.retire.specs.Number.{number_of}
 use Rattle.subcommands.specs.declared.words.Bench.{Bench}
-use Rattle.command_inputs.specs.Finding.{Once}
-use Rattle.command_inputs.specs.Found.{AreAskedLogs}
+use Rattle.command_inputs.specs.FoundLogs.{AreAskedLogs}
 use Rattle.files.specs.Known.{Content}
-use Rattle.command_inputs.specs.Meaning.{Meaning, writing_at_once}
+use Rattle.command_inputs.specs.Meaning.{writing_at_once}
 use Rattle.command_inputs.specs.Order.{logs_fault}
-use Rattle.command_inputs.specs.Printed.{First, Printed}
+use Rattle.command_inputs.specs.Printed.{First}
+use Rattle.log_commands.specs.Faults.{Meaning, Once, Printed}
 use Rattle.log_commands.specs.Sending.{IsSetting, config_at, end_of_report}
 
 -- The report of some harts is written. What came of each hart is what comes of a beginning of its log's packets. There

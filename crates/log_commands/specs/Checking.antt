@@ -14,16 +14,16 @@ use Rattle.retire.specs.declared.event.Event.{Event}
 use Rattle.rvclass.specs.Image.{Image}
 use Rattle.subcommands.specs.declared.words.Check.{Check}
 use Rattle.command_inputs.specs.Faults.{Path}
-use Rattle.command_inputs.specs.Finding.{Once}
-use Rattle.command_inputs.specs.Found.{IsAskedProgram, IsLog}
-use Rattle.command_inputs.specs.Judged.{IsJudgedAt, Judged}
+use Rattle.command_inputs.specs.Found.{IsAskedProgram}
+use Rattle.command_inputs.specs.FoundLogs.{IsLogUpTo}
+use Rattle.command_inputs.specs.Judged.{IsJudgedUpTo, Judged}
 use Rattle.files.specs.Known.{Content}
-use Rattle.command_inputs.specs.Meaning.{Meaning}
 use Rattle.command_inputs.specs.Order.{logs_fault}
-use Rattle.command_inputs.specs.Printed.{First, IsPrinted, Printed}
-use Rattle.command_inputs.specs.declared.fault.Fault.{Fault}
+use Rattle.command_inputs.specs.Printed.{First, IsPrinted}
 use Rattle.command_inputs.specs.declared.status.Status.{Status}
 use Rattle.command_inputs.specs.declared.status.Status.TheVariants.{Refused, Whole}
+use Rattle.log_commands.specs.Faults.{Fault, Meaning, Once, Printed}
+use Rattle.log_commands.specs.Most.{most_of}
 
 -- The line of a log at a path. It says that the log is legal and how many events it has, or which row is the first
 -- illegal one and why.
@@ -41,11 +41,11 @@ abbrev pub log_lines : Bool → Image → List ℕ → List Event → Option Pat
 log_lines explain program path events illegal =
     verdict_line path (length events) illegal ++ explained_line explain program events illegal
 
--- What is written of a log that was judged.
+-- What is written of a log that was checked.
 abbrev pub check_lines : Bool → Image → Judged → List ℕ
 check_lines explain program log = log_lines explain program log.path log.events log.illegal
 
--- A log that was judged is illegal.
+-- A log that was checked is illegal.
 abbrev pub is_illegal : Judged → Bool
 is_illegal log = is_some log.illegal
 
@@ -53,42 +53,44 @@ is_illegal log = is_some log.illegal
 abbrev pub status_with : Bool → Status
 status_with some_illegal = if some_illegal then Refused else Whole
 
--- Every log was read. Each has its lines, and the status says whether one is illegal.
-pub record ChecksAll (content : Content) (explain : Bool) (program : Image) (paths : List Path) (text : List ℕ)
-    (status : Status) : Type 0 where
+-- Every log was read, of at most so many rows. Each has its lines, and the status says whether one is illegal.
+pub record ChecksAll (most : ℕ) (content : Content) (explain : Bool) (program : Image) (paths : List Path)
+    (text : List ℕ) (status : Status) : Type 0 where
   pub logs : List Judged
-  pub judged : AllZip (IsJudgedAt content program) paths logs
+  pub judged : AllZip (IsJudgedUpTo most content program) paths logs
   pub lines : text ≡ flat_map (check_lines explain program) logs
   pub ended : status ≡ status_with (list_any is_illegal logs)
 
 -- The logs before some path were read, and each has its lines. The log at that path was not read, for this reason.
-pub record ChecksUpTo (content : Content) (explain : Bool) (program : Image) (paths : List Path) (text : List ℕ)
-    (why : Fault) : Type 0 where
+pub record ChecksUpTo (most : ℕ) (content : Content) (explain : Bool) (program : Image) (paths : List Path)
+    (text : List ℕ) (why : Fault) : Type 0 where
   pub front : List Path
   pub path : Path
   pub rest : List Path
   pub logs : List Judged
   pub whole : paths ≡ front ++ path ∷ rest
-  pub judged : AllZip (IsJudgedAt content program) front logs
+  pub judged : AllZip (IsJudgedUpTo most content program) front logs
   pub lines : text ≡ flat_map (check_lines explain program) logs
-  pub unread : IsLog content path (Err why)
+  pub unread : IsLogUpTo most content path (Err why)
 
 -- The text is the lines of the logs at these paths, up to the first that is not read, and this is the end that goes
 -- with it.
-abbrev pub EndsLines : Content → Bool → Image → List Path → List ℕ → Result Status Fault → Type 0
-EndsLines content explain program paths text (Ok status) = ChecksAll content explain program paths text status
-EndsLines content explain program paths text (Err why) = ChecksUpTo content explain program paths text why
+abbrev pub EndsLines : ℕ → Content → Bool → Image → List Path → List ℕ → Result Status Fault → Type 0
+EndsLines most content explain program paths text (Ok status) =
+    ChecksAll most content explain program paths text status
+EndsLines most content explain program paths text (Err why) = ChecksUpTo most content explain program paths text why
 
 -- The lines of the logs at these paths are written.
-abbrev pub WritesLines : Content → Bool → Image → List Path → Printed → Type 0
-WritesLines content explain program paths printed = EndsLines content explain program paths printed.text printed.ended
+abbrev pub WritesLines : ℕ → Content → Bool → Image → List Path → Printed → Type 0
+WritesLines most content explain program paths printed =
+    EndsLines most content explain program paths printed.text printed.ended
 
 -- The program is found first, by the base, the count of logs and the image. Where there is no fault, the lines of the
 -- logs are written.
 abbrev pub Checks : Content → Check → Printed → Type 0
 Checks content asked =
     First (IsAskedProgram content (most_harts Two) asked.base.now asked.image asked.logs.items) (λ program.
-    WritesLines content asked.explain program asked.logs.items)
+    WritesLines (most_of asked.long) content asked.explain program asked.logs.items)
 
 -- `check` writes once it has the program.
 abbrev pub CanCheck : Content → Check → Type 0
@@ -96,33 +98,33 @@ CanCheck content asked =
     Once (IsAskedProgram content (most_harts Two) asked.base.now asked.image asked.logs.items) (λ _. ⊤)
 
 -- All logs at a front part of these paths were read, perhaps at none or at all of them, and their lines were appended.
-pub record AppendsFirstLines (content : Content) (explain : Bool) (program : Image) (paths : List Path)
+pub record AppendsFirstLines (most : ℕ) (content : Content) (explain : Bool) (program : Image) (paths : List Path)
     (old new : Option (List ℕ)) : Type 0 where
   pub front : List Path
   pub rest : List Path
   pub status : Status
   pub whole : paths ≡ front ++ rest
-  pub lines : IsPrinted (WritesLines content explain program front) (Ok status) old new
+  pub lines : IsPrinted (WritesLines most content explain program front) (Ok status) old new
 
 -- The program was found, and the lines of the first logs were appended, perhaps of none.
 abbrev pub BeginsLines : Content → Check → Option (List ℕ) → Option (List ℕ) → Type 0
 BeginsLines content asked old new =
-    Once (IsAskedProgram content (most_harts Two) asked.base.now asked.image asked.logs.items) (λ program.
-    AppendsFirstLines content asked.explain program asked.logs.items old new)
+    Once (IsAskedProgram content (most_harts Two) asked.base.now asked.image asked.logs.items)
+    (λ program. AppendsFirstLines (most_of asked.long) content asked.explain program asked.logs.items old new)
 
 -- The lines of the logs at a front part of these paths are written.
-pub record WritesFirstLines (content : Content) (explain : Bool) (program : Image) (paths : List Path)
+pub record WritesFirstLines (most : ℕ) (content : Content) (explain : Bool) (program : Image) (paths : List Path)
     (printed : Printed) : Type 0 where
   pub front : List Path
   pub rest : List Path
   pub whole : paths ≡ front ++ rest
-  pub lines : WritesLines content explain program front printed
+  pub lines : WritesLines most content explain program front printed
 
 -- The program was found, and the lines of the first logs are written.
 abbrev pub ChecksFirst : Content → Check → Printed → Type 0
 ChecksFirst content asked printed =
-    Once (IsAskedProgram content (most_harts Two) asked.base.now asked.image asked.logs.items) (λ program.
-    WritesFirstLines content asked.explain program asked.logs.items printed)
+    Once (IsAskedProgram content (most_harts Two) asked.base.now asked.image asked.logs.items)
+    (λ program. WritesFirstLines (most_of asked.long) content asked.explain program asked.logs.items printed)
 
 -- What `check` means. It writes the lines of some logs before it reads the next.
 abbrev pub check_meaning : Check → Meaning

@@ -7,13 +7,14 @@ use Rattle.legalpath.specs.ProgramLog.{ProgramLog}
 use Rattle.message.specs.Version.{most_harts}
 use Rattle.retire.specs.Number.{number_of}
 use Rattle.subcommands.specs.declared.words.Encode.{Encode}
-use Rattle.command_inputs.specs.Finding.{Once}
-use Rattle.command_inputs.specs.Found.{AreAskedLogs}
+use Rattle.command_inputs.specs.FoundLogs.{AreAskedLogsUpTo}
 use Rattle.files.specs.Known.{Content}
-use Rattle.command_inputs.specs.Meaning.{Meaning, writing_at_once}
+use Rattle.command_inputs.specs.Meaning.{writing_at_once}
 use Rattle.command_inputs.specs.Order.{logs_fault}
-use Rattle.command_inputs.specs.Printed.{First, Printed}
+use Rattle.command_inputs.specs.Printed.{First}
 use Rattle.command_inputs.specs.declared.status.Status.TheVariants.{Whole}
+use Rattle.log_commands.specs.Faults.{Meaning, Once, Printed}
+use Rattle.log_commands.specs.Most.{most_of}
 
 -- The text of the messages of legal logs, hart after hart: lines of hexadecimal, or a capture of the version that is
 -- asked for.
@@ -30,13 +31,17 @@ WritesMessages asked logs printed = printed ≡ record { text = written asked lo
 -- the logs are written.
 abbrev pub Encodes : Content → Encode → Printed → Type 0
 Encodes content asked =
-    First (AreAskedLogs content (most_harts asked.version) asked.base.now asked.image asked.logs.items)
+    First
+    (AreAskedLogsUpTo (most_of asked.long) content (most_harts asked.version) asked.base.now asked.image
+    asked.logs.items)
     (WritesMessages asked)
 
 -- `encode` writes once it has the legal logs.
 abbrev pub CanEncode : Content → Encode → Type 0
 CanEncode content asked =
-    Once (AreAskedLogs content (most_harts asked.version) asked.base.now asked.image asked.logs.items) (λ _. ⊤)
+    Once
+    (AreAskedLogsUpTo (most_of asked.long) content (most_harts asked.version) asked.base.now asked.image
+    asked.logs.items) (λ _. ⊤)
 
 -- What `encode` means. The version that is asked for limits the count of logs.
 abbrev pub encode_meaning : Encode → Meaning

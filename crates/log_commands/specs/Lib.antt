@@ -1,3 +1,6 @@
+pub mod Faults
+pub mod FaultText
+pub mod Most
 pub mod Checking
 pub mod Encoding
 pub mod Measuring

@@ -6,13 +6,14 @@ use Rattle.message.specs.Version.{most_harts}
 use Rattle.message.specs.declared.header.Version.TheVariants.{Two}
 use Rattle.retire.specs.Number.{number_of}
 use Rattle.subcommands.specs.declared.words.Measure.{Measure}
-use Rattle.command_inputs.specs.Finding.{Once}
-use Rattle.command_inputs.specs.Found.{AreAskedLogs}
+use Rattle.command_inputs.specs.FoundLogs.{AreAskedLogsUpTo}
 use Rattle.files.specs.Known.{Content}
-use Rattle.command_inputs.specs.Meaning.{Meaning, writing_at_once}
+use Rattle.command_inputs.specs.Meaning.{writing_at_once}
 use Rattle.command_inputs.specs.Order.{logs_fault}
-use Rattle.command_inputs.specs.Printed.{First, Printed}
+use Rattle.command_inputs.specs.Printed.{First}
 use Rattle.command_inputs.specs.declared.status.Status.TheVariants.{Whole}
+use Rattle.log_commands.specs.Faults.{Meaning, Once, Printed}
+use Rattle.log_commands.specs.Most.{most_of}
 
 -- The table of the measures of legal logs is written, and all is done.
 abbrev pub WritesTable : Measure → List ProgramLog → Printed → Type 0
@@ -23,12 +24,15 @@ WritesTable asked logs printed =
 -- the logs is written.
 abbrev pub Measures : Content → Measure → Printed → Type 0
 Measures content asked =
-    First (AreAskedLogs content (most_harts Two) asked.base.now asked.image asked.logs.items) (WritesTable asked)
+    First
+    (AreAskedLogsUpTo (most_of asked.long) content (most_harts Two) asked.base.now asked.image asked.logs.items)
+    (WritesTable asked)
 
 -- `measure` writes once it has the legal logs.
 abbrev pub CanMeasure : Content → Measure → Type 0
 CanMeasure content asked =
-    Once (AreAskedLogs content (most_harts Two) asked.base.now asked.image asked.logs.items) (λ _. ⊤)
+    Once
+    (AreAskedLogsUpTo (most_of asked.long) content (most_harts Two) asked.base.now asked.image asked.logs.items) (λ _. ⊤)
 
 -- What `measure` means.
 abbrev pub measure_meaning : Measure → Meaning

@@ -17,14 +17,14 @@ use Rattle.bench.specs.Report.{is_whole, report_text}
 use Rattle.bench.specs.declared.stop.Stop.{Stop}
 use Rattle.bench.specs.declared.stop.Stop.TheVariants as stop
 use Rattle.subcommands.specs.declared.words.Replay.{Replay}
-use Rattle.command_inputs.specs.Faults.{Path, schedule_fault}
-use Rattle.command_inputs.specs.Finding.{Once}
-use Rattle.command_inputs.specs.Found.{AreAskedLogs, IsRead}
+use Rattle.command_inputs.specs.Faults.{Path}
+use Rattle.command_inputs.specs.Found.{IsRead}
+use Rattle.command_inputs.specs.FoundLogs.{AreAskedLogs}
 use Rattle.files.specs.Known.{Content}
-use Rattle.command_inputs.specs.Meaning.{Meaning, writing_at_once}
+use Rattle.command_inputs.specs.Meaning.{writing_at_once}
 use Rattle.command_inputs.specs.Order.{logs_fault}
-use Rattle.command_inputs.specs.Printed.{First, Printed}
-use Rattle.command_inputs.specs.declared.fault.Fault.{Fault}
+use Rattle.command_inputs.specs.Printed.{First}
+use Rattle.log_commands.specs.Faults.{Fault, Meaning, Once, Printed, schedule_fault}
 use Rattle.log_commands.specs.Sending.{IsSetting, config_at, end_of_report}
 
 -- The turns that a schedule's bytes spell for this many harts, or the fault where they are no schedule.
@@ -33,12 +33,13 @@ schedule_at harts (Err why) = Err why
 schedule_at harts (Ok bytes) = result_map_both (λ turns. turns) schedule_fault (schedule_of harts bytes)
 
 -- The turns of the schedule at a path are found, for this many harts.
-pub record IsSchedule (content : Content) (harts : ℕ) (path : Path) (found : Result (List Turn) Fault) : Type 0 where
+pub record IsSchedule (content : Content) (harts : ℕ) (path : Path) (found : Result (List Turn) Fault)
+    : Type 0 where
   pub bytes : Result (List ℕ) Fault
   pub read : IsRead content path bytes
   pub made : found ≡ schedule_at harts bytes
 
--- What comes of each hart, from this hart on, where these messages were taken. Of each hart's log as many packets came
+-- What is received of each hart, from this hart on, where these messages were taken. Of each hart's log as many packets came
 -- as there are messages of that hart.
 abbrev pub gots_after : ℕ → ℕ → Mode → List ProgramLog → List Message → List Got
 gots_after hart period mode [] taken = []
@@ -69,7 +70,8 @@ AreGot period mode logs taken (Some why) gots = ⊥
 
 -- The logs went through the funnel by these turns of the funnel machine, and the report of what came of them is
 -- written.
-pub record WritesReport (asked : Replay) (logs : List ProgramLog) (turns : List Turn) (printed : Printed) : Type 0 where
+pub record WritesReport (asked : Replay) (logs : List ProgramLog) (turns : List Turn) (printed : Printed)
+    : Type 0 where
   pub stop : Option Stop
   pub gots : List Got
   pub came : AreGot asked.period asked.mode logs

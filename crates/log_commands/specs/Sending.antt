@@ -5,10 +5,9 @@ use Rattle.bench.specs.Setting.{setup_fault}
 use Rattle.bench.specs.declared.config.Config.{Config}
 use Rattle.bench.specs.declared.setup.Setup.{Setup}
 use Rattle.bench.specs.declared.stop.Stop.{Stop}
-use Rattle.command_inputs.specs.Faults.{unsent_fault}
-use Rattle.command_inputs.specs.declared.fault.Fault.{Fault}
 use Rattle.command_inputs.specs.declared.status.Status.{Status}
 use Rattle.command_inputs.specs.declared.status.Status.TheVariants.{Whole, NotWhole, Machine}
+use Rattle.log_commands.specs.Faults.{Fault, unsent_fault}
 
 -- The settings with which logs are sent: this period, this mode and this capacity. No packets are kept.
 abbrev pub config_at : ℕ → Mode → ℕ → Config

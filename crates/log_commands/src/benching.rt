@@ -7,17 +7,19 @@ ghost use Rattle.funnel.specs.Limits.{most_ports};
 ghost use Rattle.bench.specs.Beginnings.{AreBeginnings};
 ghost use Rattle.bench.specs.Stopping.{NamesOpen};
 ghost use Rattle.command_inputs.specs.Begun.{IsCutOf};
-ghost use Rattle.command_inputs.specs.Faults.{final_status};
 ghost use Rattle.command_inputs.specs.Order.{logs_fault};
 ghost use Rattle.command_inputs.specs.Printed.{PrintsUnlessDenied};
+ghost use Rattle.log_commands.specs.Faults.{final_status};
 ghost use Rattle.log_commands.specs.Benching.{Benches, BenchesLogs, CanBench, CanBenchLogs};
 ghost use Rattle.log_commands.specs.Sending.{IsSetting, config_at};
+ghost use Rattle.command_inputs.specs.declared.fault.Fault.TheVariants as Fault;
 
 use crate::legal_logs::{AskedLogs, OnLogs, bytes_of, over_legal_logs};
+use crate::reason::{Fault, of_setup};
 use crate::reporting::end_with_report;
 use crate::rooms::rooms_of;
 use bench::{Config, Open, Outcome, run_in_rooms};
-use command_inputs::{Fault, Files, Status};
+use command_inputs::{Files, Status};
 use funnel::MOST_PORTS;
 use legalpath::LegalLog;
 use side_by_side::drop_side_by_side;
@@ -28,7 +30,7 @@ use std::thread::Threads;
 use subcommands::Bench;
 
 /// Sends each hart's log through the funnel from a thread of its own, once all logs are found legal, and writes the
-/// report of what comes of them. All is done where each log comes back whole. A stop is printed in the report, and the
+/// report of what is received of them. All is done where each log comes back complete. A stop is printed in the report, and the
 /// status is then that of the machine.
 pub fn bench<'a, F: Files + Sync, O: Write, R: Threads + Wait + Sync>(
     alloc: Global,
@@ -82,7 +84,8 @@ impl<'a, R: Threads + Wait + Sync> OnLogs<'a> for OverThreads<'a, '_, R> {
     }
 }
 
-/// Sends each legal log through the funnel from a thread of its own, and writes the report of what comes of them.
+/// Sends each legal log through the funnel from a thread of its own, and writes the report of what is received of
+/// them.
 fn bench_logs<'a, O: Write, R: Threads + Wait + Sync>(
     alloc: Global,
     rt: &R,
@@ -103,7 +106,7 @@ fn bench_logs<'a, O: Write, R: Threads + Wait + Sync>(
     ended
 }
 
-/// What comes of the logs. No packets are kept.
+/// What is received of the logs. No packets are kept.
 fn outcome_of<'a, R: Threads + Wait + Sync>(
     alloc: Global,
     rt: &R,
@@ -129,6 +132,6 @@ fn outcome_of<'a, R: Threads + Wait + Sync>(
     let rooms = rooms_of(alloc, rt, logs);
     match run_in_rooms(alloc, alloc, logs, config, &Open, rt, rooms) {
         Ok(outcome) => Ok(outcome),
-        Err(why) => Err(Fault::of_setup(why)),
+        Err(why) => Err(of_setup(why)),
     }
 }

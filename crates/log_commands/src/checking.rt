@@ -12,16 +12,18 @@ ghost use Rattle.command_inputs.specs.Order.{logs_fault};
 ghost use Rattle.command_inputs.specs.Printed.{PrintsUnlessDenied};
 ghost use Rattle.log_commands.specs.Checking.{AppendsFirstLines, BeginsLines, ChecksFirst, WritesFirstLines, CanCheck};
 ghost use Rattle.log_commands.specs.Checking.{Checks, WritesLines, status_with};
-ghost use Rattle.log_commands.specs.steps.Checked.{all_lines, fault_of_unread, illegal_lines, is_refused, row_line};
-ghost use Rattle.log_commands.specs.steps.Checked.{verdict_lines};
+ghost use Rattle.log_commands.specs.Most.{most_of};
+ghost use Rattle.log_commands.specs.steps.Checked.{all_lines, illegal_lines, is_refused, row_line, verdict_lines};
+ghost use Rattle.command_inputs.specs.declared.fault.Fault.TheVariants as Fault;
 
 use crate::counting::Counting;
-use command_inputs::{Fault, Status, asked_program};
+use crate::most::most_of;
+use crate::reason::Fault;
+use command_inputs::{Status, asked_program};
 use files::Files;
-use log_streams::{IllegalRow, MadeLogs, Stop, made_of_logs};
+use log_streams::{IllegalRow, MadeLogs, made_of_logs};
 use message::MOST_HARTS;
 use output::write_text;
-use retire::MOST_ROWS;
 use rvclass::Program;
 use std::alloc::Global;
 use std::io::Write;
@@ -32,7 +34,8 @@ use subcommands::Check;
 /// line that explains the first illegal row. Returns that all is done where all logs are legal, and else that the input
 /// is refused. A log that is not read ends the run, after the lines of the logs before it.
 ///
-/// The logs are read side by side, each a piece at a time. No list holds the events of a log.
+/// A log may have 4,294,967,295 rows where long logs are asked for, and else 16,777,216. The logs are read side by side,
+/// each a piece at a time. No list holds the events of a log.
 pub fn check<'a, F: Files + Sync, O: Write, R: Threads + Sync>(
     alloc: Global,
     rt: &R,
@@ -53,7 +56,7 @@ where
 {
     let paths = asked.logs.as_slice();
     let program = asked_program(files, MOST_HARTS, asked.base, asked.image, paths)?;
-    let ended = check_all(alloc, rt, files, &program, paths, asked.explain, out);
+    let ended = check_all(alloc, rt, files, &program, asked, paths, out);
     out.flush()?;
     ended
 }
@@ -64,40 +67,33 @@ fn check_all<'a, F: Files + Sync, O: Write, R: Threads + Sync>(
     rt: &R,
     files: &F,
     program: &Program,
+    asked: &Check<'a>,
     paths: &[&'a str],
-    explain: bool,
     out: &mut O,
 ) -> Result<Status, Fault<'a>>
 where
     F::Reader: Send,
-    ensures printed { PrintsUnlessDenied (WritesLines (F.content files.now) explain program.now paths.now) ⊤ result
+    ensures printed { PrintsUnlessDenied
+        (WritesLines (most_of asked.now.long) (F.content files.now) asked.now.explain program.now paths.now) ⊤ result
         (O.contents out.old) (O.contents out.new) }
-    ensures begun { result ≡ Err Fault.Memory → AppendsFirstLines (F.content files.now) explain program.now paths.now
-        (O.contents out.old) (O.contents out.new) }
-    ensures cut { BeginsPrinted (WritesFirstLines (F.content files.now) explain program.now paths.now)
+    ensures begun { result ≡ Err Fault.Memory → AppendsFirstLines (most_of asked.now.long) (F.content files.now)
+        asked.now.explain program.now paths.now (O.contents out.old) (O.contents out.new) }
+    ensures cut { BeginsPrinted
+        (WritesFirstLines (most_of asked.now.long) (F.content files.now) asked.now.explain program.now paths.now)
         (O.contents out.old) (O.contents out.new) }
 {
+    let most = most_of(asked.long);
     let MadeLogs {
         made: verdicts,
         end,
-    } = made_of_logs(alloc, rt, files, program, MOST_ROWS, paths, &Counting);
-    let status = match write_logs(program, paths, verdicts.as_slice(), explain, out) {
+    } = made_of_logs(alloc, rt, files, program, most, paths, &Counting);
+    let status = match write_logs(program, paths, verdicts.as_slice(), asked.explain, out) {
         Ok(status) => status,
         Err(why) => return Err(why),
     };
     match end {
         Ok(()) => Ok(status),
-        Err(fault) => Err(fault_of_unread(fault.path, fault.why)),
-    }
-}
-
-/// The fault of a log that was not read. [`Counting`] refuses no illegal log, so that none ends the run.
-fn fault_of_unread<'a>(path: &'a str, why: Stop) -> Fault<'a>
-    ensures { result ≡ fault_of_unread path.entry why }
-{
-    match why {
-        Stop::Unread(_) => Fault::of_stop(path, why),
-        Stop::Illegal(_) => Fault::Memory,
+        Err(fault) => Err(Fault::of_stop(fault.path, fault.why)),
     }
 }
 

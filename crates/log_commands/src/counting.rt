@@ -1,7 +1,7 @@
 //! The events of a log, counted as they are read.
 
-ghost use Rattle.std.specs.Prelude.{◌≡◌, Err};
-ghost use Rattle.log_commands.specs.steps.Checked.{IsCountOf, IsVerdictOnLegal};
+ghost use Rattle.std.specs.Prelude.{◌≡◌, Err, length};
+ghost use Rattle.log_commands.specs.steps.Checked.{IsVerdictOnLegal};
 
 use legalpath::PathFault;
 use log_streams::{IllegalRow, LogTask};
@@ -16,18 +16,20 @@ pub(crate) struct Counting;
 impl LogTask<Result<usize, IllegalRow>> for Counting {
     type State = usize;
 
-    ghost Keeps = { λ task program hart seen count. IsCountOf seen count };
+    ghost Keeps = { λ task program hart seen count. count ≡ length seen };
 
     ghost Makes = { λ task program hart events verdict. IsVerdictOnLegal events verdict };
 
     ghost MakesOfIllegal = { λ task program events row verdict. verdict ≡ Err row };
+
+    ghost MayRefuse = { λ task. ⊥ };
 
     fn begin(&self, _: &Program, _: usize) -> Result<usize, AllocError> {
         Ok(0)
     }
 
     fn add(&self, _: &Program, count: &mut usize, events: &[Event]) -> Result<(), AllocError> {
-        *count = count.saturating_add(events.len());
+        *count += events.len();
         Ok(())
     }
 

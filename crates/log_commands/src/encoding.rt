@@ -9,23 +9,27 @@ ghost use Rattle.retire.specs.Number.{number_of};
 ghost use Rattle.rvclass.specs.Fetch.{words_of};
 ghost use Rattle.hart_encoding.specs.HasEncoded.{HasEncoded};
 ghost use Rattle.command_inputs.specs.Begun.{IsCutOf};
-ghost use Rattle.command_inputs.specs.Faults.{final_status};
-ghost use Rattle.command_inputs.specs.Found.{AreLegalLogs};
+ghost use Rattle.command_inputs.specs.FoundLogs.{AreLegalLogsUpTo};
 ghost use Rattle.command_inputs.specs.Order.{logs_fault};
 ghost use Rattle.command_inputs.specs.Printed.{PrintsUnlessDenied};
 ghost use Rattle.log_commands.specs.Encoding.{CanEncode, Encodes};
+ghost use Rattle.log_commands.specs.Most.{most_of};
+ghost use Rattle.log_commands.specs.Faults.{final_status};
 ghost use Rattle.log_commands.specs.steps.Made.{AreMadeOfLogs, AreMessagesOf, form_text, joined, written_of};
+ghost use Rattle.command_inputs.specs.declared.fault.Fault.TheVariants as Fault;
 
 use crate::made::all_made;
+use crate::most::most_of;
+use crate::reason::Fault;
 use captures::{CaptureBytes, Form, HexLines, write_start};
-use command_inputs::{Fault, Status, asked_program};
+use command_inputs::{Status, asked_program};
 use files::Files;
 use hart_encoding::HartMessages;
 use legalpath::PathFault;
 use log_streams::{IllegalRow, LogTask, made_of_logs};
 use output::write_bytes;
 use payload::Mode;
-use retire::{Event, MOST_ROWS};
+use retire::Event;
 use rvclass::Program;
 use std::alloc::{AllocError, Global};
 use std::io::Write;
@@ -33,7 +37,8 @@ use std::thread::Threads;
 use subcommands::Encode;
 
 /// Writes the messages of each hart's log, once all logs are found legal: as a capture of the version that is asked
-/// for, or as lines of hexadecimal. The version limits the count of logs in both cases.
+/// for, or as lines of hexadecimal. The version limits the count of logs in both cases. A log may have 4,294,967,295 rows
+/// where long logs are asked for, and else 16,777,216.
 ///
 /// The logs are read side by side, each a piece at a time. The messages are made while the events come, and kept until
 /// all logs are found legal. No list holds the events of a log.
@@ -125,11 +130,12 @@ where
     requires { 1 ≤ asked.now.period }
     ensures count { IfOk result (λ made. length made.items ≡ length paths.now) }
     ensures logs { IfOk result (λ made.
-        AreMadeOfLogs (AreMessagesOf (form_text asked.now.hex) asked.now.period asked.now.mode) (F.content files.now)
-        program.now paths.now made.items) }
+        AreMadeOfLogs (AreMessagesOf (form_text asked.now.hex) asked.now.period asked.now.mode) (most_of asked.now.long)
+        (F.content files.now) program.now paths.now made.items) }
     ensures fault { IfErr result (λ why. (why ≡ Fault.Memory)
-        ⊎ AreLegalLogs (F.content files.now) program.now paths.now (Err why)) }
+        ⊎ AreLegalLogsUpTo (most_of asked.now.long) (F.content files.now) program.now paths.now (Err why)) }
 {
+    let rows = most_of(asked.long);
     let period = asked.period;
     let mode = asked.mode;
     if asked.hex {
@@ -140,7 +146,7 @@ where
             period,
             mode,
         };
-        all_made(made_of_logs(alloc, rt, files, program, MOST_ROWS, paths, &encoding))
+        all_made(made_of_logs(alloc, rt, files, program, rows, paths, &encoding))
     } else {
         let form = CaptureBytes;
         let encoding = Encoding {
@@ -149,7 +155,7 @@ where
             period,
             mode,
         };
-        all_made(made_of_logs(alloc, rt, files, program, MOST_ROWS, paths, &encoding))
+        all_made(made_of_logs(alloc, rt, files, program, rows, paths, &encoding))
     }
 }
 

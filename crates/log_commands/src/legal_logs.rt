@@ -4,14 +4,15 @@ ghost use Rattle.std.specs.Prelude.{◌≡◌, ◌≤◌, ℕ, Err, IfSome, List
 ghost use Rattle.legalpath.specs.ProgramLog.{ProgramLog};
 ghost use Rattle.retire.specs.Number.{number_of};
 ghost use Rattle.command_inputs.specs.Begun.{IsCutOf};
-ghost use Rattle.command_inputs.specs.Faults.{final_status};
-ghost use Rattle.command_inputs.specs.Finding.{Once};
-ghost use Rattle.command_inputs.specs.Found.{AreAskedLogs};
+ghost use Rattle.command_inputs.specs.FoundLogs.{AreAskedLogs};
 ghost use Rattle.files.specs.Known.{Content};
 ghost use Rattle.command_inputs.specs.Order.{logs_fault};
-ghost use Rattle.command_inputs.specs.Printed.{First, Printed, PrintsUnlessDenied};
+ghost use Rattle.command_inputs.specs.Printed.{First, PrintsUnlessDenied};
+ghost use Rattle.log_commands.specs.Faults.{Once, Printed, final_status};
+ghost use Rattle.command_inputs.specs.declared.fault.Fault.TheVariants as Fault;
 
-use command_inputs::{Fault, Files, Status, asked_program, legal_logs_of};
+use crate::reason::Fault;
+use command_inputs::{Files, Status, asked_program, legal_logs_of};
 use legalpath::LegalLog;
 use retire::Event;
 use side_by_side::drop_side_by_side;

@@ -1,5 +1,5 @@
-//! The subcommands of `tracebench` that read logs: [`check`] judges them, [`encode`] writes their messages, [`measure`]
-//! counts what these cost, [`replay`] and [`bench`] send them through the funnel and report what comes of them.
+//! The subcommands of `tracebench` that read logs: [`check`] checks them, [`encode`] writes their messages, [`measure`]
+//! counts what these cost, [`replay`] and [`bench`] send them through the funnel and report what is received of them.
 //!
 //! Each reads a base, an image and logs, in this order, and ends at the first fault.
 #![tactic(auto)]
@@ -11,6 +11,8 @@ mod encoding;
 mod legal_logs;
 mod made;
 mod measures;
+mod most;
+mod reason;
 mod replaying;
 mod reporting;
 mod rooms;
@@ -19,4 +21,5 @@ pub use benching::bench;
 pub use checking::check;
 pub use encoding::encode;
 pub use measures::measure;
+pub use reason::{Fault, LogReason};
 pub use replaying::replay;

@@ -3,7 +3,7 @@
 ghost use Rattle.std.specs.Prelude.{◌≡◌};
 ghost use Rattle.log_commands.specs.steps.Made.{all_or_fault};
 
-use command_inputs::Fault;
+use crate::reason::Fault;
 use log_streams::MadeLogs;
 
 /// What was made of logs, where something was made of each. Else the fault of the first of which nothing was made.

@@ -12,22 +12,26 @@ ghost use Rattle.output.specs.Begun.{AppendsBeginning};
 ghost use Rattle.retire.specs.Number.{number_of};
 ghost use Rattle.rvclass.specs.Fetch.{words_of};
 ghost use Rattle.command_inputs.specs.Begun.{IsCutOf};
-ghost use Rattle.command_inputs.specs.Faults.{final_status};
-ghost use Rattle.command_inputs.specs.Found.{AreLegalLogs};
+ghost use Rattle.command_inputs.specs.FoundLogs.{AreLegalLogsUpTo};
 ghost use Rattle.command_inputs.specs.Order.{logs_fault};
 ghost use Rattle.command_inputs.specs.Printed.{PrintsUnlessDenied};
 ghost use Rattle.log_commands.specs.Measuring.{CanMeasure, Measures};
+ghost use Rattle.log_commands.specs.Most.{most_of};
+ghost use Rattle.log_commands.specs.Faults.{final_status};
 ghost use Rattle.log_commands.specs.steps.Made.{AreMadeOfLogs, AreMeasuresOf};
+ghost use Rattle.command_inputs.specs.declared.fault.Fault.TheVariants as Fault;
 
 use crate::made::all_made;
-use command_inputs::{Fault, Status, asked_program};
+use crate::most::most_of;
+use crate::reason::Fault;
+use command_inputs::{Status, asked_program};
 use files::Files;
 use legalpath::PathFault;
 use log_streams::{IllegalRow, LogTask, made_of_logs};
 use measuring::{LogMeasures, write_measures_of};
 use message::MOST_HARTS;
 use payload::Mode;
-use retire::{Event, MOST_ROWS};
+use retire::Event;
 use rvclass::Program;
 use std::alloc::{AllocError, Global};
 use std::io::Write;
@@ -35,7 +39,8 @@ use std::thread::Threads;
 use subcommands::Measure;
 
 /// Writes the table of what each hart's log costs, once all logs are found legal: how many packets of each kind it has
-/// at the period and in the mode, and how many bytes their payloads take.
+/// at the period and in the mode, and how many bytes their payloads take. A log may have 4,294,967,295 rows where long
+/// logs are asked for, and else 16,777,216.
 ///
 /// The logs are read side by side, each a piece at a time, and counted while the events come. No list holds the events
 /// of a log.
@@ -93,13 +98,6 @@ impl LogTask<measuring::Measures> for Measuring {
         counted: &mut LogMeasures,
         events: &[Event],
     ) -> Result<(), AllocError> {
-        // No log has more events than 32 bits can count.
-        let Some(left) = u64::from(u32::MAX).checked_sub(counted.rows()) else {
-            return Err(AllocError);
-        };
-        if events.len() as u64 > left {
-            return Err(AllocError);
-        }
         counted.add(program, events);
         Ok(())
     }
@@ -131,16 +129,17 @@ where
     requires { 1 ≤ asked.now.period }
     ensures count { IfOk result (λ made. length made.items ≡ length paths.now) }
     ensures logs { IfOk result (λ made.
-        AreMadeOfLogs (AreMeasuresOf asked.now.period asked.now.mode) (F.content files.now) program.now paths.now
-        made.items) }
+        AreMadeOfLogs (AreMeasuresOf asked.now.period asked.now.mode) (most_of asked.now.long) (F.content files.now)
+        program.now paths.now made.items) }
     ensures fault { IfErr result (λ why. (why ≡ Fault.Memory)
-        ⊎ AreLegalLogs (F.content files.now) program.now paths.now (Err why)) }
+        ⊎ AreLegalLogsUpTo (most_of asked.now.long) (F.content files.now) program.now paths.now (Err why)) }
 {
     let measuring = Measuring {
         period: asked.period,
         mode: asked.mode,
     };
-    all_made(made_of_logs(alloc, rt, files, program, MOST_ROWS, paths, &measuring))
+    let rows = most_of(asked.long);
+    all_made(made_of_logs(alloc, rt, files, program, rows, paths, &measuring))
 }
 
 /// Writes the table of these measures, flushes the output, and returns that all is done.

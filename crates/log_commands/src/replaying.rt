@@ -7,16 +7,18 @@ ghost use Rattle.message.specs.declared.header.Version.TheVariants.{Two};
 ghost use Rattle.bench.specs.Got.{got_of};
 ghost use Rattle.bench.specs.Replayed.{replayed};
 ghost use Rattle.command_inputs.specs.Begun.{IsCutOf};
-ghost use Rattle.command_inputs.specs.Faults.{final_status};
 ghost use Rattle.command_inputs.specs.Order.{logs_fault};
 ghost use Rattle.command_inputs.specs.Printed.{PrintsUnlessDenied};
+ghost use Rattle.log_commands.specs.Faults.{final_status};
 ghost use Rattle.log_commands.specs.Replaying.{CanReplay, CanReplayLogs, AreGot, IsSchedule, Replays, ReplaysLogs};
 ghost use Rattle.log_commands.specs.Sending.{IsSetting, config_at};
+ghost use Rattle.command_inputs.specs.declared.fault.Fault.TheVariants as Fault;
 
 use crate::legal_logs::{AskedLogs, OnLogs, over_legal_logs};
+use crate::reason::{Fault, of_schedule, of_setup};
 use crate::reporting::end_with_report;
 use bench::{Config, Outcome};
-use command_inputs::{Fault, Files, Status, content_of};
+use command_inputs::{Files, Status, content_of};
 use funnel::Turn;
 use legalpath::LegalLog;
 use message::MOST_HARTS;
@@ -109,7 +111,7 @@ fn turns_of<'a, F: Files>(
     let bytes = content_of(files, path)?;
     match read_schedule(alloc, harts, bytes.as_slice()) {
         Ok(turns) => Ok(turns),
-        Err(why) => Err(Fault::of_schedule(why)),
+        Err(why) => Err(of_schedule(why)),
     }
 }
 
@@ -139,6 +141,6 @@ fn outcome_of<'a>(
     };
     match bench::replay(alloc, logs, config, turns) {
         Ok(outcome) => Ok(outcome),
-        Err(why) => Err(Fault::of_setup(why)),
+        Err(why) => Err(of_setup(why)),
     }
 }

@@ -1,4 +1,4 @@
-//! The report of what came of logs.
+//! The report of what is received of logs.
 
 ghost use Rattle.std.specs.Prelude.{◌≡◌, IfErr, IfOk, OnOk, length, map};
 ghost use Rattle.std.specs.Io.KnownBytes.{Appends};
@@ -6,13 +6,15 @@ ghost use Rattle.output.specs.Begun.{AppendsBeginning};
 ghost use Rattle.bench.specs.Got.{got_of};
 ghost use Rattle.bench.specs.Report.{is_whole, report_text};
 ghost use Rattle.log_commands.specs.Sending.{end_of_report};
+ghost use Rattle.command_inputs.specs.declared.fault.Fault.TheVariants as Fault;
 
+use crate::reason::Fault;
 use bench::{Outcome, Stop, write_report};
-use command_inputs::{Fault, Status};
+use command_inputs::Status;
 use legalpath::LegalLog;
 use std::io::Write;
 
-/// Writes the report of what came of the logs, and returns how the run ends by it.
+/// Writes the report of what is received of the logs, and returns how the run ends by it.
 pub(crate) fn end_with_report<'a, O: Write>(
     outcome: &Outcome,
     logs: &[LegalLog<'_>],
@@ -32,7 +34,7 @@ pub(crate) fn end_with_report<'a, O: Write>(
     Ok(status_of(outcome.stop, whole))
 }
 
-/// How a run ends by its stop, if there is one, and by whether every log came back whole.
+/// How a run ends by its stop, if there is one, and by whether every log came back complete.
 fn status_of(stop: Option<Stop>, whole: bool) -> Status
     ensures { result ≡ end_of_report stop whole }
 {

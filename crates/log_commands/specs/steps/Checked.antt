@@ -1,29 +1,21 @@
 -- What is kept of logs that were checked.
-use Rattle.std.specs.Prelude.{◌≡◌, ◌<◌, ◌^◌, ◌++◌, ℕ, Bool, true, false, List, [], None, Some, Result, Ok, Err, length}
+use Rattle.std.specs.Prelude.{◌≡◌, ◌++◌, ℕ, Bool, true, false, List, [], None, Some, Result, Ok, Err, length}
 use Rattle.std.specs.Prelude.{if◌then◌else◌}
 use Rattle.std.specs.List.{flat_map, zip}
 use Rattle.explaining.specs.Explanation.{explained}
 use Rattle.log_streams.specs.declared.illegal_row.IllegalRow.{IllegalRow}
-use Rattle.log_streams.specs.declared.stop.Stop.{Stop}
-use Rattle.log_streams.specs.declared.stop.Stop.TheVariants as stop
 use Rattle.retire.specs.declared.event.Event.{Event}
 use Rattle.rvclass.specs.Image.{Image}
-use Rattle.command_inputs.specs.Faults.{Path, log_fault}
-use Rattle.command_inputs.specs.declared.fault.Fault.{Fault}
-use Rattle.command_inputs.specs.declared.fault.Fault.TheVariants as fault
+use Rattle.command_inputs.specs.Faults.{Path}
 use Rattle.log_commands.specs.Checking.{verdict_line}
 
 -- How many events a legal log has; else its first illegal row.
 abbrev pub Verdict : Type 0
 Verdict = Result ℕ IllegalRow
 
--- This is the count of the events, where it has at most 64 bits.
-abbrev pub IsCountOf : List Event → ℕ → Type 0
-IsCountOf events count = length events < 2 ^ 64 → count ≡ length events
-
--- This is the verdict on a legal log with these events, where their count has at most 64 bits.
+-- This is the verdict on a legal log with these events.
 abbrev pub IsVerdictOnLegal : List Event → Verdict → Type 0
-IsVerdictOnLegal events verdict = length events < 2 ^ 64 → verdict ≡ Ok (length events)
+IsVerdictOnLegal events verdict = verdict ≡ Ok (length events)
 
 -- The line that explains an illegal row, if that is asked for.
 abbrev pub row_line : Bool → Image → IllegalRow → List ℕ
@@ -51,8 +43,3 @@ all_lines explain program paths verdicts = flat_map (lines_of explain program) (
 abbrev pub is_refused : Verdict → Bool
 is_refused (Ok count) = false
 is_refused (Err row) = true
-
--- The fault of the run at a log that was not read. An illegal log is read.
-abbrev pub fault_of_unread : Path → Stop → Fault
-fault_of_unread path (stop.Unread why) = log_fault path why
-fault_of_unread path (stop.Illegal why) = fault.Memory

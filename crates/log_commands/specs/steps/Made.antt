@@ -20,8 +20,9 @@ use Rattle.payload.specs.declared.mode.Mode.{Mode}
 use Rattle.rvclass.specs.Image.{Image}
 use Rattle.subcommands.specs.declared.words.Encode.{Encode}
 use Rattle.command_inputs.specs.Faults.{Path, stop_fault}
-use Rattle.command_inputs.specs.Found.{AreLegalLogs}
-use Rattle.command_inputs.specs.declared.fault.Fault.{Fault}
+use Rattle.command_inputs.specs.FoundLogs.{AreLegalLogsUpTo}
+use Rattle.log_commands.specs.Faults.{Fault}
+use Rattle.log_commands.specs.declared.reason.LogReason.{LogReason}
 
 module _ {X : Type 0} (Makes : ℕ → ProgramLog → X → Type 0) where
   -- This is made of these logs, which are those of harts from this number on.
@@ -31,14 +32,17 @@ module _ {X : Type 0} (Makes : ℕ → ProgramLog → X → Type 0) where
   AreMadeFrom hart (log ∷ logs) [] = ⊥
   AreMadeFrom hart (log ∷ logs) (one ∷ made) = Makes hart log one × AreMadeFrom (hart + 1) logs made
 
-  -- The logs at these paths are legal, and this is made of them. The first is that of hart 0.
-  pub record AreMadeOfLogs (content : Content) (program : Image) (paths : List Path) (made : List X) : Type 0 where
+  -- The logs at these paths are legal, of at most so many rows each, and this is made of them. The first is that of
+  -- hart 0.
+  pub record AreMadeOfLogs (most : ℕ) (content : Content) (program : Image) (paths : List Path) (made : List X)
+      : Type 0 where
     pub logs : List ProgramLog
-    pub legal : AreLegalLogs content program paths (Ok logs)
+    pub legal : AreLegalLogsUpTo {W = LogReason} most content program paths (Ok logs)
     pub each : AreMadeFrom 0 logs made
 
 -- What was made of logs, or the fault of the log at which it ended.
-abbrev pub all_or_fault : {X : Type 0} → Vec X Global → Result (Unit {0}) LogsFault → Result (Vec X Global) Fault
+abbrev pub all_or_fault : {X : Type 0} → Vec X Global → Result (Unit {0}) LogsFault
+    → Result (Vec X Global) Fault
 all_or_fault made (Ok end) = Ok made
 all_or_fault made (Err fault) = Err (stop_fault fault.path fault.why)
 

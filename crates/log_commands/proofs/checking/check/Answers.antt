@@ -11,7 +11,9 @@ use Rattle.command_inputs.specs.declared.fault.Fault.TheVariants as fault
 use Rattle.command_inputs.proofs.Beginnings.{cut_kept}
 use Rattle.command_inputs.proofs.FirstSteps.{early_ends, passes, program_ends, program_there}
 use Rattle.command_inputs.proofs.Runs.{goes_on, output_failed}
+use Rattle.log_commands.specs.declared.reason.LogReason.{LogReason}
 use Rattle.log_commands.specs.Checking.{AppendsFirstLines, ChecksFirst, WritesFirstLines, CanCheck, Checks, WritesLines}
+use Rattle.log_commands.specs.Most.{most_of}
 use Rattle.log_commands.proofs.CheckedLogs.{lines_kept}
 use Rattle.log_commands.proofs.checking.check.Goals.{After-flush}
 use Rattle.log_commands.proofs.checking.check.Goals as goal
@@ -46,11 +48,11 @@ returns-in_err-program-clause-printed g c =
     let is : c.from_residual.result ≡ Err why = grind (arith, common_steps) in
     program_ends content (most_harts Two) asked.base.now asked.image asked.logs.items c.as_slice-paths.result.now
     c.as_slice-paths.ensures.value (CanCheck content asked) (g.O.Write.contents c.args.out.now) why
-    c.from_residual.result is (λ program. WritesLines content asked.explain program asked.logs.items)
+    c.from_residual.result is (λ program. WritesLines (most_of asked.long) content asked.explain program asked.logs.items)
     c.in_err-program.ensures.fault
 
 -- The program that was found.
-there : (g : _) (c : After-flush g) → IsAskedProgram (g.F.Files.content c.args.files.now) (most_harts Two)
+there : (g : _) (c : After-flush g) → IsAskedProgram {W = LogReason} (g.F.Files.content c.args.files.now) (most_harts Two)
     c.args.asked.now.base.now c.args.asked.now.image c.args.asked.now.logs.items (Ok c.in_ok-program.program)
 there g c =
     let asked = c.args.asked.now in
@@ -79,13 +81,13 @@ returns-clause-printed g c =
     let there = there g (goal.at.returns-clause-printed g c).After-flush in
     let ended = c.check_all-ended.result in
     let mid = contents c.check_all-ended.new.out in
-    let lines = subst (λ logs. PrintsUnlessDenied (WritesLines content asked.explain program logs) ⊤ ended
+    let lines = subst (λ logs. PrintsUnlessDenied (WritesLines (most_of asked.long) content asked.explain program logs) ⊤ ended
     (contents c.args.out.now)
     mid) c.as_slice-paths.ensures.value
-    (subst (λ known. PrintsUnlessDenied (WritesLines known asked.explain program c.as_slice-paths.result.now) ⊤ ended
+    (subst (λ known. PrintsUnlessDenied (WritesLines (most_of asked.long) known asked.explain program c.as_slice-paths.result.now) ⊤ ended
     (contents c.args.out.now) mid)
     c.in_ok-program.ensures.kept c.check_all-ended.ensures.printed) in
-    goes_on (WritesLines content asked.explain program asked.logs.items) (Checks content asked) ⊤
+    goes_on (WritesLines (most_of asked.long) content asked.explain program asked.logs.items) (Checks content asked) ⊤
     (CanCheck content asked) ended
     (contents c.args.out.now) mid (contents c.flush.new.self)
     (λ printed lines. (Ok program, there, lines)) (program, there, tt)
@@ -99,14 +101,14 @@ returns-clause-begun g c = λ memory.
     let program = c.in_ok-program.program in
     let old = contents c.args.out.now in
     let mid = contents c.check_all-ended.new.out in
-    let lines = subst (λ logs. AppendsFirstLines content asked.explain program logs old mid)
+    let lines = subst (λ logs. AppendsFirstLines (most_of asked.long) content asked.explain program logs old mid)
     c.as_slice-paths.ensures.value
-    (subst (λ known. AppendsFirstLines known asked.explain program c.as_slice-paths.result.now old mid)
+    (subst (λ known. AppendsFirstLines (most_of asked.long) known asked.explain program c.as_slice-paths.result.now old mid)
     c.in_ok-program.ensures.kept (c.check_all-ended.ensures.begun memory)) in
     inr (
       program,
       there g (goal.at.returns-clause-begun g c).After-flush,
-      lines_kept content asked.explain program asked.logs.items old mid (contents c.flush.new.self) lines
+      lines_kept (most_of asked.long) content asked.explain program asked.logs.items old mid (contents c.flush.new.self) lines
           c.flush.ensures.bytes,
     )
 
@@ -121,11 +123,11 @@ cut g c =
     let old = contents c.args.out.now in
     let mid = contents c.check_all-ended.new.out in
     let new = contents c.flush.new.self in
-    let lines = subst (λ logs. BeginsPrinted (WritesFirstLines content asked.explain program logs) old mid)
+    let lines = subst (λ logs. BeginsPrinted (WritesFirstLines (most_of asked.long) content asked.explain program logs) old mid)
     c.as_slice-paths.ensures.value
-    (subst (λ known. BeginsPrinted (WritesFirstLines known asked.explain program c.as_slice-paths.result.now) old mid)
+    (subst (λ known. BeginsPrinted (WritesFirstLines (most_of asked.long) known asked.explain program c.as_slice-paths.result.now) old mid)
     c.in_ok-program.ensures.kept c.check_all-ended.ensures.cut) in
-    inr (cut_kept (WritesFirstLines content asked.explain program asked.logs.items) (ChecksFirst content asked) old
+    inr (cut_kept (WritesFirstLines (most_of asked.long) content asked.explain program asked.logs.items) (ChecksFirst content asked) old
     mid new
     (λ printed lines. (program, there g c, lines)) lines c.flush.ensures.bytes)
 

@@ -1,40 +1,56 @@
 -- The prover tries no record of its own: what was checked, and the lines that were written, are handed to it.
-use Rattle.std.proofs.Common.{◌≡◌, Err, subst, sym}
+use Rattle.std.proofs.Common.{◌≡◌, Err, IfErr, subst, sym}
 use Rattle.std.specs.Io.KnownBytes.{Appends}
 use Rattle.std.specs.List.{list_any}
 use Rattle.std.specs.Prelude.{⊤}
 use Rattle.command_inputs.specs.Begun.{BeginsPrinted}
 use Rattle.command_inputs.specs.Printed.{PrintsUnlessDenied}
 use Rattle.output.specs.Begun.{AppendsBeginning}
+use Rattle.log_streams.specs.Made.{AreMade}
+use Rattle.log_streams.specs.Refusing.{MayStop}
 use Rattle.log_commands.specs.Checking.{WritesFirstLines, WritesLines, status_with}
-use Rattle.log_commands.specs.steps.Checked.{all_lines, is_refused}
+use Rattle.log_commands.specs.Most.{most_of}
+use Rattle.log_commands.specs.steps.Checked.{IsVerdictOnLegal, Verdict, all_lines, is_refused}
 use Rattle.log_commands.proofs.CheckedLogs.{lines_cut, lines_first, lines_unread, lines_whole}
 use Rattle.log_commands.proofs.checking.check_all.Goals.{After-write_logs, In-Ok}
 use Rattle.log_commands.proofs.checking.check_all.Goals as goal
 
--- A beginning of the lines was written.
+-- What was made of the logs.
+made : (g : _) (c : After-write_logs g)
+    → AreMade (λ hart. IsVerdictOnLegal) (λ events row (verdict : Verdict). verdict ≡ Err row)
+    (g.F.Files.content c.args.files.now) c.args.program.now (most_of c.args.asked.now.long) c.args.paths.now
+    c.made_of_logs-verdicts.result.made.items c.made_of_logs-verdicts.result.end
+made g c =
+    subst (λ most. AreMade (λ hart. IsVerdictOnLegal) (λ events row (verdict : Verdict). verdict ≡ Err row)
+    (g.F.Files.content c.args.files.now) c.args.program.now most c.args.paths.now
+    c.made_of_logs-verdicts.result.made.items c.made_of_logs-verdicts.result.end) c.most_of-most.ensures
+    c.made_of_logs-verdicts.ensures.made
+
+-- A prefix of the lines was written.
 cut : (g : _) (c : After-write_logs g) → BeginsPrinted
-    (WritesFirstLines (g.F.Files.content c.args.files.now) c.args.explain c.args.program.now c.args.paths.now)
+    (WritesFirstLines (most_of c.args.asked.now.long) (g.F.Files.content c.args.files.now) c.args.asked.now.explain
+    c.args.program.now c.args.paths.now)
     (g.O.Write.contents c.args.out.now) (g.O.Write.contents c.write_logs.new.out)
 cut g c =
     let old = g.O.Write.contents c.args.out.now in
     let new = g.O.Write.contents c.write_logs.new.out in
-    let explain = c.args.explain in
+    let asked = c.args.asked.now in
     let program = c.args.program.now in
     let paths = c.args.paths.now in
-    let made = c.made_of_logs-verdicts.result in
-    lines_cut (g.F.Files.content c.args.files.now) explain program paths made.made.items made.end
-    c.made_of_logs-verdicts.ensures old new
-    (subst (λ verdicts. AppendsBeginning (all_lines explain program paths verdicts) old new)
+    let result = c.made_of_logs-verdicts.result in
+    lines_cut (most_of asked.long) (g.F.Files.content c.args.files.now) asked.explain program paths result.made.items
+    result.end (made g c) old new
+    (subst (λ verdicts. AppendsBeginning (all_lines asked.explain program paths verdicts) old new)
     c.as_slice.ensures.value c.write_logs.ensures.begun)
 
 -- The lines were written.
 written : (g : _) (c : In-Ok g) → Appends (g.O.Write.contents c.args.out.now) (g.O.Write.contents c.write_logs.new.out)
-    (all_lines c.args.explain c.args.program.now c.args.paths.now c.made_of_logs-verdicts.result.made.items)
+    (all_lines c.args.asked.now.explain c.args.program.now c.args.paths.now
+    c.made_of_logs-verdicts.result.made.items)
 written g c =
     subst
     (λ verdicts. Appends (g.O.Write.contents c.args.out.now) (g.O.Write.contents c.write_logs.new.out)
-    (all_lines c.args.explain c.args.program.now c.args.paths.now verdicts))
+    (all_lines c.args.asked.now.explain c.args.program.now c.args.paths.now verdicts))
     c.as_slice.ensures.value c.in-Ok.ensures.text
 
 pub returns-in-Err-clause-cut : goal.returns-in-Err-clause-cut
@@ -48,29 +64,37 @@ returns-clause-cut g c = cut g (goal.at.returns-clause-cut g c).After-write_logs
 
 pub returns-in-Ok-end-clause-printed : goal.returns-in-Ok-end-clause-printed
 returns-in-Ok-end-clause-printed g c =
-    let made = c.made_of_logs-verdicts.result in
+    let asked = c.args.asked.now in
+    let result = c.made_of_logs-verdicts.result in
     let is = subst (λ verdicts. c.in-Ok.status ≡ status_with (list_any is_refused verdicts))
     c.as_slice.ensures.value c.in-Ok.ensures.ended in
-    lines_whole (g.F.Files.content c.args.files.now) c.args.explain c.args.program.now c.args.paths.now made.made.items
-    made.end c.made_of_logs-verdicts.ensures (g.O.Write.contents c.args.out.now)
+    lines_whole (most_of asked.long) (g.F.Files.content c.args.files.now) asked.explain c.args.program.now
+    c.args.paths.now result.made.items result.end
+    (made g (goal.at.returns-in-Ok-end-clause-printed g c).After-write_logs) (g.O.Write.contents c.args.out.now)
     (g.O.Write.contents c.write_logs.new.out) c.in-Ok.status c.in-Ok-end.is is
     (written g (goal.at.returns-in-Ok-end-clause-printed g c).In-Ok)
 
 pub returns-clause-printed : goal.returns-clause-printed
 returns-clause-printed g c =
     let content = g.F.Files.content c.args.files.now in
-    let made = c.made_of_logs-verdicts.result in
+    let asked = c.args.asked.now in
+    let result = c.made_of_logs-verdicts.result in
     let old = g.O.Write.contents c.args.out.now in
     let new = g.O.Write.contents c.write_logs.new.out in
-    subst (λ why. PrintsUnlessDenied (WritesLines content c.args.explain c.args.program.now c.args.paths.now) ⊤
-    (Err why) old new) (sym c.fault_of_unread.ensures)
-    (lines_unread content c.args.explain c.args.program.now c.args.paths.now made.made.items made.end
-    c.made_of_logs-verdicts.ensures old new c.in-Err-end.fault c.in-Err-end.is
-    (written g (goal.at.returns-clause-printed g c).In-Ok))
+    let may = subst (λ end. IfErr end (λ fault. MayStop ⊥ fault.why)) c.in-Err-end.is
+    c.made_of_logs-verdicts.ensures.refused in
+    subst (λ why. PrintsUnlessDenied
+    (WritesLines (most_of asked.long) content asked.explain c.args.program.now c.args.paths.now) ⊤ (Err why) old new)
+    (sym c.of_stop.ensures)
+    (lines_unread (most_of asked.long) content asked.explain c.args.program.now c.args.paths.now result.made.items
+    result.end (made g (goal.at.returns-clause-printed g c).After-write_logs) old new c.in-Err-end.fault
+    c.in-Err-end.is may (written g (goal.at.returns-clause-printed g c).In-Ok))
 
 pub returns-clause-begun : goal.returns-clause-begun
 returns-clause-begun g c = λ memory.
-    let made = c.made_of_logs-verdicts.result in
-    lines_first (g.F.Files.content c.args.files.now) c.args.explain c.args.program.now c.args.paths.now made.made.items
-    made.end c.made_of_logs-verdicts.ensures (g.O.Write.contents c.args.out.now)
-    (g.O.Write.contents c.write_logs.new.out) (written g (goal.at.returns-clause-begun g c).In-Ok)
+    let asked = c.args.asked.now in
+    let result = c.made_of_logs-verdicts.result in
+    lines_first (most_of asked.long) (g.F.Files.content c.args.files.now) asked.explain c.args.program.now
+    c.args.paths.now result.made.items result.end (made g (goal.at.returns-clause-begun g c).After-write_logs)
+    (g.O.Write.contents c.args.out.now) (g.O.Write.contents c.write_logs.new.out)
+    (written g (goal.at.returns-clause-begun g c).In-Ok)

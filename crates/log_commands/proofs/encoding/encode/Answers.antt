@@ -7,15 +7,17 @@ use Rattle.legalpath.specs.ProgramLog.{ProgramLog}
 use Rattle.output.specs.Begun.{AppendsBeginning}
 use Rattle.retire.specs.Number.{number_of}
 use Rattle.command_inputs.specs.Begun.{IsCutOf}
-use Rattle.command_inputs.specs.Finding.{Once}
-use Rattle.command_inputs.specs.Found.{AreAskedLogs}
+use Rattle.command_inputs.specs.FoundLogs.{AreAskedLogsUpTo}
 use Rattle.command_inputs.specs.Order.{logs_fault}
 use Rattle.command_inputs.specs.Printed.{First, PrintsUnlessDenied}
 use Rattle.command_inputs.specs.declared.status.Status.TheVariants.{Whole}
 use Rattle.command_inputs.proofs.Beginnings.{cut_leads, printed_begun}
 use Rattle.command_inputs.proofs.FirstSteps.{early_ends, logs_end, logs_there, no_logs, passes}
 use Rattle.command_inputs.proofs.Runs as runs
+use Rattle.log_commands.specs.Faults.{Once}
+use Rattle.log_commands.specs.declared.reason.LogReason.{LogReason}
 use Rattle.log_commands.specs.Encoding.{WritesMessages, written}
+use Rattle.log_commands.specs.Most.{most_of}
 use Rattle.log_commands.specs.steps.Made.{written_of}
 use Rattle.log_commands.proofs.MadeLogs.{messages_written}
 use Rattle.log_commands.proofs.encoding.encode.Goals.{After-write_messages}
@@ -40,12 +42,12 @@ returns-in_err-program-clause-printed g c =
     let out = g.O.Write.contents c.args.out.now in
     let is : c.from_residual.result ≡ Err why = grind (arith, common_steps) in
     subst (λ most. PrintsUnlessDenied
-    (First (AreAskedLogs content most asked.base.now asked.image asked.logs.items) (WritesMessages asked))
-    (Once (AreAskedLogs content most asked.base.now asked.image asked.logs.items) (λ _. ⊤)) c.from_residual.result
+    (First (AreAskedLogsUpTo (most_of asked.long) content most asked.base.now asked.image asked.logs.items) (WritesMessages asked))
+    (Once (AreAskedLogsUpTo (most_of asked.long) content most asked.base.now asked.image asked.logs.items) (λ _. ⊤)) c.from_residual.result
     out out) c.most_harts-most.ensures
-    (no_logs content c.most_harts-most.result asked.base.now asked.image asked.logs.items c.as_slice-paths.result.now
+    (no_logs (most_of asked.long) content c.most_harts-most.result asked.base.now asked.image asked.logs.items c.as_slice-paths.result.now
     c.as_slice-paths.ensures.value
-    (Once (AreAskedLogs content c.most_harts-most.result asked.base.now asked.image asked.logs.items) (λ _. ⊤)) out why
+    (Once (AreAskedLogsUpTo (most_of asked.long) content c.most_harts-most.result asked.base.now asked.image asked.logs.items) (λ _. ⊤)) out why
     c.from_residual.result is (WritesMessages asked) c.in_err-program.ensures.fault)
 
 pub returns-in_err-messages-clause-early : goal.returns-in_err-messages-clause-early
@@ -65,12 +67,12 @@ returns-in_err-messages-clause-printed g c =
     let out = g.O.Write.contents c.args.out.now in
     let is : c.from_residual-in_err-messages.result ≡ Err why = grind (arith, common_steps) in
     subst (λ most. PrintsUnlessDenied
-    (First (AreAskedLogs content most asked.base.now asked.image asked.logs.items) (WritesMessages asked))
-    (Once (AreAskedLogs content most asked.base.now asked.image asked.logs.items) (λ _. ⊤))
+    (First (AreAskedLogsUpTo (most_of asked.long) content most asked.base.now asked.image asked.logs.items) (WritesMessages asked))
+    (Once (AreAskedLogsUpTo (most_of asked.long) content most asked.base.now asked.image asked.logs.items) (λ _. ⊤))
     c.from_residual-in_err-messages.result out out) c.most_harts-most.ensures
-    (logs_end content c.most_harts-most.result asked.base.now asked.image asked.logs.items c.as_slice-paths.result.now
+    (logs_end (most_of asked.long) content c.most_harts-most.result asked.base.now asked.image asked.logs.items c.as_slice-paths.result.now
     c.as_slice-paths.ensures.value
-    (Once (AreAskedLogs content c.most_harts-most.result asked.base.now asked.image asked.logs.items) (λ _. ⊤)) out why
+    (Once (AreAskedLogsUpTo (most_of asked.long) content c.most_harts-most.result asked.base.now asked.image asked.logs.items) (λ _. ⊤)) out why
     c.from_residual-in_err-messages.result is (WritesMessages asked) c.in_ok-program.program
     (g.F.Files.content c.asked_program.new.files) c.in_ok-program.ensures.program c.in_ok-program.ensures.kept
     c.in_err-messages.ensures.fault)
@@ -89,11 +91,11 @@ module _ (g : _) (c : After-write_messages g) where
   abbrev logs : List ProgramLog
   logs = c.in_ok-messages.ensures.logs.logs
 
-  there : AreAskedLogs (g.F.Files.content c.args.files.now) c.most_harts-most.result c.args.asked.now.base.now
+  there : AreAskedLogsUpTo {W = LogReason} (most_of c.args.asked.now.long) (g.F.Files.content c.args.files.now) c.most_harts-most.result c.args.asked.now.base.now
       c.args.asked.now.image c.args.asked.now.logs.items (Ok logs)
   there =
       let asked = c.args.asked.now in
-      logs_there (g.F.Files.content c.args.files.now) c.most_harts-most.result asked.base.now asked.image
+      logs_there (most_of asked.long) (g.F.Files.content c.args.files.now) c.most_harts-most.result asked.base.now asked.image
       asked.logs.items c.as_slice-paths.result.now c.as_slice-paths.ensures.value c.in_ok-program.program
       (g.F.Files.content c.asked_program.new.files) (Ok logs) c.in_ok-program.ensures.program
       c.in_ok-program.ensures.kept c.in_ok-messages.ensures.logs.legal
@@ -111,14 +113,14 @@ returns-clause-printed g c =
     let content = g.F.Files.content c.args.files.now in
     let asked = c.args.asked.now in
     let most = c.most_harts-most.result in
-    let finds = AreAskedLogs content most asked.base.now asked.image asked.logs.items in
+    let finds = AreAskedLogsUpTo {W = LogReason} (most_of asked.long) content most asked.base.now asked.image asked.logs.items in
     let logs = logs g at in
     let ended = c.write_messages.result in
     let old = g.O.Write.contents c.args.out.now in
     let new = g.O.Write.contents c.write_messages.new.out in
     subst (λ most. PrintsUnlessDenied
-    (First (AreAskedLogs content most asked.base.now asked.image asked.logs.items) (WritesMessages asked))
-    (Once (AreAskedLogs content most asked.base.now asked.image asked.logs.items) (λ _. ⊤)) ended old new)
+    (First (AreAskedLogsUpTo (most_of asked.long) content most asked.base.now asked.image asked.logs.items) (WritesMessages asked))
+    (Once (AreAskedLogsUpTo (most_of asked.long) content most asked.base.now asked.image asked.logs.items) (λ _. ⊤)) ended old new)
     c.most_harts-most.ensures
     (runs.leads_on (WritesMessages asked logs) (First finds (WritesMessages asked)) ⊤ (Once finds (λ _. ⊤)) ended old new
     (λ printed is. (Ok logs, there g at, is)) (λ is. (logs, there g at, is))
@@ -132,12 +134,12 @@ returns-clause-cut g c =
     let content = g.F.Files.content c.args.files.now in
     let asked = c.args.asked.now in
     let most = c.most_harts-most.result in
-    let finds = AreAskedLogs content most asked.base.now asked.image asked.logs.items in
+    let finds = AreAskedLogsUpTo {W = LogReason} (most_of asked.long) content most asked.base.now asked.image asked.logs.items in
     let logs = logs g at in
     let old = g.O.Write.contents c.args.out.now in
     let new = g.O.Write.contents c.write_messages.new.out in
     subst (λ most. IsCutOf
-    (First (AreAskedLogs content most asked.base.now asked.image asked.logs.items) (WritesMessages asked)) old new)
+    (First (AreAskedLogsUpTo (most_of asked.long) content most asked.base.now asked.image asked.logs.items) (WritesMessages asked)) old new)
     c.most_harts-most.ensures
     (cut_leads (WritesMessages asked logs) (First finds (WritesMessages asked)) old new
     (λ printed is. (Ok logs, there g at, is))

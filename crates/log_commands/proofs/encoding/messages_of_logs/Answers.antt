@@ -1,7 +1,10 @@
 -- What was made of logs comes by their places: the lemmas on all of them are handed to the prover.
-use Rattle.std.proofs.Common.{IfOk, subst, sym}
+use Rattle.std.proofs.Common.{IfErr, IfOk, ◌≡◌, ◌⊎◌, Err, subst, sym}
 use Rattle.captures.specs.HexLines.{hex_line}
 use Rattle.message.specs.Capture.{message_bytes}
+use Rattle.command_inputs.specs.FoundLogs.{AreLegalLogsUpTo}
+use Rattle.command_inputs.specs.declared.fault.Fault.TheVariants as fault
+use Rattle.log_commands.specs.Most.{most_of}
 use Rattle.log_commands.specs.steps.Made.{AreMadeOfLogs, AreMessagesOf, form_text}
 use Rattle.log_commands.proofs.MadeLogs.{made_of_legal, made_of_none}
 use Rattle.log_commands.proofs.encoding.messages_of_logs.Goals as goal
@@ -13,19 +16,24 @@ returns-then-asked-clause-logs g c =
     let program = c.args.program.now in
     let paths = c.args.paths.now in
     let made = c.made_of_logs.result in
-    subst (λ hex. IfOk c.all_made.result (λ made.
-    AreMadeOfLogs (AreMessagesOf (form_text hex) asked.period asked.mode) content program paths made.items))
+    subst (λ hex. IfOk c.all_made.result (λ made. AreMadeOfLogs
+    (AreMessagesOf (form_text hex) asked.period asked.mode) (most_of asked.long) content program paths made.items))
     (sym c.if-asked.true)
-    (made_of_legal (AreMessagesOf hex_line asked.period asked.mode) content program paths made.made made.end
-    c.all_made.result c.made_of_logs.ensures c.all_made.ensures)
+    (subst (λ rows. IfOk c.all_made.result (λ made. AreMadeOfLogs
+    (AreMessagesOf hex_line asked.period asked.mode) rows content program paths made.items)) c.most_of-rows.ensures
+    (made_of_legal (AreMessagesOf hex_line asked.period asked.mode) c.most_of-rows.result content program paths made.made
+    made.end c.all_made.result c.made_of_logs.ensures.made c.all_made.ensures))
 
 pub returns-then-asked-clause-fault : goal.returns-then-asked-clause-fault
 returns-then-asked-clause-fault g c =
     let content = g.F.Files.content c.args.files.now in
     let asked = c.args.asked.now in
     let made = c.made_of_logs.result in
-    made_of_none (AreMessagesOf hex_line asked.period asked.mode) content c.args.program.now c.args.paths.now made.made
-    made.end c.all_made.result c.made_of_logs.ensures c.all_made.ensures
+    subst (λ rows. IfErr c.all_made.result (λ why. (why ≡ fault.Memory)
+    ⊎ AreLegalLogsUpTo rows content c.args.program.now c.args.paths.now (Err why))) c.most_of-rows.ensures
+    (made_of_none (AreMessagesOf hex_line asked.period asked.mode) c.most_of-rows.result content c.args.program.now
+    c.args.paths.now made.made made.end c.all_made.result c.made_of_logs.ensures.made
+    c.all_made.ensures)
 
 pub returns-else-asked-clause-logs : goal.returns-else-asked-clause-logs
 returns-else-asked-clause-logs g c =
@@ -34,16 +42,21 @@ returns-else-asked-clause-logs g c =
     let program = c.args.program.now in
     let paths = c.args.paths.now in
     let made = c.made_of_logs-else-asked.result in
-    subst (λ hex. IfOk c.all_made-else-asked.result (λ made.
-    AreMadeOfLogs (AreMessagesOf (form_text hex) asked.period asked.mode) content program paths made.items))
+    subst (λ hex. IfOk c.all_made-else-asked.result (λ made. AreMadeOfLogs
+    (AreMessagesOf (form_text hex) asked.period asked.mode) (most_of asked.long) content program paths made.items))
     (sym c.if-asked.false)
-    (made_of_legal (AreMessagesOf message_bytes asked.period asked.mode) content program paths made.made made.end
-    c.all_made-else-asked.result c.made_of_logs-else-asked.ensures c.all_made-else-asked.ensures)
+    (subst (λ rows. IfOk c.all_made-else-asked.result (λ made. AreMadeOfLogs
+    (AreMessagesOf message_bytes asked.period asked.mode) rows content program paths made.items)) c.most_of-rows.ensures
+    (made_of_legal (AreMessagesOf message_bytes asked.period asked.mode) c.most_of-rows.result content program paths made.made
+    made.end c.all_made-else-asked.result c.made_of_logs-else-asked.ensures.made c.all_made-else-asked.ensures))
 
 pub returns-else-asked-clause-fault : goal.returns-else-asked-clause-fault
 returns-else-asked-clause-fault g c =
     let content = g.F.Files.content c.args.files.now in
     let asked = c.args.asked.now in
     let made = c.made_of_logs-else-asked.result in
-    made_of_none (AreMessagesOf message_bytes asked.period asked.mode) content c.args.program.now c.args.paths.now
-    made.made made.end c.all_made-else-asked.result c.made_of_logs-else-asked.ensures c.all_made-else-asked.ensures
+    subst (λ rows. IfErr c.all_made-else-asked.result (λ why. (why ≡ fault.Memory)
+    ⊎ AreLegalLogsUpTo rows content c.args.program.now c.args.paths.now (Err why))) c.most_of-rows.ensures
+    (made_of_none (AreMessagesOf message_bytes asked.period asked.mode) c.most_of-rows.result content c.args.program.now
+    c.args.paths.now made.made made.end c.all_made-else-asked.result c.made_of_logs-else-asked.ensures.made
+    c.all_made-else-asked.ensures)

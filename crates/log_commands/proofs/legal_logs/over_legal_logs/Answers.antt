@@ -2,12 +2,14 @@
 use Rattle.std.proofs.Common.{◌≡◌, ◌∙◌, subst, arith, Ok, Err}
 use Rattle.std.proofs.lemmas.Grind.{common_steps}
 use Rattle.command_inputs.specs.Begun.{IsCutOf}
-use Rattle.command_inputs.specs.Finding.{Once}
-use Rattle.command_inputs.specs.Found.{AreAskedLogs}
+use Rattle.command_inputs.specs.FoundLogs.{AreAskedLogs}
 use Rattle.command_inputs.specs.Printed.{First, PrintsUnlessDenied}
 use Rattle.command_inputs.proofs.Beginnings.{cut_leads}
 use Rattle.command_inputs.proofs.FirstSteps.{early_ends, logs_end, logs_there, no_logs, passes}
 use Rattle.command_inputs.proofs.Runs.{leads_on}
+use Rattle.retire.specs.Log.{most_rows}
+use Rattle.log_commands.specs.Faults.{Once}
+use Rattle.log_commands.specs.declared.reason.LogReason.{LogReason}
 use Rattle.log_commands.proofs.legal_logs.over_legal_logs.Goals.{After-go_on-ended}
 use Rattle.log_commands.proofs.legal_logs.over_legal_logs.Goals as goal
 
@@ -25,7 +27,7 @@ returns-in_err-program-clause-printed g c =
     let asked = c.args.asked.now in
     let why = c.in_err-program.field-0.0 in
     let is : c.from_residual.result ≡ Err why = grind (arith, common_steps) in
-    no_logs content asked.most asked.base.now asked.image asked.paths.now.items c.as_slice-paths.result.now
+    no_logs most_rows content asked.most asked.base.now asked.image asked.paths.now.items c.as_slice-paths.result.now
     c.as_slice-paths.ensures.value
     (Once (AreAskedLogs content asked.most asked.base.now asked.image asked.paths.now.items)
     (g.T.OnLogs.CanWrite c.args.task.now content))
@@ -45,7 +47,7 @@ returns-in_err-logs-clause-printed g c =
     let asked = c.args.asked.now in
     let why = c.in_err-logs.field-0.0 in
     let is : c.from_residual-in_err-logs.result ≡ Err why = grind (arith, common_steps) in
-    logs_end content asked.most asked.base.now asked.image asked.paths.now.items c.as_slice-paths.result.now
+    logs_end most_rows content asked.most asked.base.now asked.image asked.paths.now.items c.as_slice-paths.result.now
     c.as_slice-paths.ensures.value
     (Once (AreAskedLogs content asked.most asked.base.now asked.image asked.paths.now.items)
     (g.T.OnLogs.CanWrite c.args.task.now content))
@@ -63,11 +65,11 @@ returns-clause-early g c =
 
 module _ (g : _) (c : After-go_on-ended g) where
   -- The logs that were found.
-  there : AreAskedLogs (g.F.Files.content c.args.files.now) c.args.asked.now.most c.args.asked.now.base.now
+  there : AreAskedLogs {W = LogReason} (g.F.Files.content c.args.files.now) c.args.asked.now.most c.args.asked.now.base.now
       c.args.asked.now.image c.args.asked.now.paths.now.items (Ok c.in_ok-logs.logs.items)
   there =
       let asked = c.args.asked.now in
-      logs_there (g.F.Files.content c.args.files.now) asked.most asked.base.now asked.image asked.paths.now.items
+      logs_there most_rows (g.F.Files.content c.args.files.now) asked.most asked.base.now asked.image asked.paths.now.items
       c.as_slice-paths.result.now c.as_slice-paths.ensures.value c.in_ok-program.program
       (g.F.Files.content c.asked_program.new.files) (Ok c.in_ok-logs.logs.items) c.in_ok-program.ensures.program
       c.in_ok-program.ensures.kept c.in_ok-logs.ensures.logs
@@ -78,7 +80,7 @@ returns-clause-printed g c =
     let prints = g.T.OnLogs.Prints c.args.task.now in
     let can = g.T.OnLogs.CanWrite c.args.task.now in
     let asked = c.args.asked.now in
-    let finds = AreAskedLogs content asked.most asked.base.now asked.image asked.paths.now.items in
+    let finds = AreAskedLogs {W = LogReason} content asked.most asked.base.now asked.image asked.paths.now.items in
     let logs = c.in_ok-logs.logs.items in
     let slice = c.as_slice.result.now in
     let ended = c.go_on-ended.result in
@@ -96,7 +98,7 @@ returns-clause-cut g c =
     let content = g.F.Files.content c.args.files.now in
     let prints = g.T.OnLogs.Prints c.args.task.now in
     let asked = c.args.asked.now in
-    let finds = AreAskedLogs content asked.most asked.base.now asked.image asked.paths.now.items in
+    let finds = AreAskedLogs {W = LogReason} content asked.most asked.base.now asked.image asked.paths.now.items in
     let logs = c.in_ok-logs.logs.items in
     let slice = c.as_slice.result.now in
     let old = g.O.Write.contents c.args.out.now in

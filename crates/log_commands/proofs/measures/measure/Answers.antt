@@ -9,14 +9,16 @@ use Rattle.measuring.specs.Table.{measures_table, table_of}
 use Rattle.message.specs.Version.{most_harts}
 use Rattle.message.specs.declared.header.Version.TheVariants.{Two}
 use Rattle.output.specs.Begun.{AppendsBeginning}
-use Rattle.command_inputs.specs.Finding.{Once}
-use Rattle.command_inputs.specs.Found.{AreAskedLogs}
+use Rattle.command_inputs.specs.FoundLogs.{AreAskedLogsUpTo}
 use Rattle.command_inputs.specs.Printed.{First}
 use Rattle.command_inputs.specs.declared.status.Status.TheVariants.{Whole}
 use Rattle.command_inputs.proofs.Beginnings.{cut_leads, printed_begun}
 use Rattle.command_inputs.proofs.FirstSteps.{early_ends, logs_end, logs_there, no_logs, passes}
 use Rattle.command_inputs.proofs.Runs as runs
+use Rattle.log_commands.specs.Faults.{Once}
+use Rattle.log_commands.specs.declared.reason.LogReason.{LogReason}
 use Rattle.log_commands.specs.Measuring.{WritesTable}
+use Rattle.log_commands.specs.Most.{most_of}
 use Rattle.log_commands.proofs.MadeLogs.{measures_each, measures_within}
 use Rattle.log_commands.proofs.measures.measure.Goals.{After-write_table}
 use Rattle.log_commands.proofs.measures.measure.Goals as goal
@@ -36,9 +38,9 @@ returns-in_err-program-clause-printed g c =
     let why = c.in_err-program.field-0.0 in
     let out = g.O.Write.contents c.args.out.now in
     let is : c.from_residual.result ≡ Err why = grind (arith, common_steps) in
-    no_logs content (most_harts Two) asked.base.now asked.image asked.logs.items c.as_slice-paths.result.now
+    no_logs (most_of asked.long) content (most_harts Two) asked.base.now asked.image asked.logs.items c.as_slice-paths.result.now
     c.as_slice-paths.ensures.value
-    (Once (AreAskedLogs content (most_harts Two) asked.base.now asked.image asked.logs.items) (λ _. ⊤)) out why
+    (Once (AreAskedLogsUpTo (most_of asked.long) content (most_harts Two) asked.base.now asked.image asked.logs.items) (λ _. ⊤)) out why
     c.from_residual.result is (WritesTable asked) c.in_err-program.ensures.fault
 
 pub returns-in_err-measures-clause-early : goal.returns-in_err-measures-clause-early
@@ -55,9 +57,9 @@ returns-in_err-measures-clause-printed g c =
     let why = c.in_err-measures.field-0.0 in
     let out = g.O.Write.contents c.args.out.now in
     let is : c.from_residual-in_err-measures.result ≡ Err why = grind (arith, common_steps) in
-    logs_end content (most_harts Two) asked.base.now asked.image asked.logs.items c.as_slice-paths.result.now
+    logs_end (most_of asked.long) content (most_harts Two) asked.base.now asked.image asked.logs.items c.as_slice-paths.result.now
     c.as_slice-paths.ensures.value
-    (Once (AreAskedLogs content (most_harts Two) asked.base.now asked.image asked.logs.items) (λ _. ⊤)) out why
+    (Once (AreAskedLogsUpTo (most_of asked.long) content (most_harts Two) asked.base.now asked.image asked.logs.items) (λ _. ⊤)) out why
     c.from_residual-in_err-measures.result is (WritesTable asked) c.in_ok-program.program
     (g.F.Files.content c.asked_program.new.files) c.in_ok-program.ensures.program c.in_ok-program.ensures.kept
     c.in_err-measures.ensures.fault
@@ -81,11 +83,11 @@ module _ (g : _) (c : After-write_table g) where
   abbrev logs : List ProgramLog
   logs = c.in_ok-measures.ensures.logs.logs
 
-  there : AreAskedLogs (g.F.Files.content c.args.files.now) (most_harts Two) c.args.asked.now.base.now
+  there : AreAskedLogsUpTo {W = LogReason} (most_of c.args.asked.now.long) (g.F.Files.content c.args.files.now) (most_harts Two) c.args.asked.now.base.now
       c.args.asked.now.image c.args.asked.now.logs.items (Ok logs)
   there =
       let asked = c.args.asked.now in
-      logs_there (g.F.Files.content c.args.files.now) (most_harts Two) asked.base.now asked.image asked.logs.items
+      logs_there (most_of asked.long) (g.F.Files.content c.args.files.now) (most_harts Two) asked.base.now asked.image asked.logs.items
       c.as_slice-paths.result.now c.as_slice-paths.ensures.value c.in_ok-program.program
       (g.F.Files.content c.asked_program.new.files) (Ok logs) c.in_ok-program.ensures.program
       c.in_ok-program.ensures.kept c.in_ok-measures.ensures.logs.legal
@@ -102,7 +104,7 @@ pub returns-clause-printed : goal.returns-clause-printed
 returns-clause-printed g c =
     let at = (goal.at.returns-clause-printed g c).After-write_table in
     let asked = c.args.asked.now in
-    let finds = AreAskedLogs (g.F.Files.content c.args.files.now) (most_harts Two) asked.base.now asked.image
+    let finds = AreAskedLogsUpTo {W = LogReason} (most_of asked.long) (g.F.Files.content c.args.files.now) (most_harts Two) asked.base.now asked.image
     asked.logs.items in
     let logs = logs g at in
     let ended = c.write_table.result in
@@ -118,7 +120,7 @@ pub returns-clause-cut : goal.returns-clause-cut
 returns-clause-cut g c =
     let at = (goal.at.returns-clause-cut g c).After-write_table in
     let asked = c.args.asked.now in
-    let finds = AreAskedLogs (g.F.Files.content c.args.files.now) (most_harts Two) asked.base.now asked.image
+    let finds = AreAskedLogsUpTo {W = LogReason} (most_of asked.long) (g.F.Files.content c.args.files.now) (most_harts Two) asked.base.now asked.image
     asked.logs.items in
     let logs = logs g at in
     let old = g.O.Write.contents c.args.out.now in

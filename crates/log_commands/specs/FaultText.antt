@@ -1,0 +1,11 @@
+-- The texts of the reasons that only subcommands that read logs have.
+use Rattle.std.specs.Prelude.{ℕ, ◌++◌, List, codes}
+use Rattle.bench.specs.SetupText.{setup_text}
+use Rattle.schedule.specs.FaultText.{schedule_fault_text}
+use Rattle.log_commands.specs.declared.reason.LogReason.{LogReason}
+use Rattle.log_commands.specs.declared.reason.LogReason.TheVariants.{Schedule, Unsent}
+
+-- A reason of a subcommand that reads logs, as a line of text.
+abbrev pub log_reason_text : LogReason → List ℕ
+log_reason_text (Schedule why) = codes "schedule: " ++ schedule_fault_text why
+log_reason_text (Unsent why) = setup_text why
