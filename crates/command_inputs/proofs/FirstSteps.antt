@@ -18,8 +18,8 @@ use Rattle.command_inputs.specs.declared.status.Status.{Status}
 use Rattle.command_inputs.proofs.Runs.{ends_silently}
 
 -- Once there are a base and logs, it is the image that makes no program.
-pub program_lacked : {W : Type 0} (content : Content) (most : ℕ) (text : List ℕ) (image : Path) (paths : List Path) (base : ℕ)
-    (one : Unit {0})
+pub program_lacked : {W : Type 0} (content : Content) (most : ℕ) (text : List ℕ) (image : Path) (paths : List Path)
+    (base : ℕ) (one : Unit {0})
     → IsBase {W = W} text (Ok base) → AreFew {W = W} most paths (Ok one) → (why : Fault W)
     → (why ≡ fault.Memory) ⊎ IsProgramAt content base image (Err why)
     → (why ≡ fault.Memory) ⊎ IsAskedProgram content most text image paths (Err why)
@@ -28,7 +28,8 @@ program_lacked content most text image paths base one based few why (inr none) =
     inr (Ok base, based, (Ok one, few, none))
 
 -- What ends the search for the program ends the run.
-same_end : {W A : Type 0} (seen : Option (Fault W)) (result : Result A (Fault W)) (why : Fault W) (ended : Result Status (Fault W))
+same_end : {W A : Type 0} (seen : Option (Fault W)) (result : Result A (Fault W)) (why : Fault W)
+    (ended : Result Status (Fault W))
     → result ≡ Err why → ended ≡ Err why → IfSome seen (λ fault. result ≡ Err fault)
     → IfSome seen (λ fault. ended ≡ Err fault)
 same_end None result why ended failed is early = tt
@@ -37,7 +38,8 @@ same_end (Some fault) result why ended failed is early =
     refl))
 
 -- Where the program was found, nothing was seen before.
-no_early_fault : {W A B : Type 0} (seen : Option (Fault W)) (result : Result A (Fault W)) (value : A) (ended : Result B (Fault W))
+no_early_fault : {W A B : Type 0} (seen : Option (Fault W)) (result : Result A (Fault W)) (value : A)
+    (ended : Result B (Fault W))
     → result ≡ Ok value → IfSome seen (λ fault. result ≡ Err fault) → IfSome seen (λ fault. ended ≡ Err fault)
 no_early_fault None result value ended found early = tt
 no_early_fault (Some fault) result value ended found early =
@@ -45,8 +47,7 @@ no_early_fault (Some fault) result value ended found early =
 
 -- And so does what is found before any file is read.
 pub early_ends : {W A : Type 0} (most : ℕ) (text : List ℕ) (items paths : List Path) (result : Result A (Fault W))
-    (why : Fault W)
-    (ended : Result Status (Fault W)) → paths ≡ items → result ≡ Err why → ended ≡ Err why
+    (why : Fault W) (ended : Result Status (Fault W)) → paths ≡ items → result ≡ Err why → ended ≡ Err why
     → IfSome (logs_fault most (number_of text) (length paths)) (λ fault. result ≡ Err fault)
     → IfSome (logs_fault most (number_of text) (length items)) (λ fault. ended ≡ Err fault)
 early_ends most text items paths result why ended same failed is early =
@@ -54,8 +55,8 @@ early_ends most text items paths result why ended same failed is early =
     (subst (λ paths. IfSome (logs_fault most (number_of text) (length paths)) (λ fault. result ≡ Err fault)) same early)
 
 -- Where the program was found, nothing is seen before any file is read.
-pub passes : {W A B : Type 0} (most : ℕ) (text : List ℕ) (items paths : List Path) (result : Result A (Fault W)) (value : A)
-    (ended : Result B (Fault W)) → paths ≡ items → result ≡ Ok value
+pub passes : {W A B : Type 0} (most : ℕ) (text : List ℕ) (items paths : List Path) (result : Result A (Fault W))
+    (value : A) (ended : Result B (Fault W)) → paths ≡ items → result ≡ Ok value
     → IfSome (logs_fault most (number_of text) (length paths)) (λ fault. result ≡ Err fault)
     → IfSome (logs_fault most (number_of text) (length items)) (λ fault. ended ≡ Err fault)
 passes most text items paths result value ended same found early =

@@ -18,9 +18,9 @@ appends-keeps (Some xs) (Some ys) None bytes first then = elim then [ ]
 appends-keeps (Some xs) (Some ys) (Some zs) bytes first then = then ∙ first
 
 -- A fault that is found before anything is written ends the run, unless allocation failed.
-pub ends_silently : {W : Type 0} (Prints : Printed W → Type 0) (CanWrite Finds : Type 0) (why : Fault W) (ended : Result Status (Fault W))
-    (old : Option (List ℕ)) → ended ≡ Err why → (why ≡ fault.Memory) ⊎ Finds → (Finds → Prints (silent why))
-    → PrintsUnlessDenied Prints CanWrite ended old old
+pub ends_silently : {W : Type 0} (Prints : Printed W → Type 0) (CanWrite Finds : Type 0) (why : Fault W)
+    (ended : Result Status (Fault W)) (old : Option (List ℕ)) → ended ≡ Err why → (why ≡ fault.Memory) ⊎ Finds
+    → (Finds → Prints (silent why)) → PrintsUnlessDenied Prints CanWrite ended old old
 ends_silently Prints CanWrite Finds why ended old is (inl denied) prints =
     subst (λ r. PrintsUnlessDenied Prints CanWrite r old old) (sym is) (inl (inl denied))
 ends_silently Prints CanWrite Finds why ended old is (inr finds) prints =
@@ -48,14 +48,15 @@ written Prints CanWrite text status (Ok done) old new prints can failed same app
 written Prints CanWrite text status (Err why) old new prints can failed same appended = inl (inr (failed, can))
 
 -- What is printed holds, whether allocation failed or not.
-pub prints : {W : Type 0} (Prints : Printed W → Type 0) (CanWrite : Type 0) (ended : Result Status (Fault W)) (old new : Option (List ℕ))
+pub prints : {W : Type 0} (Prints : Printed W → Type 0) (CanWrite : Type 0) (ended : Result Status (Fault W))
+    (old new : Option (List ℕ))
     → IsPrinted Prints ended old new → PrintsUnlessDenied Prints CanWrite ended old new
 prints Prints CanWrite (Ok status) old new printed = printed
 prints Prints CanWrite (Err why) old new printed = inr printed
 
 -- What a part of a run prints is what the run prints, where it leads there.
-pub leads_on : {W : Type 0} (First Prints : Printed W → Type 0) (Early CanWrite : Type 0) (ended : Result Status (Fault W))
-    (old new : Option (List ℕ)) → ((printed : Printed W) → First printed → Prints printed) → (Early → CanWrite)
+pub leads_on : {W : Type 0} (First Prints : Printed W → Type 0) (Early CanWrite : Type 0)
+    (ended : Result Status (Fault W)) (old new : Option (List ℕ)) → ((printed : Printed W) → First printed → Prints printed) → (Early → CanWrite)
     → PrintsUnlessDenied First Early ended old new → PrintsUnlessDenied Prints CanWrite ended old new
 leads_on First Prints Early CanWrite (Ok status) old new leads can is = record {
   text = is.text;
@@ -71,8 +72,8 @@ leads_on First Prints Early CanWrite (Err why) old new leads can (inr is) = inr 
 })
 
 -- What is printed at first, and then nothing more, is what is printed in the end.
-pub goes_on : {W : Type 0} (First Prints : Printed W → Type 0) (Early CanWrite : Type 0) (ended : Result Status (Fault W))
-    (old mid new : Option (List ℕ))
+pub goes_on : {W : Type 0} (First Prints : Printed W → Type 0) (Early CanWrite : Type 0)
+    (ended : Result Status (Fault W)) (old mid new : Option (List ℕ))
     → ((printed : Printed W) → First printed → Prints printed)
     → CanWrite → PrintsUnlessDenied First Early ended old mid → Keeps mid new
     → PrintsUnlessDenied Prints CanWrite ended old new

@@ -13,8 +13,8 @@ use rvclass::Program;
 use std::alloc::Global;
 use std::thread::Threads;
 
-/// The logs at these paths, in order, where each is legal for the program. Each is checked as it is read, and as many are
-/// read side by side as the machine has processors.
+/// The logs at these paths, in order, where each is legal for the program. Each is checked as it is read, and as many
+/// are read side by side as the machine has processors.
 pub fn legal_logs_of<'a, 'p, W, F: Files + Sync, R: Threads + Sync>(
     alloc: Global,
     rt: &R,
