@@ -4,3 +4,4 @@ pub mod lossy
 pub mod packets
 pub mod runs
 pub mod salvaged
+pub mod streams

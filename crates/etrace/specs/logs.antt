@@ -42,7 +42,9 @@ pub use Rattle.legalpath.specs.FollowOnLaws
 pub use Rattle.legalpath.specs.ReasonLaws
 pub use Rattle.legalpath.specs.ProgramLog
 pub use Rattle.legalpath.specs.Allowed
+pub use Rattle.legalpath.specs.Passed
 pub use Rattle.explaining.specs.Digits as WordDigits
 pub use Rattle.explaining.specs.Standing
 pub use Rattle.explaining.specs.Following as WhatFollows
 pub use Rattle.explaining.specs.Explanation
+pub use Rattle.explaining.specs.StandsAt

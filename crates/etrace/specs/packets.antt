@@ -43,3 +43,5 @@ pub use Rattle.roundtrip.specs.Reach
 pub use Rattle.measuring.specs.Kinds as CountedKinds
 pub use Rattle.measuring.specs.Measures
 pub use Rattle.measuring.specs.Table as MeasureTable
+pub use Rattle.measuring.specs.Bounds as MeasureBounds
+pub use Rattle.measuring.specs.HasCounted

@@ -15,7 +15,10 @@ pub use legalpath::{
     logs_split_and_join, reasons_name_illegal_rows, retirements_lead_to_one_place,
 };
 pub use losses::{stretches_are_whole, stretches_stand_apart};
-pub use retire::{plain_is_parted, read_is_in_range, written_is_plain, written_is_read_back};
+pub use retire::{
+    long_read_is_in_range, long_written_is_read_back, plain_is_parted, read_is_in_range,
+    written_is_plain, written_is_read_back,
+};
 pub use roundtrip::first_packets_settle_the_first_events;
 pub use salvaging::{
     harts_are_salvaged_in_one_way, logs_are_salvaged, what_is_collected_is_salvaged,

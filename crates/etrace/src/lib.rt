@@ -36,10 +36,25 @@
 //! The clause is proved: where a list comes back, it is the log of the text, by the contract of
 //! [`decode_capture`](capture::decode_capture). The program `two_harts` goes on to a replay of two logs.
 //!
-//! Each module re-exports what a caller wants together: [`logs`], [`packets`], [`capture`], [`runs`], [`lossy`] and
-//! [`salvaged`]; [`laws`] has the theorems that no call carries. The crate has no code of its own. The definitions that
-//! the contracts cite are re-exported too: a crate above names them as `Rattle.etrace.specs.MODULE.FILE`, and the types
-//! as `Rattle.etrace.specs.declared.MODULE.TYPE`.
+//! A log may be too long to be held. These calls take its events a piece at a time:
+//!
+//! - [`LogReader`](streams::LogReader) reads the events of a log from a [`Source`](streams::Source), such as a
+//!   [`ReaderSource`](streams::ReaderSource) over any reader, into a [`PieceBuffer`](streams::PieceBuffer).
+//! - [`PathCheck`](logs::PathCheck) checks them against the program, as [`check`](logs::check) does a list.
+//! - [`explain_row`](logs::explain_row) writes why a row is illegal, from that row and the row before.
+//! - [`HartMessages`](capture::HartMessages) writes the messages of the hart, as
+//!   [`encode_hart`](capture::encode_hart) does of a complete log.
+//! - [`LogMeasures`](packets::LogMeasures) counts events, packets and bytes, as [`measure`](packets::measure) does, and
+//!   [`write_measures_of`](packets::write_measures_of) writes the counts of several harts as a table.
+//! - [`Files`](streams::Files) is a place that files are opened from; an open file is a
+//!   [`FileReader`](streams::FileReader), and [`Watched`](streams::Watched) makes it a source.
+//! - [`made_of_logs`](streams::made_of_logs) reads and checks the logs at several paths side by side, and a
+//!   [`LogTask`](streams::LogTask) makes something of the events of each.
+//!
+//! Each module re-exports what a caller wants together: [`logs`], [`streams`], [`packets`], [`capture`], [`runs`],
+//! [`lossy`] and [`salvaged`]; [`laws`] has the theorems that no call carries. The crate has no code of its own. The
+//! definitions that the contracts cite are re-exported too: a crate above names them as
+//! `Rattle.etrace.specs.MODULE.FILE`, and the types as `Rattle.etrace.specs.declared.MODULE.TYPE`.
 #![tactic(auto)]
 
 pub mod capture;
@@ -49,3 +64,4 @@ pub mod lossy;
 pub mod packets;
 pub mod runs;
 pub mod salvaged;
+pub mod streams;

@@ -3,7 +3,7 @@
 
 pub use decoder::{DecodeFault, Decoder, DecoderState, Phase, Waiting};
 pub use encoder::{Burst, Due, Encoder, EncoderState, Source};
-pub use measuring::{Measures, measure, write_measures};
+pub use measuring::{LogMeasures, Measures, measure, write_measures, write_measures_of};
 pub use payload::{
     MOST_BYTES, MOST_OUTCOMES, Mode, Outcomes, PackFault, Packet, Payload, Report, Support, pack,
     unpack,
