@@ -46,5 +46,6 @@ pub use Rattle.legalpath.specs.Passed
 pub use Rattle.explaining.specs.Digits as WordDigits
 pub use Rattle.explaining.specs.Standing
 pub use Rattle.explaining.specs.Following as WhatFollows
+pub use Rattle.explaining.specs.ElfImage
 pub use Rattle.explaining.specs.Explanation
 pub use Rattle.explaining.specs.StandsAt
