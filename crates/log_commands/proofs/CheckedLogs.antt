@@ -134,7 +134,7 @@ module _ (explain : Bool) (program : Image) where
         (Appends-trans old mid new (text_of (take i logs))
         (verdict_lines explain program (get_or paths i path).now (get_or verdicts i verdict)) before one)
 
-    -- A beginning of the lines of one log more is written.
+    -- A prefix of the lines of one log more is written.
     pub log_begun : (old mid new : Option (List ℕ))
         → Appends old mid (flat_map (lines_of explain program) (take i (zip paths verdicts)))
         → AppendsBeginning (verdict_lines explain program (get_or paths i path).now (get_or verdicts i verdict)) mid new
@@ -333,7 +333,7 @@ module _ (most : ℕ) (content : Content) (explain : Bool) (program : Image) whe
       };
     }
 
-    -- A beginning of the lines of the logs that were read is written.
+    -- A prefix of the lines of the logs that were read is written.
     pub lines_cut : AppendsBeginning (all_lines explain program paths verdicts) old new
         → BeginsPrinted (WritesFirstLines most content explain program paths) old new
     lines_cut begun = record {
@@ -359,8 +359,8 @@ both_written line more old mid new (Err why) first next = tt
 -- First lines were appended, and then nothing more.
 pub lines_kept : (most : ℕ) (content : Content) (explain : Bool) (program : Image) (paths : List Path)
     (old mid new : Option (List ℕ))
-    → AppendsFirstLines most content explain program paths old mid → Keeps mid new → AppendsFirstLines most content explain
-    program paths old new
+    → AppendsFirstLines most content explain program paths old mid → Keeps mid new
+    → AppendsFirstLines most content explain program paths old new
 lines_kept most content explain program paths old mid new begun kept = record {
   front = begun.front;
   rest = begun.rest;

@@ -1,4 +1,4 @@
--- What came of harts, each at its place, as a list.
+-- What is received of harts, each at its place, as a list.
 use Rattle.std.proofs.Common.{◌≡◌, ◌<◌, ◌≤◌, ◌∙◌, ◌+◌, ℕ, zero, suc, Bool, true, false, List, [], ◌∷◌, Option, Some}
 use Rattle.std.proofs.Common.{None, length, map, slice_get, refl, ap, ap₂, subst, arith}
 use Rattle.std.specs.Prelude.{All, IsFalse, IsSomeAnd, IsTrue}
@@ -23,7 +23,7 @@ AreEach {A} hart period mode logs taken harts =
     → (count : ℕ) × HasGot period mode false log count (got_of came)
     × CameOf came.refused (length (of_hart (hart + place) taken)) count
 
--- It is so of the harts behind the first.
+-- It is so of the harts after the first.
 behind : {A : Type 0} (hart period : ℕ) (mode : Mode) (log : ProgramLog) (logs : List ProgramLog) (taken : List Message)
     (came : HartOutcome A) (harts : List (HartOutcome A)) → AreEach hart period mode (log ∷ logs) taken (came ∷ harts)
     → AreEach (hart + 1) period mode logs taken harts
@@ -42,7 +42,7 @@ some_came : (refused : Bool) (taken count : ℕ) → CameOf refused taken count 
 some_came true taken count from = from
 some_came false taken count from = omega (arith, from)
 
--- Where memory was refused for no hart, what came of them is what comes of all that was taken.
+-- Where an allocation failed for no hart, what is received of them is what is received of all that was taken.
 pub gots_after-all : {A : Type 0} (hart period : ℕ) (mode : Mode) (logs : List ProgramLog) (taken : List Message)
     (harts : List (HartOutcome A))
     → length logs ≡ length harts → All (λ (came : HartOutcome A). IsFalse came.refused) harts
@@ -61,7 +61,7 @@ gots_after-all hart period mode (log ∷ logs) taken (came ∷ harts) count none
     (λ k d within. none (suc k) d (omega (arith, within)))
     (behind hart period mode log logs taken came harts each))
 
--- What came of them is what comes of some of it in any case.
+-- What is received of them is what is received of some of it in any case.
 pub gots_of_some : {A : Type 0} (hart period : ℕ) (mode : Mode) (logs : List ProgramLog) (taken : List Message)
     (harts : List (HartOutcome A))
     → length logs ≡ length harts → AreEach hart period mode logs taken harts
@@ -91,7 +91,7 @@ each_taken config logs taken harts none those place log came at there =
       subst (λ h. CameOf came.refused (length (of_hart h taken)) count) here from,
     )
 
--- What came of a hart that is named as a stop is not closed, and fewer packets than messages were taken of it.
+-- What is received of a hart that is named as a stop is not closed, and fewer packets than messages were taken of it.
 lacks_some : {A : Type 0} (taken : ℕ) (harts : List (HartOutcome A)) (hart : ℕ)
     → IsSomeAnd (slice_get harts hart) (λ came. IsTrue came.refused × IsFalse came.closed)
     → ((came : HartOutcome A) → slice_get harts hart ≡ Some came → IsTrue came.refused → came.taken < taken)
@@ -100,7 +100,7 @@ lacks_some taken [] hart some lacks = some
 lacks_some taken (came ∷ harts) zero some lacks = (some.1, lacks came refl some.0)
 lacks_some taken (came ∷ harts) (suc hart) some lacks = lacks_some taken harts hart some lacks
 
--- What came of the harts, by the stop.
+-- What is received of the harts, by the stop.
 pub are_got : {A : Type 0} (config : Config) (logs : List ProgramLog) (taken : List Message)
     (harts : List (HartOutcome A)) (why : Option Stop) → config.keep ≡ false → length logs ≡ length harts
     → AreThoseTaken config logs taken harts → LackSome taken harts

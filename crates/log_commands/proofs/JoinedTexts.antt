@@ -31,7 +31,7 @@ module _ {A : Type 0} (text_of : A → List ℕ) (all : List A) (i : ℕ) (one :
       ∙ flat_map-append text_of (take (i + 1) all) (drop (i + 1) all)
       ∙ ap (λ text. text ++ flat_map text_of (drop (i + 1) all)) more
 
-  -- Or a beginning of it.
+  -- Or a prefix of it.
   pub one_begun : AppendsBeginning (text_of one) mid new → AppendsBeginning (flat_map text_of all) old new
   one_begun begun =
       subst (λ text. AppendsBeginning text old new) (sym parted)

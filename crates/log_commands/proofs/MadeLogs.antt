@@ -78,7 +78,8 @@ module _ {X : Type 0} (Makes : ℕ → ProgramLog → X → Type 0) where
     -- The logs at the first paths are legal, and this is made of them.
     record FrontMade (hart : ℕ) (paths : List Path) (made : List X) : Type 0 where
       pub logs : List ProgramLog
-      pub legal : AllZip (λ path log. IsLegalLogUpTo {W = LogReason} most content program path (Ok log)) (take (length made) paths) logs
+      pub legal : AllZip (λ path log. IsLegalLogUpTo {W = LogReason} most content program path (Ok log))
+          (take (length made) paths) logs
       pub each : AreMadeFrom Makes hart logs made
 
     front_made : (hart : ℕ) (paths : List Path) (made : List X) → length made ≤ length paths
@@ -109,7 +110,8 @@ module _ {X : Type 0} (Makes : ℕ → ProgramLog → X → Type 0) where
       all_legal made end are =
           let front = fronts made (Ok end) are in record {
             logs = front.logs;
-            legal = subst (λ paths. AllZip (λ path log. IsLegalLogUpTo {W = LogReason} most content program path (Ok log)) paths front.logs)
+            legal = subst (λ paths. AllZip (λ path log. IsLegalLogUpTo {W = LogReason} most content program path
+                (Ok log)) paths front.logs)
                 (take_all (length made) paths (omega (arith, are.all refl))) front.legal;
             each = front.each;
           }
@@ -166,9 +168,11 @@ module _ {X : Type 0} (Makes : ℕ → ProgramLog → X → Type 0) where
           → result ≡ all_or_fault made end
           → IfErr result (λ why. (why ≡ fault.Memory) ⊎ AreLegalLogsUpTo most content program paths (Err why))
       made_of_none made (Ok end) result are is =
-          subst (λ r. IfErr r (λ why. (why ≡ fault.Memory) ⊎ AreLegalLogsUpTo most content program paths (Err why))) (sym is) tt
+          subst (λ r. IfErr r (λ why. (why ≡ fault.Memory) ⊎ AreLegalLogsUpTo most content program paths (Err why)))
+          (sym is) tt
       made_of_none made (Err last) result are is =
-          subst (λ r. IfErr r (λ why. (why ≡ fault.Memory) ⊎ AreLegalLogsUpTo most content program paths (Err why))) (sym is)
+          subst (λ r. IfErr r (λ why. (why ≡ fault.Memory) ⊎ AreLegalLogsUpTo most content program paths (Err why)))
+          (sym is)
           (first_refused made.items last are)
 
 -- The messages of logs, one after the other, are those of their harts.

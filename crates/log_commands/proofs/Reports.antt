@@ -1,4 +1,4 @@
--- The report of what came of logs, as it is printed.
+-- The report of what is received of logs, as it is printed.
 use Rattle.std.proofs.Common.{List, Option, Ok}
 use Rattle.legalpath.specs.ProgramLog.{ProgramLog}
 use Rattle.bench.specs.Got.{Got}

@@ -33,6 +33,7 @@ schedule_refused content harts path bytes why read (inr is) = inr (record {
 
 -- The turns that a text spells are those of the schedule.
 pub schedule_read : (content : Content) (harts : ℕ) (path : Path) (bytes : List ℕ) (turns : List Turn)
-    → IsRead {W = LogReason} content path (Ok bytes) → schedule_of harts bytes ≡ Ok turns → IsSchedule content harts path (Ok turns)
+    → IsRead {W = LogReason} content path (Ok bytes) → schedule_of harts bytes ≡ Ok turns
+    → IsSchedule content harts path (Ok turns)
 schedule_read content harts path bytes turns read is =
     record { bytes = Ok bytes; read = read; made = sym (ap (result_map_both (λ turns. turns) schedule_fault) is) }

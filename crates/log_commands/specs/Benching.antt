@@ -20,8 +20,9 @@ use Rattle.command_inputs.specs.Printed.{First}
 use Rattle.log_commands.specs.Faults.{Meaning, Once, Printed}
 use Rattle.log_commands.specs.Sending.{IsSetting, config_at, end_of_report}
 
--- The report of some harts is written. What came of each hart is what comes of a beginning of its log's packets. There
--- is no stop exactly where every closing packet came, and else the stop names a hart whose closing packet did not.
+-- The report of some harts is written. What is received of each hart is what a prefix of its log's packets gives. There
+-- is no stop if and only if every closing packet was received, and else the stop names a hart whose closing packet was
+-- not.
 pub record WritesOutcome (config : Config) (logs : List ProgramLog) (printed : Printed) : Type 0 where
   pub stop : Option Stop
   pub harts : List (HartOutcome Global)
@@ -30,7 +31,7 @@ pub record WritesOutcome (config : Config) (logs : List ProgramLog) (printed : P
   pub text : printed.text ≡ report_text stop (map got_of harts) logs
   pub ended : printed.ended ≡ Ok (end_of_report stop (is_whole stop (map got_of harts) logs))
 
--- Where the logs may be sent with these settings, the report of what came of them is written.
+-- Where the logs may be sent with these settings, the report of what is received of them is written.
 abbrev pub BenchesLogs : Bench → List ProgramLog → Printed → Type 0
 BenchesLogs asked logs =
     First (IsSetting most_ports (length logs) (config_at asked.period asked.mode asked.capacity)) (λ _.
@@ -42,7 +43,7 @@ abbrev pub Benches : Content → Bench → Printed → Type 0
 Benches content asked =
     First (AreAskedLogs content most_ports asked.base.now asked.image asked.logs.items) (BenchesLogs asked)
 
--- The report of what came of these logs is written once it is found that they may be sent.
+-- The report of what is received of these logs is written once it is found that they may be sent.
 abbrev pub CanBenchLogs : Bench → List ProgramLog → Type 0
 CanBenchLogs asked logs =
     IsSetting most_ports (length logs) (config_at asked.period asked.mode asked.capacity) (Ok tt)

@@ -32,7 +32,8 @@ Measures content asked =
 abbrev pub CanMeasure : Content → Measure → Type 0
 CanMeasure content asked =
     Once
-    (AreAskedLogsUpTo (most_of asked.long) content (most_harts Two) asked.base.now asked.image asked.logs.items) (λ _. ⊤)
+    (AreAskedLogsUpTo (most_of asked.long) content (most_harts Two) asked.base.now asked.image asked.logs.items)
+    (λ _. ⊤)
 
 -- What `measure` means.
 abbrev pub measure_meaning : Measure → Meaning

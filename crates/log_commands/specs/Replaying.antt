@@ -46,7 +46,7 @@ gots_after hart period mode [] taken = []
 gots_after hart period mode (log ∷ logs) taken =
     kept false (got_after period mode log (length (of_hart hart taken))) ∷ gots_after (hart + 1) period mode logs taken
 
--- This is what comes of a hart where the first packets of its log were taken, at most `taken` of them.
+-- This is received of a hart where the first packets of its log were taken, at most `taken` of them.
 abbrev pub IsGotOfSome : ℕ → Mode → ProgramLog → ℕ → Got → Type 0
 IsGotOfSome period mode log taken got = (count : ℕ) × (count ≤ taken) × HasGot period mode false log count got
 
@@ -58,9 +58,9 @@ AreGotOfSome hart period mode (log ∷ logs) taken [] = ⊥
 AreGotOfSome hart period mode (log ∷ logs) taken (got ∷ gots) =
     IsGotOfSome period mode log (length (of_hart hart taken)) got × AreGotOfSome (hart + 1) period mode logs taken gots
 
--- Where there is no stop, this came of all messages that were taken. The only stop is that memory for a hart was
--- refused. Then fewer packets came of that hart than messages of it were taken, and its closing packet did not come;
--- and what came of each hart is what comes of the first messages that were taken of it.
+-- Where there is no stop, this is received of all messages that were taken. The only stop is that an allocation for a
+-- hart failed. Then fewer packets of that hart were received than messages of it taken, and its closing packet was not
+-- received; and of each hart that is received which the first messages that were taken of it give.
 abbrev pub AreGot : ℕ → Mode → List ProgramLog → List Message → Option Stop → List Got → Type 0
 AreGot period mode logs taken None gots = gots ≡ gots_after 0 period mode logs taken
 AreGot period mode logs taken (Some (stop.Memory hart)) gots =
@@ -68,7 +68,7 @@ AreGot period mode logs taken (Some (stop.Memory hart)) gots =
     × AreGotOfSome 0 period mode logs taken gots
 AreGot period mode logs taken (Some why) gots = ⊥
 
--- The logs went through the funnel by these turns of the funnel machine, and the report of what came of them is
+-- The logs went through the funnel by these turns of the funnel machine, and the report of what is received of them is
 -- written.
 pub record WritesReport (asked : Replay) (logs : List ProgramLog) (turns : List Turn) (printed : Printed)
     : Type 0 where
@@ -80,7 +80,7 @@ pub record WritesReport (asked : Replay) (logs : List ProgramLog) (turns : List 
   pub ended : printed.ended ≡ Ok (end_of_report stop (is_whole stop gots logs))
 
 -- The turns of the schedule are found, and then whether the logs may be sent. Where there is no fault, the report of
--- what came of these logs by these turns is written.
+-- what is received of these logs by these turns is written.
 abbrev pub ReplaysLogs : Content → Replay → List ProgramLog → Printed → Type 0
 ReplaysLogs content asked logs =
     First (IsSchedule content (length logs) asked.schedule) (λ turns.

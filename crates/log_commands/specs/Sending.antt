@@ -1,4 +1,4 @@
--- How logs are sent through the funnel, and how a report of what came of them ends.
+-- How logs are sent through the funnel, and how a report of what is received of them ends.
 use Rattle.std.specs.Prelude.{◌≡◌, ℕ, Bool, true, false, Option, Some, None, Result, Ok, Err}
 use Rattle.payload.specs.declared.mode.Mode.{Mode}
 use Rattle.bench.specs.Setting.{setup_fault}
@@ -23,7 +23,7 @@ abbrev pub IsSetting : ℕ → ℕ → Config → Result (Unit {0}) Fault → Ty
 IsSetting most harts config found = found ≡ setting_at (setup_fault most harts config)
 
 -- The status of a run that writes a report: the machine's where there was a stop, else by whether all logs came back
--- whole.
+-- complete.
 abbrev pub end_of_report : Option Stop → Bool → Status
 end_of_report None true = Whole
 end_of_report None false = NotWhole

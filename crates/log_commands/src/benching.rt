@@ -30,8 +30,8 @@ use std::thread::Threads;
 use subcommands::Bench;
 
 /// Sends each hart's log through the funnel from a thread of its own, once all logs are found legal, and writes the
-/// report of what is received of them. All is done where each log comes back complete. A stop is printed in the report, and the
-/// status is then that of the machine.
+/// report of what is received of them. All is done where each log comes back complete. A stop is printed in the report,
+/// and the status is then that of the machine.
 pub fn bench<'a, F: Files + Sync, O: Write, R: Threads + Wait + Sync>(
     alloc: Global,
     rt: &R,

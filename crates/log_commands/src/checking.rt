@@ -34,8 +34,8 @@ use subcommands::Check;
 /// line that explains the first illegal row. Returns that all is done where all logs are legal, and else that the input
 /// is refused. A log that is not read ends the run, after the lines of the logs before it.
 ///
-/// A log may have 4,294,967,295 rows where long logs are asked for, and else 16,777,216. The logs are read side by side,
-/// each a piece at a time. No list holds the events of a log.
+/// A log may have 4,294,967,295 rows where long logs are asked for, and else 16,777,216. The logs are read side by
+/// side, each a piece at a time. No list holds the events of a log.
 pub fn check<'a, F: Files + Sync, O: Write, R: Threads + Sync>(
     alloc: Global,
     rt: &R,

@@ -36,12 +36,12 @@ use std::io::Write;
 use std::thread::Threads;
 use subcommands::Encode;
 
-/// Writes the messages of each hart's log, once all logs are found legal: as a capture of the version that is asked
-/// for, or as lines of hexadecimal. The version limits the count of logs in both cases. A log may have 4,294,967,295 rows
-/// where long logs are asked for, and else 16,777,216.
+/// Writes the messages of each hart's log, once all logs are legal: as a capture of the version that is asked for, or as
+/// lines of hexadecimal. The version limits the count of logs in both cases. A log may have 4,294,967,295 rows where long
+/// logs are asked for, and else 16,777,216.
 ///
 /// The logs are read side by side, each a piece at a time. The messages are made while the events come, and kept until
-/// all logs are found legal. No list holds the events of a log.
+/// it is known that all logs are legal. No list holds the events of a log.
 pub fn encode<'a, F: Files + Sync, O: Write, R: Threads + Sync>(
     alloc: Global,
     rt: &R,

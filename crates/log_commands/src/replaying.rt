@@ -29,7 +29,7 @@ use std::thread::Threads;
 use subcommands::Replay;
 
 /// Sends each hart's log through the funnel as the schedule says, once all logs are found legal, and writes the report
-/// of what comes of them. All is done where each log comes back whole. A stop is printed in the report, and the status
+/// of what is received of them. All is done where each log comes back complete. A stop is printed in the report, and the status
 /// is then that of the machine.
 pub fn replay<'a, F: Files + Sync, O: Write, R: Threads + Sync>(
     alloc: Global,
@@ -76,7 +76,7 @@ impl<'a> OnLogs<'a> for Replay<'a> {
     }
 }
 
-/// Sends legal logs through the funnel as the schedule says, and writes the report of what comes of them.
+/// Sends legal logs through the funnel as the schedule says, and writes the report of what is received of them.
 fn replay_logs<'a, F: Files, O: Write>(
     alloc: Global,
     files: &mut F,
@@ -115,7 +115,7 @@ fn turns_of<'a, F: Files>(
     }
 }
 
-/// What comes of the logs. No packets are kept.
+/// What is received of the logs. No packets are kept.
 fn outcome_of<'a>(
     alloc: Global,
     logs: &[LegalLog<'_>],

@@ -13,7 +13,7 @@ use std::alloc::Global;
 use std::thread::Threads;
 
 /// Lists with room for as many events as each log has, whose pages are handed out, if they are large and there are
-/// several. There is none at all where memory for one of them is refused.
+/// several. There is none at all where an allocation for one of them fails.
 pub(crate) fn rooms_of<R: Threads + Sync>(
     alloc: Global,
     rt: &R,
@@ -28,7 +28,7 @@ pub(crate) fn rooms_of<R: Threads + Sync>(
     }
 }
 
-/// The same, whatever the logs are, if no memory is refused.
+/// The same, whatever the logs are, if no allocation fails.
 fn written_rooms<R: Threads + Sync>(
     alloc: Global,
     rt: &R,

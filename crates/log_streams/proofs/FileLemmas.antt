@@ -32,7 +32,7 @@ all-of Absent first left all opened kept = absurd opened
 all-of (Present text) first left all (none, whole) kept = subst (λ known. Keeps known all)
     (ap (λ bytes. prepend_known bytes left) none ∙ ap (λ known. prepend_known [] known) whole) kept
 
--- The same of a source that stands for the file.
+-- The same of a source over the file.
 pub all-through : (known : Known) (first given : List ℕ) (left rest before all : Option (List ℕ))
     → IsOpened known first left → given ≡ first → rest ≡ left → before ≡ prepend_known given rest → Keeps before all
     → IsAllOf known all

@@ -3,7 +3,7 @@ use Rattle.std.proofs.Common.{◌≡◌, ◌-◌, List, [], ◌∷◌, Option, S
 use Rattle.std.specs.List.{last_or, slice_get}
 use Rattle.retire.specs.declared.event.Event.{Event}
 
--- It stands at the last place.
+-- It is at the last place.
 pub last_or-place : (before : Option Event) (events : List Event) (last : Event)
     → Some last ≡ slice_get events (length events - 1) → last_or before events ≡ Some last
 last_or-place before [] last e = cc e

@@ -73,7 +73,8 @@ fn made_from<S: Source, X, T: LogTask<X>>(
     reader: &mut LogReader<S>,
     piece: &mut Vec<Event>,
 ) -> Result<X, Stop>
-    requires { HasReadAndJudged (T.Keeps task.now program.now hart) program.now S.given S.left most reader.old judged }
+    requires { HasReadAndJudged (T.Keeps task.now program.now hart) program.now S.given S.left most reader.old
+        judged }
     ensures made { IsMadeOfSource (T.Makes task.now program.now) (T.MakesOfIllegal task.now program.now) program.now most
         hart S.given S.left reader.new result }
     ensures refused { IfErr result (MayStop (T.MayRefuse task.now)) }

@@ -26,7 +26,7 @@ returns-in_err-outcome-clause-printed g c =
     c.in_err-outcome.ensures.fault (λ none. (Err why, none, refl))
 
 module _ (g : _) (c : After-end_with_report-ended g) where
-  -- The report of what came of the logs may be printed.
+  -- The report of what is received of the logs may be printed.
   prints : BenchesLogs c.args.asked.now c.args.logs.now
       (reported c.in_ok-outcome.outcome.stop (map got_of c.in_ok-outcome.outcome.harts.items) c.args.logs.now)
   prints = (

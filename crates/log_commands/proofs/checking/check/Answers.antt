@@ -48,11 +48,13 @@ returns-in_err-program-clause-printed g c =
     let is : c.from_residual.result ≡ Err why = grind (arith, common_steps) in
     program_ends content (most_harts Two) asked.base.now asked.image asked.logs.items c.as_slice-paths.result.now
     c.as_slice-paths.ensures.value (CanCheck content asked) (g.O.Write.contents c.args.out.now) why
-    c.from_residual.result is (λ program. WritesLines (most_of asked.long) content asked.explain program asked.logs.items)
+    c.from_residual.result is (λ program. WritesLines (most_of asked.long) content asked.explain program
+    asked.logs.items)
     c.in_err-program.ensures.fault
 
 -- The program that was found.
-there : (g : _) (c : After-flush g) → IsAskedProgram {W = LogReason} (g.F.Files.content c.args.files.now) (most_harts Two)
+there : (g : _) (c : After-flush g) → IsAskedProgram {W = LogReason} (g.F.Files.content c.args.files.now)
+    (most_harts Two)
     c.args.asked.now.base.now c.args.asked.now.image c.args.asked.now.logs.items (Ok c.in_ok-program.program)
 there g c =
     let asked = c.args.asked.now in
@@ -81,10 +83,12 @@ returns-clause-printed g c =
     let there = there g (goal.at.returns-clause-printed g c).After-flush in
     let ended = c.check_all-ended.result in
     let mid = contents c.check_all-ended.new.out in
-    let lines = subst (λ logs. PrintsUnlessDenied (WritesLines (most_of asked.long) content asked.explain program logs) ⊤ ended
+    let lines = subst (λ logs. PrintsUnlessDenied (WritesLines (most_of asked.long) content asked.explain program
+    logs) ⊤ ended
     (contents c.args.out.now)
     mid) c.as_slice-paths.ensures.value
-    (subst (λ known. PrintsUnlessDenied (WritesLines (most_of asked.long) known asked.explain program c.as_slice-paths.result.now) ⊤ ended
+    (subst (λ known. PrintsUnlessDenied (WritesLines (most_of asked.long) known asked.explain program
+    c.as_slice-paths.result.now) ⊤ ended
     (contents c.args.out.now) mid)
     c.in_ok-program.ensures.kept c.check_all-ended.ensures.printed) in
     goes_on (WritesLines (most_of asked.long) content asked.explain program asked.logs.items) (Checks content asked) ⊤
@@ -103,16 +107,18 @@ returns-clause-begun g c = λ memory.
     let mid = contents c.check_all-ended.new.out in
     let lines = subst (λ logs. AppendsFirstLines (most_of asked.long) content asked.explain program logs old mid)
     c.as_slice-paths.ensures.value
-    (subst (λ known. AppendsFirstLines (most_of asked.long) known asked.explain program c.as_slice-paths.result.now old mid)
+    (subst (λ known. AppendsFirstLines (most_of asked.long) known asked.explain program c.as_slice-paths.result.now
+    old mid)
     c.in_ok-program.ensures.kept (c.check_all-ended.ensures.begun memory)) in
     inr (
       program,
       there g (goal.at.returns-clause-begun g c).After-flush,
-      lines_kept (most_of asked.long) content asked.explain program asked.logs.items old mid (contents c.flush.new.self) lines
+      lines_kept (most_of asked.long) content asked.explain program asked.logs.items old mid
+          (contents c.flush.new.self) lines
           c.flush.ensures.bytes,
     )
 
--- Whatever the flush answers, a beginning of the lines of some first logs was written.
+-- Whatever the flush answers, a prefix of the lines of some first logs was written.
 cut : (g : _) (c : After-flush g) → IsCutOf (ChecksFirst (g.F.Files.content c.args.files.now) c.args.asked.now)
     (g.O.Write.contents c.args.out.now) (g.O.Write.contents c.flush.new.self)
 cut g c =
@@ -123,11 +129,14 @@ cut g c =
     let old = contents c.args.out.now in
     let mid = contents c.check_all-ended.new.out in
     let new = contents c.flush.new.self in
-    let lines = subst (λ logs. BeginsPrinted (WritesFirstLines (most_of asked.long) content asked.explain program logs) old mid)
+    let lines = subst (λ logs. BeginsPrinted (WritesFirstLines (most_of asked.long) content asked.explain program
+    logs) old mid)
     c.as_slice-paths.ensures.value
-    (subst (λ known. BeginsPrinted (WritesFirstLines (most_of asked.long) known asked.explain program c.as_slice-paths.result.now) old mid)
+    (subst (λ known. BeginsPrinted (WritesFirstLines (most_of asked.long) known asked.explain program
+    c.as_slice-paths.result.now) old mid)
     c.in_ok-program.ensures.kept c.check_all-ended.ensures.cut) in
-    inr (cut_kept (WritesFirstLines (most_of asked.long) content asked.explain program asked.logs.items) (ChecksFirst content asked) old
+    inr (cut_kept (WritesFirstLines (most_of asked.long) content asked.explain program asked.logs.items)
+    (ChecksFirst content asked) old
     mid new
     (λ printed lines. (program, there g c, lines)) lines c.flush.ensures.bytes)
 

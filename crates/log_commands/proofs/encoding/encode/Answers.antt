@@ -42,12 +42,16 @@ returns-in_err-program-clause-printed g c =
     let out = g.O.Write.contents c.args.out.now in
     let is : c.from_residual.result ≡ Err why = grind (arith, common_steps) in
     subst (λ most. PrintsUnlessDenied
-    (First (AreAskedLogsUpTo (most_of asked.long) content most asked.base.now asked.image asked.logs.items) (WritesMessages asked))
-    (Once (AreAskedLogsUpTo (most_of asked.long) content most asked.base.now asked.image asked.logs.items) (λ _. ⊤)) c.from_residual.result
+    (First (AreAskedLogsUpTo (most_of asked.long) content most asked.base.now asked.image asked.logs.items)
+    (WritesMessages asked))
+    (Once (AreAskedLogsUpTo (most_of asked.long) content most asked.base.now asked.image asked.logs.items)
+    (λ _. ⊤)) c.from_residual.result
     out out) c.most_harts-most.ensures
-    (no_logs (most_of asked.long) content c.most_harts-most.result asked.base.now asked.image asked.logs.items c.as_slice-paths.result.now
+    (no_logs (most_of asked.long) content c.most_harts-most.result asked.base.now asked.image asked.logs.items
+    c.as_slice-paths.result.now
     c.as_slice-paths.ensures.value
-    (Once (AreAskedLogsUpTo (most_of asked.long) content c.most_harts-most.result asked.base.now asked.image asked.logs.items) (λ _. ⊤)) out why
+    (Once (AreAskedLogsUpTo (most_of asked.long) content c.most_harts-most.result asked.base.now asked.image
+    asked.logs.items) (λ _. ⊤)) out why
     c.from_residual.result is (WritesMessages asked) c.in_err-program.ensures.fault)
 
 pub returns-in_err-messages-clause-early : goal.returns-in_err-messages-clause-early
@@ -67,12 +71,15 @@ returns-in_err-messages-clause-printed g c =
     let out = g.O.Write.contents c.args.out.now in
     let is : c.from_residual-in_err-messages.result ≡ Err why = grind (arith, common_steps) in
     subst (λ most. PrintsUnlessDenied
-    (First (AreAskedLogsUpTo (most_of asked.long) content most asked.base.now asked.image asked.logs.items) (WritesMessages asked))
+    (First (AreAskedLogsUpTo (most_of asked.long) content most asked.base.now asked.image asked.logs.items)
+    (WritesMessages asked))
     (Once (AreAskedLogsUpTo (most_of asked.long) content most asked.base.now asked.image asked.logs.items) (λ _. ⊤))
     c.from_residual-in_err-messages.result out out) c.most_harts-most.ensures
-    (logs_end (most_of asked.long) content c.most_harts-most.result asked.base.now asked.image asked.logs.items c.as_slice-paths.result.now
+    (logs_end (most_of asked.long) content c.most_harts-most.result asked.base.now asked.image asked.logs.items
+    c.as_slice-paths.result.now
     c.as_slice-paths.ensures.value
-    (Once (AreAskedLogsUpTo (most_of asked.long) content c.most_harts-most.result asked.base.now asked.image asked.logs.items) (λ _. ⊤)) out why
+    (Once (AreAskedLogsUpTo (most_of asked.long) content c.most_harts-most.result asked.base.now asked.image
+    asked.logs.items) (λ _. ⊤)) out why
     c.from_residual-in_err-messages.result is (WritesMessages asked) c.in_ok-program.program
     (g.F.Files.content c.asked_program.new.files) c.in_ok-program.ensures.program c.in_ok-program.ensures.kept
     c.in_err-messages.ensures.fault)
@@ -91,11 +98,13 @@ module _ (g : _) (c : After-write_messages g) where
   abbrev logs : List ProgramLog
   logs = c.in_ok-messages.ensures.logs.logs
 
-  there : AreAskedLogsUpTo {W = LogReason} (most_of c.args.asked.now.long) (g.F.Files.content c.args.files.now) c.most_harts-most.result c.args.asked.now.base.now
+  there : AreAskedLogsUpTo {W = LogReason} (most_of c.args.asked.now.long)
+      (g.F.Files.content c.args.files.now) c.most_harts-most.result c.args.asked.now.base.now
       c.args.asked.now.image c.args.asked.now.logs.items (Ok logs)
   there =
       let asked = c.args.asked.now in
-      logs_there (most_of asked.long) (g.F.Files.content c.args.files.now) c.most_harts-most.result asked.base.now asked.image
+      logs_there (most_of asked.long) (g.F.Files.content c.args.files.now) c.most_harts-most.result asked.base.now
+      asked.image
       asked.logs.items c.as_slice-paths.result.now c.as_slice-paths.ensures.value c.in_ok-program.program
       (g.F.Files.content c.asked_program.new.files) (Ok logs) c.in_ok-program.ensures.program
       c.in_ok-program.ensures.kept c.in_ok-messages.ensures.logs.legal
@@ -113,16 +122,20 @@ returns-clause-printed g c =
     let content = g.F.Files.content c.args.files.now in
     let asked = c.args.asked.now in
     let most = c.most_harts-most.result in
-    let finds = AreAskedLogsUpTo {W = LogReason} (most_of asked.long) content most asked.base.now asked.image asked.logs.items in
+    let finds = AreAskedLogsUpTo {W = LogReason} (most_of asked.long) content most asked.base.now asked.image
+    asked.logs.items in
     let logs = logs g at in
     let ended = c.write_messages.result in
     let old = g.O.Write.contents c.args.out.now in
     let new = g.O.Write.contents c.write_messages.new.out in
     subst (λ most. PrintsUnlessDenied
-    (First (AreAskedLogsUpTo (most_of asked.long) content most asked.base.now asked.image asked.logs.items) (WritesMessages asked))
-    (Once (AreAskedLogsUpTo (most_of asked.long) content most asked.base.now asked.image asked.logs.items) (λ _. ⊤)) ended old new)
+    (First (AreAskedLogsUpTo (most_of asked.long) content most asked.base.now asked.image asked.logs.items)
+    (WritesMessages asked))
+    (Once (AreAskedLogsUpTo (most_of asked.long) content most asked.base.now asked.image asked.logs.items)
+    (λ _. ⊤)) ended old new)
     c.most_harts-most.ensures
-    (runs.leads_on (WritesMessages asked logs) (First finds (WritesMessages asked)) ⊤ (Once finds (λ _. ⊤)) ended old new
+    (runs.leads_on (WritesMessages asked logs) (First finds (WritesMessages asked)) ⊤ (Once finds (λ _. ⊤)) ended
+    old new
     (λ printed is. (Ok logs, there g at, is)) (λ is. (logs, there g at, is))
     (runs.written (WritesMessages asked logs) ⊤ (written asked logs) Whole ended old new refl tt
     c.write_messages.ensures.fault c.write_messages.ensures.ended
@@ -134,12 +147,14 @@ returns-clause-cut g c =
     let content = g.F.Files.content c.args.files.now in
     let asked = c.args.asked.now in
     let most = c.most_harts-most.result in
-    let finds = AreAskedLogsUpTo {W = LogReason} (most_of asked.long) content most asked.base.now asked.image asked.logs.items in
+    let finds = AreAskedLogsUpTo {W = LogReason} (most_of asked.long) content most asked.base.now asked.image
+    asked.logs.items in
     let logs = logs g at in
     let old = g.O.Write.contents c.args.out.now in
     let new = g.O.Write.contents c.write_messages.new.out in
     subst (λ most. IsCutOf
-    (First (AreAskedLogsUpTo (most_of asked.long) content most asked.base.now asked.image asked.logs.items) (WritesMessages asked)) old new)
+    (First (AreAskedLogsUpTo (most_of asked.long) content most asked.base.now asked.image asked.logs.items)
+    (WritesMessages asked)) old new)
     c.most_harts-most.ensures
     (cut_leads (WritesMessages asked logs) (First finds (WritesMessages asked)) old new
     (λ printed is. (Ok logs, there g at, is))

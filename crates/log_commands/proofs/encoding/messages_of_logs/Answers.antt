@@ -21,7 +21,8 @@ returns-then-asked-clause-logs g c =
     (sym c.if-asked.true)
     (subst (λ rows. IfOk c.all_made.result (λ made. AreMadeOfLogs
     (AreMessagesOf hex_line asked.period asked.mode) rows content program paths made.items)) c.most_of-rows.ensures
-    (made_of_legal (AreMessagesOf hex_line asked.period asked.mode) c.most_of-rows.result content program paths made.made
+    (made_of_legal (AreMessagesOf hex_line asked.period asked.mode) c.most_of-rows.result content program paths
+    made.made
     made.end c.all_made.result c.made_of_logs.ensures.made c.all_made.ensures))
 
 pub returns-then-asked-clause-fault : goal.returns-then-asked-clause-fault
@@ -47,7 +48,8 @@ returns-else-asked-clause-logs g c =
     (sym c.if-asked.false)
     (subst (λ rows. IfOk c.all_made-else-asked.result (λ made. AreMadeOfLogs
     (AreMessagesOf message_bytes asked.period asked.mode) rows content program paths made.items)) c.most_of-rows.ensures
-    (made_of_legal (AreMessagesOf message_bytes asked.period asked.mode) c.most_of-rows.result content program paths made.made
+    (made_of_legal (AreMessagesOf message_bytes asked.period asked.mode) c.most_of-rows.result content program paths
+    made.made
     made.end c.all_made-else-asked.result c.made_of_logs-else-asked.ensures.made c.all_made-else-asked.ensures))
 
 pub returns-else-asked-clause-fault : goal.returns-else-asked-clause-fault

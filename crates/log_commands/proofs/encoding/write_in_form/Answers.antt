@@ -1,4 +1,4 @@
--- A capture is what it begins with and the messages after that: the lemmas on beginnings are handed to the prover.
+-- A capture is what it begins with and the messages after that: the lemmas on prefixes are handed to the prover.
 use Rattle.std.proofs.Common.{◌++◌, arith, if◌then◌else◌, length, subst, sym}
 use Rattle.std.proofs.lemmas.Grind.{common_steps}
 use Rattle.std.specs.Io.KnownBytes.{Appends}

@@ -65,11 +65,13 @@ returns-clause-early g c =
 
 module _ (g : _) (c : After-go_on-ended g) where
   -- The logs that were found.
-  there : AreAskedLogs {W = LogReason} (g.F.Files.content c.args.files.now) c.args.asked.now.most c.args.asked.now.base.now
+  there : AreAskedLogs {W = LogReason} (g.F.Files.content c.args.files.now) c.args.asked.now.most
+      c.args.asked.now.base.now
       c.args.asked.now.image c.args.asked.now.paths.now.items (Ok c.in_ok-logs.logs.items)
   there =
       let asked = c.args.asked.now in
-      logs_there most_rows (g.F.Files.content c.args.files.now) asked.most asked.base.now asked.image asked.paths.now.items
+      logs_there most_rows (g.F.Files.content c.args.files.now) asked.most asked.base.now asked.image
+      asked.paths.now.items
       c.as_slice-paths.result.now c.as_slice-paths.ensures.value c.in_ok-program.program
       (g.F.Files.content c.asked_program.new.files) (Ok c.in_ok-logs.logs.items) c.in_ok-program.ensures.program
       c.in_ok-program.ensures.kept c.in_ok-logs.ensures.logs

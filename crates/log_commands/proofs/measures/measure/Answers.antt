@@ -38,9 +38,11 @@ returns-in_err-program-clause-printed g c =
     let why = c.in_err-program.field-0.0 in
     let out = g.O.Write.contents c.args.out.now in
     let is : c.from_residual.result ≡ Err why = grind (arith, common_steps) in
-    no_logs (most_of asked.long) content (most_harts Two) asked.base.now asked.image asked.logs.items c.as_slice-paths.result.now
+    no_logs (most_of asked.long) content (most_harts Two) asked.base.now asked.image asked.logs.items
+    c.as_slice-paths.result.now
     c.as_slice-paths.ensures.value
-    (Once (AreAskedLogsUpTo (most_of asked.long) content (most_harts Two) asked.base.now asked.image asked.logs.items) (λ _. ⊤)) out why
+    (Once (AreAskedLogsUpTo (most_of asked.long) content (most_harts Two) asked.base.now asked.image
+    asked.logs.items) (λ _. ⊤)) out why
     c.from_residual.result is (WritesTable asked) c.in_err-program.ensures.fault
 
 pub returns-in_err-measures-clause-early : goal.returns-in_err-measures-clause-early
@@ -57,9 +59,11 @@ returns-in_err-measures-clause-printed g c =
     let why = c.in_err-measures.field-0.0 in
     let out = g.O.Write.contents c.args.out.now in
     let is : c.from_residual-in_err-measures.result ≡ Err why = grind (arith, common_steps) in
-    logs_end (most_of asked.long) content (most_harts Two) asked.base.now asked.image asked.logs.items c.as_slice-paths.result.now
+    logs_end (most_of asked.long) content (most_harts Two) asked.base.now asked.image asked.logs.items
+    c.as_slice-paths.result.now
     c.as_slice-paths.ensures.value
-    (Once (AreAskedLogsUpTo (most_of asked.long) content (most_harts Two) asked.base.now asked.image asked.logs.items) (λ _. ⊤)) out why
+    (Once (AreAskedLogsUpTo (most_of asked.long) content (most_harts Two) asked.base.now asked.image
+    asked.logs.items) (λ _. ⊤)) out why
     c.from_residual-in_err-measures.result is (WritesTable asked) c.in_ok-program.program
     (g.F.Files.content c.asked_program.new.files) c.in_ok-program.ensures.program c.in_ok-program.ensures.kept
     c.in_err-measures.ensures.fault
@@ -83,11 +87,13 @@ module _ (g : _) (c : After-write_table g) where
   abbrev logs : List ProgramLog
   logs = c.in_ok-measures.ensures.logs.logs
 
-  there : AreAskedLogsUpTo {W = LogReason} (most_of c.args.asked.now.long) (g.F.Files.content c.args.files.now) (most_harts Two) c.args.asked.now.base.now
+  there : AreAskedLogsUpTo {W = LogReason} (most_of c.args.asked.now.long) (g.F.Files.content c.args.files.now)
+      (most_harts Two) c.args.asked.now.base.now
       c.args.asked.now.image c.args.asked.now.logs.items (Ok logs)
   there =
       let asked = c.args.asked.now in
-      logs_there (most_of asked.long) (g.F.Files.content c.args.files.now) (most_harts Two) asked.base.now asked.image asked.logs.items
+      logs_there (most_of asked.long) (g.F.Files.content c.args.files.now)
+      (most_harts Two) asked.base.now asked.image asked.logs.items
       c.as_slice-paths.result.now c.as_slice-paths.ensures.value c.in_ok-program.program
       (g.F.Files.content c.asked_program.new.files) (Ok logs) c.in_ok-program.ensures.program
       c.in_ok-program.ensures.kept c.in_ok-measures.ensures.logs.legal
@@ -104,7 +110,8 @@ pub returns-clause-printed : goal.returns-clause-printed
 returns-clause-printed g c =
     let at = (goal.at.returns-clause-printed g c).After-write_table in
     let asked = c.args.asked.now in
-    let finds = AreAskedLogsUpTo {W = LogReason} (most_of asked.long) (g.F.Files.content c.args.files.now) (most_harts Two) asked.base.now asked.image
+    let finds = AreAskedLogsUpTo {W = LogReason} (most_of asked.long) (g.F.Files.content c.args.files.now)
+    (most_harts Two) asked.base.now asked.image
     asked.logs.items in
     let logs = logs g at in
     let ended = c.write_table.result in
@@ -120,7 +127,8 @@ pub returns-clause-cut : goal.returns-clause-cut
 returns-clause-cut g c =
     let at = (goal.at.returns-clause-cut g c).After-write_table in
     let asked = c.args.asked.now in
-    let finds = AreAskedLogsUpTo {W = LogReason} (most_of asked.long) (g.F.Files.content c.args.files.now) (most_harts Two) asked.base.now asked.image
+    let finds = AreAskedLogsUpTo {W = LogReason} (most_of asked.long) (g.F.Files.content c.args.files.now)
+    (most_harts Two) asked.base.now asked.image
     asked.logs.items in
     let logs = logs g at in
     let old = g.O.Write.contents c.args.out.now in

@@ -1,4 +1,4 @@
--- What came of each hart is put into a list by a lemma.
+-- What is received of each hart is put into a list by a lemma.
 use Rattle.std.proofs.Common.{refl, sym}
 use Rattle.log_commands.specs.Sending.{config_at}
 use Rattle.log_commands.proofs.Gots.{are_got}

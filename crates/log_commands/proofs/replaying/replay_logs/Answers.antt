@@ -43,7 +43,7 @@ returns-in_err-outcome-clause-printed g c =
     (λ none. (Ok c.in_ok-turns.turns.items, c.in_ok-turns.ensures.turns, (Err why, none, refl)))
 
 module _ (g : _) (c : After-end_with_report g) where
-  -- The report of what came of the logs may be printed.
+  -- The report of what is received of the logs may be printed.
   prints : ReplaysLogs (g.F.Files.content c.args.files.now) c.args.asked.now c.args.logs.now
       (reported c.in_ok-outcome.outcome.stop (map got_of c.in_ok-outcome.outcome.harts.items) c.args.logs.now)
   prints =

@@ -8,7 +8,7 @@ use Rattle.command_inputs.proofs.Runs.{appends-keeps}
 use Rattle.log_commands.proofs.reporting.end_with_report.Goals.{After-flush}
 use Rattle.log_commands.proofs.reporting.end_with_report.Goals as goal
 
--- What was appended stays a beginning of the report when the output is flushed.
+-- What was appended stays a prefix of the report when the output is flushed.
 flushed : (g : _) (c : After-flush g)
     → AppendsBeginning (report_text c.args.outcome.now.stop (map got_of c.args.outcome.now.harts.items)
     c.args.logs.now) (g.O.Write.contents c.args.out.now) (g.O.Write.contents c.flush.new.self)

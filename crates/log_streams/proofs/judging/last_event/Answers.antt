@@ -1,4 +1,4 @@
--- The last event is found by its place, which is a law by recursion over the list.
+-- The last event is found by its place, which is a lemma by recursion over the list.
 use Rattle.std.proofs.Common.{sym}
 use Rattle.log_streams.proofs.LastLemmas.{last_or-place}
 use Rattle.log_streams.proofs.judging.last_event.Goals as goal

@@ -19,7 +19,8 @@ returns g c = record {
       (g.F.Files.content c.args.files.now) c.args.program.now c.args.most c.args.paths.now c.in-Ok-by_place.all.items
       (search rules) c.in-Ok-by_place.ensures.allowed c.take_made.new.made.items _ c.in-Err.ensures
       (at-index c.args.paths.now (length c.take_made.new.made.items) c.len-in-Err.result _ (search rules)
-      (has-next c.in-Ok-by_place.all.items c.take_made.new.made.items c.in-Err.why (length c.args.paths.now) (search rules)
+      (has-next c.in-Ok-by_place.all.items c.take_made.new.made.items c.in-Err.why (length c.args.paths.now)
+      (search rules)
       c.in-Err.ensures));
   refused = may-stop (g.T.LogTask.Makes c.args.task.now c.args.program.now)
       (g.T.LogTask.MakesOfIllegal c.args.task.now c.args.program.now) (g.T.LogTask.MayRefuse c.args.task.now)

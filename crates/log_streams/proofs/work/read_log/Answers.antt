@@ -7,7 +7,8 @@ use Rattle.log_streams.proofs.work.read_log.Goals as goal
 pub returns : goal.returns
 returns g c =
     let work = c.args.work.now in
-    added (λ entry. MayBeMadeIn g.T.LogTask.Makes g.T.LogTask.MakesOfIllegal g.T.LogTask.MayRefuse g.F.Files.content work
+    added (λ entry. MayBeMadeIn g.T.LogTask.Makes g.T.LogTask.MakesOfIllegal g.T.LogTask.MayRefuse g.F.Files.content
+    work
     entry.place entry.made) c.reserve.new.self.items _ (is_ok c.push.result) c.push.new.self.items c.push.ensures.items
     (subst (AreEntries g.T.LogTask.Makes g.T.LogTask.MakesOfIllegal g.T.LogTask.MayRefuse g.F.Files.content work)
     (sym c.reserve.ensures.items) c.requires)
