@@ -45,18 +45,23 @@ BRANCHES = (7, 12, 19)
 TYPES = {13: 1, 20: 6, 24: 3}
 
 
-def mixed(count):
-    """A run of `MIXED` whose branches go either way at random."""
+def mixed_rows(count, is_closed=False):
+    """The rows of a run of `MIXED` whose branches go either way at random; they may follow on themselves if `is_closed`."""
     chance = random.Random(1)
     rows, place = [], 0
-    while len(rows) < count:
+    while len(rows) < count or is_closed and place:
         leads, itype = place in LEADS, TYPES.get(place, 0)
         if place in BRANCHES:
             leads = chance.random() < 0.8
             itype = 5 if leads else 4
         rows.append("%x,%d,3,%s\n" % (BASE + 4 * place, itype, "b,0" if itype == 1 else ","))
         place = LEADS[place] if leads else place + 1
-    return image(MIXED), HEADER + "".join(rows).encode()
+    return "".join(rows).encode(), len(rows)
+
+
+def mixed(count):
+    """A run of `MIXED` of so many rows."""
+    return image(MIXED), HEADER + mixed_rows(count)[0]
 
 
 KINDS = {"mixed": mixed, "jumps": jumps}
