@@ -1,7 +1,7 @@
 //! Several logs at once, in either mode.
 
-/// Five logs, and runs of each subcommand that takes logs over two to five of them. The payloads, counts and sizes come
-/// from `tools/fuzz`'s reading of the formats.
+/// Five logs, and runs of each subcommand that takes logs over two to five of them, also with `--long`. The payloads,
+/// counts and sizes come from `tools/fuzz`'s reading of the formats.
 pub(crate) const TEXT: &str = r"
 # Every kind of packet; no event; returns, the last of them to a lower privilege; 33 branches; a trap and nothing that
 # retired.
@@ -375,4 +375,45 @@ $ tracebench bench --base 80000000 --full --period 60000 --capacity 65536 image.
 > hart 3: 33 events, 5 packets, 14 payload bytes, decoded 33, whole
 > hart 4: 1 events, 3 packets, 10 payload bytes, decoded 1, whole
 > result: whole
+
+# With `--long` all is as without it.
+$ tracebench check --base 80000000 --long image.bin kinds.csv empty.csv return.csv branches.csv trap.csv
+> kinds.csv: legal, 41 events
+> empty.csv: legal, 0 events
+> return.csv: legal, 4 events
+> branches.csv: legal, 33 events
+> trap.csv: legal, 1 events
+$ tracebench encode --long --base 80000000 --hex image.bin kinds.csv empty.csv return.csv
+>< diff0.txt
+>< diff1.txt
+>< diff2.txt
+$ tracebench encode --base 80000000 image.bin --long kinds.csv empty.csv return.csv branches.csv trap.csv
+>< headed-diff.capture
+$ tracebench encode --base 80000000 --full --v1 --long image.bin kinds.csv empty.csv return.csv branches.csv trap.csv
+>< full.capture
+$ tracebench measure --base 80000000 --long --period 2 image.bin kinds.csv empty.csv return.csv
+> hart,events,retirements,traps,branches,packets,support,sync,trap,address,map,notify,updiscon,payload_bytes,longest,bits_per_retirement
+> 0,41,38,3,33,42,2,20,3,17,0,0,0,146,14,30.736
+> 1,0,0,0,0,2,2,0,0,0,0,0,0,3,2,
+> 2,4,4,0,0,6,2,3,0,1,0,0,1,27,9,54.000
+> all,45,42,3,33,50,6,23,3,18,0,0,1,176,14,33.523
+file far.csv
+| addr,itype,priv,cause,tval
+| 80000004,0,3,,
+| 80000000,0,3,,
+file odd.csv
+| addr,itype,priv,cause,tval
+| 80000004,0,3,,
+| 80000001,0,3,,
+$ tracebench check --base 80000000 --long image.bin kinds.csv far.csv odd.csv empty.csv
+> kinds.csv: legal, 41 events
+> far.csv: row 2: WrongNext
+! tracebench: odd.csv: row 2: odd address
+? 2
+$ tracebench encode --base 80000000 --long image.bin kinds.csv far.csv odd.csv
+! tracebench: far.csv: row 2: WrongNext
+? 2
+$ tracebench measure --base 80000000 --long image.bin kinds.csv odd.csv far.csv
+! tracebench: odd.csv: row 2: odd address
+? 2
 ";
