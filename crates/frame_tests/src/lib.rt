@@ -1,0 +1,11 @@
+//! Tests of messages that are known again among damaged bytes (`frames`).
+//!
+//! They are in a crate of their own: the gate proves a crate that has tests once more with them.
+#![tactic(auto)]
+
+#[cfg(test)]
+mod damaged;
+#[cfg(test)]
+mod rows;
+#[cfg(test)]
+mod single;
