@@ -1,0 +1,95 @@
+-- The hart of a line is below 1,024.
+use Rattle.std.proofs.Common.{◌≡◌, ◌<◌, ◌&&◌, ℕ, Bool, true, false, List, [], ◌∷◌, Option, Some, None, Result, Ok, Err}
+use Rattle.std.proofs.Common.{arith, nat_lt, refl}
+use Rattle.std.specs.Prelude.{if◌then◌else◌}
+use Rattle.std.specs.Char.{is_digit}
+use Rattle.std.specs.List.{list_all, list_any}
+use Rattle.std.specs.Str.Parse.{digits_value}
+use Rattle.std.proofs.lemmas.Bool.{ltb-true}
+use Rattle.message.specs.Version.{most_harts}
+use Rattle.message.specs.declared.header.Version.{Version}
+use Rattle.message.specs.declared.header.Version.TheVariants.{One, Two}
+use Rattle.capture_lines.specs.Line.{by_form, fields_of, is_empty, is_within, line_of, number_below, number_said, payload_of}
+use Rattle.capture_lines.specs.Line.{said, with_hart, with_number, with_payload}
+use Rattle.capture_lines.specs.declared.fault.LineFault.{LineFault}
+use Rattle.capture_lines.specs.declared.fault.LineFault.TheVariants.{Fields, Above}
+use Rattle.capture_lines.specs.declared.form.Form.{Form}
+use Rattle.capture_lines.specs.declared.form.Form.TheVariants.{Numbered, Counted}
+use Rattle.capture_lines.specs.declared.line.Line.{Line}
+use Rattle.capture_lines.specs.declared.settings.Settings.{Settings}
+
+-- If a line is said, its hart is below this.
+abbrev pub HasHartBelow : ℕ → Result Line LineFault → Type 0
+HasHartBelow limit (Ok line) = line.hart < limit
+HasHartBelow limit (Err why) = Unit {0}
+
+abbrev IsBelow : ℕ → Option ℕ → Type 0
+IsBelow limit (Some n) = n < limit
+IsBelow limit None = Unit {0}
+
+tested : (limit n : ℕ) (digits below : Bool) → nat_lt n limit ≡ below
+    → IsBelow limit (if digits && below then Some n else None)
+tested limit n true true is = ltb-true n limit is
+tested limit n true false is = tt
+tested limit n false below is = tt
+
+below : (limit : ℕ) (digits : List ℕ) → IsBelow limit (number_below limit digits)
+below limit [] = tt
+below limit (digit ∷ digits) =
+    tested limit (digits_value 10 (digit ∷ digits)) (list_all (λ byte. is_digit byte 10) (digit ∷ digits))
+    (nat_lt (digits_value 10 (digit ∷ digits)) limit) refl
+
+few_harts : (version : Version) (hart : ℕ) → hart < most_harts version → hart < 1024
+few_harts One hart under = omega (arith, under)
+few_harts Two hart under = under
+
+payload_known : (settings : Settings) (hart : ℕ) (number : Option ℕ) (payload : List ℕ) (within : Bool) → hart < 1024
+    → HasHartBelow 1024
+    (if within then Ok (record { hart = hart; number = number; payload = payload }) else Err Above)
+payload_known settings hart number payload true under = under
+payload_known settings hart number payload false under = tt
+
+bytes_known : (settings : Settings) (hart : ℕ) (number : Option ℕ) (payload : Option (List ℕ)) → hart < 1024
+    → HasHartBelow 1024 (with_payload settings hart number payload)
+bytes_known settings hart number None under = tt
+bytes_known settings hart number (Some payload) under =
+    payload_known settings hart number payload (is_within settings.harts hart) under
+
+number_known : (settings : Settings) (hart : ℕ) (number : Option (Option ℕ)) (bytes : List ℕ) → hart < 1024
+    → HasHartBelow 1024 (with_number settings hart number bytes)
+number_known settings hart None bytes under = tt
+number_known settings hart (Some number) bytes under = bytes_known settings hart number (payload_of bytes) under
+
+hart_known : (settings : Settings) (hart : Option ℕ) (number : Option (List ℕ)) (bytes : List ℕ)
+    → IsBelow (most_harts settings.version) hart → HasHartBelow 1024 (with_hart settings hart number bytes)
+hart_known settings None number bytes under = tt
+hart_known settings (Some hart) number bytes under =
+    number_known settings hart (number_said number) bytes (few_harts settings.version hart under)
+
+said_known : (settings : Settings) (hart : List ℕ) (number : Option (List ℕ)) (bytes : List ℕ)
+    → HasHartBelow 1024 (said settings hart number bytes)
+said_known settings hart number bytes =
+    hart_known settings (number_below (most_harts settings.version) hart) number bytes
+    (below (most_harts settings.version) hart)
+
+form_known : (settings : Settings) (form : Form) (fields : List (List ℕ))
+    → HasHartBelow 1024 (by_form settings form fields)
+form_known settings Counted [] = tt
+form_known settings Counted (a ∷ []) = tt
+form_known settings Counted (a ∷ b ∷ []) = said_known settings a None b
+form_known settings Counted (a ∷ b ∷ c ∷ more) = tt
+form_known settings Numbered [] = tt
+form_known settings Numbered (a ∷ []) = tt
+form_known settings Numbered (a ∷ b ∷ []) = tt
+form_known settings Numbered (a ∷ b ∷ c ∷ []) = said_known settings a (Some b) c
+form_known settings Numbered (a ∷ b ∷ c ∷ d ∷ more) = tt
+
+either_known : (empty : Bool) (r : Result Line LineFault) → HasHartBelow 1024 r
+    → HasHartBelow 1024 (if empty then Err Fields else r)
+either_known true r known = tt
+either_known false r known = known
+
+pub line_known : (settings : Settings) (form : Form) (line : List ℕ) → HasHartBelow 1024 (line_of settings form line)
+line_known settings form line =
+    either_known (list_any is_empty (fields_of line)) (by_form settings form (fields_of line))
+    (form_known settings form (fields_of line))

@@ -1,0 +1,5 @@
+pub mod Line
+pub mod Lines
+pub mod Capture
+pub mod FaultText
+pub mod steps

@@ -1,0 +1,18 @@
+//! What is asked for beside the lines.
+
+use message::Version;
+use payload::Mode;
+
+/// What a capture is to be beside its messages.
+#[derive(Clone, Copy, Debug, PartialEq, Eq)]
+pub struct Settings {
+    /// The capture's version. In version 1 a line's hart is below 64, in version 2 below 1,024.
+    pub version: Version,
+    /// The mode of the header. Version 1 has no header.
+    pub mode: Mode,
+    /// The period of the header.
+    pub period: u16,
+    /// The count of harts, below which the hart of each line is. `None` is the count up to the highest hart of the
+    /// lines, and 1 where there is no line.
+    pub harts: Option<u16>,
+}
