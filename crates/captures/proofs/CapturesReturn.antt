@@ -10,7 +10,7 @@ use Rattle.retire.specs.declared.event.Event.{Event}
 use Rattle.rvclass.proofs.WordsLemmas.{words_of-IsProgram}
 use Rattle.rvclass.specs.Fetch.{words_of}
 use Rattle.rvclass.specs.Image.{Image}
-use Rattle.legalpath.specs.ProgramLog.{ProgramLog, IsLegalLog, program_log}
+use Rattle.legalpath.specs.ProgramLog.{ProgramLog, program_log}
 use Rattle.payload.specs.declared.mode.Mode.{Mode}
 use Rattle.payload.specs.declared.packet.Packet.{Packet}
 use Rattle.decoder.proofs.UniqueLemmas.{one_log}
@@ -39,7 +39,7 @@ use Rattle.captures.proofs.NextMessages.{IsNext, all_ranges, program_image, log_
 use Rattle.captures.specs.Decoded.{AreMessagesDecoded, BeginsRefused, IsDecoded, NoHeader, Stops, Version1, Version2}
 use Rattle.captures.specs.Messages.{messages_of_harts}
 use Rattle.message.specs.OfHart.{packets_of}
-use Rattle.captures.specs.Returned.{AreAskedFor, AreReturned, IsCaptureOf}
+use Rattle.captures.specs.Returned.{AreAskedFor, AreReturned, IsCaptureOf, IsLongLegalLog}
 use Rattle.captures.specs.Versions.{header_of}
 use Rattle.captures.specs.declared.outcome.CaptureFault.{CaptureFault}
 use Rattle.captures.specs.declared.outcome.CaptureFault.TheVariants as fault
@@ -56,7 +56,7 @@ agrees_announced mode None p its agrees = refl
 agrees_announced mode (Some announced) p its agrees = subst (λ t. opens_another (Some t) p ≡ false) (sym its) agrees
 
 module _ (program : Image) (period : ℕ) (mode : Mode) (logs : List ProgramLog)
-    (legal : All IsLegalLog logs) (all_same : All (λ (log : ProgramLog). log.program ≡ program) logs)
+    (legal : All IsLongLegalLog logs) (all_same : All (λ (log : ProgramLog). log.program ≡ program) logs)
     (few : length logs ≤ 2 ^ 16) (announced : Option Mode) (its : IsAnnouncedIfAny mode announced) where
   abbrev all : List Message
   all = messages_of_harts period mode 0 logs

@@ -33,7 +33,7 @@ pub record IsSent (harts : ℕ) (message : Message) : Type 0 where
   pub read : reading message.payload ≡ Ok packet
 
 messages_sent : (harts hart number : ℕ) (ps : List Packet) → hart < harts → harts ≤ 2 ^ 16
-    → number + length ps ≤ 2 ^ 24 + 2 → All InProfile ps
+    → number + length ps ≤ 2 ^ 32 + 1 → All InProfile ps
     → All (IsSent harts) (messages_from hart number (map payload_of ps))
 messages_sent harts hart number [] known few room profile = All-nil (IsSent harts)
 messages_sent harts hart number (p ∷ ps) known few room profile =

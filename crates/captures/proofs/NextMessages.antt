@@ -11,7 +11,7 @@ use Rattle.rvclass.specs.Fetch.{words_of}
 use Rattle.rvclass.specs.Image.{Image, IsImage}
 use Rattle.rvclass.specs.Words.{Words}
 use Rattle.legalpath.specs.Legal.{Legal}
-use Rattle.legalpath.specs.ProgramLog.{ProgramLog, IsLegalLog, program_log}
+use Rattle.legalpath.specs.ProgramLog.{ProgramLog, program_log}
 use Rattle.payload.specs.Reading.{reading}
 use Rattle.payload.specs.declared.mode.Mode.{Mode}
 use Rattle.payload.specs.declared.packet.Packet.{Packet}
@@ -28,6 +28,7 @@ use Rattle.message.specs.Accepted.{AreAccepted, expected_after, newcomers}
 use Rattle.message.specs.Accepting.{answer_of, accepting}
 use Rattle.message.specs.Cut.{IsMessage}
 use Rattle.message.specs.declared.message.Message.{Message}
+use Rattle.captures.specs.Returned.{IsLongLegalLog}
 use Rattle.captures.proofs.Elements.{All-middle}
 use Rattle.captures.proofs.OneMode.{AgreesWith, packets_agree}
 use Rattle.receiver.specs.Agreeing.{opens_another}
@@ -63,7 +64,7 @@ pub record IsNext (words : Words) (harts : ℕ) (mode : Mode) (messages : List M
   pub agrees : opens_another (Some mode) packet ≡ false
 
 module _ (program : Image) (period : ℕ) (mode : Mode) (logs : List ProgramLog)
-    (legal : All IsLegalLog logs) (all_same : All (λ (log : ProgramLog). log.program ≡ program) logs)
+    (legal : All IsLongLegalLog logs) (all_same : All (λ (log : ProgramLog). log.program ≡ program) logs)
     (few : length logs ≤ 2 ^ 16) where
   abbrev all : List Message
   all = messages_of_harts period mode 0 logs

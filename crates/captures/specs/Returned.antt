@@ -1,8 +1,12 @@
--- Logs that come back whole.
-use Rattle.std.specs.Prelude.{ℕ, ◌≡◌, All, Bool, true, List, Option, Some, None, length, map, replicate}
+-- Logs that come back complete.
+use Rattle.std.specs.Prelude.{ℕ, ◌≡◌, ◌≤◌, All, Bool, true, List, Option, Some, None, length, map, replicate}
+use Rattle.retire.specs.Is64Bit.{Is64Bit}
+use Rattle.retire.specs.Log.{most_long_rows}
 use Rattle.retire.specs.declared.event.Event.{Event}
-use Rattle.rvclass.specs.Image.{Image}
-use Rattle.legalpath.specs.ProgramLog.{ProgramLog, IsLegalLog}
+use Rattle.rvclass.specs.Fetch.{words_of}
+use Rattle.rvclass.specs.Image.{Image, IsImage}
+use Rattle.legalpath.specs.Legal.{Legal}
+use Rattle.legalpath.specs.ProgramLog.{ProgramLog}
 use Rattle.payload.specs.declared.mode.Mode.{Mode}
 use Rattle.decoder.specs.declared.fault.DecodeFault.TheVariants.{Memory}
 use Rattle.message.specs.declared.header.Version.{Version}
@@ -11,12 +15,20 @@ use Rattle.captures.specs.Versions.{MayStart, capture_of, header_of}
 use Rattle.captures.specs.declared.outcome.CaptureFault.{CaptureFault}
 use Rattle.captures.specs.declared.outcome.CaptureFault.TheVariants as fault
 
--- The logs are legal, and all of this program. The bytes are the capture, in this version, of all their messages at
--- this period and in this mode, one hart after the other. What comes before the messages has numbers within their
--- ranges.
+-- The log is legal for its program and has at most 4294967295 events. Its numbers have 64 bits, and its image keeps what
+-- the image of every program keeps.
+pub record IsLongLegalLog (log : ProgramLog) : Type 0 where
+  pub legal : Legal (words_of log.program) log.events
+  pub short : length log.events ≤ most_long_rows
+  pub numbers : All Is64Bit log.events
+  pub image : IsImage log.program
+
+-- The logs are legal, long ones among them, and all of this program. The bytes are the capture, in this version, of all
+-- their messages at this period and in this mode, one hart after the other. What comes before the messages has numbers
+-- within their ranges.
 pub record IsCaptureOf (program : Image) (version : Version) (period : ℕ) (mode : Mode) (logs : List ProgramLog)
     (bytes : List ℕ) : Type 0 where
-  pub legal : All IsLegalLog logs
+  pub legal : All IsLongLegalLog logs
   pub same : All (λ (log : ProgramLog). log.program ≡ program) logs
   pub start : MayStart version (header_of period mode logs)
   pub whole : bytes ≡ capture_of version period mode logs
@@ -26,12 +38,12 @@ abbrev pub AreAskedFor : Version → ℕ → List ProgramLog → Type 0
 AreAskedFor One harts logs = length logs ≡ harts
 AreAskedFor Two harts logs = Unit {0}
 
--- Decoding stopped where memory was refused.
+-- Decoding stopped where an allocation failed.
 abbrev pub IsMemory : CaptureFault → Type 0
 IsMemory (fault.Decode why) = why ≡ Memory
 IsMemory other = ⊥
 
--- Decoding stopped where memory was refused; or it came to the end, the lists are the events of the logs, and every
+-- Decoding stopped where an allocation failed; or it came to the end, the lists are the events of the logs, and every
 -- hart is closed.
 abbrev pub AreReturned : List ProgramLog → List (List Event) → List Bool → Option (ℕ × CaptureFault) → Type 0
 AreReturned logs lists closed None =
