@@ -2,6 +2,7 @@
 
 mod faults;
 mod files_in_memory;
+mod limits;
 mod many;
 mod seams;
 mod tasks;
@@ -26,8 +27,8 @@ fn loop_of_two<R: Abort + AllocGlobal>(rt: &R) -> Program {
     program_of(rt, &[NOP, BACK_JUMP])
 }
 
-/// The log of the loop that has so many rows. The row with the number `twice` stands twice, and the loop goes on behind
-/// it. In place of the row with the number `bad` stands one that is no row of a log. The first row has number 1.
+/// The log of the loop that has so many rows. The row with the number `twice` is there twice, and the loop goes on after
+/// it. In place of the row with the number `bad` is one that is no row of a log. The first row has number 1.
 #[derive(Clone, Copy, Debug)]
 struct Rows {
     rows: usize,
@@ -70,6 +71,18 @@ fn event_at(row: usize) -> Event {
     retired(offset, 0, 3)
 }
 
+/// How many events the logs at these paths have, by this program. Each may have so many rows.
+fn count_up_to<'a, R: Threads + Sync>(
+    rt: &R,
+    alloc: Global,
+    table: &Table,
+    program: &Program,
+    most: u32,
+    paths: &[&'a str],
+) -> MadeLogs<'a, usize> {
+    made_of_logs(alloc, rt, table, program, most, paths, &Counting)
+}
+
 /// How many events the logs at these paths have, by this program.
 fn count_all<'a, R: Threads + Sync>(
     rt: &R,
@@ -78,7 +91,7 @@ fn count_all<'a, R: Threads + Sync>(
     program: &Program,
     paths: &[&'a str],
 ) -> MadeLogs<'a, usize> {
-    made_of_logs(alloc, rt, table, program, MOST_ROWS, paths, &Counting)
+    count_up_to(rt, alloc, table, program, MOST_ROWS, paths)
 }
 
 /// The events of the logs at these paths, by this program.

@@ -12,7 +12,7 @@ use retire::LogFault;
 use std::process::Abort;
 use std::thread::Threads;
 
-/// A file: its kind, how many rows its log has, which row stands twice, and which one is faulty.
+/// A file: its kind, how many rows its log has, which row is there twice, and which one is faulty.
 type Held = (Kind, usize, usize, usize);
 
 /// Why nothing is made of a log.
@@ -132,7 +132,7 @@ const CASES: [Case; 31] = [
     ),
 ];
 
-/// Ends the test unless each log up to the fault was opened once, no log twice, and no pipe behind one of which nothing
+/// Ends the test unless each log up to the fault was opened once, no log twice, and no pipe after one of which nothing
 /// was made.
 fn are_opened(rt: &impl Abort, case: &Case, table: &Table) {
     let (held, made, _) = *case;
@@ -185,6 +185,28 @@ fn is_found<R: Abort + AllocGlobal + Threads + Sync>(rt: &R, case: &Case) {
 fn first_faults(rt: HostRuntime) {
     for case in &CASES {
         is_found(&rt, case);
+    }
+}
+
+/// Rows that are there twice in logs of two pieces and more.
+const TWICE: [usize; 8] = [1, 2, 9, 2181, 2182, 2183, 2184, 4399];
+
+/// A task that refuses no log never ends at an illegal one.
+#[test]
+fn illegal_logs_that_are_not_refused(rt: HostRuntime) {
+    for twice in TWICE {
+        let mut table = Table::new(&rt);
+        for (rows, kind, path) in [(4400, Regular, "a"), (twice.saturating_add(1), Pipe, "b")] {
+            let log = Rows {
+                rows,
+                twice,
+                bad: 0,
+            };
+            table.put(&rt, path, kind, text_of(&rt, log));
+        }
+        let found = collected(&rt, &table, &["a", "b"]);
+        same_at(&rt, twice, found.end, Ok(()));
+        same_at(&rt, twice, found.made.len(), 2);
     }
 }
 

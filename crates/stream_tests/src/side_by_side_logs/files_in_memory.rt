@@ -14,9 +14,9 @@ pub(super) enum Kind {
     Regular,
     /// A pipe.
     Pipe,
-    /// A regular file whose device fails behind its bytes.
+    /// A regular file whose device fails after its bytes.
     Failing,
-    /// A regular file that memory is refused for.
+    /// A regular file for which an allocation fails.
     Refused,
     /// A regular file that may not be opened.
     Locked,

@@ -74,6 +74,8 @@ impl LogTask<Collected> for Collecting {
 
     ghost MakesOfIllegal = { λ _ _ _ _ _. ⊤ };
 
+    ghost MayRefuse = { λ _. ⊥ };
+
     fn begin(&self, program: &Program, hart: usize) -> Result<Collected, AllocError> {
         let _ = program;
         Ok(Collected {
