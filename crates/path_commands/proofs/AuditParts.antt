@@ -15,7 +15,7 @@ use Rattle.auditing.specs.Judged.{judged}
 use Rattle.auditing.specs.Ledger.{Ledger}
 use Rattle.command_inputs.specs.Begun.{IsCutOf}
 use Rattle.command_inputs.specs.Printed.{PrintsUnlessDenied}
-use Rattle.command_inputs.specs.declared.fault.Fault.{Fault}
+use Rattle.path_commands.specs.Faults.{Fault}
 use Rattle.command_inputs.specs.declared.status.Status.{Status}
 use Rattle.path_commands.proofs.AuditRuns.{audit_printed, cut_in_fates, cut_in_rest, few_behind, few_heard, hears}
 use Rattle.path_commands.proofs.AuditRuns.{Hears, rest_bytes}

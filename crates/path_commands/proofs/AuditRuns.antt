@@ -20,7 +20,7 @@ use Rattle.auditing.specs.Judged.{judged}
 use Rattle.command_inputs.proofs.Runs.{prints}
 use Rattle.command_inputs.specs.Begun.{IsCutOf}
 use Rattle.command_inputs.specs.Printed.{PrintsUnlessDenied}
-use Rattle.command_inputs.specs.declared.fault.Fault.{Fault}
+use Rattle.path_commands.specs.Faults.{Fault}
 use Rattle.command_inputs.specs.declared.fault.Fault.TheVariants as fault
 use Rattle.command_inputs.specs.declared.status.Status.{Status}
 use Rattle.path_commands.specs.AuditText.{fate_lines}

@@ -9,14 +9,14 @@ use Rattle.auditing.specs.declared.fault.SentFault.{SentFault}
 use Rattle.command_inputs.proofs.Beginnings.{cut_leads}
 use Rattle.command_inputs.proofs.Runs.{ends_silently, leads_on}
 use Rattle.command_inputs.specs.Begun.{IsCutOf}
-use Rattle.command_inputs.specs.Faults.{sent_fault}
 use Rattle.command_inputs.specs.Found.{IsRead}
 use Rattle.files.specs.Known.{Content}
-use Rattle.command_inputs.specs.Printed.{Printed, PrintsUnlessDenied}
-use Rattle.command_inputs.specs.declared.fault.Fault.{Fault}
+use Rattle.command_inputs.specs.Printed.{PrintsUnlessDenied}
+use Rattle.path_commands.specs.Faults.{Fault, Printed, sent_fault}
 use Rattle.command_inputs.specs.declared.fault.Fault.TheVariants as fault
 use Rattle.command_inputs.specs.declared.status.Status.{Status}
 use Rattle.path_commands.specs.Audited.{Audits, CanAudit, Sent, WritesAudit}
+use Rattle.path_commands.specs.declared.reason.PathReason.{PathReason}
 
 module _ (content : Content) (asked : Audit) where
   -- SENT is not read, or memory was refused.
@@ -26,7 +26,7 @@ module _ (content : Content) (asked : Audit) where
       ends_silently (Audits content asked) (CanAudit content asked) (IsRead content asked.sent (Err why)) why (Err why)
       old refl lacked (λ none. (Err why, none, refl))
 
-  module _ (bytes : List ℕ) (read : IsRead content asked.sent (Ok bytes)) where
+  module _ (bytes : List ℕ) (read : IsRead {W = PathReason} content asked.sent (Ok bytes)) where
     -- SENT is refused.
     pub sent_is_refused : (found : SentFault) (why : Fault) (old : Option (List ℕ)) → IsSentFault bytes found
         → why ≡ sent_fault asked.sent found
@@ -44,7 +44,7 @@ module _ (content : Content) (asked : Audit) where
           ends_silently (Audits content asked) (CanAudit content asked) (IsRead content asked.received (Err why)) why
           (Err why) old refl lacked (λ none. (Ok bytes, read, (Ok sent, is, (Err why, none, refl))))
 
-      module _ (received : List ℕ) (came : IsRead content asked.received (Ok received)) where
+      module _ (received : List ℕ) (came : IsRead {W = PathReason} content asked.received (Ok received)) where
         leads : (printed : Printed) → WritesAudit sent received printed → Audits content asked printed
         leads printed writes = (Ok bytes, read, (Ok sent, is, (Ok received, came, writes)))
 

@@ -5,21 +5,20 @@ use Rattle.message.specs.declared.fault.MessageFault.{MessageFault}
 use Rattle.message.specs.declared.header.Header.{Header}
 use Rattle.message.specs.declared.message.Message.{Message}
 use Rattle.captures.specs.Heard.{IsHeard}
-use Rattle.captures.specs.declared.outcome.CaptureFault.TheVariants as capture
 use Rattle.subcommands.specs.declared.words.Audit.{Audit}
 use Rattle.auditing.specs.Judged.{judged, strangers_in}
 use Rattle.auditing.specs.Sent.{IsSent, IsSentFault, harts_of}
 use Rattle.auditing.specs.declared.fault.SentFault.{SentFault}
-use Rattle.command_inputs.specs.Faults.{Path, capture_fault, sent_fault}
-use Rattle.command_inputs.specs.Finding.{Once}
+use Rattle.command_inputs.specs.Faults.{Path}
 use Rattle.command_inputs.specs.Found.{IsRead}
 use Rattle.files.specs.Known.{Content}
-use Rattle.command_inputs.specs.Meaning.{Meaning, writing_at_once}
-use Rattle.command_inputs.specs.Printed.{First, Printed}
-use Rattle.command_inputs.specs.declared.fault.Fault.{Fault}
+use Rattle.command_inputs.specs.Meaning.{writing_at_once}
+use Rattle.command_inputs.specs.Printed.{First}
+use Rattle.path_commands.specs.Faults.{Fault, Meaning, Once, Printed, received_fault, sent_fault}
 use Rattle.command_inputs.specs.declared.status.Status.{Status}
 use Rattle.command_inputs.specs.declared.status.Status.TheVariants.{NotWhole, Whole}
-use Rattle.path_commands.specs.AuditText.{all_lost_lines, are_whole, ending_text, fate_lines, headers_differ, tally_lines}
+use Rattle.path_commands.specs.AuditText.{all_lost_lines, are_whole, ending_text, fate_lines, headers_differ}
+use Rattle.path_commands.specs.AuditText.{tally_lines}
 
 -- SENT: its header, if it has one, and its messages.
 pub record Sent : Type 0 where
@@ -53,7 +52,7 @@ audit_text sent header received stop =
 
 -- The fault at which RECEIVED stops, if there is one; else the end by whether the result is whole.
 abbrev pub end_of_audit : Option (ℕ × MessageFault) → Bool → Result Status Fault
-end_of_audit (Some stop) whole = Err (capture_fault stop.0 (capture.Message stop.1))
+end_of_audit (Some stop) whole = Err (received_fault stop.0 stop.1)
 end_of_audit None true = Ok Whole
 end_of_audit None false = Ok NotWhole
 

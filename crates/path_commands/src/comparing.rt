@@ -11,18 +11,19 @@ ghost use Rattle.auditing.specs.Audits.{Audits as IsAudit};
 ghost use Rattle.auditing.specs.Judged.{judged};
 ghost use Rattle.auditing.specs.Losing.{lost_runs};
 ghost use Rattle.command_inputs.specs.Begun.{IsCutOf};
-ghost use Rattle.command_inputs.specs.Faults.{final_status};
 ghost use Rattle.command_inputs.specs.Printed.{PrintsUnlessDenied};
+ghost use Rattle.path_commands.specs.Faults.{final_status};
 ghost use Rattle.path_commands.specs.AuditText.{all_lost_lines, are_whole, fate_lines, headers_differ, line_or_none};
 ghost use Rattle.path_commands.specs.AuditText.{lost_lines, tally_lines};
 ghost use Rattle.path_commands.specs.Audited.{Audits, CanAudit, WritesAudit, behind_fates, end_of_audit};
 ghost use Rattle.path_commands.specs.steps.Ending.{EndsRest};
+ghost use Rattle.command_inputs.specs.declared.fault.Fault.TheVariants as Fault;
 
 use crate::ending::Ending;
 use crate::lines::{LostLine, TallyLine};
+use crate::reason::{Fault, received_fault, sent_fault};
 use auditing::{Audit, Fate};
-use captures::CaptureFault;
-use command_inputs::{Fault, Files, Status, content_of};
+use command_inputs::{Files, Status, content_of};
 use message::{Header, Message, MessageFault, Messages};
 use output::write_text;
 use std::alloc::Global;
@@ -52,7 +53,7 @@ pub fn audit<'a, F: Files, O: Write>(
     let sent = content_of(files, asked.sent)?;
     let mut path = match Audit::new(alloc, sent.as_slice()) {
         Ok(path) => path,
-        Err(why) => return Err(Fault::of_sent(asked.sent, why)),
+        Err(why) => return Err(sent_fault(asked.sent, why)),
     };
     let received = content_of(files, asked.received)?;
     write_audit(&mut path, received.as_slice(), out)
@@ -179,7 +180,7 @@ fn ended<'a>(stop: Option<(u64, MessageFault)>, whole: bool) -> Result<Status, F
     ensures never_refused { final_status result ≢ Status.Refused }
 {
     match stop {
-        Some((number, why)) => Err(Fault::of_capture(number, CaptureFault::Message(why))),
+        Some((number, why)) => Err(received_fault(number, why)),
         None if whole => Ok(Status::Whole),
         None => Ok(Status::NotWhole),
     }

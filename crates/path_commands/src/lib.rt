@@ -4,5 +4,7 @@
 mod comparing;
 mod ending;
 mod lines;
+mod reason;
 
 pub use comparing::audit;
+pub use reason::{Fault, PathReason};

@@ -9,6 +9,7 @@ use Rattle.command_inputs.specs.declared.fault.Fault.TheVariants as fault
 use Rattle.std.specs.Prelude.{⊤}
 use Rattle.path_commands.proofs.AuditSteps.{both_cut, both_printed, received_lacked, sent_is_refused, sent_lacked}
 use Rattle.path_commands.specs.Audited.{Audits, CanAudit, Sent, WritesAudit}
+use Rattle.path_commands.specs.declared.reason.PathReason.{PathReason}
 use Rattle.path_commands.proofs.comparing.audit.Goals as goal
 
 pub returns-in_err-sent-clause-printed : goal.returns-in_err-sent-clause-printed
@@ -26,8 +27,8 @@ returns-in-Err-clause-printed g c =
     let found = c.in-Err.why in
     sent_is_refused (g.F.Files.content c.args.files.now) c.args.asked.now c.in_ok-sent.sent.items
     c.in_ok-sent.ensures.held found
-    c.of_sent.result (g.O.Write.contents c.args.out.now)
-    (subst (λ bytes. IsSentFault bytes found) c.as_slice.ensures.value c.in-Err.ensures.fault) c.of_sent.ensures
+    c.sent_fault.result (g.O.Write.contents c.args.out.now)
+    (subst (λ bytes. IsSentFault bytes found) c.as_slice.ensures.value c.in-Err.ensures.fault) c.sent_fault.ensures
 
 pub returns-in_err-received-clause-printed : goal.returns-in_err-received-clause-printed
 returns-in_err-received-clause-printed g c =
@@ -56,7 +57,8 @@ returns-clause-printed g c =
     let new = g.O.Write.contents c.write_audit.new.out in
     both_printed (g.F.Files.content c.args.files.now) asked c.in_ok-sent.sent.items c.in_ok-sent.ensures.held sent
     (subst (λ bytes. IsSent bytes header started.0) c.as_slice.ensures.value started.1) received
-    (subst (λ known. IsRead known asked.received (Ok received)) c.in_ok-sent.ensures.kept c.in_ok-received.ensures.held)
+    (subst (λ known. IsRead {W = PathReason} known asked.received (Ok received)) c.in_ok-sent.ensures.kept
+    c.in_ok-received.ensures.held)
     c.write_audit.result old new
     (subst (λ bytes. PrintsUnlessDenied (WritesAudit sent bytes) ⊤ c.write_audit.result old new)
     c.as_slice-2.ensures.value (c.write_audit.ensures.printed started.0 started.2))
@@ -72,7 +74,7 @@ returns-clause-cut g c =
     let new = g.O.Write.contents c.write_audit.new.out in
     both_cut (g.F.Files.content c.args.files.now) asked c.in_ok-sent.sent.items c.in_ok-sent.ensures.held sent
     (subst (λ bytes. IsSent bytes header started.0) c.as_slice.ensures.value started.1) received
-    (subst (λ known. IsRead known asked.received (Ok received)) c.in_ok-sent.ensures.kept
+    (subst (λ known. IsRead {W = PathReason} known asked.received (Ok received)) c.in_ok-sent.ensures.kept
     c.in_ok-received.ensures.held) old
     new
     (subst (λ bytes. IsCutOf (WritesAudit sent bytes) old new) c.as_slice-2.ensures.value

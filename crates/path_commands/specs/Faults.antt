@@ -1,0 +1,57 @@
+-- The fault of `audit` for each fault of what it calls, and how it ends at that.
+use Rattle.std.specs.Prelude.{ℕ, Result}
+use Rattle.auditing.specs.declared.fault.SentFault.{SentFault}
+use Rattle.auditing.specs.declared.fault.SentFault.TheVariants as sent
+use Rattle.message.specs.declared.fault.MessageFault.{MessageFault}
+use Rattle.message.specs.declared.fault.MessageFault.TheVariants.{BadHeader}
+use Rattle.command_inputs.specs.Faults as inputs
+use Rattle.command_inputs.specs.Faults.{Path}
+use Rattle.command_inputs.specs.Finding as finding
+use Rattle.command_inputs.specs.Meaning as meaning
+use Rattle.command_inputs.specs.Printed as printed
+use Rattle.command_inputs.specs.declared.fault.Fault.{Fault as AnyFault}
+use Rattle.command_inputs.specs.declared.fault.Fault.TheVariants as fault
+use Rattle.command_inputs.specs.declared.status.Status.{Status}
+use Rattle.command_inputs.specs.declared.status.Status.TheVariants.{NotWhole, Refused}
+use Rattle.path_commands.specs.declared.reason.PathReason.{PathReason}
+use Rattle.path_commands.specs.declared.reason.PathReason.TheVariants.{Header, Message, Sent}
+
+-- A fault of `audit`.
+abbrev pub Fault : Type 0
+Fault = AnyFault PathReason
+
+-- What `audit` prints, and how it ends.
+abbrev pub Printed : Type 0
+Printed = printed.Printed PathReason
+
+-- What `audit` means.
+abbrev pub Meaning : Type 1
+Meaning = meaning.Meaning PathReason
+
+-- A value is found by `audit`, and this holds of it.
+abbrev pub Once : {A : Type 0} → (Result A Fault → Type 0) → (A → Type 0) → Type 0
+Once Finds Holds = finding.Once Finds Holds
+
+-- The status at a reason of `audit`'s own. SENT is refused; at faults of RECEIVED's header and of its messages, that
+-- capture is not good.
+abbrev pub path_reason_status : PathReason → Status
+path_reason_status (Sent path why) = Refused
+path_reason_status _ = NotWhole
+
+-- The status at a fault.
+abbrev pub status_of : Fault → Status
+status_of why = inputs.status_of path_reason_status why
+
+-- The status that `audit` ended with: the one that it returned, or the one of its fault.
+abbrev pub final_status : Result Status Fault → Status
+final_status ended = inputs.final_status path_reason_status ended
+
+-- The fault of a capture that does not hold, whole and in order, what was sent.
+abbrev pub sent_fault : Path → SentFault → Fault
+sent_fault path sent.Memory = fault.Memory
+sent_fault path why = fault.Own (Sent path why)
+
+-- The fault of RECEIVED at the message with this number. That of a bad header names no message.
+abbrev pub received_fault : ℕ → MessageFault → Fault
+received_fault number BadHeader = fault.Own Header
+received_fault number why = fault.Own (Message number why)
