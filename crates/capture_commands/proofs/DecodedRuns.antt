@@ -11,11 +11,12 @@ use Rattle.command_inputs.proofs.Runs.{leads_on}
 use Rattle.command_inputs.specs.Begun.{IsCutOf}
 use Rattle.command_inputs.specs.Found.{IsBase, IsProgramAt, IsRead}
 use Rattle.files.specs.Known.{Content}
-use Rattle.command_inputs.specs.Printed.{Printed, PrintsUnlessDenied}
-use Rattle.command_inputs.specs.declared.fault.Fault.{Fault}
+use Rattle.command_inputs.specs.Printed.{PrintsUnlessDenied}
+use Rattle.capture_commands.specs.Faults.{Fault, Printed}
 use Rattle.command_inputs.specs.declared.status.Status.{Status}
 use Rattle.capture_commands.specs.Decoded.{Decodes, WritesDecoded, WritesLogs, harts_text, CanDecode, CanWriteLogs}
 use Rattle.capture_commands.specs.Decoding.{end_of_capture}
+use Rattle.capture_commands.specs.declared.reason.CaptureReason.{CaptureReason}
 
 -- The logs are printed, and the end is that of decoding.
 pub decodes : (harts : ℕ) (program : Image) (bytes : List ℕ) (lists : List (List Event)) (closed : List Bool)
@@ -31,8 +32,9 @@ decodes harts program bytes lists closed stop decoded = record {
 }
 
 module _ (content : Content) (asked : Decode) (base : ℕ) (program : Image) (bytes : List ℕ)
-    (based : IsBase asked.base.now (Ok base)) (found : IsProgramAt content base asked.image (Ok program))
-    (read : IsRead content asked.capture (Ok bytes)) where
+    (based : IsBase {W = CaptureReason} asked.base.now (Ok base))
+    (found : IsProgramAt {W = CaptureReason} content base asked.image (Ok program))
+    (read : IsRead {W = CaptureReason} content asked.capture (Ok bytes)) where
   -- What is written of the capture is what `decode` prints.
   logs_lead : (lossy : Bool) → asked.lossy ≡ lossy → (printed : Printed)
       → WritesLogs lossy asked.harts program bytes printed → Decodes content asked printed

@@ -3,6 +3,7 @@ mod HartTexts
 mod ListedRuns
 mod PartTexts
 mod SalvageRuns
+mod SymbolsFound
 mod TextsBehind
 mod WorkedSalvages
 mod WrittenOutcomes

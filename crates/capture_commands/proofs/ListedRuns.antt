@@ -13,19 +13,23 @@ use Rattle.subcommands.specs.declared.words.Listing.{Listing}
 use Rattle.command_inputs.proofs.Beginnings.{cut_leads}
 use Rattle.command_inputs.proofs.Runs.{appends-keeps, leads_on}
 use Rattle.command_inputs.specs.Begun.{IsCutOf}
-use Rattle.command_inputs.specs.Found.{AreSymbols, IsBase, IsProgramAt, IsRead}
+use Rattle.command_inputs.specs.Found.{IsBase, IsProgramAt, IsRead}
 use Rattle.files.specs.Known.{Content}
-use Rattle.command_inputs.specs.Printed.{IsPrinted, Printed, PrintsUnlessDenied}
-use Rattle.command_inputs.specs.declared.fault.Fault.{Fault}
+use Rattle.command_inputs.specs.Printed.{IsPrinted, PrintsUnlessDenied}
+use Rattle.capture_commands.specs.Faults.{Fault, Printed}
+use Rattle.capture_commands.specs.Symbols.{AreSymbols}
 use Rattle.command_inputs.specs.declared.fault.Fault.TheVariants as fault
 use Rattle.command_inputs.specs.declared.status.Status.{Status}
 use Rattle.capture_commands.specs.Decoding.{end_of_capture}
 use Rattle.capture_commands.specs.Listed.{CanList, Lists, ListsInPart, ListsUpToMemory, WritesListing, WritesPart}
+use Rattle.capture_commands.specs.declared.reason.CaptureReason.{CaptureReason}
 
 module _ (content : Content) (asked : Listing) (base : ℕ) (program : Image) (symbols : Option (List ℕ))
     (bytes : List ℕ)
-    (based : IsBase asked.base.now (Ok base)) (found : IsProgramAt content base asked.image (Ok program))
-    (named : AreSymbols content asked.symbols (Ok symbols)) (read : IsRead content asked.capture (Ok bytes)) where
+    (based : IsBase {W = CaptureReason} asked.base.now (Ok base))
+    (found : IsProgramAt {W = CaptureReason} content base asked.image (Ok program))
+    (named : AreSymbols content asked.symbols (Ok symbols))
+    (read : IsRead {W = CaptureReason} content asked.capture (Ok bytes)) where
   -- What is written of the capture is what `list` prints.
   list_leads : (printed : Printed) → WritesListing asked.harts program symbols bytes printed
       → Lists content asked printed

@@ -14,11 +14,12 @@ use Rattle.command_inputs.proofs.Runs.{leads_on}
 use Rattle.command_inputs.specs.Begun.{IsCutOf}
 use Rattle.command_inputs.specs.Found.{IsBase, IsProgramAt, IsRead}
 use Rattle.files.specs.Known.{Content}
-use Rattle.command_inputs.specs.Printed.{Printed, PrintsUnlessDenied}
-use Rattle.command_inputs.specs.declared.fault.Fault.{Fault}
+use Rattle.command_inputs.specs.Printed.{PrintsUnlessDenied}
+use Rattle.capture_commands.specs.Faults.{Fault, Printed}
 use Rattle.command_inputs.specs.declared.status.Status.{Status}
 use Rattle.capture_commands.specs.SalvagedText.{salvaged_text}
 use Rattle.capture_commands.specs.Salvaging.{CanSalvage, IsSalvagedCapture, Salvages, WritesSalvaged, end_of_salvage}
+use Rattle.capture_commands.specs.declared.reason.CaptureReason.{CaptureReason}
 
 module _ (harts : ℕ) (program : Image) (bytes : List ℕ) (count : ℕ) (stop : Option MessageFault)
     (salvaged : Salvaged Global) (found : IsSalvagedCapture harts program bytes count stop salvaged) where
@@ -43,8 +44,9 @@ module _ (harts : ℕ) (program : Image) (bytes : List ℕ) (count : ℕ) (stop 
       (salvaged_printed ended refl) (begun_kept (salvaged_text salvaged) old mid new begun kept))
 
 module _ (content : Content) (asked : Salvage) (base : ℕ) (program : Image) (bytes : List ℕ)
-    (based : IsBase asked.base.now (Ok base)) (found : IsProgramAt content base asked.image (Ok program))
-    (read : IsRead content asked.capture (Ok bytes)) where
+    (based : IsBase {W = CaptureReason} asked.base.now (Ok base))
+    (found : IsProgramAt {W = CaptureReason} content base asked.image (Ok program))
+    (read : IsRead {W = CaptureReason} content asked.capture (Ok bytes)) where
   -- What is written of the capture is what `salvage` prints.
   capture_leads : (printed : Printed) → WritesSalvaged asked.harts program bytes printed
       → Salvages content asked printed

@@ -15,7 +15,8 @@ use Rattle.rvclass.specs.Image.{Image}
 use Rattle.command_inputs.proofs.Runs.{prints}
 use Rattle.command_inputs.specs.Faults.{write_fault}
 use Rattle.command_inputs.specs.Printed.{IsPrintingDenied, PrintsUnlessDenied}
-use Rattle.command_inputs.specs.declared.fault.Fault.{Fault}
+use Rattle.capture_commands.specs.declared.reason.CaptureReason.{CaptureReason}
+use Rattle.capture_commands.specs.Faults.{Fault}
 use Rattle.command_inputs.specs.declared.fault.Fault.TheVariants as fault
 use Rattle.command_inputs.specs.declared.status.Status.{Status}
 use Rattle.capture_commands.proofs.DecodedRuns.{decodes}
@@ -51,12 +52,12 @@ refused_writing lists closed stop why old new (inl memory) stops = inr (inr (ap 
 refused_writing lists closed stop why old new (inr output) stops = inr (inl (ap Err output.0))
 
 -- A fault of writing is one that denies printing.
-pub write_denied : (why : WriteFault) → IsPrintingDenied ⊤ (write_fault why)
+pub write_denied : (why : WriteFault) → IsPrintingDenied ⊤ (write_fault {W = CaptureReason} why)
 write_denied write.Write = inr (refl, tt)
 write_denied write.Memory = inl refl
 
 -- Memory alone is reported as memory.
-pub write_memory : (why : WriteFault) → write_fault why ≡ fault.Memory → why ≡ write.Memory
+pub write_memory : (why : WriteFault) → write_fault {W = CaptureReason} why ≡ fault.Memory → why ≡ write.Memory
 write_memory write.Write is = cc
 write_memory write.Memory is = refl
 

@@ -10,12 +10,11 @@ use Rattle.rvclass.specs.Fetch.{words_of}
 use Rattle.rvclass.specs.Image.{Image}
 use Rattle.subcommands.specs.declared.words.Decode.{Decode}
 use Rattle.command_inputs.specs.Begun.{BeginsPrinted}
-use Rattle.command_inputs.specs.Finding.{Once}
 use Rattle.command_inputs.specs.Found.{IsBase, IsProgramAt, IsRead}
 use Rattle.files.specs.Known.{Content}
-use Rattle.command_inputs.specs.Meaning.{Meaning}
 use Rattle.command_inputs.specs.Order.{base_fault}
-use Rattle.command_inputs.specs.Printed.{First, Printed}
+use Rattle.command_inputs.specs.Printed.{First}
+use Rattle.capture_commands.specs.Faults.{Meaning, Once, Printed}
 use Rattle.capture_commands.specs.Decoding.{end_of_capture}
 use Rattle.capture_commands.specs.EachHart.{each_hart}
 use Rattle.capture_commands.specs.Pieces.{HasPieces, WritesPieces}

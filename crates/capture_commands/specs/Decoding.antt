@@ -1,8 +1,8 @@
 -- How the decoding of a capture ends.
 use Rattle.std.specs.Prelude.{ℕ, ◌+◌, Bool, true, false, List, [], ◌∷◌, Option, Some, None, Result, Ok, Err}
 use Rattle.captures.specs.declared.outcome.CaptureFault.{CaptureFault}
-use Rattle.command_inputs.specs.Faults.{capture_fault}
-use Rattle.command_inputs.specs.declared.fault.Fault.{Fault}
+use Rattle.capture_commands.specs.Faults.{Fault, capture_fault}
+use Rattle.capture_commands.specs.declared.reason.CaptureReason.TheVariants.{Unclosed}
 use Rattle.command_inputs.specs.declared.fault.Fault.TheVariants as fault
 use Rattle.command_inputs.specs.declared.status.Status.{Status}
 use Rattle.command_inputs.specs.declared.status.Status.TheVariants.{Whole}
@@ -12,7 +12,7 @@ use Rattle.command_inputs.specs.declared.status.Status.TheVariants.{Whole}
 abbrev pub end_of_harts : ℕ → List Bool → Result Status Fault
 end_of_harts hart [] = Ok Whole
 end_of_harts hart (true ∷ closed) = end_of_harts (hart + 1) closed
-end_of_harts hart (false ∷ closed) = Err (fault.Unclosed hart)
+end_of_harts hart (false ∷ closed) = Err (fault.Own (Unclosed hart))
 
 -- The fault at which decoding stopped, if there is one, and else the end by the flags of the harts.
 abbrev pub end_of_capture : Option (ℕ × CaptureFault) → List Bool → Result Status Fault

@@ -4,13 +4,11 @@ use Rattle.captures.specs.Dump.{IsDump}
 use Rattle.captures.specs.declared.outcome.CaptureFault.TheVariants as capture
 use Rattle.message.specs.declared.fault.MessageFault.{MessageFault}
 use Rattle.subcommands.specs.declared.words.Dump.{Dump}
-use Rattle.command_inputs.specs.Faults.{capture_fault}
-use Rattle.command_inputs.specs.Finding.{Once}
 use Rattle.command_inputs.specs.Found.{IsRead}
 use Rattle.files.specs.Known.{Content}
-use Rattle.command_inputs.specs.Meaning.{Meaning, writing_at_once}
-use Rattle.command_inputs.specs.Printed.{First, Printed}
-use Rattle.command_inputs.specs.declared.fault.Fault.{Fault}
+use Rattle.command_inputs.specs.Meaning.{writing_at_once}
+use Rattle.command_inputs.specs.Printed.{First}
+use Rattle.capture_commands.specs.Faults.{Fault, Meaning, Once, Printed, capture_fault}
 use Rattle.command_inputs.specs.declared.status.Status.{Status}
 use Rattle.command_inputs.specs.declared.status.Status.TheVariants.{NotWhole, Whole}
 

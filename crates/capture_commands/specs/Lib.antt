@@ -1,3 +1,6 @@
+pub mod Faults
+pub mod FaultText
+pub mod Symbols
 pub mod Dumping
 pub mod EachHart
 pub mod Decoding

@@ -8,12 +8,12 @@ use Rattle.retire.specs.Number.{number_of}
 use Rattle.rvclass.specs.Fetch.{words_of}
 use Rattle.rvclass.specs.Image.{Image}
 use Rattle.subcommands.specs.declared.words.Listing.{Listing}
-use Rattle.command_inputs.specs.Finding.{Once}
-use Rattle.command_inputs.specs.Found.{AreSymbols, IsBase, IsProgramAt, IsRead}
+use Rattle.command_inputs.specs.Found.{IsBase, IsProgramAt, IsRead}
 use Rattle.files.specs.Known.{Content}
-use Rattle.command_inputs.specs.Meaning.{Meaning}
 use Rattle.command_inputs.specs.Order.{base_fault}
-use Rattle.command_inputs.specs.Printed.{First, IsPrinted, Printed}
+use Rattle.command_inputs.specs.Printed.{First, IsPrinted}
+use Rattle.capture_commands.specs.Faults.{Meaning, Once, Printed}
+use Rattle.capture_commands.specs.Symbols.{AreSymbols}
 use Rattle.command_inputs.specs.declared.fault.Fault.TheVariants as fault
 use Rattle.capture_commands.specs.Decoding.{end_of_capture}
 
@@ -56,7 +56,7 @@ abbrev pub ListsInPart : Content → Listing → Printed → Type 0
 ListsInPart content asked printed =
     OnceListed content asked (λ program symbols bytes. WritesPart asked.harts program symbols bytes printed)
 
--- Nothing was written, or all lines before the message at which memory was refused.
+-- Nothing was written, or all lines before the message at which allocation failed.
 abbrev pub ListsUpToMemory : (Printed → Type 0) → Option (List ℕ) → Option (List ℕ) → Type 0
 ListsUpToMemory Prints old new = Keeps old new ⊎ IsPrinted Prints (Err fault.Memory) old new
 

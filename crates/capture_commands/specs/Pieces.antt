@@ -17,9 +17,8 @@ use Rattle.payload.specs.declared.mode.Mode.{Mode}
 use Rattle.payload.specs.declared.mode.Mode.TheVariants.{Differential}
 use Rattle.retire.specs.LogText.{log_text}
 use Rattle.rvclass.specs.Image.{Image}
-use Rattle.command_inputs.specs.Faults.{lossy_fault, reading_fault}
-use Rattle.command_inputs.specs.Printed.{First, Printed}
-use Rattle.command_inputs.specs.declared.fault.Fault.{Fault}
+use Rattle.command_inputs.specs.Printed.{First}
+use Rattle.capture_commands.specs.Faults.{Fault, Printed, lossy_fault, reading_fault}
 use Rattle.command_inputs.specs.declared.status.Status.{Status}
 use Rattle.command_inputs.specs.declared.status.Status.TheVariants.{NotWhole}
 use Rattle.capture_commands.specs.Decoding.{end_of_harts}
@@ -76,13 +75,13 @@ abbrev pub mode_of_header : Option Header → Mode
 mode_of_header None = Differential
 mode_of_header (Some header) = header.mode
 
--- A capture's header, if it has one, and all its messages are found, or why it is not read whole.
+-- A capture's header, if it has one, and all its messages are found, or why it is not read to its end.
 abbrev pub IsReadWhole : List ℕ → Result (Option Header × List Message) ReadFault → Type 0
 IsReadWhole bytes (Ok whole) = IsWhole bytes whole.0 whole.1
 IsReadWhole bytes (Err why) = IsReadFault bytes why
 
 -- What is left of the logs is collected from the header and the messages, or collecting ends at a fault. Where the
--- capture was not read whole, its fault stays.
+-- capture was not read to its end, its fault stays.
 abbrev pub AreCollectedFrom : ℕ → Image → Result (Option Header × List Message) ReadFault
     → Result (List (HartPieces Global)) Fault → Type 0
 AreCollectedFrom harts program (Err why) found = found ≡ Err (reading_fault why)

@@ -16,14 +16,12 @@ use Rattle.salvaging.specs.Salvages.{GivesSalvaged}
 use Rattle.salvaging.specs.declared.salvaged.Salvaged.{Salvaged}
 use Rattle.salvaging.specs.declared.salvaged.SalvagedHart.{SalvagedHart}
 use Rattle.subcommands.specs.declared.words.Salvage.{Salvage}
-use Rattle.command_inputs.specs.Faults.{capture_fault}
-use Rattle.command_inputs.specs.Finding.{Once}
 use Rattle.command_inputs.specs.Found.{IsBase, IsProgramAt, IsRead}
 use Rattle.files.specs.Known.{Content}
-use Rattle.command_inputs.specs.Meaning.{Meaning, writing_at_once}
+use Rattle.command_inputs.specs.Meaning.{writing_at_once}
 use Rattle.command_inputs.specs.Order.{base_fault}
-use Rattle.command_inputs.specs.Printed.{First, Printed}
-use Rattle.command_inputs.specs.declared.fault.Fault.{Fault}
+use Rattle.command_inputs.specs.Printed.{First}
+use Rattle.capture_commands.specs.Faults.{Fault, Meaning, Once, Printed, capture_fault}
 use Rattle.command_inputs.specs.declared.status.Status.{Status}
 use Rattle.capture_commands.specs.Decoding.{end_of_harts}
 use Rattle.capture_commands.specs.Pieces.{end_with_gaps, harts_counted, mode_of_header}

@@ -7,15 +7,17 @@ ghost use Rattle.output.specs.Begun.{AppendsBeginning};
 ghost use Rattle.retire.specs.Number.{number_of};
 ghost use Rattle.command_inputs.specs.Begun.{BeginsPrinted, IsCutOf};
 ghost use Rattle.command_inputs.specs.Printed.{IsPrintingDenied, PrintsUnlessDenied};
-ghost use Rattle.command_inputs.specs.Faults.{final_status, status_of};
+ghost use Rattle.capture_commands.specs.Faults.{final_status, status_of};
 ghost use Rattle.command_inputs.specs.Order.{base_fault};
 ghost use Rattle.capture_commands.specs.Decoded.{Decodes, WritesDecoded, harts_text, CanDecode};
 ghost use Rattle.capture_commands.specs.steps.Writing.{EndsWriting, StopsBehindLine};
+ghost use Rattle.command_inputs.specs.declared.fault.Fault.TheVariants as Fault;
 
 use crate::ending::ended;
 use crate::lossy_decoding::decode_lossy;
+use crate::reason::Fault;
 use captures::{CaptureOutcome, decode_capture};
-use command_inputs::{Fault, Files, Status, base_of, content_of, program_of};
+use command_inputs::{Files, Status, base_of, content_of, program_of};
 use output::write_text;
 use retire::{Event, write_log};
 use rvclass::Program;
@@ -74,9 +76,9 @@ fn decode_whole<'a, O: Write>(
     write_outcome(alloc, &outcome, out)
 }
 
-/// Writes the log of each hart, as far as it was decoded, and returns how decoding ended. What was decoded before a
-/// fault is written whole, also where the fault is that a decoder was refused memory. The exceptions: the output fails,
-/// or memory for a log's text is refused.
+/// Writes the log of each hart, as far as it was decoded, and returns how decoding ended. All that was decoded before a
+/// fault is written, also where the fault is that allocation failed in a decoder. The exceptions: the output fails, or
+/// allocation for a log's text does.
 fn write_outcome<'a, O: Write>(
     alloc: Global,
     outcome: &CaptureOutcome,
@@ -93,7 +95,7 @@ fn write_outcome<'a, O: Write>(
     ended(outcome.fault, outcome.closed.as_slice())
 }
 
-/// Writes the log of each hart, after a line with the hart's number. Memory may be refused for the text of a log, once
+/// Writes the log of each hart, after a line with the hart's number. Allocation may fail for the text of a log, once
 /// the line of its hart is written.
 fn write_logs<'a, O: Write>(
     alloc: Global,

@@ -2,12 +2,15 @@
 
 ghost use Rattle.std.specs.Prelude.{◌≡◌, ◌≢◌, Err};
 ghost use Rattle.command_inputs.specs.Begun.{IsCutOf};
-ghost use Rattle.command_inputs.specs.Faults.{final_status};
 ghost use Rattle.command_inputs.specs.Printed.{PrintsUnlessDenied};
+ghost use Rattle.capture_commands.specs.Faults.{final_status};
 ghost use Rattle.capture_commands.specs.Dumping.{CanDump, Dumps, end_of_dump};
+ghost use Rattle.command_inputs.specs.declared.fault.Fault.TheVariants as Fault;
 
+use crate::reason::Fault;
+use crate::stopping::capture_fault;
 use captures::{CaptureFault, Dumped, dump_capture};
-use command_inputs::{Fault, Files, Status, content_of};
+use command_inputs::{Files, Status, content_of};
 use std::io::Write;
 use subcommands::Dump;
 
@@ -39,7 +42,7 @@ fn ended<'a>(dumped: &Dumped) -> Result<Status, Fault<'a>>
     ensures never_refused { final_status result ≢ Status.Refused }
 {
     match dumped.fault {
-        Some((number, why)) => Err(Fault::of_capture(number, CaptureFault::Message(why))),
+        Some((number, why)) => Err(capture_fault(number, CaptureFault::Message(why))),
         None if dumped.bad => Ok(Status::NotWhole),
         None => Ok(Status::Whole),
     }

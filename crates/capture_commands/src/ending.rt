@@ -1,11 +1,13 @@
 //! How the decoding of a capture ends a run.
 
 ghost use Rattle.std.specs.Prelude.{◌≡◌, ◌≢◌};
-ghost use Rattle.command_inputs.specs.Faults.{final_status};
+ghost use Rattle.capture_commands.specs.Faults.{final_status};
 ghost use Rattle.capture_commands.specs.Decoding.{end_of_capture};
 
+use crate::reason::{CaptureReason, Fault};
+use crate::stopping::capture_fault;
 use captures::CaptureFault;
-use command_inputs::{Fault, Status};
+use command_inputs::Status;
 
 /// How decoding ended: at its fault, if there is one, or at the first hart whose closing packet did not come.
 pub(crate) fn ended<'a>(
@@ -16,11 +18,11 @@ pub(crate) fn ended<'a>(
     ensures never_refused { final_status result ≢ Status.Refused }
 {
     if let Some((number, why)) = fault {
-        return Err(Fault::of_capture(number, why));
+        return Err(capture_fault(number, why));
     }
     for (hart, closed) in harts.iter().enumerate() {
         if !*closed {
-            return Err(Fault::Unclosed(hart));
+            return Err(Fault::Own(CaptureReason::Unclosed(hart)));
         }
     }
     Ok(Status::Whole)

@@ -9,10 +9,14 @@ mod ending;
 mod lossy_decoding;
 mod message_listing;
 mod messages_line;
+mod reason;
 mod salvaged_writing;
 mod salvaging_capture;
+mod stopping;
+mod symbols_input;
 
 pub use decoding::decode;
 pub use dumping::dump;
 pub use message_listing::list;
+pub use reason::{CaptureReason, Fault};
 pub use salvaging_capture::salvage;

@@ -7,8 +7,8 @@ ghost use Rattle.losses.specs.Parts.{Events, Missing};
 ghost use Rattle.losses.specs.PartsIn.{part_of, parts_in};
 ghost use Rattle.output.specs.Begun.{AppendsBeginning};
 ghost use Rattle.command_inputs.specs.Begun.{IsCutOf};
-ghost use Rattle.command_inputs.specs.Faults.{final_status, status_of};
 ghost use Rattle.command_inputs.specs.Printed.{IsPrintingDenied, PrintsUnlessDenied};
+ghost use Rattle.capture_commands.specs.Faults.{final_status, status_of};
 ghost use Rattle.capture_commands.specs.Decoding.{end_of_harts};
 ghost use Rattle.capture_commands.specs.EachHart.{each_hart};
 ghost use Rattle.capture_commands.specs.Pieces.{ArePieces, HasPieces, WritesPieces, closed_of, end_of_pieces};
@@ -16,8 +16,10 @@ ghost use Rattle.capture_commands.specs.Pieces.{harts_counted, have_gaps, is_gap
 ghost use Rattle.capture_commands.specs.Pieces.{parts_text};
 
 use crate::messages_line::write_messages;
+use crate::reason::{CaptureReason, Fault};
+use crate::stopping::{lossy_fault, reading_fault};
 use captures::read_messages;
-use command_inputs::{Fault, Status};
+use command_inputs::Status;
 use losses::{HartPieces, Part, collect_lossy};
 use message::Header;
 use output::write_text;
@@ -28,8 +30,8 @@ use std::alloc::Global;
 use std::io::Write;
 
 /// Writes what is left of the log of each hart. Returns that all is done where each hart's closing packet came and
-/// there is no gap. Where the capture is not read whole, a message is refused or its packet is not decoded, nothing is
-/// written.
+/// there is no gap. Where the capture is not read to its end, a message is refused or its packet is not decoded, nothing
+/// is written.
 pub(crate) fn decode_lossy<'a, O: Write>(
     alloc: Global,
     program: &Program,
@@ -61,7 +63,7 @@ fn pieces_of<'a>(
 {
     let whole = match read_messages(alloc, bytes) {
         Ok(whole) => whole,
-        Err(fault) => return Err(Fault::of_reading(fault)),
+        Err(fault) => return Err(reading_fault(fault)),
     };
     match collect_lossy(
         alloc,
@@ -71,7 +73,7 @@ fn pieces_of<'a>(
         whole.messages.as_slice(),
     ) {
         Ok(pieces) => Ok(pieces),
-        Err(fault) => Err(Fault::of_losses(fault)),
+        Err(fault) => Err(lossy_fault(fault)),
     }
 }
 
@@ -187,7 +189,7 @@ fn closed<'a>(harts: &[HartPieces]) -> Result<Status, Fault<'a>>
 {
     for (hart, pieces) in harts.iter().enumerate() {
         if !pieces.closed {
-            return Err(Fault::Unclosed(hart));
+            return Err(Fault::Own(CaptureReason::Unclosed(hart)));
         }
     }
     Ok(Status::Whole)

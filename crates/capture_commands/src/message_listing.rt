@@ -3,14 +3,17 @@
 ghost use Rattle.std.specs.Prelude.{⊤, ◌≡◌, ◌≢◌, Err, IfSome, option_map};
 ghost use Rattle.retire.specs.Number.{number_of};
 ghost use Rattle.command_inputs.specs.Begun.{IsCutOf};
-ghost use Rattle.command_inputs.specs.Faults.{final_status};
 ghost use Rattle.command_inputs.specs.Order.{base_fault};
 ghost use Rattle.command_inputs.specs.Printed.{PrintsUnlessDenied};
+ghost use Rattle.capture_commands.specs.Faults.{final_status};
 ghost use Rattle.capture_commands.specs.Listed.{CanList, Lists, ListsInPart, ListsUpToMemory, WritesListing};
 ghost use Rattle.capture_commands.specs.Listed.{WritesPart};
+ghost use Rattle.command_inputs.specs.declared.fault.Fault.TheVariants as Fault;
 
 use crate::ending::ended;
-use command_inputs::{Fault, Files, Status, base_of, content_of, program_of, symbols_of};
+use crate::reason::Fault;
+use crate::symbols_input::symbols_of;
+use command_inputs::{Files, Status, base_of, content_of, program_of};
 use listing::list_capture;
 use rvclass::Program;
 use std::alloc::Global;
@@ -23,7 +26,7 @@ use symbols::Symbols;
 /// if the capture is decoded to its end and each hart's closing packet came.
 ///
 /// The listing ends where the decoding of the capture does, at the same fault. A message that is refused has a line
-/// without events. Where memory is refused for the events of a message, the lines before it are still written.
+/// without events. Where allocation fails for the events of a message, the lines before it are still written.
 pub fn list<'a, F: Files, O: Write>(
     alloc: Global,
     files: &mut F,

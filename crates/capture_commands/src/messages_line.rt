@@ -4,8 +4,9 @@ ghost use Rattle.std.specs.Prelude.{◌≡◌, IfErr, OnOk};
 ghost use Rattle.std.specs.Io.KnownBytes.{Appends};
 ghost use Rattle.output.specs.Begun.{AppendsBeginning};
 ghost use Rattle.capture_commands.specs.Pieces.{messages_line};
+ghost use Rattle.command_inputs.specs.declared.fault.Fault.TheVariants as Fault;
 
-use command_inputs::Fault;
+use crate::reason::Fault;
 use output::write_text;
 use std::io::Write;
 

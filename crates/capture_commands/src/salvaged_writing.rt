@@ -8,16 +8,17 @@ ghost use Rattle.salvaging.specs.LeftParts.{BadNumbers, Events};
 ghost use Rattle.salvaging.specs.PartsIn.{part_of, parts_in};
 ghost use Rattle.capture_commands.specs.EachHart.{each_hart};
 ghost use Rattle.capture_commands.specs.SalvagedText.{counted_line, hart_text, left_text, salvaged_text};
+ghost use Rattle.command_inputs.specs.declared.fault.Fault.TheVariants as Fault;
 
 use crate::messages_line::write_messages;
-use command_inputs::Fault;
+use crate::reason::Fault;
 use output::write_text;
 use retire::{Event, LOG_ROOM, write_log_in};
 use salvaging::{Part, Reason, Salvaged, SalvagedHart};
 use std::io::Write;
 
-/// Writes what is salvaged: of each hart its line and what is left of its log, and then the count of strangers. No
-/// memory is taken, since the buffer `room` is large enough for the text of a log.
+/// Writes what is salvaged: of each hart its line and what is left of its log, and then the count of strangers. It
+/// does not allocate, since the buffer `room` is large enough for the text of a log.
 pub(crate) fn write_salvaged<'a, O: Write>(
     room: &mut Vec<u8>,
     salvaged: &Salvaged,

@@ -5,17 +5,20 @@ ghost use Rattle.std.specs.List.{list_any};
 ghost use Rattle.retire.specs.Number.{number_of};
 ghost use Rattle.salvaging.specs.PartsIn.{parts_in};
 ghost use Rattle.command_inputs.specs.Begun.{IsCutOf};
-ghost use Rattle.command_inputs.specs.Faults.{final_status};
 ghost use Rattle.command_inputs.specs.Order.{base_fault};
 ghost use Rattle.command_inputs.specs.Printed.{PrintsUnlessDenied};
+ghost use Rattle.capture_commands.specs.Faults.{final_status};
 ghost use Rattle.capture_commands.specs.Decoding.{end_of_harts};
 ghost use Rattle.capture_commands.specs.Salvaging.{CanSalvage, IsSalvagedCapture, Salvages, WritesSalvaged};
 ghost use Rattle.capture_commands.specs.Salvaging.{closed_harts, end_of_salvage, has_loss, is_damaged, is_no_stretch};
+ghost use Rattle.command_inputs.specs.declared.fault.Fault.TheVariants as Fault;
 
 use crate::lossy_decoding::{harts_counted, mode_of_header};
+use crate::reason::{CaptureReason, Fault};
 use crate::salvaged_writing::write_salvaged;
+use crate::stopping::capture_fault;
 use captures::{CaptureFault, read_front};
-use command_inputs::{Fault, Files, Status, base_of, content_of, program_of};
+use command_inputs::{Files, Status, base_of, content_of, program_of};
 use message::MessageFault;
 use retire::LOG_ROOM;
 use rvclass::Program;
@@ -29,7 +32,7 @@ use subcommands::Salvage;
 /// closed, no number is missing, bad or doubtful, and there is no stranger. Copies and late messages do not change this
 /// status.
 ///
-/// All memory is taken before anything is written.
+/// Nothing is allocated once something is written.
 pub fn salvage<'a, F: Files, O: Write>(
     alloc: Global,
     files: &mut F,
@@ -110,7 +113,7 @@ fn ended<'a>(found: &Found) -> Result<Status, Fault<'a>>
     ensures never_memory { result ≢ Err Fault.Memory }
 {
     match found.stop {
-        Some(why) => Err(Fault::of_capture(found.count as u64, CaptureFault::Message(why))),
+        Some(why) => Err(capture_fault(found.count as u64, CaptureFault::Message(why))),
         None => match closed(found.salvaged.harts.as_slice()) {
             Ok(_) if is_damaged(&found.salvaged) => Ok(Status::NotWhole),
             ended => ended,
@@ -126,7 +129,7 @@ fn closed<'a>(harts: &[SalvagedHart]) -> Result<Status, Fault<'a>>
 {
     for (hart, own) in harts.iter().enumerate() {
         if !own.closed {
-            return Err(Fault::Unclosed(hart));
+            return Err(Fault::Own(CaptureReason::Unclosed(hart)));
         }
     }
     Ok(Status::Whole)

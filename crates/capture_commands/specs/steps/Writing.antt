@@ -3,7 +3,7 @@ use Rattle.std.specs.Prelude.{◌≡◌, ◌⊎◌, ℕ, ◌++◌, Bool, List, �
 use Rattle.std.specs.Io.KnownBytes.{Appends}
 use Rattle.captures.specs.declared.outcome.CaptureFault.{CaptureFault}
 use Rattle.retire.specs.declared.event.Event.{Event}
-use Rattle.command_inputs.specs.declared.fault.Fault.{Fault}
+use Rattle.capture_commands.specs.Faults.{Fault}
 use Rattle.command_inputs.specs.declared.fault.Fault.TheVariants as fault
 use Rattle.command_inputs.specs.declared.status.Status.{Status}
 use Rattle.capture_commands.specs.Decoded.{harts_text}
@@ -19,7 +19,7 @@ pub record StopsBehindLine (lists : List (List Event)) (old new : Option (List �
   pub appended : Appends old new (harts_text 0 front ++ hart_line (length front))
 
 -- The texts of all harts were appended, and the run ends as decoding did, at a fault too. Or else the output failed. Or
--- memory for the text of a log was refused, once the line of its hart was written.
+-- allocation for the text of a log failed, once the line of its hart was written.
 abbrev pub EndsWriting : List (List Event) → List Bool → Option (ℕ × CaptureFault) → Result Status Fault
     → Option (List ℕ) → Option (List ℕ) → Type 0
 EndsWriting lists closed stop ended old new =

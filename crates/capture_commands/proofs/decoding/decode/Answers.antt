@@ -8,11 +8,12 @@ use Rattle.command_inputs.specs.Found.{IsBase, IsProgramAt, IsRead}
 use Rattle.files.specs.Known.{Content}
 use Rattle.command_inputs.specs.Order.{base_fault}
 use Rattle.command_inputs.specs.Printed.{PrintsUnlessDenied}
-use Rattle.command_inputs.specs.declared.fault.Fault.{Fault}
+use Rattle.capture_commands.specs.Faults.{Fault}
 use Rattle.command_inputs.specs.declared.fault.Fault.TheVariants as fault
 use Rattle.command_inputs.specs.declared.status.Status.{Status}
 use Rattle.command_inputs.proofs.Runs.{ends_silently}
 use Rattle.capture_commands.specs.Decoded.{Decodes, WritesLogs, CanDecode, CanWriteLogs}
+use Rattle.capture_commands.specs.declared.reason.CaptureReason.{CaptureReason}
 use Rattle.capture_commands.proofs.DecodedRuns.{logs_cut, logs_printed}
 use Rattle.capture_commands.proofs.decoding.decode.Goals.{After-as_slice-capture}
 use Rattle.capture_commands.proofs.decoding.decode.Goals as goal
@@ -81,9 +82,10 @@ module _ (g : _) (c : After-as_slice-capture g) (slice : List ℕ) (same : slice
   old = g.O.Write.contents c.args.out.now
 
   -- The file that was read is the capture.
-  read : IsRead content asked.capture (Ok c.in_ok-bytes.bytes.items)
+  read : IsRead {W = CaptureReason} content asked.capture (Ok c.in_ok-bytes.bytes.items)
   read =
-      subst (λ known. IsRead known asked.capture (Ok c.in_ok-bytes.bytes.items)) c.in_ok-program.ensures.kept
+      subst (λ known. IsRead {W = CaptureReason} known asked.capture (Ok c.in_ok-bytes.bytes.items))
+      c.in_ok-program.ensures.kept
       c.in_ok-bytes.ensures.held
 
   -- What is printed of the capture is what `decode` prints.

@@ -12,6 +12,7 @@ use Rattle.files.specs.Known.{Content}
 use Rattle.command_inputs.specs.declared.fault.Fault.TheVariants as fault
 use Rattle.command_inputs.proofs.Runs.{appends-keeps, ends_silently, output_failed, prints}
 use Rattle.capture_commands.specs.Dumping.{CanDump, Dumps, end_of_dump}
+use Rattle.capture_commands.specs.declared.reason.CaptureReason.{CaptureReason}
 use Rattle.capture_commands.proofs.dumping.dump.Goals.{After-flush}
 use Rattle.capture_commands.proofs.dumping.dump.Goals as goal
 
@@ -30,7 +31,8 @@ returns-in_err-bytes-clause-printed g c =
 -- The capture was read, and a beginning of its dump was written.
 dump_cut : (content : Content) (asked : Dump) (bytes : List ℕ) (bad : Bool) (stop : Option (ℕ × MessageFault))
     (text : List ℕ)
-    (old new : Option (List ℕ)) → IsRead content asked.capture (Ok bytes) → IsDump bytes bad stop text
+    (old new : Option (List ℕ)) → IsRead {W = CaptureReason} content asked.capture (Ok bytes)
+    → IsDump bytes bad stop text
     → AppendsBeginning text old new → IsCutOf (Dumps content asked) old new
 dump_cut content asked bytes bad stop text old new read dumped begun = inr (record {
   printed = record { text = text; ended = end_of_dump bad stop };

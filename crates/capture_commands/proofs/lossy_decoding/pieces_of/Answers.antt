@@ -1,7 +1,7 @@
 -- What was collected is what is found: the steps are handed on, in order, which no tactic does.
 use Rattle.std.proofs.Common.{ap, subst, Ok, Err}
 use Rattle.losses.specs.Collects.{GivesFault, GivesPieces}
-use Rattle.command_inputs.specs.declared.fault.Fault.{Fault}
+use Rattle.capture_commands.specs.Faults.{Fault}
 use Rattle.capture_commands.specs.Pieces.{mode_of_header}
 use Rattle.capture_commands.proofs.lossy_decoding.pieces_of.Goals as goal
 
@@ -9,7 +9,7 @@ pub returns-in-Err-clause-fault : goal.returns-in-Err-clause-fault
 returns-in-Err-clause-fault c = record {
   whole = Err c.in-Err.fault;
   read = c.in-Err.ensures.fault;
-  collected = ap (λ (why : Fault). Err why) c.of_reading.ensures.value;
+  collected = ap (λ (why : Fault). Err why) c.reading_fault.ensures.value;
 }
 
 pub returns-in-Ok-collect_lossy-clause-found : goal.returns-in-Ok-collect_lossy-clause-found
@@ -54,7 +54,7 @@ returns-clause-fault c =
       read = c.in-Ok.ensures.read;
       collected = (
         fault,
-        c.of_losses.ensures.value,
+        c.lossy_fault.ensures.value,
         subst (λ harts. GivesFault program harts (mode_of_header header) messages fault) c.harts_counted.ensures
             (subst (λ mode. GivesFault program harts mode messages fault) c.mode_of_header.ensures
             (subst (λ all. GivesFault program harts mode all fault) c.as_slice.ensures.value gives)),

@@ -5,13 +5,15 @@ use Rattle.std.specs.Borrow.{Bor}
 use Rattle.std.specs.Prelude.{IfSome, option_map}
 use Rattle.subcommands.specs.declared.words.Listing.{Listing}
 use Rattle.command_inputs.specs.Begun.{IsCutOf}
-use Rattle.command_inputs.specs.Found.{AreSymbols, IsBase, IsProgramAt, IsRead}
+use Rattle.command_inputs.specs.Found.{IsBase, IsProgramAt, IsRead}
 use Rattle.files.specs.Known.{Content}
 use Rattle.command_inputs.specs.Order.{base_fault}
 use Rattle.command_inputs.specs.Printed.{PrintsUnlessDenied}
+use Rattle.capture_commands.specs.Symbols.{AreSymbols}
 use Rattle.command_inputs.specs.declared.fault.Fault.TheVariants as fault
 use Rattle.command_inputs.proofs.Runs.{ends_silently}
 use Rattle.capture_commands.specs.Listed.{CanList, Lists, ListsInPart, ListsUpToMemory}
+use Rattle.capture_commands.specs.declared.reason.CaptureReason.{CaptureReason}
 use Rattle.capture_commands.proofs.ListedRuns.{list_begun, list_cut, list_printed}
 use Rattle.capture_commands.proofs.message_listing.list.Goals.{After-write_listing}
 use Rattle.capture_commands.proofs.message_listing.list.Goals as goal
@@ -113,10 +115,10 @@ module _ (g : _) (c : After-write_listing g) where
       c.in_ok-symbols.ensures.symbols)
 
   -- The file that was read is the capture.
-  read : IsRead content asked.capture (Ok c.as_slice.result.now)
+  read : IsRead {W = CaptureReason} content asked.capture (Ok c.as_slice.result.now)
   read =
-      subst (λ bytes. IsRead content asked.capture (Ok bytes)) (sym c.as_slice.ensures.value)
-      (subst (λ known. IsRead known asked.capture (Ok c.in_ok-bytes.bytes.items))
+      subst (λ bytes. IsRead {W = CaptureReason} content asked.capture (Ok bytes)) (sym c.as_slice.ensures.value)
+      (subst (λ known. IsRead {W = CaptureReason} known asked.capture (Ok c.in_ok-bytes.bytes.items))
       (c.in_ok-symbols.ensures.kept ∙ c.in_ok-program.ensures.kept) c.in_ok-bytes.ensures.held)
 
   printed : PrintsUnlessDenied (Lists content asked) (CanList content asked) c.write_listing.result old new

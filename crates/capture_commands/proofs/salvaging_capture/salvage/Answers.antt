@@ -9,6 +9,7 @@ use Rattle.command_inputs.specs.Printed.{PrintsUnlessDenied}
 use Rattle.command_inputs.specs.declared.fault.Fault.TheVariants as fault
 use Rattle.command_inputs.proofs.Runs.{ends_silently}
 use Rattle.capture_commands.specs.Salvaging.{CanSalvage, Salvages, WritesSalvaged}
+use Rattle.capture_commands.specs.declared.reason.CaptureReason.{CaptureReason}
 use Rattle.capture_commands.proofs.SalvageRuns.{capture_cut, capture_printed}
 use Rattle.capture_commands.proofs.salvaging_capture.salvage.Goals as goal
 
@@ -66,7 +67,8 @@ returns-clause-printed g c =
     let program = c.in_ok-program.program in
     let old = g.O.Write.contents c.args.out.now in
     let new = g.O.Write.contents c.salvage_capture.new.out in
-    let read = subst (λ known. IsRead known asked.capture (Ok c.in_ok-bytes.bytes.items)) c.in_ok-program.ensures.kept
+    let read = subst (λ known. IsRead {W = CaptureReason} known asked.capture (Ok c.in_ok-bytes.bytes.items))
+    c.in_ok-program.ensures.kept
     c.in_ok-bytes.ensures.held in
     capture_printed content asked c.in_ok-base.base program c.in_ok-bytes.bytes.items c.in_ok-base.ensures.found
     c.in_ok-program.ensures.program read c.salvage_capture.result old new
@@ -80,7 +82,8 @@ returns-clause-cut g c =
     let program = c.in_ok-program.program in
     let old = g.O.Write.contents c.args.out.now in
     let new = g.O.Write.contents c.salvage_capture.new.out in
-    let read = subst (λ known. IsRead known asked.capture (Ok c.in_ok-bytes.bytes.items)) c.in_ok-program.ensures.kept
+    let read = subst (λ known. IsRead {W = CaptureReason} known asked.capture (Ok c.in_ok-bytes.bytes.items))
+    c.in_ok-program.ensures.kept
     c.in_ok-bytes.ensures.held in
     capture_cut content asked c.in_ok-base.base program c.in_ok-bytes.bytes.items c.in_ok-base.ensures.found
     c.in_ok-program.ensures.program read old new

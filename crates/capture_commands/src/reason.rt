@@ -1,0 +1,57 @@
+//! What only a subcommand that reads a capture stops at.
+
+ghost use Rattle.std.specs.Prelude.{◌≡◌, Some, refl};
+ghost use Rattle.capture_commands.specs.FaultText.{capture_reason_text};
+ghost use Rattle.capture_commands.specs.Faults.{capture_reason_status};
+
+use captures::CaptureFault;
+use command_inputs::{Reason, Status};
+use message::MessageFault;
+use std::fmt;
+use symbols::SymbolsFault;
+
+/// Why a subcommand that reads a capture stops.
+pub type Fault<'a> = command_inputs::Fault<'a, CaptureReason<'a>>;
+
+/// What only a subcommand that reads a capture stops at.
+#[derive(Clone, Copy, Debug, PartialEq, Eq)]
+pub enum CaptureReason<'a> {
+    /// The capture begins as one of version 2 does, and its header is not valid.
+    Header,
+    /// Reading or decoding the capture stopped at the message with this number, counted from 0 over all harts.
+    Message(u64, CaptureFault),
+    /// The closing packet of this hart did not come.
+    Unclosed(usize),
+    /// The file at this path has no symbols that are read.
+    Symbols(&'a str, SymbolsFault),
+}
+
+impl fmt::Display for CaptureReason<'_> {
+    ghost output = { λ why. Some (capture_reason_text why) };
+
+    fn fmt<W: fmt::Write>(&self, f: &mut fmt::Formatter<W>) -> fmt::Result {
+        match self {
+            CaptureReason::Header => write!(f, "{}", MessageFault::BadHeader),
+            CaptureReason::Message(number, why) => write!(f, "message {number}: {why}"),
+            CaptureReason::Unclosed(hart) => write!(f, "hart {hart}: no closing packet"),
+            CaptureReason::Symbols(path, why) => write!(f, "{path}: {why}"),
+        }
+    }
+}
+
+impl Reason for CaptureReason<'_> {
+    ghost text = { capture_reason_text };
+
+    ghost status = { capture_reason_status };
+
+    fn status(&self) -> Status {
+        match self {
+            CaptureReason::Header | CaptureReason::Message(..) | CaptureReason::Unclosed(_) => {
+                Status::NotWhole
+            }
+            CaptureReason::Symbols(..) => Status::Refused,
+        }
+    }
+
+    ghost shown = { λ why. refl };
+}

@@ -1,0 +1,34 @@
+//! The symbols that places are named by.
+
+ghost use Rattle.std.specs.Prelude.{◌≡◌, ◌⊎◌, Err, IfErr, IfOk, Ok};
+ghost use Rattle.command_inputs.specs.declared.fault.Fault.TheVariants as Fault;
+ghost use Rattle.capture_commands.specs.Symbols.{AreSymbols};
+
+use crate::reason::Fault;
+use crate::stopping::symbols_fault;
+use command_inputs::{Files, content_of};
+use std::alloc::Global;
+use symbols::Symbols;
+
+/// The symbols of the file at a path, if one is given.
+pub(crate) fn symbols_of<'a, F: Files>(
+    alloc: Global,
+    files: &mut F,
+    path: Option<&'a str>,
+) -> Result<Option<Symbols>, Fault<'a>>
+    ensures symbols { IfOk result (λ symbols. AreSymbols (F.content files.old) path.entry (Ok symbols)) }
+    ensures fault { IfErr result (λ why. (why ≡ Fault.Memory) ⊎ AreSymbols (F.content files.old) path.entry (Err why)) }
+    ensures kept { F.content files.new ≡ F.content files.old }
+{
+    let Some(path) = path else {
+        return Ok(None);
+    };
+    let bytes = match content_of(files, path) {
+        Ok(bytes) => bytes,
+        Err(why) => return Err(why),
+    };
+    match Symbols::new(alloc, bytes) {
+        Ok(symbols) => Ok(Some(symbols)),
+        Err(why) => Err(symbols_fault(path, why)),
+    }
+}
