@@ -53,11 +53,11 @@ BODIES = [
         "    let mut path = match Audit::new(alloc, sent.as_slice()) {\n",
         "    if sent.len() > 1 << 20 {\n        return Err(Fault::Memory);\n    }\n"
         "    let mut path = match Audit::new(alloc, sent.as_slice()) {\n"),
-    ("symbols_of Memory past 4,096 bytes", "command_inputs", "inputs.rt",
+    ("symbols_of Memory past 4,096 bytes", "capture_commands", "symbols_input.rt",
         *memory_first("    match Symbols::new(alloc, bytes) {\n", "bytes.len() > 4096")),
     ("carry_out Memory for 1,024 logs of measure", "commands", "dispatch.rt",
-        "        Asked::Measure(asked) => measure(", "        Asked::Measure(asked) if asked.logs.len() > 1023 => "
-        "Err(Fault::Memory),\n        Asked::Measure(asked) => measure("),
+        "        Asked::Measure(asked) => joined_end(measure(", "        Asked::Measure(asked) if asked.logs.len() > 1023 => "
+        "Err(Fault::Memory),\n        Asked::Measure(asked) => joined_end(measure("),
     ("asked Memory past 1,000 words", "cli", "asking.rt",
         "    let matches = program(alloc)?",
         "    if words.len() > 1000 {\n        let refused: Result<(), AllocError> = Err(AllocError);\n"
