@@ -5,3 +5,5 @@ mod Sending
 mod Known
 mod Counts
 mod Whole
+mod HexLineRead
+mod HexTextRead

@@ -33,7 +33,8 @@ digit_read text count value read inside digit = record {
       ap (λ n. n * 10 + digit_value (get_or text count 0)) read.spelt ∙ sym (digits_value_more 10 text count inside);
 }
 
-by_tests : (limit : ℕ) (text : List ℕ) → 0 < length text
+-- What number digits spell, by the tests of the definition.
+pub by_tests : (limit : ℕ) (text : List ℕ) → 0 < length text
     → number_below limit text
     ≡ (if list_all is_decimal text && nat_lt (digits_value 10 text) limit then Some (digits_value 10 text) else None)
 by_tests limit [] some = absurd (omega (arith, some))

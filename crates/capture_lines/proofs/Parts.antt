@@ -29,7 +29,7 @@ only_part p text past =
 abbrev is_feed : ℕ → Bool
 is_feed byte = byte == 10
 
-before_more : (line : List ℕ) (parts : List (List ℕ)) → 0 < length parts
+pub before_more : (line : List ℕ) (parts : List (List ℕ)) → 0 < length parts
     → lines_of_parts (line ∷ parts) ≡ strip_carriage_return line ∷ lines_of_parts parts
 before_more line [] some = absurd (omega (arith, some))
 before_more line (part ∷ parts) some = refl

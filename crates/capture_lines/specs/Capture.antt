@@ -15,13 +15,13 @@ header_with settings harts =
 
 -- The capture of lines: what a capture of its version begins with, and then the messages of the lines. A header counts
 -- the harts up to the highest, where no other count is asked for.
-abbrev pub capture_of : Settings → List Line → List ℕ
-capture_of settings lines =
+abbrev pub capture_of_lines : Settings → List Line → List ℕ
+capture_of_lines settings lines =
     start_bytes settings.version (header_with settings (harts_up_to lines)) ++ capture (messages_of lines)
 
 -- The capture of these lines, or their fault.
 abbrev pub capture_or_fault : Settings → Result (List Line) LinesFault → Result (List ℕ) LinesFault
-capture_or_fault settings (Ok lines) = Ok (capture_of settings lines)
+capture_or_fault settings (Ok lines) = Ok (capture_of_lines settings lines)
 capture_or_fault settings (Err fault) = Err fault
 
 -- The capture of a text's lines, or the fault of the first line that has one.

@@ -10,11 +10,13 @@ mod cursor;
 mod fault;
 mod field;
 mod form;
+mod laws;
 mod line;
 mod numbering;
 mod settings;
 mod writing;
 
 pub use fault::{LineFault, LinesFault};
+pub use laws::hex_lines_become_the_capture;
 pub use settings::Settings;
 pub use writing::write_capture;

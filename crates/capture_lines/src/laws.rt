@@ -1,0 +1,9 @@
+//! Facts that follow from the definition of a text's capture.
+
+ghost use Rattle.capture_lines.specs.ReadBack.{LinesBecomeTheCapture};
+
+/// The lines of hexadecimal that are written for legal logs become the capture that is written for them, in the same
+/// version and mode and at the same period.
+pub fn hex_lines_become_the_capture()
+    ensures { LinesBecomeTheCapture }
+{}
