@@ -18,6 +18,9 @@ LIMITS_OF_README = ("an image", "a log", "a log of `check`, `encode`, `measure` 
 # The texts of faults that the program does not report: of calls of the library, and of runs that it never begins.
 NOT_REPORTED = {
     "no logs", "no harts", "too many harts", "capacity is not 1 to 65536", "period is 0", "cannot be written",
+    # Faults of lines: no subcommand reads them.
+    "line ", "hart is not a number below 64", "hart is not a number below 1024", "number is not a number",
+    "bytes are not 1 to 18", "hart is not below --harts",
 }
 FAULT_TEXTS = ("FaultText", "FateText", "SetupText")
 # Fates, which are no faults, and what each line begins with.

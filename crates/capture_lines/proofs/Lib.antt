@@ -6,4 +6,5 @@ mod Known
 mod Counts
 mod Whole
 mod HexLineRead
+mod SentMessages
 mod HexTextRead

@@ -17,6 +17,6 @@ mod settings;
 mod writing;
 
 pub use fault::{LineFault, LinesFault};
-pub use laws::hex_lines_become_the_capture;
+pub use laws::{hex_lines_become_the_capture, hex_lines_say_their_messages};
 pub use settings::Settings;
 pub use writing::write_capture;
