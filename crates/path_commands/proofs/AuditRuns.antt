@@ -1,6 +1,6 @@
 -- What `audit` prints, from what it wrote.
-use Rattle.std.proofs.Common.{◌≡◌, ◌⊎◌, inl, inr, ℕ, ◌+◌, ◌^◌, ◌<◌, ◌≤◌, ◌++◌, All, List, [], ◌∷◌, Option, Some, None, Result, Ok}
-use Rattle.std.proofs.Common.{Err, length, refl, sym, ap, subst, ◌∙◌, arith}
+use Rattle.std.proofs.Common.{inl, inr, ℕ, ◌≤◌, Bool, List, [], ◌∷◌, Option, Some, None, Result}
+use Rattle.std.proofs.Common.{length, refl, sym, ap, subst, arith}
 use Rattle.std.proofs.lemmas.List.{length-append}
 use Rattle.std.proofs.KnownBytes.{Appends-trans}
 use Rattle.std.specs.Io.KnownBytes.{Appends}
@@ -16,16 +16,15 @@ use Rattle.message.specs.declared.message.Message.{Message}
 use Rattle.message.specs.steps.Filling.{AreBytes}
 use Rattle.captures.proofs.Dumps.{AreBytes-behind, has_dump}
 use Rattle.captures.specs.Whole.{BeginsWith}
-use Rattle.auditing.specs.Judged.{judged}
+use Rattle.auditing.specs.Findings.{findings}
 use Rattle.command_inputs.proofs.Runs.{prints}
 use Rattle.command_inputs.specs.Begun.{IsCutOf}
 use Rattle.command_inputs.specs.Printed.{PrintsUnlessDenied}
 use Rattle.path_commands.specs.Faults.{Fault}
-use Rattle.command_inputs.specs.declared.fault.Fault.TheVariants as fault
 use Rattle.command_inputs.specs.declared.status.Status.{Status}
-use Rattle.path_commands.specs.AuditText.{fate_lines}
-use Rattle.captures.specs.Heard.{AreHeard, Behind, IsHeard}
-use Rattle.path_commands.specs.Audited.{Sent, WritesAudit, audit_text, behind_fates}
+use Rattle.path_commands.specs.AuditText.{finding_lines}
+use Rattle.captures.specs.Heard.{AreHeard, IsHeard}
+use Rattle.path_commands.specs.Audited.{Sent, WritesAudit, audit_text, behind_findings}
 use Rattle.path_commands.specs.Audited.{end_of_audit, is_whole_result}
 use Rattle.path_commands.specs.steps.Ending.{EndsRest}
 
@@ -75,11 +74,11 @@ few_behind bytes rest (Some header) begins =
     let same = ap length begins.1 in
     omega (arith, long, same)
 
-module _ (sent : Sent) (bytes : List ℕ) (header : Option Header) (received : List Message)
+module _ (summary : Bool) (sent : Sent) (bytes : List ℕ) (header : Option Header) (received : List Message)
     (stop : Option (ℕ × MessageFault)) (heard : IsHeard bytes header received stop) where
   -- The text, and how the run ends.
-  pub writes : WritesAudit sent bytes (record {
-    text = audit_text sent header received stop;
+  pub writes : WritesAudit summary sent bytes (record {
+    text = audit_text summary sent header received stop;
     ended = end_of_audit stop (is_whole_result sent header received stop);
   })
   writes =
@@ -87,27 +86,27 @@ module _ (sent : Sent) (bytes : List ℕ) (header : Option Header) (received : L
 
   -- Both parts of the text were written, or the output failed.
   pub audit_printed : (ended : Result Status Fault) (old mid new : Option (List ℕ))
-      → Appends old mid (fate_lines 0 (judged sent.messages received))
-      → EndsRest sent header received stop ended mid new
-      → PrintsUnlessDenied (WritesAudit sent bytes) ⊤ ended old new
+      → Appends old mid (finding_lines summary sent.messages 0 (findings sent.messages received))
+      → EndsRest summary sent header received stop ended mid new
+      → PrintsUnlessDenied (WritesAudit summary sent bytes) ⊤ ended old new
   audit_printed ended old mid new first (inl output) =
-      subst (λ e. PrintsUnlessDenied (WritesAudit sent bytes) ⊤ e old new) (sym output) (inl (inr (refl, tt)))
+      subst (λ e. PrintsUnlessDenied (WritesAudit summary sent bytes) ⊤ e old new) (sym output) (inl (inr (refl, tt)))
   audit_printed ended old mid new first (inr rest) =
-      prints (WritesAudit sent bytes) ⊤ ended old new (record {
-        text = audit_text sent header received stop;
+      prints (WritesAudit summary sent bytes) ⊤ ended old new (record {
+        text = audit_text summary sent header received stop;
         prints =
             record { header = header; received = received; stop = stop; heard = heard; text = refl; ended = rest.1 };
         appended =
-            Appends-trans old mid new (fate_lines 0 (judged sent.messages received))
-            (behind_fates sent header received stop) first rest.0;
+            Appends-trans old mid new (finding_lines summary sent.messages 0 (findings sent.messages received))
+            (behind_findings summary sent header received stop) first rest.0;
       })
 
   -- A beginning of the text was written.
-  cut_of : (old new : Option (List ℕ)) → AppendsBeginning (audit_text sent header received stop) old new
-      → IsCutOf (WritesAudit sent bytes) old new
+  cut_of : (old new : Option (List ℕ)) → AppendsBeginning (audit_text summary sent header received stop) old new
+      → IsCutOf (WritesAudit summary sent bytes) old new
   cut_of old new begun = inr (record {
     printed = record {
-      text = audit_text sent header received stop;
+      text = audit_text summary sent header received stop;
       ended = end_of_audit stop (is_whole_result sent header received stop);
     };
     prints = writes;
@@ -115,16 +114,16 @@ module _ (sent : Sent) (bytes : List ℕ) (header : Option Header) (received : L
   })
 
   pub cut_in_fates : (old new : Option (List ℕ))
-      → AppendsBeginning (fate_lines 0 (judged sent.messages received)) old new
-      → IsCutOf (WritesAudit sent bytes) old new
+      → AppendsBeginning (finding_lines summary sent.messages 0 (findings sent.messages received)) old new
+      → IsCutOf (WritesAudit summary sent bytes) old new
   cut_in_fates old new begun =
       cut_of old new
-      (begun_in_front (fate_lines 0 (judged sent.messages received)) (behind_fates sent header received stop) old new
+      (begun_in_front (finding_lines summary sent.messages 0 (findings sent.messages received)) (behind_findings summary sent header received stop) old new
       begun)
 
-  pub cut_in_rest : (old mid new : Option (List ℕ)) → Appends old mid (fate_lines 0 (judged sent.messages received))
-      → AppendsBeginning (behind_fates sent header received stop) mid new → IsCutOf (WritesAudit sent bytes) old new
+  pub cut_in_rest : (old mid new : Option (List ℕ)) → Appends old mid (finding_lines summary sent.messages 0 (findings sent.messages received))
+      → AppendsBeginning (behind_findings summary sent header received stop) mid new → IsCutOf (WritesAudit summary sent bytes) old new
   cut_in_rest old mid new first begun =
       cut_of old new
-      (begun_behind (fate_lines 0 (judged sent.messages received)) (behind_fates sent header received stop) old mid new
+      (begun_behind (finding_lines summary sent.messages 0 (findings sent.messages received)) (behind_findings summary sent header received stop) old mid new
       first begun)

@@ -1,5 +1,5 @@
 -- The lines of harts, one after the other.
-use Rattle.std.proofs.Common.{◌≡◌, ℕ, zero, suc, ◌+◌, ◌-◌, ◌<◌, ◌≤◌, Bool, true, false, List, [], ◌∷◌, ◌++◌, Option, refl, sym}
+use Rattle.std.proofs.Common.{◌≡◌, ℕ, suc, ◌+◌, ◌-◌, ◌<◌, ◌≤◌, Bool, true, false, List, [], ◌∷◌, ◌++◌, Option, refl}
 use Rattle.std.proofs.Common.{ap, subst, ◌∙◌, arith}
 use Rattle.std.specs.Prelude.{◌&&◌}
 use Rattle.std.specs.Io.KnownBytes.{Appends}
@@ -8,14 +8,14 @@ use Rattle.output.specs.Begun.{AppendsBeginning}
 use Rattle.path_commands.proofs.Parts.{HasWritten, part_all, part_begun, part_more}
 
 -- The next hart and those behind it.
-next_hart : (hart count : ℕ) → hart < count
+pub next_hart : (hart count : ℕ) → hart < count
     → range_with_len hart (count - hart) ≡ hart ∷ range_with_len (hart + 1) (count - (hart + 1))
 next_hart hart count within =
     let one : count - hart ≡ suc (count - (hart + 1)) = omega (arith, within) in
     ap (range_with_len hart) one
 
 -- No hart is left.
-no_hart : (hart count : ℕ) → count ≤ hart → range_with_len hart (count - hart) ≡ []
+pub no_hart : (hart count : ℕ) → count ≤ hart → range_with_len hart (count - hart) ≡ []
 no_hart hart count past =
     let none : count - hart ≡ 0 = omega (arith, past) in
     ap (range_with_len hart) none

@@ -1,6 +1,7 @@
 pub mod Parts
-pub mod FateLines
+pub mod FindingLines
 pub mod HartLines
+pub mod Sums
 pub mod Rests
 pub mod AuditRuns
 pub mod AuditSteps

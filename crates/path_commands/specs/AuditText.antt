@@ -1,33 +1,62 @@
 -- The text of an audit.
-use Rattle.std.specs.Prelude.{ℕ, ◌+◌, ◌==◌, ◌||◌, ◌++◌, not, Bool, true, false, if◌then◌else◌, List, [], ◌∷◌}
+use Rattle.std.specs.Prelude.{ℕ, ◌+◌, ◌/◌, ◌%◌, ◌==◌, ◌||◌, ◌++◌, nat_lt, not, Bool, true, false, if◌then◌else◌, List, [], ◌∷◌}
 use Rattle.std.specs.Prelude.{Option, Some, None, codes}
-use Rattle.std.specs.Fmt.{decimal}
-use Rattle.std.specs.List.{flat_map, list_all, range_with_len}
+use Rattle.std.specs.Fmt.{decimal, digits}
+use Rattle.std.specs.List.{flat_map, list_all, range_with_len, sum_by}
 use Rattle.message.specs.declared.header.Header.{Header}
 use Rattle.message.specs.declared.message.Message.{Message}
 use Rattle.receiver.specs.Agreeing.{differ}
-use Rattle.auditing.specs.FateText.{fate_text}
-use Rattle.auditing.specs.Judged.{Judged, is_fate}
+use Rattle.auditing.specs.Findings.{Found, is_plain}
+use Rattle.auditing.specs.HartRows.{row_of}
 use Rattle.auditing.specs.Losing.{lost_runs}
+use Rattle.auditing.specs.SentPayload.{payload_sent}
 use Rattle.auditing.specs.Tallies.{tally_of}
-use Rattle.auditing.specs.declared.fate.Fate.TheVariants.{InOrder}
+use Rattle.auditing.specs.declared.finding.Finding.{Finding}
+use Rattle.auditing.specs.declared.finding.Finding.TheVariants as finding
 use Rattle.auditing.specs.declared.lost.Lost.{Lost}
-use Rattle.auditing.specs.declared.tally.Tally.{Tally}
+use Rattle.auditing.specs.declared.row.HartRow.{HartRow}
+use Rattle.path_commands.specs.declared.total.Total.{Total}
 
--- The line of a message at a place of RECEIVED: its hart, its number and its fate.
-abbrev pub fate_line : ℕ → Judged → List ℕ
-fate_line place one =
+-- The two hexadecimal digits of a byte, in lower case.
+abbrev pub byte_text : ℕ → List ℕ
+byte_text byte = digits 16 false (byte / 16) ++ digits 16 false (byte % 16)
+
+-- The hexadecimal digits of bytes.
+abbrev pub bytes_text : List ℕ → List ℕ
+bytes_text bytes = flat_map byte_text bytes
+
+-- The payload that was sent, none where there is no such message.
+abbrev pub sent_bytes : Option (List ℕ) → List ℕ
+sent_bytes None = []
+sent_bytes (Some payload) = payload
+
+-- What is found of a message, where SENT has the first payload and the second came.
+abbrev pub finding_text : Option (List ℕ) → List ℕ → Finding → List ℕ
+finding_text sent came finding.Stranger = codes "stranger"
+finding_text sent came finding.Changed =
+    codes "changed, sent " ++ (bytes_text (sent_bytes sent) ++ (codes " came " ++ bytes_text came))
+finding_text sent came finding.Repeat = codes "repeat"
+finding_text sent came (finding.Late by) = codes "late by " ++ decimal by
+finding_text sent came (finding.InOrder skips) = codes "skips " ++ decimal skips
+
+-- The line of a message at a place of RECEIVED: its hart, its number and what is found of it.
+abbrev pub finding_line : List Message → ℕ → Found → List ℕ
+finding_line sent place one =
     codes "message " ++ (decimal place ++ (codes ": hart " ++ (decimal one.message.hart ++ (codes " number "
-    ++ (decimal one.message.number ++ (codes ": " ++ (fate_text one.fate ++ codes "\n")))))))
+    ++ (decimal one.message.number ++ (codes ": "
+    ++ (finding_text (payload_sent sent one.message.hart one.message.number) one.message.payload one.finding
+    ++ codes "\n")))))))
 
--- A message that is in order has no line.
-abbrev pub line_or_none : ℕ → Judged → List ℕ
-line_or_none place one = if is_fate InOrder one.fate then [] else fate_line place one
+-- A message that is in order and skips no number has no line, and in a summary none has.
+abbrev pub line_or_none : Bool → List Message → ℕ → Found → List ℕ
+line_or_none summary sent place one =
+    if summary || is_plain one.finding then [] else finding_line sent place one
 
--- The lines of messages that are not in order. The first message is at this place.
-abbrev pub fate_lines : ℕ → List Judged → List ℕ
-fate_lines place [] = []
-fate_lines place (one ∷ more) = line_or_none place one ++ fate_lines (place + 1) more
+-- The lines of messages. The first message is at this place.
+abbrev pub finding_lines : Bool → List Message → ℕ → List Found → List ℕ
+finding_lines summary sent place [] = []
+finding_lines summary sent place (one ∷ more) =
+    line_or_none summary sent place one ++ finding_lines summary sent (place + 1) more
 
 -- The numbers of a run of numbers that were lost.
 abbrev pub numbers_text : Lost → List ℕ
@@ -48,14 +77,39 @@ abbrev pub verdict_text : Bool → List ℕ
 verdict_text true = codes "whole"
 verdict_text false = codes "not whole"
 
--- The line of a hart: how many of its messages were sent and came, how many numbers are lost, how many messages were
--- repeated, late and changed, and whether it is whole.
-abbrev pub tally_line : ℕ → Tally → List ℕ
-tally_line hart tally =
-    codes "hart " ++ (decimal hart ++ (codes ": " ++ (decimal tally.sent ++ (codes " sent, "
-    ++ (decimal tally.came ++ (codes " came, " ++ (decimal tally.lost ++ (codes " lost, "
-    ++ (decimal tally.repeated ++ (codes " repeated, " ++ (decimal tally.late ++ (codes " late, "
-    ++ (decimal tally.changed ++ (codes " changed, " ++ (verdict_text tally.whole ++ codes "\n")))))))))))))))
+-- How many messages were sent and came, how many numbers are lost, how many messages were repeated, late, changed and
+-- strange, and whether all is whole.
+abbrev pub counts_text : ℕ → ℕ → ℕ → ℕ → ℕ → ℕ → ℕ → Bool → List ℕ
+counts_text sent came lost repeated late changed strange whole =
+    decimal sent ++ (codes " sent, " ++ (decimal came ++ (codes " came, " ++ (decimal lost ++ (codes " lost, "
+    ++ (decimal repeated ++ (codes " repeated, " ++ (decimal late ++ (codes " late, "
+    ++ (decimal changed ++ (codes " changed, " ++ (decimal strange ++ (codes " strange, "
+    ++ (verdict_text whole ++ codes "\n"))))))))))))))
+
+-- The counts of a hart.
+abbrev pub row_counts : HartRow → List ℕ
+row_counts row =
+    counts_text row.tally.sent row.tally.came row.tally.lost row.tally.repeated row.tally.late row.tally.changed
+    row.strange row.tally.whole
+
+-- The line of the runs of a hart's lost numbers, where there are any.
+abbrev pub runs_line : ℕ → ℕ → ℕ → List ℕ
+runs_line hart runs longest =
+    if runs == 0 then [] else
+    codes "hart " ++ (decimal hart ++ (codes ": lost in " ++ (decimal runs ++ (codes " runs, the longest of "
+    ++ (decimal longest ++ codes "\n")))))
+
+-- The line of the message of a hart that is the latest, where one is late.
+abbrev pub late_line : ℕ → ℕ → List ℕ
+late_line hart latest =
+    if latest == 0 then [] else
+    codes "hart " ++ (decimal hart ++ (codes ": late by at most " ++ (decimal latest ++ codes "\n")))
+
+-- The lines of a hart: its counts, the runs of its lost numbers, and the most by which one of its messages is late.
+abbrev pub row_text : ℕ → HartRow → List ℕ
+row_text hart row =
+    codes "hart " ++ (decimal hart ++ (codes ": " ++ (row_counts row
+    ++ (runs_line hart row.runs row.longest ++ late_line hart row.latest))))
 
 -- The line of strangers, where there are any.
 abbrev pub strangers_line : ℕ → List ℕ
@@ -76,13 +130,29 @@ abbrev pub headers_line : Bool → List ℕ
 headers_line true = codes "headers differ\n"
 headers_line false = []
 
+-- The line of all harts together, where there is more than one.
+abbrev pub all_line : ℕ → Total → List ℕ
+all_line harts total =
+    if nat_lt 1 harts then
+    codes "all: "
+    ++ counts_text total.sent total.came total.lost total.repeated total.late total.changed total.strange total.whole
+    else []
+
+-- The line of the first message that is not in order or skips a number, where there is one.
+abbrev pub first_line : Option ℕ → List ℕ
+first_line None = []
+first_line (Some place) = codes "first: message " ++ (decimal place ++ codes "\n")
+
 -- The line of the result.
 abbrev pub result_line : Bool → List ℕ
 result_line whole = codes "result: " ++ (verdict_text whole ++ codes "\n")
 
--- What follows the lines of the harts: how many strangers came, whether headers differ, and the result.
-abbrev pub ending_text : ℕ → Bool → Bool → List ℕ
-ending_text strangers unlike whole = strangers_line strangers ++ (headers_line unlike ++ result_line whole)
+-- What follows the lines of the harts: all of them together, how many strangers came, whether headers differ, the first
+-- message that is not in order or skips a number, and the result.
+abbrev pub ending_text : ℕ → Total → ℕ → Bool → Option ℕ → Bool → List ℕ
+ending_text harts total strangers unlike first whole =
+    all_line harts total
+    ++ (strangers_line strangers ++ (headers_line unlike ++ (first_line first ++ result_line whole)))
 
 -- The harts of so many, from 0 on.
 abbrev pub harts_below : ℕ → List ℕ
@@ -93,10 +163,32 @@ abbrev pub all_lost_lines : List Message → List Message → ℕ → List ℕ
 all_lost_lines sent received harts =
     flat_map (λ hart. lost_lines hart (lost_runs sent received hart)) (harts_below harts)
 
+-- Lines that a summary leaves out.
+abbrev pub unless_summary : Bool → List ℕ → List ℕ
+unless_summary true lines = []
+unless_summary false lines = lines
+
 -- The lines of all harts.
-abbrev pub tally_lines : List Message → List Message → ℕ → List ℕ
-tally_lines sent received harts = flat_map (λ hart. tally_line hart (tally_of sent received hart)) (harts_below harts)
+abbrev pub row_lines : List Message → List Message → ℕ → List ℕ
+row_lines sent received harts = flat_map (λ hart. row_text hart (row_of sent received hart)) (harts_below harts)
 
 -- All harts are whole.
 abbrev pub are_whole : List Message → List Message → ℕ → Bool
 are_whole sent received harts = list_all (λ hart. (tally_of sent received hart).whole) (harts_below harts)
+
+-- What a row counts, over all harts, in sum.
+abbrev pub sum_of : (HartRow → ℕ) → List Message → List Message → ℕ → ℕ
+sum_of count sent received harts = sum_by (λ hart. count (row_of sent received hart)) (harts_below harts)
+
+-- All harts together: the sums of what their rows count, and whether all are whole.
+abbrev pub total_of : List Message → List Message → ℕ → Total
+total_of sent received harts = record {
+  sent = sum_of (λ row. row.tally.sent) sent received harts;
+  came = sum_of (λ row. row.tally.came) sent received harts;
+  lost = sum_of (λ row. row.tally.lost) sent received harts;
+  repeated = sum_of (λ row. row.tally.repeated) sent received harts;
+  late = sum_of (λ row. row.tally.late) sent received harts;
+  changed = sum_of (λ row. row.tally.changed) sent received harts;
+  strange = sum_of (λ row. row.strange) sent received harts;
+  whole = are_whole sent received harts;
+}

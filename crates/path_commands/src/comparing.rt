@@ -8,21 +8,22 @@ ghost use Rattle.message.specs.declared.fault.MessageFault.{MessageFault as AnyM
 ghost use Rattle.message.specs.declared.message.Message.{Message as AnyMessage};
 ghost use Rattle.captures.specs.Heard.{AreHeard};
 ghost use Rattle.auditing.specs.Audits.{Audits as IsAudit};
-ghost use Rattle.auditing.specs.Judged.{judged};
+ghost use Rattle.auditing.specs.Findings.{findings};
 ghost use Rattle.auditing.specs.Losing.{lost_runs};
 ghost use Rattle.command_inputs.specs.Begun.{IsCutOf};
 ghost use Rattle.command_inputs.specs.Printed.{PrintsUnlessDenied};
 ghost use Rattle.path_commands.specs.Faults.{final_status};
-ghost use Rattle.path_commands.specs.AuditText.{all_lost_lines, are_whole, fate_lines, headers_differ, line_or_none};
-ghost use Rattle.path_commands.specs.AuditText.{lost_lines, tally_lines};
-ghost use Rattle.path_commands.specs.Audited.{Audits, CanAudit, WritesAudit, behind_fates, end_of_audit};
+ghost use Rattle.path_commands.specs.AuditText.{all_lost_lines, finding_lines, headers_differ, line_or_none, lost_lines};
+ghost use Rattle.path_commands.specs.AuditText.{row_lines, total_of, unless_summary};
+ghost use Rattle.path_commands.specs.Audited.{Audits, CanAudit, WritesAudit, behind_findings, end_of_audit};
 ghost use Rattle.path_commands.specs.steps.Ending.{EndsRest};
 ghost use Rattle.command_inputs.specs.declared.fault.Fault.TheVariants as Fault;
 
 use crate::ending::Ending;
-use crate::lines::{LostLine, TallyLine};
+use crate::lines::{FindingText, LostLine, RowText};
 use crate::reason::{Fault, received_fault, sent_fault};
-use auditing::{Audit, Fate};
+use crate::total::Total;
+use auditing::{Audit, Finding};
 use command_inputs::{Files, Status, content_of};
 use message::{Header, Message, MessageFault, Messages};
 use output::write_text;
@@ -31,9 +32,9 @@ use std::io;
 use std::io::Write;
 use subcommands::Audit as Asked;
 
-/// Writes what became of the messages of SENT in RECEIVED: a line for each message of RECEIVED that is not in order,
-/// one for each longest run of numbers of a hart that were lost, one for each hart, and the result. Returns that all is
-/// done if the result is `whole`.
+/// Writes what became of the messages of SENT in RECEIVED: a line for each message of RECEIVED that is not in order or
+/// skips a number, one for each longest run of numbers of a hart that were lost, the lines of each hart, and the result.
+/// A summary has no lines of messages and of runs. Returns that all is done if the result is `whole`.
 ///
 /// SENT is checked to its end before RECEIVED is read. Where it is refused, nothing is written. Where RECEIVED ends in
 /// a fault of its own, what comes before that place is audited and written, and then the fault is returned.
@@ -56,39 +57,41 @@ pub fn audit<'a, F: Files, O: Write>(
         Err(why) => return Err(sent_fault(asked.sent, why)),
     };
     let received = content_of(files, asked.received)?;
-    write_audit(&mut path, received.as_slice(), out)
+    write_audit(&mut path, received.as_slice(), asked.summary, out)
 }
 
 /// Writes what became of the messages of SENT in these bytes of RECEIVED.
 fn write_audit<'a, O: Write>(
     path: &mut Audit<'_>,
     bytes: &[u8],
+    summary: bool,
     out: &mut O,
 ) -> Result<Status, Fault<'a>>
     ensures ended { final_status result ≢ Status.Refused }
     ensures memory { result ≢ Err Fault.Memory }
     ensures printed { (sent : List AnyMessage) → IsAudit sent [] path.old
-        → PrintsUnlessDenied (WritesAudit (record { header = path.old.header; messages = sent }) bytes.now) ⊤ result
+        → PrintsUnlessDenied (WritesAudit summary (record { header = path.old.header; messages = sent }) bytes.now) ⊤ result
         (O.contents out.old) (O.contents out.new) }
     ensures cut { (sent : List AnyMessage) → IsAudit sent [] path.old
-        → IsCutOf (WritesAudit (record { header = path.old.header; messages = sent }) bytes.now)
+        → IsCutOf (WritesAudit summary (record { header = path.old.header; messages = sent }) bytes.now)
         (O.contents out.old) (O.contents out.new) }
 {
     let mut left = Messages::new(bytes);
     match left.header() {
         Ok(header) => {
-            let stop = write_fates(path, left, out)?;
-            write_rest(path, header, stop, out)
+            let stop = write_findings(path, left, summary, out)?;
+            write_rest(path, header, stop, summary, out)
         }
-        Err(why) => write_rest(path, None, Some((0, why)), out),
+        Err(why) => write_rest(path, None, Some((0, why)), summary, out),
     }
 }
 
-/// Takes all messages of these bytes, and writes a line for each that is not in order. Returns where they end before
-/// the bytes do, and why.
-fn write_fates<O: Write>(
+/// Takes all messages of these bytes, and writes a line for each that is not in order or skips a number, but none in a
+/// summary. Returns where they end before the bytes do, and why.
+fn write_findings<O: Write>(
     path: &mut Audit<'_>,
     messages: Messages<'_>,
+    summary: bool,
     out: &mut O,
 ) -> io::Result<Option<(u64, MessageFault)>>
     ensures heard { (sent received : List AnyMessage) (stop : Option (ℕ × AnyMessageFault)) → IsAudit sent [] path.old
@@ -97,10 +100,10 @@ fn write_fates<O: Write>(
     ensures header { path.new.header ≡ path.old.header }
     ensures text { (sent received : List AnyMessage) (stop : Option (ℕ × AnyMessageFault)) → IsAudit sent [] path.old
         → AreHeard messages.entry received stop
-        → OnOk result (Appends (O.contents out.old) (O.contents out.new) (fate_lines 0 (judged sent received))) }
+        → OnOk result (Appends (O.contents out.old) (O.contents out.new) (finding_lines summary sent 0 (findings sent received))) }
     ensures begun { (sent received : List AnyMessage) (stop : Option (ℕ × AnyMessageFault)) → IsAudit sent [] path.old
         → AreHeard messages.entry received stop
-        → AppendsBeginning (fate_lines 0 (judged sent received)) (O.contents out.old) (O.contents out.new) }
+        → AppendsBeginning (finding_lines summary sent 0 (findings sent received)) (O.contents out.old) (O.contents out.new) }
 {
     let mut left = messages;
     let mut place = 0;
@@ -110,27 +113,41 @@ fn write_fates<O: Write>(
             Ok(None) => return Ok(None),
             Err(why) => return Ok(Some((place, why))),
         };
-        let fate = path.take(&message);
-        write_fate(place, &message, fate, out)?;
+        let finding = path.examine(&message);
+        write_finding(path, place, &message, finding, summary, out)?;
         place += 1;
     }
 }
 
-/// Writes the line of a message at this place, where it is not in order.
-fn write_fate<O: Write>(place: u64, message: &Message, fate: Fate, out: &mut O) -> io::Result<()>
-    ensures text { OnOk result (Appends (O.contents out.old) (O.contents out.new)
-        (line_or_none place (record { message = message.now; fate = fate }))) }
-    ensures begun { AppendsBeginning (line_or_none place (record { message = message.now; fate = fate }))
+/// Writes the line of a message at this place, where it is not in order or skips a number, but none in a summary.
+fn write_finding<O: Write>(
+    path: &Audit<'_>,
+    place: u64,
+    message: &Message,
+    finding: Finding,
+    summary: bool,
+    out: &mut O,
+) -> io::Result<()>
+    ensures text { (sent received : List AnyMessage) → IsAudit sent received path.now
+        → OnOk result (Appends (O.contents out.old) (O.contents out.new)
+        (line_or_none summary sent place (record { message = message.now; finding = finding }))) }
+    ensures begun { (sent received : List AnyMessage) → IsAudit sent received path.now
+        → AppendsBeginning (line_or_none summary sent place (record { message = message.now; finding = finding }))
         (O.contents out.old) (O.contents out.new) }
 {
-    if let Fate::InOrder = fate {
+    if summary || finding.is_plain() {
         return Ok(());
     }
     let hart = message.hart;
     let number = message.number;
+    let text = FindingText {
+        finding,
+        sent: path.sent(hart, number),
+        came: message.payload.bytes(),
+    };
     write_text(
         out,
-        format_args!("message {place}: hart {hart} number {number}: {fate}\n"),
+        format_args!("message {place}: hart {hart} number {number}: {text}\n"),
     )
 }
 
@@ -140,25 +157,29 @@ fn write_rest<'a, O: Write>(
     path: &Audit<'_>,
     header: Option<Header>,
     stop: Option<(u64, MessageFault)>,
+    summary: bool,
     out: &mut O,
 ) -> Result<Status, Fault<'a>>
     ensures ended { final_status result ≢ Status.Refused }
     ensures memory { result ≢ Err Fault.Memory }
     ensures written { (sent received : List AnyMessage) → IsAudit sent received path.now → length received < 2 ^ 64
-        → EndsRest (record { header = path.now.header; messages = sent }) header received stop result
+        → EndsRest summary (record { header = path.now.header; messages = sent }) header received stop result
         (O.contents out.old) (O.contents out.new) }
     ensures begun { (sent received : List AnyMessage) → IsAudit sent received path.now → length received < 2 ^ 64
-        → AppendsBeginning (behind_fates (record { header = path.now.header; messages = sent }) header received stop)
+        → AppendsBeginning (behind_findings summary (record { header = path.now.header; messages = sent }) header received stop)
         (O.contents out.old) (O.contents out.new) }
 {
-    write_losses(path, out)?;
-    let all_whole = write_tallies(path, out)?;
+    write_runs(path, summary, out)?;
+    let total = write_rows(path, out)?;
     let count = path.strangers();
     let unlike = are_unlike(path.header(), header);
-    let whole = is_whole(all_whole, count, unlike, stop.is_none());
+    let whole = is_whole(total.whole, count, unlike, stop.is_none());
     let ending = Ending {
+        harts: path.harts(),
+        total,
         strangers: count,
         unlike,
+        first: path.first(),
         whole,
     };
     write_text(out, ending)?;
@@ -200,6 +221,21 @@ fn are_unlike(sent: Option<Header>, received: Option<Header>) -> bool
     }
 }
 
+/// Writes the lines of the numbers of each hart that were lost, but none in a summary.
+fn write_runs<O: Write>(path: &Audit<'_>, summary: bool, out: &mut O) -> io::Result<()>
+    ensures text { (sent received : List AnyMessage) → IsAudit sent received path.now
+        → OnOk result (Appends (O.contents out.old) (O.contents out.new)
+        (unless_summary summary (all_lost_lines sent received (length path.now.harts)))) }
+    ensures begun { (sent received : List AnyMessage) → IsAudit sent received path.now
+        → AppendsBeginning (unless_summary summary (all_lost_lines sent received (length path.now.harts)))
+        (O.contents out.old) (O.contents out.new) }
+{
+    if summary {
+        return Ok(());
+    }
+    write_losses(path, out)
+}
+
 /// Writes the lines of the numbers of each hart that were lost.
 fn write_losses<O: Write>(path: &Audit<'_>, out: &mut O) -> io::Result<()>
     ensures text { (sent received : List AnyMessage) → IsAudit sent received path.now
@@ -232,23 +268,23 @@ fn write_lost<O: Write>(path: &Audit<'_>, hart: usize, out: &mut O) -> io::Resul
     Ok(())
 }
 
-/// Writes the line of each hart, and returns whether all are whole.
-fn write_tallies<O: Write>(path: &Audit<'_>, out: &mut O) -> io::Result<bool>
-    ensures whole { (sent received : List AnyMessage) → IsAudit sent received path.now → length received < 2 ^ 64
-        → IfOk result (λ whole. whole ≡ are_whole sent received (length path.now.harts)) }
+/// Writes the lines of each hart, and returns what is found of all together.
+fn write_rows<O: Write>(path: &Audit<'_>, out: &mut O) -> io::Result<Total>
+    ensures total { (sent received : List AnyMessage) → IsAudit sent received path.now → length received < 2 ^ 64
+        → IfOk result (λ total. total ≡ total_of sent received (length path.now.harts)) }
     ensures text { (sent received : List AnyMessage) → IsAudit sent received path.now → length received < 2 ^ 64
         → OnOk result (Appends (O.contents out.old) (O.contents out.new)
-        (tally_lines sent received (length path.now.harts))) }
+        (row_lines sent received (length path.now.harts))) }
     ensures begun { (sent received : List AnyMessage) → IsAudit sent received path.now → length received < 2 ^ 64
-        → AppendsBeginning (tally_lines sent received (length path.now.harts))
+        → AppendsBeginning (row_lines sent received (length path.now.harts))
         (O.contents out.old) (O.contents out.new) }
 {
-    let mut whole = true;
+    let mut total = Total::new();
     for hart in 0..path.harts() {
-        let tally = path.tally(hart);
-        whole &= tally.whole;
-        let line = TallyLine { hart, tally };
-        write_text(out, line)?;
+        let row = path.row(hart);
+        total = total.add(row);
+        let text = RowText { hart, row };
+        write_text(out, text)?;
     }
-    Ok(whole)
+    Ok(total)
 }

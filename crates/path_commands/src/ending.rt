@@ -1,35 +1,96 @@
 //! What follows the lines of the harts.
 
 ghost use Rattle.std.specs.Prelude.{◌≡◌, ◌++◌, Some};
-ghost use Rattle.path_commands.specs.AuditText.{ending_text, headers_line, result_line, verdict_text};
+ghost use Rattle.path_commands.specs.AuditText.{all_line, ending_text, first_line, headers_line, result_line};
+ghost use Rattle.path_commands.specs.AuditText.{strangers_line, verdict_text};
 
+use crate::total::Total;
 use std::fmt;
 
 /// The last lines of an audit.
 #[derive(Clone, Copy)]
 pub(crate) struct Ending {
+    /// How many harts SENT has.
+    pub(crate) harts: usize,
+    /// What is found of all of them together.
+    pub(crate) total: Total,
     /// How many strangers came.
     pub(crate) strangers: u64,
     /// Whether both captures have a header, and these differ.
     pub(crate) unlike: bool,
+    /// The place of the first message that is not in order or skips a number, if there is one.
+    pub(crate) first: Option<u64>,
     /// Whether the result is whole.
     pub(crate) whole: bool,
 }
 
 impl fmt::Display for Ending {
-    ghost output = { λ ending. Some (ending_text ending.strangers ending.unlike ending.whole) };
+    ghost output = { λ ending. Some (ending_text ending.harts ending.total ending.strangers ending.unlike ending.first
+        ending.whole) };
+
+    fn fmt<W: fmt::Write>(&self, f: &mut fmt::Formatter<W>) -> fmt::Result {
+        let all = AllLine {
+            harts: self.harts,
+            total: self.total,
+        };
+        let others = StrangersLine {
+            strangers: self.strangers,
+        };
+        let closing = Closing {
+            unlike: self.unlike,
+            first: self.first,
+            whole: self.whole,
+        };
+        write!(f, "{all}{others}{closing}")
+    }
+}
+
+/// The line of all harts together, where there is more than one.
+#[derive(Clone, Copy)]
+struct AllLine {
+    harts: usize,
+    total: Total,
+}
+
+impl fmt::Display for AllLine {
+    ghost output = { λ line. Some (all_line line.harts line.total) };
+
+    fn fmt<W: fmt::Write>(&self, f: &mut fmt::Formatter<W>) -> fmt::Result {
+        let sent = self.total.sent;
+        let came = self.total.came;
+        let lost = self.total.lost;
+        let repeated = self.total.repeated;
+        let late = self.total.late;
+        let changed = self.total.changed;
+        let strange = self.total.strange;
+        let verdict = verdict_text(self.total.whole);
+        if self.harts > 1 {
+            write!(f, "all: {sent} sent, {came} came, {lost} lost, ")?;
+            write!(
+                f,
+                "{repeated} repeated, {late} late, {changed} changed, {strange} strange, {verdict}\n"
+            )
+        } else {
+            f.write_str("")
+        }
+    }
+}
+
+/// The line of strangers, where there are any.
+#[derive(Clone, Copy)]
+struct StrangersLine {
+    strangers: u64,
+}
+
+impl fmt::Display for StrangersLine {
+    ghost output = { λ line. Some (strangers_line line.strangers) };
 
     fn fmt<W: fmt::Write>(&self, f: &mut fmt::Formatter<W>) -> fmt::Result {
         let strangers = self.strangers;
-        let closing = Closing {
-            unlike: self.unlike,
-            whole: self.whole,
-        };
         if strangers == 0 {
-            write!(f, "{closing}")
+            f.write_str("")
         } else {
-            write!(f, "strangers: {strangers} messages\n")?;
-            write!(f, "{closing}")
+            write!(f, "strangers: {strangers} messages\n")
         }
     }
 }
@@ -38,21 +99,44 @@ impl fmt::Display for Ending {
 #[derive(Clone, Copy)]
 struct Closing {
     unlike: bool,
+    first: Option<u64>,
     whole: bool,
 }
 
 impl fmt::Display for Closing {
-    ghost output = { λ closing. Some (headers_line closing.unlike ++ result_line closing.whole) };
+    ghost output = { λ closing. Some (headers_line closing.unlike
+        ++ (first_line closing.first ++ result_line closing.whole)) };
 
     fn fmt<W: fmt::Write>(&self, f: &mut fmt::Formatter<W>) -> fmt::Result {
+        let headers = headers_line(self.unlike);
+        let first = FirstLine { first: self.first };
         let verdict = verdict_text(self.whole);
-        if self.unlike {
-            f.write_str("headers differ\n")?;
-            write!(f, "result: {verdict}\n")
-        } else {
-            write!(f, "result: {verdict}\n")
+        write!(f, "{headers}{first}result: {verdict}\n")
+    }
+}
+
+/// The line of the first message that is not in order or skips a number, where there is one.
+#[derive(Clone, Copy)]
+struct FirstLine {
+    first: Option<u64>,
+}
+
+impl fmt::Display for FirstLine {
+    ghost output = { λ line. Some (first_line line.first) };
+
+    fn fmt<W: fmt::Write>(&self, f: &mut fmt::Formatter<W>) -> fmt::Result {
+        match self.first {
+            Some(place) => write!(f, "first: message {place}\n"),
+            None => f.write_str(""),
         }
     }
+}
+
+/// The line for headers that differ.
+fn headers_line(unlike: bool) -> &'static str
+    ensures { result.now ≡ headers_line unlike }
+{
+    if unlike { "headers differ\n" } else { "" }
 }
 
 /// Whether a hart, or all of them, are whole.

@@ -1,11 +1,68 @@
 //! The lines of messages and of harts.
 
-ghost use Rattle.std.specs.Prelude.{◌≡◌, Some};
-ghost use Rattle.path_commands.specs.AuditText.{lost_line, numbers_text, tally_line};
+ghost use Rattle.std.specs.Prelude.{◌≡◌, Some, option_map};
+ghost use Rattle.path_commands.specs.AuditText.{byte_text, bytes_text, finding_text, late_line, lost_line};
+ghost use Rattle.path_commands.specs.AuditText.{numbers_text, row_counts, row_text, runs_line};
 
 use crate::ending::verdict_text;
-use auditing::{Lost, Tally};
+use auditing::{Finding, HartRow, Lost};
 use std::fmt;
+
+/// The hexadecimal digits of bytes.
+#[derive(Clone, Copy)]
+pub(crate) struct Digits<'a>(pub(crate) &'a [u8]);
+
+impl fmt::Display for Digits<'_> {
+    ghost output = { λ digits. Some (bytes_text digits.0.now) };
+
+    fn fmt<W: fmt::Write>(&self, f: &mut fmt::Formatter<W>) -> fmt::Result {
+        for place in 0..self.0.len() {
+            write!(f, "{}", Byte(self.0[place]))?;
+        }
+        Ok(())
+    }
+}
+
+/// The two hexadecimal digits of a byte.
+#[derive(Clone, Copy)]
+struct Byte(u8);
+
+impl fmt::Display for Byte {
+    ghost output = { λ byte. Some (byte_text byte.0) };
+
+    fn fmt<W: fmt::Write>(&self, f: &mut fmt::Formatter<W>) -> fmt::Result {
+        let high = self.0 / 16;
+        let low = self.0 % 16;
+        write!(f, "{high:x}{low:x}")
+    }
+}
+
+/// What is found of a message, where SENT has the first payload and the second came.
+#[derive(Clone, Copy)]
+pub(crate) struct FindingText<'a> {
+    pub(crate) finding: Finding,
+    pub(crate) sent: Option<&'a [u8]>,
+    pub(crate) came: &'a [u8],
+}
+
+impl fmt::Display for FindingText<'_> {
+    ghost output = { λ text. Some (finding_text (option_map (λ payload. payload.now) text.sent) text.came.now
+        text.finding) };
+
+    fn fmt<W: fmt::Write>(&self, f: &mut fmt::Formatter<W>) -> fmt::Result {
+        let came = Digits(self.came);
+        match self.finding {
+            Finding::Stranger => f.write_str("stranger"),
+            Finding::Changed => match self.sent {
+                Some(sent) => write!(f, "changed, sent {} came {came}", Digits(sent)),
+                None => write!(f, "changed, sent  came {came}"),
+            },
+            Finding::Repeat => f.write_str("repeat"),
+            Finding::Late { by } => write!(f, "late by {by}"),
+            Finding::InOrder { skips } => write!(f, "skips {skips}"),
+        }
+    }
+}
 
 /// The line of a run of numbers of a hart that were lost.
 #[derive(Clone, Copy)]
@@ -29,29 +86,101 @@ impl fmt::Display for LostLine {
     }
 }
 
-/// The line of a hart.
+/// The lines of a hart.
 #[derive(Clone, Copy)]
-pub(crate) struct TallyLine {
+pub(crate) struct RowText {
     pub(crate) hart: usize,
-    pub(crate) tally: Tally,
+    pub(crate) row: HartRow,
 }
 
-impl fmt::Display for TallyLine {
-    ghost output = { λ line. Some (tally_line line.hart line.tally) };
+impl fmt::Display for RowText {
+    ghost output = { λ text. Some (row_text text.hart text.row) };
 
     fn fmt<W: fmt::Write>(&self, f: &mut fmt::Formatter<W>) -> fmt::Result {
         let hart = self.hart;
-        let sent = self.tally.sent;
-        let came = self.tally.came;
-        let lost = self.tally.lost;
-        let repeated = self.tally.repeated;
-        let late = self.tally.late;
-        let changed = self.tally.changed;
-        let verdict = verdict_text(self.tally.whole);
-        write!(f, "hart {hart}: {sent} sent, {came} came, {lost} lost, ")?;
+        let counts = RowCounts { row: self.row };
+        let runs = RunsLine {
+            hart,
+            runs: self.row.runs,
+            longest: self.row.longest,
+        };
+        let late = LateLine {
+            hart,
+            latest: self.row.latest,
+        };
+        write!(f, "hart {hart}: {counts}{runs}{late}")
+    }
+}
+
+/// What the line of a hart says after the hart.
+#[derive(Clone, Copy)]
+struct RowCounts {
+    row: HartRow,
+}
+
+impl fmt::Display for RowCounts {
+    ghost output = { λ counts. Some (row_counts counts.row) };
+
+    fn fmt<W: fmt::Write>(&self, f: &mut fmt::Formatter<W>) -> fmt::Result {
+        let sent = self.row.tally.sent;
+        let came = self.row.tally.came;
+        let lost = self.row.tally.lost;
+        let repeated = self.row.tally.repeated;
+        let late = self.row.tally.late;
+        let changed = self.row.tally.changed;
+        let strange = self.row.strange;
+        let verdict = verdict_text(self.row.tally.whole);
+        write!(f, "{sent} sent, {came} came, {lost} lost, ")?;
         write!(
             f,
-            "{repeated} repeated, {late} late, {changed} changed, {verdict}\n"
+            "{repeated} repeated, {late} late, {changed} changed, {strange} strange, {verdict}\n"
         )
+    }
+}
+
+/// The line of the runs of a hart's lost numbers, where there are any.
+#[derive(Clone, Copy)]
+struct RunsLine {
+    hart: usize,
+    runs: u64,
+    longest: u64,
+}
+
+impl fmt::Display for RunsLine {
+    ghost output = { λ line. Some (runs_line line.hart line.runs line.longest) };
+
+    fn fmt<W: fmt::Write>(&self, f: &mut fmt::Formatter<W>) -> fmt::Result {
+        let hart = self.hart;
+        let runs = self.runs;
+        let longest = self.longest;
+        if runs == 0 {
+            f.write_str("")
+        } else {
+            write!(
+                f,
+                "hart {hart}: lost in {runs} runs, the longest of {longest}\n"
+            )
+        }
+    }
+}
+
+/// The line of the most by which a message of a hart is late, where one is.
+#[derive(Clone, Copy)]
+struct LateLine {
+    hart: usize,
+    latest: u64,
+}
+
+impl fmt::Display for LateLine {
+    ghost output = { λ line. Some (late_line line.hart line.latest) };
+
+    fn fmt<W: fmt::Write>(&self, f: &mut fmt::Formatter<W>) -> fmt::Result {
+        let hart = self.hart;
+        let latest = self.latest;
+        if latest == 0 {
+            f.write_str("")
+        } else {
+            write!(f, "hart {hart}: late by at most {latest}\n")
+        }
     }
 }

@@ -99,9 +99,11 @@ pub struct Bench<'a> {
     pub logs: Vec<&'a str>,
 }
 
-/// `audit SENT RECEIVED`: what became of the messages of one capture, by another capture of what arrived.
+/// `audit [--summary] SENT RECEIVED`: what became of the messages of one capture, by another capture of what arrived.
 #[derive(Debug, Drop)]
 pub struct Audit<'a> {
+    /// Whether the lines of single messages and of lost numbers are left out.
+    pub summary: bool,
     /// The path of the capture that was sent.
     pub sent: &'a str,
     /// The path of the capture that came.

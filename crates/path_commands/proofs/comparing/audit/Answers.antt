@@ -57,10 +57,9 @@ returns-clause-printed g c =
     let new = g.O.Write.contents c.write_audit.new.out in
     both_printed (g.F.Files.content c.args.files.now) asked c.in_ok-sent.sent.items c.in_ok-sent.ensures.held sent
     (subst (λ bytes. IsSent bytes header started.0) c.as_slice.ensures.value started.1) received
-    (subst (λ known. IsRead {W = PathReason} known asked.received (Ok received)) c.in_ok-sent.ensures.kept
-    c.in_ok-received.ensures.held)
+    (subst (λ known. IsRead {W = PathReason} known asked.received (Ok received)) c.in_ok-sent.ensures.kept c.in_ok-received.ensures.held)
     c.write_audit.result old new
-    (subst (λ bytes. PrintsUnlessDenied (WritesAudit sent bytes) ⊤ c.write_audit.result old new)
+    (subst (λ bytes. PrintsUnlessDenied (WritesAudit asked.summary sent bytes) ⊤ c.write_audit.result old new)
     c.as_slice-2.ensures.value (c.write_audit.ensures.printed started.0 started.2))
 
 pub returns-clause-cut : goal.returns-clause-cut
@@ -77,5 +76,5 @@ returns-clause-cut g c =
     (subst (λ known. IsRead {W = PathReason} known asked.received (Ok received)) c.in_ok-sent.ensures.kept
     c.in_ok-received.ensures.held) old
     new
-    (subst (λ bytes. IsCutOf (WritesAudit sent bytes) old new) c.as_slice-2.ensures.value
+    (subst (λ bytes. IsCutOf (WritesAudit asked.summary sent bytes) old new) c.as_slice-2.ensures.value
     (c.write_audit.ensures.cut started.0 started.2))

@@ -1,6 +1,6 @@
 -- The lines of the messages of RECEIVED, one after the other.
-use Rattle.std.proofs.Common.{◌≡◌, ◌⊎◌, inl, inr, ℕ, ◌+◌, ◌<◌, ◌≤◌, All, List, [], ◌∷◌, ◌++◌, Option, Some, None, Result}
-use Rattle.std.proofs.Common.{Ok, Err, length, refl, sym, ap, subst, ◌∙◌, arith, append-nil}
+use Rattle.std.proofs.Common.{◌≡◌, ℕ, ◌+◌, All, Bool, List, [], ◌∷◌, ◌++◌, Option, Some, None, Result}
+use Rattle.std.proofs.Common.{Err, length, refl, sym, ap, subst, ◌∙◌, arith, append-nil}
 use Rattle.std.proofs.lemmas.List.{append_assoc, append_cancel_left, length_push}
 use Rattle.std.proofs.lemmas.List.Elements.{All-head, All-tail}
 use Rattle.std.specs.Io.KnownBytes.{Appends}
@@ -14,16 +14,15 @@ use Rattle.message.specs.declared.message.Message.{Message}
 use Rattle.captures.specs.Dump.{Ends}
 use Rattle.captures.specs.NoMessage.{BeginsNone}
 use Rattle.auditing.specs.Audits.{Audits}
-use Rattle.auditing.specs.Fates.{fate_of}
-use Rattle.auditing.specs.Judged.{judged, judged_behind}
+use Rattle.auditing.specs.Findings.{finding_of, findings, found_after}
 use Rattle.auditing.specs.Ledger.{Ledger}
-use Rattle.auditing.specs.declared.fate.Fate.{Fate}
+use Rattle.auditing.specs.declared.finding.Finding.{Finding}
 use Rattle.path_commands.proofs.Parts.{HasWritten, part_all, part_begun, part_more, part_none}
-use Rattle.path_commands.specs.AuditText.{fate_lines, line_or_none}
+use Rattle.path_commands.specs.AuditText.{finding_lines, line_or_none}
 use Rattle.captures.specs.Heard.{AreHeard}
 
 -- The first messages of RECEIVED were taken, and their lines are written; these bytes are left.
-pub record HasTaken (sent received : List Message) (stop : Option (ℕ × MessageFault)) (left : List ℕ) (path : Ledger)
+pub record HasTaken (summary : Bool) (sent received : List Message) (stop : Option (ℕ × MessageFault)) (left : List ℕ) (path : Ledger)
     (place : ℕ) (old new : Option (List ℕ)) : Type 0 where
   pub front : List Message
   pub back : List Message
@@ -34,14 +33,14 @@ pub record HasTaken (sent received : List Message) (stop : Option (ℕ × Messag
   pub ends : Ends (length received) rest stop
   pub audits : Audits sent front path
   pub place_is : place ≡ length front
-  pub written : HasWritten (fate_lines 0 (judged sent received)) (fate_lines place (judged_behind sent front back)) old
+  pub written : HasWritten (finding_lines summary sent 0 (findings sent received)) (finding_lines summary sent place (found_after sent front back)) old
       new
 
 -- At first none is taken.
-pub taken_none : (sent received : List Message) (stop : Option (ℕ × MessageFault)) (left : List ℕ) (path : Ledger)
+pub taken_none : (summary : Bool) (sent received : List Message) (stop : Option (ℕ × MessageFault)) (left : List ℕ) (path : Ledger)
     (old : Option (List ℕ)) → AreHeard left received stop → Audits sent [] path
-    → HasTaken sent received stop left path 0 old old
-taken_none sent received stop left path old heard audits = record {
+    → HasTaken summary sent received stop left path 0 old old
+taken_none summary sent received stop left path old heard audits = record {
   front = [];
   back = received;
   rest = heard.rest;
@@ -51,7 +50,7 @@ taken_none sent received stop left path old heard audits = record {
   ends = heard.ends;
   audits = audits;
   place_is = refl;
-  written = part_none (fate_lines 0 (judged sent received)) old;
+  written = part_none (finding_lines summary sent 0 (findings sent received)) old;
 }
 
 -- Bytes that begin with a message do not begin none.
@@ -86,8 +85,8 @@ no_message count rest None m next is begins ends = never_empty m next (sym begin
 no_message count rest (Some stop) m next is begins ends =
     never_none m next stop.1 is (subst (λ bytes. BeginsNone bytes stop.1) begins ends.1)
 
-module _ (sent received : List Message) (stop : Option (ℕ × MessageFault)) (left : List ℕ) (path : Ledger) (place : ℕ)
-    (old mid : Option (List ℕ)) (has : HasTaken sent received stop left path place old mid) where
+module _ (summary : Bool) (sent received : List Message) (stop : Option (ℕ × MessageFault)) (left : List ℕ) (path : Ledger) (place : ℕ)
+    (old mid : Option (List ℕ)) (has : HasTaken summary sent received stop left path place old mid) where
   -- What is next in the bytes is the next of RECEIVED.
   record Next (m : Message) (next : List ℕ) : Type 0 where
     later : List Message
@@ -117,26 +116,27 @@ module _ (sent received : List Message) (stop : Option (ℕ × MessageFault)) (l
           }
 
   -- What is left of the text begins with the line of the next message.
-  line_next : (m : Message) (next : List ℕ) (its : Fate) (at : Next m next) → its ≡ fate_of sent has.front m
-      → HasWritten (fate_lines 0 (judged sent received))
-      (line_or_none place (record { message = m; fate = its })
-      ++ fate_lines (place + 1) (judged_behind sent (has.front ++ m ∷ []) at.later)) old mid
+  line_next : (m : Message) (next : List ℕ) (its : Finding) (at : Next m next) → its ≡ finding_of sent has.front m
+      → HasWritten (finding_lines summary sent 0 (findings sent received))
+      (line_or_none summary sent place (record { message = m; finding = its })
+      ++ finding_lines summary sent (place + 1) (found_after sent (has.front ++ m ∷ []) at.later)) old mid
   line_next m next its at is =
-      subst (λ f. HasWritten (fate_lines 0 (judged sent received))
-      (line_or_none place (record { message = m; fate = f })
-      ++ fate_lines (place + 1) (judged_behind sent (has.front ++ m ∷ []) at.later)) old mid) (sym is)
+      subst (λ f. HasWritten (finding_lines summary sent 0 (findings sent received))
+      (line_or_none summary sent place (record { message = m; finding = f })
+      ++ finding_lines summary sent (place + 1) (found_after sent (has.front ++ m ∷ []) at.later)) old mid) (sym is)
       (subst
-      (λ back. HasWritten (fate_lines 0 (judged sent received)) (fate_lines place (judged_behind sent has.front back))
+      (λ back. HasWritten (finding_lines summary sent 0 (findings sent received)) (finding_lines summary sent place (found_after sent has.front back))
       old mid) at.back_is has.written)
 
   -- One more message is taken.
-  pub taken_more : (m : Message) (next : List ℕ) (its : Fate) (more : Ledger) (new : Option (List ℕ)) → IsMessage m
+  pub taken_more : (m : Message) (next : List ℕ) (its : Finding) (more : Ledger) (new : Option (List ℕ)) → IsMessage m
       → left ≡ message_bytes m ++ next
-      → ((front : List Message) → Audits sent front path → its ≡ fate_of sent front m)
+      → ((front : List Message) → Audits sent front path → its ≡ finding_of sent front m)
       → ((front : List Message) → Audits sent front path → Audits sent (front ++ m ∷ []) more)
-      → Appends mid new (line_or_none place (record { message = m; fate = its }))
-      → HasTaken sent received stop next more (place + 1) old new
-  taken_more m next its more new is begins fate_is audits line =
+      → ((front : List Message) → Audits sent front more
+      → Appends mid new (line_or_none summary sent place (record { message = m; finding = its })))
+      → HasTaken summary sent received stop next more (place + 1) old new
+  taken_more m next its more new is begins found_is audits line =
       let at = next_of m next is begins in
       record {
         front = has.front ++ m ∷ [];
@@ -150,27 +150,31 @@ module _ (sent received : List Message) (stop : Option (ℕ × MessageFault)) (l
         audits = audits has.front has.audits;
         place_is = ap (λ n. n + 1) has.place_is ∙ sym (length_push has.front m);
         written =
-            part_more (fate_lines 0 (judged sent received)) (line_or_none place (record { message = m; fate = its }))
-            (fate_lines (place + 1) (judged_behind sent (has.front ++ m ∷ []) at.later)) old mid new
-            (line_next m next its at (fate_is has.front has.audits)) line;
+            part_more (finding_lines summary sent 0 (findings sent received)) (line_or_none summary sent place (record { message = m; finding = its }))
+            (finding_lines summary sent (place + 1) (found_after sent (has.front ++ m ∷ []) at.later)) old mid new
+            (line_next m next its at (found_is has.front has.audits))
+            (line (has.front ++ m ∷ []) (audits has.front has.audits));
       }
 
   -- Or a beginning of its line is written.
-  pub taken_begun : (m : Message) (next : List ℕ) (its : Fate) (new : Option (List ℕ)) → IsMessage m
+  pub taken_begun : (m : Message) (next : List ℕ) (its : Finding) (more : Ledger) (new : Option (List ℕ)) → IsMessage m
       → left ≡ message_bytes m ++ next
-      → ((front : List Message) → Audits sent front path → its ≡ fate_of sent front m)
-      → AppendsBeginning (line_or_none place (record { message = m; fate = its })) mid new
-      → AppendsBeginning (fate_lines 0 (judged sent received)) old new
-  taken_begun m next its new is begins fate_is begun =
+      → ((front : List Message) → Audits sent front path → its ≡ finding_of sent front m)
+      → ((front : List Message) → Audits sent front path → Audits sent (front ++ m ∷ []) more)
+      → ((front : List Message) → Audits sent front more
+      → AppendsBeginning (line_or_none summary sent place (record { message = m; finding = its })) mid new)
+      → AppendsBeginning (finding_lines summary sent 0 (findings sent received)) old new
+  taken_begun m next its more new is begins found_is audits begun =
       let at = next_of m next is begins in
-      part_begun (fate_lines 0 (judged sent received)) (line_or_none place (record { message = m; fate = its }))
-      (fate_lines (place + 1) (judged_behind sent (has.front ++ m ∷ []) at.later)) old mid new
-      (line_next m next its at (fate_is has.front has.audits)) begun
+      part_begun (finding_lines summary sent 0 (findings sent received)) (line_or_none summary sent place (record { message = m; finding = its }))
+      (finding_lines summary sent (place + 1) (found_after sent (has.front ++ m ∷ []) at.later)) old mid new
+      (line_next m next its at (found_is has.front has.audits))
+      (begun (has.front ++ m ∷ []) (audits has.front has.audits))
 
   -- All are taken.
   pub record AllTaken : Type 0 where
     pub audits : Audits sent received path
-    pub text : Appends old mid (fate_lines 0 (judged sent received))
+    pub text : Appends old mid (finding_lines summary sent 0 (findings sent received))
     pub place_is : place ≡ length received
     pub rest_is : left ≡ has.rest
 
@@ -181,9 +185,9 @@ module _ (sent received : List Message) (stop : Option (ℕ × MessageFault)) (l
       record {
         audits = subst (λ ms. Audits sent ms path) all has.audits;
         text =
-            part_all (fate_lines 0 (judged sent received)) old mid
-            (subst (λ back. HasWritten (fate_lines 0 (judged sent received))
-            (fate_lines place (judged_behind sent has.front back)) old mid) back_is has.written);
+            part_all (finding_lines summary sent 0 (findings sent received)) old mid
+            (subst (λ back. HasWritten (finding_lines summary sent 0 (findings sent received))
+            (finding_lines summary sent place (found_after sent has.front back)) old mid) back_is has.written);
         place_is = has.place_is ∙ ap length all;
         rest_is = left_is;
       }

@@ -1,20 +1,20 @@
 -- The messages are taken one after the other: by lemmas on parts of a text, which no tactic finds.
-use Rattle.std.proofs.Common.{◌≡◌, ◌<◌, ◌++◌, Ok, Err, length, refl, ap, subst, sym, ◌∙◌, arith}
+use Rattle.std.proofs.Common.{◌≡◌, ◌<◌, ◌++◌, Ok, Err, length, refl, ap, subst, ◌∙◌, arith}
 use Rattle.std.specs.Prelude.{IfSome}
 use Rattle.message.specs.Capture.{message_bytes}
 use Rattle.message.specs.Cut.{IsMessage}
 use Rattle.message.specs.declared.message.Message.{Message}
 use Rattle.auditing.proofs.Counting.{begins_none}
 use Rattle.output.proofs.Beginnings.{whole_begun}
-use Rattle.path_commands.proofs.FateLines.{at_end, at_fault, taken_begun, taken_more, taken_none}
-use Rattle.auditing.specs.Judged.{judged}
-use Rattle.path_commands.specs.AuditText.{fate_lines}
-use Rattle.path_commands.proofs.comparing.write_fates.Goals as goal
+use Rattle.path_commands.proofs.FindingLines.{at_end, at_fault, taken_begun, taken_more, taken_none}
+use Rattle.auditing.specs.Findings.{findings}
+use Rattle.path_commands.specs.AuditText.{finding_lines}
+use Rattle.path_commands.proofs.comparing.write_findings.Goals as goal
 
 pub loop-message-init : goal.loop-message-init
 loop-message-init g c = (
   λ sent received stop audits heard.
-      taken_none sent received stop c.args.messages c.args.path.now (g.O.Write.contents c.args.out.now) heard audits,
+      taken_none c.args.summary sent received stop c.args.messages c.args.path.now (g.O.Write.contents c.args.out.now) heard audits,
   refl,
   omega arith,
 )
@@ -31,17 +31,17 @@ loop-message-preserved g c =
     subst (λ o. IfSome o (λ (m : Message). length next < length left)) found c.in-Ok-Some.ensures.shorter in
     let most = c.loop-message.invariant.2 in (
       λ sent received stop audits heard.
-          taken_more sent received stop left c.loop-message.path c.loop-message.place (g.O.Write.contents
+          taken_more c.args.summary sent received stop left c.loop-message.path c.loop-message.place (g.O.Write.contents
           c.args.out.now)
           (g.O.Write.contents c.loop-message.out) (c.loop-message.invariant.0 sent received stop audits heard)
-          c.in-Ok-Some.message next c.take-fate.result c.take-fate.new.self (g.O.Write.contents c.write_fate.new.out) is
-          begins (c.take-fate.ensures.fate sent) (c.take-fate.ensures.taken sent) c.in_ok-write_fate.ensures.text,
-      c.take-fate.ensures.header ∙ c.loop-message.invariant.1,
+          c.in-Ok-Some.message next c.examine-finding.result c.examine-finding.new.self (g.O.Write.contents c.write_finding.new.out) is
+          begins (c.examine-finding.ensures.finding sent) (c.examine-finding.ensures.taken sent) (c.in_ok-write_finding.ensures.text sent),
+      c.examine-finding.ensures.header ∙ c.loop-message.invariant.1,
       omega (arith, most, shorter),
     )
 
-pub returns-in_err-write_fate-clause-begun : goal.returns-in_err-write_fate-clause-begun
-returns-in_err-write_fate-clause-begun g c =
+pub returns-in_err-write_finding-clause-begun : goal.returns-in_err-write_finding-clause-begun
+returns-in_err-write_finding-clause-begun g c =
     let found = c.in-Ok-Some.field-0-is in
     let left = c.loop-message.left in
     let next = c.next.new.self in
@@ -49,17 +49,18 @@ returns-in_err-write_fate-clause-begun g c =
     let begins =
     subst (λ o. IfSome o (λ (m : Message). left ≡ message_bytes m ++ next)) found c.in-Ok-Some.ensures.message in
     λ sent received stop audits heard.
-    taken_begun sent received stop left c.loop-message.path c.loop-message.place (g.O.Write.contents c.args.out.now)
+    taken_begun c.args.summary sent received stop left c.loop-message.path c.loop-message.place (g.O.Write.contents c.args.out.now)
     (g.O.Write.contents c.loop-message.out) (c.loop-message.invariant.0 sent received stop audits heard)
-    c.in-Ok-Some.message next c.take-fate.result (g.O.Write.contents c.write_fate.new.out) is begins
-    (c.take-fate.ensures.fate sent) c.write_fate.ensures.begun
+    c.in-Ok-Some.message next c.examine-finding.result c.examine-finding.new.self
+    (g.O.Write.contents c.write_finding.new.out) is begins (c.examine-finding.ensures.finding sent)
+    (c.examine-finding.ensures.taken sent) (c.write_finding.ensures.begun sent)
 
 pub returns-in-Ok-None-clause-heard : goal.returns-in-Ok-None-clause-heard
 returns-in-Ok-None-clause-heard g c =
     let empty = c.in-Ok-None.ensures.end.0 (ap Ok c.in-Ok-None.field-0-is) in
     λ sent received stop audits heard.
     let all =
-    at_end sent received stop c.loop-message.left c.loop-message.path c.loop-message.place
+    at_end c.args.summary sent received stop c.loop-message.left c.loop-message.path c.loop-message.place
     (g.O.Write.contents c.args.out.now) (g.O.Write.contents c.loop-message.out)
     (c.loop-message.invariant.0 sent received stop audits heard) empty in
     (all.0, all.1.audits)
@@ -68,7 +69,7 @@ pub returns-in-Ok-None-clause-text : goal.returns-in-Ok-None-clause-text
 returns-in-Ok-None-clause-text g c =
     let empty = c.in-Ok-None.ensures.end.0 (ap Ok c.in-Ok-None.field-0-is) in
     λ sent received stop audits heard.
-    (at_end sent received stop c.loop-message.left c.loop-message.path c.loop-message.place
+    (at_end c.args.summary sent received stop c.loop-message.left c.loop-message.path c.loop-message.place
     (g.O.Write.contents c.args.out.now) (g.O.Write.contents c.loop-message.out)
     (c.loop-message.invariant.0 sent received stop audits heard) empty).1.text
 
@@ -76,9 +77,9 @@ pub returns-in-Ok-None-clause-begun : goal.returns-in-Ok-None-clause-begun
 returns-in-Ok-None-clause-begun g c =
     let empty = c.in-Ok-None.ensures.end.0 (ap Ok c.in-Ok-None.field-0-is) in
     λ sent received stop audits heard.
-    whole_begun (fate_lines 0 (judged sent received)) (g.O.Write.contents c.args.out.now)
+    whole_begun (finding_lines c.args.summary sent 0 (findings sent received)) (g.O.Write.contents c.args.out.now)
     (g.O.Write.contents c.loop-message.out)
-    (at_end sent received stop c.loop-message.left c.loop-message.path c.loop-message.place
+    (at_end c.args.summary sent received stop c.loop-message.left c.loop-message.path c.loop-message.place
     (g.O.Write.contents c.args.out.now) (g.O.Write.contents c.loop-message.out)
     (c.loop-message.invariant.0 sent received stop audits heard) empty).1.text
 
@@ -90,7 +91,7 @@ returns-in-Err-clause-heard g c =
     begins_none left c.in-Err.why says.fault (λ is. says.short.0 (ap Err is)) (λ is. says.bad_length.0 (ap Err is)) in
     λ sent received stop audits heard.
     let all =
-    at_fault sent received stop left c.loop-message.path c.loop-message.place (g.O.Write.contents c.args.out.now)
+    at_fault c.args.summary sent received stop left c.loop-message.path c.loop-message.place (g.O.Write.contents c.args.out.now)
     (g.O.Write.contents c.loop-message.out) (c.loop-message.invariant.0 sent received stop audits heard) c.in-Err.why
     (Err c.in-Err.why) refl none says.short.1 says.bad_length.1 in
     (all.0, all.1.audits)
@@ -102,7 +103,7 @@ returns-in-Err-clause-text g c =
     let none =
     begins_none left c.in-Err.why says.fault (λ is. says.short.0 (ap Err is)) (λ is. says.bad_length.0 (ap Err is)) in
     λ sent received stop audits heard.
-    (at_fault sent received stop left c.loop-message.path c.loop-message.place (g.O.Write.contents c.args.out.now)
+    (at_fault c.args.summary sent received stop left c.loop-message.path c.loop-message.place (g.O.Write.contents c.args.out.now)
     (g.O.Write.contents c.loop-message.out) (c.loop-message.invariant.0 sent received stop audits heard) c.in-Err.why
     (Err c.in-Err.why) refl none says.short.1 says.bad_length.1).1.text
 
@@ -113,8 +114,8 @@ returns-in-Err-clause-begun g c =
     let none =
     begins_none left c.in-Err.why says.fault (λ is. says.short.0 (ap Err is)) (λ is. says.bad_length.0 (ap Err is)) in
     λ sent received stop audits heard.
-    whole_begun (fate_lines 0 (judged sent received)) (g.O.Write.contents c.args.out.now)
+    whole_begun (finding_lines c.args.summary sent 0 (findings sent received)) (g.O.Write.contents c.args.out.now)
     (g.O.Write.contents c.loop-message.out)
-    (at_fault sent received stop left c.loop-message.path c.loop-message.place (g.O.Write.contents c.args.out.now)
+    (at_fault c.args.summary sent received stop left c.loop-message.path c.loop-message.place (g.O.Write.contents c.args.out.now)
     (g.O.Write.contents c.loop-message.out) (c.loop-message.invariant.0 sent received stop audits heard) c.in-Err.why
     (Err c.in-Err.why) refl none says.short.1 says.bad_length.1).1.text

@@ -1,0 +1,19 @@
+-- The lines of the harts so far are written, and what their rows count is summed up.
+use Rattle.std.proofs.Common.{◌<◌, ◌^◌, List, length, ◌-◌}
+use Rattle.std.specs.List.{flat_map, range_with_len}
+use Rattle.message.specs.declared.message.Message.{Message}
+use Rattle.auditing.specs.Audits.{Audits}
+use Rattle.auditing.specs.HartRows.{row_of}
+use Rattle.path_commands.proofs.Parts.{HasWritten}
+use Rattle.path_commands.proofs.Sums.{IsTotal}
+use Rattle.path_commands.specs.AuditText.{row_lines, row_text}
+use Rattle.path_commands.proofs.comparing.write_rows.Given as goal
+
+abbrev pub invariant-loop-hart : goal.invariant-loop-hart
+invariant-loop-hart g l =
+    (sent received : List Message) → Audits sent received l.path → length received < 2 ^ 64
+    → HasWritten (row_lines sent received (length l.path.harts))
+    (flat_map (λ hart. row_text hart (row_of sent received hart))
+    (range_with_len l.hart (length l.path.harts - l.hart)))
+    (g.O.Write.contents l.fn.out) (g.O.Write.contents l.out)
+    × IsTotal sent received l.total l.hart (length l.path.harts)
