@@ -46,6 +46,11 @@ abbrev pub long_rule : Rule
 long_rule =
     record (new_rule (codes "long")) { long = Some (codes "long"); action = Some SetTrue }
 
+-- `--summary`.
+abbrev pub summary_rule : Rule
+summary_rule =
+    record (new_rule (codes "summary")) { long = Some (codes "summary"); action = Some SetTrue }
+
 -- `--explain`.
 abbrev pub explain_rule : Rule
 explain_rule =

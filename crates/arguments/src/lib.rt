@@ -6,5 +6,5 @@ mod rules;
 
 pub use rules::{
     base, capacity, capture, explain, full, harts, hex, image, logs, long, lossy, period, received,
-    schedule, sent, symbols, version_one,
+    schedule, sent, summary, symbols, version_one,
 };

@@ -2,7 +2,7 @@
 
 ghost use Rattle.arguments.specs.Rules.{IsReadBy, base_rule, capacity_rule, capture_rule, explain_rule, full_rule};
 ghost use Rattle.arguments.specs.Rules.{harts_rule, hex_rule, image_rule, logs_rule, long_rule, lossy_rule};
-ghost use Rattle.arguments.specs.Rules.{period_rule, received_rule, schedule_rule, sent_rule, symbols_rule};
+ghost use Rattle.arguments.specs.Rules.{period_rule, received_rule, schedule_rule, sent_rule, summary_rule, symbols_rule};
 ghost use Rattle.arguments.specs.Rules.{version_one_rule};
 ghost use Rattle.arguments.specs.steps.Forms.{file_rule, flag_rule, number_rule};
 
@@ -194,6 +194,17 @@ pub fn sent<'a>(alloc: Global) -> Arg<'a>
     ensures { IsReadBy sent_rule result }
 {
     file(alloc, "SENT", "File of all trace messages that were sent")
+}
+
+/// `--summary`, which asks to leave out the lines of single messages and of lost numbers.
+pub fn summary<'a>(alloc: Global) -> Arg<'a>
+    ensures { IsReadBy summary_rule result }
+{
+    flag(
+        alloc,
+        "summary",
+        "Leave out the lines of single messages and of lost numbers",
+    )
 }
 
 /// `--symbols FILE`, the file of the program's symbols.

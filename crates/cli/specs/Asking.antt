@@ -102,7 +102,7 @@ Asks name rows (Bench asked) = (name ≡ codes "bench")
     × IsCapacity (one_of (codes "capacity") rows) asked.capacity
     × (asked.image.now ≡ text_of (codes "IMAGE") rows)
     × (map (λ log. log.now) asked.logs.items ≡ texts_of (codes "LOG") rows)
-Asks name rows (Audit asked) = (name ≡ codes "audit")
+Asks name rows (Audit asked) = (name ≡ codes "audit") × IsFlag (one_of (codes "summary") rows) asked.summary
     × (asked.sent.now ≡ text_of (codes "SENT") rows) × (asked.received.now ≡ text_of (codes "RECEIVED") rows)
 Asks name rows (Measure asked) = (name ≡ codes "measure")
     × (asked.base.now ≡ text_of (codes "base") rows) × IsPeriod (one_of (codes "period") rows) asked.period

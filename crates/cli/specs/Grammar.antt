@@ -8,7 +8,7 @@ use Rattle.clap.specs.declared.builder.command.Command.{Command}
 use Rattle.clap.specs.declared.builder.command.Command.TheViews.{out-Command as fields_of}
 use Rattle.arguments.specs.Rules.{base_rule, capacity_rule, capture_rule, explain_rule, full_rule, harts_rule, hex_rule}
 use Rattle.arguments.specs.Rules.{image_rule, logs_rule, long_rule, lossy_rule, period_rule, received_rule, schedule_rule}
-use Rattle.arguments.specs.Rules.{sent_rule, symbols_rule, version_one_rule}
+use Rattle.arguments.specs.Rules.{sent_rule, summary_rule, symbols_rule, version_one_rule}
 
 -- A subcommand of this name with arguments that are read by these rules.
 abbrev pub with_arguments : Text → List Rule → App
@@ -41,9 +41,9 @@ abbrev pub bench_app : App
 bench_app = with_arguments (codes "bench") (base_rule ∷ period_rule ∷ full_rule ∷ capacity_rule ∷ image_rule ∷
     logs_rule ∷ [])
 
--- `audit SENT RECEIVED`.
+-- `audit [--summary] SENT RECEIVED`.
 abbrev pub audit_app : App
-audit_app = with_arguments (codes "audit") (sent_rule ∷ received_rule ∷ [])
+audit_app = with_arguments (codes "audit") (summary_rule ∷ sent_rule ∷ received_rule ∷ [])
 
 -- `measure --base B [--period N] [--full] [--long] IMAGE LOG...`.
 abbrev pub measure_app : App

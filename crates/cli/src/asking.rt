@@ -196,6 +196,7 @@ fn audit_asked<'a>(given: &ArgMatches<'a>) -> Asked<'a>
     ensures { Asks (codes "audit") (rows_of (found_of given.now)) result }
 {
     Asked::Audit(Audit {
+        summary: flag(given, "summary"),
         sent: text(given, "SENT"),
         received: text(given, "RECEIVED"),
     })

@@ -14,7 +14,7 @@ use crate::help::{
 };
 use arguments::{
     base, capacity, capture, explain, full, harts, hex, image, logs, long, lossy, period, received,
-    schedule, sent, symbols, version_one,
+    schedule, sent, summary, symbols, version_one,
 };
 use clap::{Arg, Command};
 use std::alloc::{AllocError, Global};
@@ -160,7 +160,7 @@ fn bench<'a>(alloc: Global) -> Result<Command<'a>, AllocError>
 fn audit<'a>(alloc: Global) -> Result<Command<'a>, AllocError>
     ensures { IfOk result (HasGrammar audit_app) }
 {
-    let args = vec![in alloc; sent(alloc), received(alloc)]?;
+    let args = vec![in alloc; summary(alloc), sent(alloc), received(alloc)]?;
     subcommand(
         alloc,
         "audit",
