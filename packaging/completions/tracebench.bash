@@ -20,7 +20,7 @@ _tracebench() {
     decode) options="--base --harts --lossy --help" ;;
     replay) options="--base --period --full --capacity --help" ;;
     bench) options="--base --period --full --capacity --help" ;;
-    audit) options="--help" ;;
+    audit) options="--summary --help" ;;
     measure) options="--base --period --full --long --help" ;;
     list) options="--base --harts --symbols --help" ;;
     salvage) options="--base --harts --help" ;;

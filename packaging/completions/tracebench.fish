@@ -55,6 +55,7 @@ complete -c tracebench -n '__tracebench_given bench' -l full -d 'Report addresse
 complete -c tracebench -n '__tracebench_given bench' -l capacity -x -d 'How many messages the funnel holds, 1 to 65536'
 
 complete -c tracebench -n '__tracebench_given audit' -F
+complete -c tracebench -n '__tracebench_given audit' -l summary -d 'Leave out the lines of single messages and of lost numbers'
 
 complete -c tracebench -n '__tracebench_given measure' -F
 complete -c tracebench -n '__tracebench_given measure' -l base -x -d 'Address of the image'\''s first byte, in hexadecimal'

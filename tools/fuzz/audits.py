@@ -43,8 +43,8 @@ def read(capture):
     return header, made, None
 
 
-def fate(own, came, place):
-    """What became of the message at a place; None where it is in order."""
+def found(own, came, place):
+    """What is found of the message at a place: its fate, and how far it is from its place."""
     hart, number, payload = came[place]
 
     def is_true(message):
@@ -54,58 +54,90 @@ def fate(own, came, place):
         return message[0] < len(own) and message[1] < len(own[message[0]])
 
     if not is_known(came[place]):
-        return "stranger"
+        return "stranger", 0
     if not is_true(came[place]):
-        return "changed"
+        return "changed", 0
     earlier = [it for it in came[:place] if it[0] == hart and is_known(it) and is_true(it)]
     if any(it[1] == number for it in earlier):
-        return "repeat"
-    return "late" if any(it[1] > number for it in earlier) else None
+        return "repeat", 0
+    greatest = max((it[1] for it in earlier), default=-1)
+    return ("late", greatest - number) if greatest > number else ("in order", number - greatest - 1)
 
 
-def audit(sent, received):
+def words(own, message, what, far):
+    """What the line of a message says after its number, or nothing where it has no line."""
+    hart, number, payload = message
+    if what == "in order":
+        return f"skips {far}" if far else ""
+    if what == "late":
+        return f"late by {far}"
+    return f"changed, sent {own[hart][number].hex()} came {payload.hex()}" if what == "changed" else what
+
+
+def counts(row, is_whole):
+    """The counts of a row, in their order, and its verdict."""
+    names = ("sent", "came", "lost", "repeated", "late", "changed", "strange")
+    return "".join(f"{row[name]} {name}, " for name in names) + ("whole\n" if is_whole else "not whole\n")
+
+
+def audit(sent, received, summary=False):
     """The status, the text and the error of an audit."""
     try:
         header, own = judged(sent)
     except reading.Refused as why:
         return 2, "", f"{SENT}: {why}"
     other, came, fault = read(received)
-    fates = [fate(own, came, place) for place in range(len(came))]
-    text = "".join(
-        f"message {place}: hart {hart} number {number}: {fates[place]}\n"
+    fates = [found(own, came, place) for place in range(len(came))]
+    said = [words(own, message, *it) for message, it in zip(came, fates)]
+    single = "".join(
+        f"message {place}: hart {hart} number {number}: {said[place]}\n"
         for place, (hart, number, _) in enumerate(came)
-        if fates[place]
+        if said[place]
     )
-    rows, is_whole = "", not fault
+    rows, is_whole, all_rows, all_same = "", not fault, [], True
     for hart, payloads in enumerate(own):
         mine = [it for it in came if it[0] == hart]
         true = {number for _, number, payload in mine if number < len(payloads) and payloads[number] == payload}
         lost = [number for number in range(len(payloads)) if number not in true]
-        for _, run in itertools.groupby(enumerate(lost), lambda it: it[1] - it[0]):
-            numbers = [number for _, number in run]
+        runs = [
+            [number for _, number in run]
+            for _, run in itertools.groupby(enumerate(lost), lambda it: it[1] - it[0])
+        ]
+        for numbers in runs:
             last = numbers[-1]
             which = f"number {last}" if len(numbers) == 1 else f"numbers {numbers[0]} to {last}"
-            text += f"hart {hart}: {which} lost\n"
-        count = {name: sum(it[0] == hart and found == name for it, found in zip(came, fates)) for name in fates}
+            single += f"hart {hart}: {which} lost\n"
+        own_fates = [it for message, it in zip(came, fates) if message[0] == hart]
+        names = [what for what, _ in own_fates]
         same = [(number, payload) for _, number, payload in mine] == list(enumerate(payloads))
         is_whole &= same
-        rows += f"hart {hart}: {len(payloads)} sent, {len(mine)} came, {len(lost)} lost, "
-        rows += f"{count.get('repeat', 0)} repeated, {count.get('late', 0)} late, {count.get('changed', 0)} changed, "
-        rows += f"{'whole' if same else 'not whole'}\n"
-    text += rows
-    if strangers := fates.count("stranger"):
+        all_same &= same
+        row = {"sent": len(payloads), "came": len(mine), "lost": len(lost), "repeated": names.count("repeat"),
+               "late": names.count("late"), "changed": names.count("changed"), "strange": names.count("stranger")}
+        all_rows.append(row)
+        rows += f"hart {hart}: {counts(row, same)}"
+        if runs:
+            rows += f"hart {hart}: lost in {len(runs)} runs, the longest of {max(map(len, runs))}\n"
+        if latest := max((far for what, far in own_fates if what == "late"), default=0):
+            rows += f"hart {hart}: late by at most {latest}\n"
+    if len(own) > 1:
+        rows += f"all: {counts({name: sum(row[name] for row in all_rows) for name in all_rows[0]}, all_same)}"
+    text = rows if summary else single + rows
+    if strangers := [what for what, _ in fates].count("stranger"):
         text += f"strangers: {strangers} messages\n"
     if header and other and header != other:
         text += "headers differ\n"
         is_whole = False
     is_whole &= not strangers
+    if first := [place for place, line in enumerate(said) if line]:
+        text += f"first: message {first[0]}\n"
     return (0 if is_whole else 1), text + f"result: {'whole' if is_whole else 'not whole'}\n", fault
 
 
 def kind_of(text):
     """What an audit found, without numbers: the fates, what was lost, and the result."""
-    found = [word for word in ("stranger\n", "changed\n", "repeat\n", "late\n", " lost\n", "headers differ\n") if word in text]
-    return ", ".join(word.strip() for word in (*found, text.splitlines()[-1]))
+    looked_for = ("stranger\n", "changed, sent", "repeat\n", "late by", "skips", " lost\n", "headers differ\n")
+    return ", ".join(word.strip() for word in (*(it for it in looked_for if it in text), text.splitlines()[-1]))
 
 
 def mixed(random, queues):

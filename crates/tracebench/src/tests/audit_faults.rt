@@ -81,8 +81,11 @@ file received.capture
 $ tracebench audit sent.capture received.capture
 > hart 0: numbers 1 to 2 lost
 > hart 1: number 1 lost
-> hart 0: 3 sent, 1 came, 2 lost, 0 repeated, 0 late, 0 changed, not whole
-> hart 1: 2 sent, 1 came, 1 lost, 0 repeated, 0 late, 0 changed, not whole
+> hart 0: 3 sent, 1 came, 2 lost, 0 repeated, 0 late, 0 changed, 0 strange, not whole
+> hart 0: lost in 1 runs, the longest of 2
+> hart 1: 2 sent, 1 came, 1 lost, 0 repeated, 0 late, 0 changed, 0 strange, not whole
+> hart 1: lost in 1 runs, the longest of 1
+> all: 5 sent, 2 came, 3 lost, 0 repeated, 0 late, 0 changed, 0 strange, not whole
 > result: not whole
 ! tracebench: message 2: the capture ends inside a message
 ? 1
@@ -90,8 +93,9 @@ file received.capture
 |< sent.capture
 |= 0000 0300000000000000 00
 $ tracebench audit sent.capture received.capture
-> hart 0: 3 sent, 3 came, 0 lost, 0 repeated, 0 late, 0 changed, whole
-> hart 1: 2 sent, 2 came, 0 lost, 0 repeated, 0 late, 0 changed, whole
+> hart 0: 3 sent, 3 came, 0 lost, 0 repeated, 0 late, 0 changed, 0 strange, whole
+> hart 1: 2 sent, 2 came, 0 lost, 0 repeated, 0 late, 0 changed, 0 strange, whole
+> all: 5 sent, 5 came, 0 lost, 0 repeated, 0 late, 0 changed, 0 strange, whole
 > result: not whole
 ! tracebench: message 5: payload length is not 1 to 18
 ? 1
@@ -102,9 +106,11 @@ file received.capture
 |< sent.capture
 $ tracebench audit gap.capture received.capture
 > hart 2: number 0 lost
-> hart 0: 0 sent, 0 came, 0 lost, 0 repeated, 0 late, 0 changed, whole
-> hart 1: 0 sent, 0 came, 0 lost, 0 repeated, 0 late, 0 changed, whole
-> hart 2: 1 sent, 0 came, 1 lost, 0 repeated, 0 late, 0 changed, not whole
+> hart 0: 0 sent, 0 came, 0 lost, 0 repeated, 0 late, 0 changed, 0 strange, whole
+> hart 1: 0 sent, 0 came, 0 lost, 0 repeated, 0 late, 0 changed, 0 strange, whole
+> hart 2: 1 sent, 0 came, 1 lost, 0 repeated, 0 late, 0 changed, 0 strange, not whole
+> hart 2: lost in 1 runs, the longest of 1
+> all: 1 sent, 0 came, 1 lost, 0 repeated, 0 late, 0 changed, 0 strange, not whole
 > result: not whole
 ! tracebench: capture header is not valid
 ? 1
@@ -112,9 +118,11 @@ file received.capture
 |= ffff727674726163653200 00
 $ tracebench audit gap.capture received.capture
 > hart 2: number 0 lost
-> hart 0: 0 sent, 0 came, 0 lost, 0 repeated, 0 late, 0 changed, whole
-> hart 1: 0 sent, 0 came, 0 lost, 0 repeated, 0 late, 0 changed, whole
-> hart 2: 1 sent, 0 came, 1 lost, 0 repeated, 0 late, 0 changed, not whole
+> hart 0: 0 sent, 0 came, 0 lost, 0 repeated, 0 late, 0 changed, 0 strange, whole
+> hart 1: 0 sent, 0 came, 0 lost, 0 repeated, 0 late, 0 changed, 0 strange, whole
+> hart 2: 1 sent, 0 came, 1 lost, 0 repeated, 0 late, 0 changed, 0 strange, not whole
+> hart 2: lost in 1 runs, the longest of 1
+> all: 1 sent, 0 came, 1 lost, 0 repeated, 0 late, 0 changed, 0 strange, not whole
 > result: not whole
 ! tracebench: message 0: the capture ends inside a message
 ? 1

@@ -10,8 +10,9 @@ file sent.capture
 |~ 1 0 1f
 |~ 1 1 cf00
 $ tracebench audit sent.capture sent.capture
-> hart 0: 3 sent, 3 came, 0 lost, 0 repeated, 0 late, 0 changed, whole
-> hart 1: 2 sent, 2 came, 0 lost, 0 repeated, 0 late, 0 changed, whole
+> hart 0: 3 sent, 3 came, 0 lost, 0 repeated, 0 late, 0 changed, 0 strange, whole
+> hart 1: 2 sent, 2 came, 0 lost, 0 repeated, 0 late, 0 changed, 0 strange, whole
+> all: 5 sent, 5 came, 0 lost, 0 repeated, 0 late, 0 changed, 0 strange, whole
 > result: whole
 # The messages of the harts are mixed in another way, and each hart's stay in order.
 file mixed.capture
@@ -21,8 +22,9 @@ file mixed.capture
 |~ 1 1 cf00
 |~ 0 2 4f
 $ tracebench audit sent.capture mixed.capture
-> hart 0: 3 sent, 3 came, 0 lost, 0 repeated, 0 late, 0 changed, whole
-> hart 1: 2 sent, 2 came, 0 lost, 0 repeated, 0 late, 0 changed, whole
+> hart 0: 3 sent, 3 came, 0 lost, 0 repeated, 0 late, 0 changed, 0 strange, whole
+> hart 1: 2 sent, 2 came, 0 lost, 0 repeated, 0 late, 0 changed, 0 strange, whole
+> all: 5 sent, 5 came, 0 lost, 0 repeated, 0 late, 0 changed, 0 strange, whole
 > result: whole
 # A number is lost.
 file received.capture
@@ -31,9 +33,13 @@ file received.capture
 |~ 1 0 1f
 |~ 1 1 cf00
 $ tracebench audit sent.capture received.capture
+> message 1: hart 0 number 2: skips 1
 > hart 0: number 1 lost
-> hart 0: 3 sent, 2 came, 1 lost, 0 repeated, 0 late, 0 changed, not whole
-> hart 1: 2 sent, 2 came, 0 lost, 0 repeated, 0 late, 0 changed, whole
+> hart 0: 3 sent, 2 came, 1 lost, 0 repeated, 0 late, 0 changed, 0 strange, not whole
+> hart 0: lost in 1 runs, the longest of 1
+> hart 1: 2 sent, 2 came, 0 lost, 0 repeated, 0 late, 0 changed, 0 strange, whole
+> all: 5 sent, 4 came, 1 lost, 0 repeated, 0 late, 0 changed, 0 strange, not whole
+> first: message 1
 > result: not whole
 ? 1
 # The first number, and the last two.
@@ -41,10 +47,15 @@ file received.capture
 |~ 0 1 7300000020
 |~ 0 2 4f
 $ tracebench audit sent.capture received.capture
+> message 0: hart 0 number 1: skips 1
 > hart 0: number 0 lost
 > hart 1: numbers 0 to 1 lost
-> hart 0: 3 sent, 2 came, 1 lost, 0 repeated, 0 late, 0 changed, not whole
-> hart 1: 2 sent, 0 came, 2 lost, 0 repeated, 0 late, 0 changed, not whole
+> hart 0: 3 sent, 2 came, 1 lost, 0 repeated, 0 late, 0 changed, 0 strange, not whole
+> hart 0: lost in 1 runs, the longest of 1
+> hart 1: 2 sent, 0 came, 2 lost, 0 repeated, 0 late, 0 changed, 0 strange, not whole
+> hart 1: lost in 1 runs, the longest of 2
+> all: 5 sent, 2 came, 3 lost, 0 repeated, 0 late, 0 changed, 0 strange, not whole
+> first: message 0
 > result: not whole
 ? 1
 file received.capture
@@ -53,8 +64,10 @@ file received.capture
 |~ 0 0 1f
 $ tracebench audit sent.capture received.capture
 > hart 0: numbers 1 to 2 lost
-> hart 0: 3 sent, 1 came, 2 lost, 0 repeated, 0 late, 0 changed, not whole
-> hart 1: 2 sent, 2 came, 0 lost, 0 repeated, 0 late, 0 changed, whole
+> hart 0: 3 sent, 1 came, 2 lost, 0 repeated, 0 late, 0 changed, 0 strange, not whole
+> hart 0: lost in 1 runs, the longest of 2
+> hart 1: 2 sent, 2 came, 0 lost, 0 repeated, 0 late, 0 changed, 0 strange, whole
+> all: 5 sent, 3 came, 2 lost, 0 repeated, 0 late, 0 changed, 0 strange, not whole
 > result: not whole
 ? 1
 # All are lost: RECEIVED is empty.
@@ -62,8 +75,11 @@ file empty.capture
 $ tracebench audit sent.capture empty.capture
 > hart 0: numbers 0 to 2 lost
 > hart 1: numbers 0 to 1 lost
-> hart 0: 3 sent, 0 came, 3 lost, 0 repeated, 0 late, 0 changed, not whole
-> hart 1: 2 sent, 0 came, 2 lost, 0 repeated, 0 late, 0 changed, not whole
+> hart 0: 3 sent, 0 came, 3 lost, 0 repeated, 0 late, 0 changed, 0 strange, not whole
+> hart 0: lost in 1 runs, the longest of 3
+> hart 1: 2 sent, 0 came, 2 lost, 0 repeated, 0 late, 0 changed, 0 strange, not whole
+> hart 1: lost in 1 runs, the longest of 2
+> all: 5 sent, 0 came, 5 lost, 0 repeated, 0 late, 0 changed, 0 strange, not whole
 > result: not whole
 ? 1
 # A repeat.
@@ -76,8 +92,10 @@ file received.capture
 |~ 1 1 cf00
 $ tracebench audit sent.capture received.capture
 > message 2: hart 0 number 1: repeat
-> hart 0: 3 sent, 4 came, 0 lost, 1 repeated, 0 late, 0 changed, not whole
-> hart 1: 2 sent, 2 came, 0 lost, 0 repeated, 0 late, 0 changed, whole
+> hart 0: 3 sent, 4 came, 0 lost, 1 repeated, 0 late, 0 changed, 0 strange, not whole
+> hart 1: 2 sent, 2 came, 0 lost, 0 repeated, 0 late, 0 changed, 0 strange, whole
+> all: 5 sent, 6 came, 0 lost, 1 repeated, 0 late, 0 changed, 0 strange, not whole
+> first: message 2
 > result: not whole
 ? 1
 # A late message, and a repeat of it.
@@ -89,10 +107,14 @@ file received.capture
 |~ 1 0 1f
 |~ 1 1 cf00
 $ tracebench audit sent.capture received.capture
-> message 2: hart 0 number 1: late
+> message 1: hart 0 number 2: skips 1
+> message 2: hart 0 number 1: late by 1
 > message 3: hart 0 number 1: repeat
-> hart 0: 3 sent, 4 came, 0 lost, 1 repeated, 1 late, 0 changed, not whole
-> hart 1: 2 sent, 2 came, 0 lost, 0 repeated, 0 late, 0 changed, whole
+> hart 0: 3 sent, 4 came, 0 lost, 1 repeated, 1 late, 0 changed, 0 strange, not whole
+> hart 0: late by at most 1
+> hart 1: 2 sent, 2 came, 0 lost, 0 repeated, 0 late, 0 changed, 0 strange, whole
+> all: 5 sent, 6 came, 0 lost, 1 repeated, 1 late, 0 changed, 0 strange, not whole
+> first: message 1
 > result: not whole
 ? 1
 # A changed message, also one whose payload is a beginning of what was sent, or goes on behind it. Its number is lost.
@@ -103,12 +125,17 @@ file received.capture
 |~ 1 0 1f
 |~ 1 1 cf
 $ tracebench audit sent.capture received.capture
-> message 1: hart 0 number 1: changed
-> message 4: hart 1 number 1: changed
+> message 1: hart 0 number 1: changed, sent 7300000020 came 7300000021
+> message 2: hart 0 number 2: skips 1
+> message 4: hart 1 number 1: changed, sent cf00 came cf
 > hart 0: number 1 lost
 > hart 1: number 1 lost
-> hart 0: 3 sent, 3 came, 1 lost, 0 repeated, 0 late, 1 changed, not whole
-> hart 1: 2 sent, 2 came, 1 lost, 0 repeated, 0 late, 1 changed, not whole
+> hart 0: 3 sent, 3 came, 1 lost, 0 repeated, 0 late, 1 changed, 0 strange, not whole
+> hart 0: lost in 1 runs, the longest of 1
+> hart 1: 2 sent, 2 came, 1 lost, 0 repeated, 0 late, 1 changed, 0 strange, not whole
+> hart 1: lost in 1 runs, the longest of 1
+> all: 5 sent, 5 came, 2 lost, 0 repeated, 0 late, 2 changed, 0 strange, not whole
+> first: message 1
 > result: not whole
 ? 1
 file received.capture
@@ -118,10 +145,14 @@ file received.capture
 |~ 1 0 1f
 |~ 1 1 cf00
 $ tracebench audit sent.capture received.capture
-> message 0: hart 0 number 0: changed
+> message 0: hart 0 number 0: changed, sent 1f came 1f00
+> message 1: hart 0 number 1: skips 1
 > hart 0: number 0 lost
-> hart 0: 3 sent, 3 came, 1 lost, 0 repeated, 0 late, 1 changed, not whole
-> hart 1: 2 sent, 2 came, 0 lost, 0 repeated, 0 late, 0 changed, whole
+> hart 0: 3 sent, 3 came, 1 lost, 0 repeated, 0 late, 1 changed, 0 strange, not whole
+> hart 0: lost in 1 runs, the longest of 1
+> hart 1: 2 sent, 2 came, 0 lost, 0 repeated, 0 late, 0 changed, 0 strange, whole
+> all: 5 sent, 5 came, 1 lost, 0 repeated, 0 late, 1 changed, 0 strange, not whole
+> first: message 0
 > result: not whole
 ? 1
 # A changed message whose true copy comes later: the copy is in order, and the next one too. A changed one makes none
@@ -134,9 +165,11 @@ file received.capture
 |~ 1 0 1f
 |~ 1 1 cf00
 $ tracebench audit sent.capture received.capture
-> message 0: hart 0 number 2: changed
-> hart 0: 3 sent, 4 came, 0 lost, 0 repeated, 0 late, 1 changed, not whole
-> hart 1: 2 sent, 2 came, 0 lost, 0 repeated, 0 late, 0 changed, whole
+> message 0: hart 0 number 2: changed, sent 4f came 00
+> hart 0: 3 sent, 4 came, 0 lost, 0 repeated, 0 late, 1 changed, 0 strange, not whole
+> hart 1: 2 sent, 2 came, 0 lost, 0 repeated, 0 late, 0 changed, 0 strange, whole
+> all: 5 sent, 6 came, 0 lost, 0 repeated, 0 late, 1 changed, 0 strange, not whole
+> first: message 0
 > result: not whole
 ? 1
 # Its true copy came earlier: it is changed all the same, and no repeat.
@@ -148,9 +181,11 @@ file received.capture
 |~ 1 0 1f
 |~ 1 1 cf00
 $ tracebench audit sent.capture received.capture
-> message 2: hart 0 number 1: changed
-> hart 0: 3 sent, 4 came, 0 lost, 0 repeated, 0 late, 1 changed, not whole
-> hart 1: 2 sent, 2 came, 0 lost, 0 repeated, 0 late, 0 changed, whole
+> message 2: hart 0 number 1: changed, sent 7300000020 came 00
+> hart 0: 3 sent, 4 came, 0 lost, 0 repeated, 0 late, 1 changed, 0 strange, not whole
+> hart 1: 2 sent, 2 came, 0 lost, 0 repeated, 0 late, 0 changed, 0 strange, whole
+> all: 5 sent, 6 came, 0 lost, 0 repeated, 0 late, 1 changed, 0 strange, not whole
+> first: message 2
 > result: not whole
 ? 1
 # Strangers: a huge number, after which nothing is late; a number behind the last; a hart that SENT does not have.
@@ -167,9 +202,11 @@ $ tracebench audit sent.capture received.capture
 > message 0: hart 0 number 18446744073709551615: stranger
 > message 2: hart 0 number 3: stranger
 > message 4: hart 65535 number 0: stranger
-> hart 0: 3 sent, 5 came, 0 lost, 0 repeated, 0 late, 0 changed, not whole
-> hart 1: 2 sent, 2 came, 0 lost, 0 repeated, 0 late, 0 changed, whole
+> hart 0: 3 sent, 5 came, 0 lost, 0 repeated, 0 late, 0 changed, 2 strange, not whole
+> hart 1: 2 sent, 2 came, 0 lost, 0 repeated, 0 late, 0 changed, 0 strange, whole
+> all: 5 sent, 7 came, 0 lost, 0 repeated, 0 late, 0 changed, 2 strange, not whole
 > strangers: 3 messages
+> first: message 0
 > result: not whole
 ? 1
 # A stranger of a hart that SENT does not have leaves every hart whole, but not the result.
@@ -178,9 +215,11 @@ file received.capture
 |~ 2 0 1f
 $ tracebench audit sent.capture received.capture
 > message 5: hart 2 number 0: stranger
-> hart 0: 3 sent, 3 came, 0 lost, 0 repeated, 0 late, 0 changed, whole
-> hart 1: 2 sent, 2 came, 0 lost, 0 repeated, 0 late, 0 changed, whole
+> hart 0: 3 sent, 3 came, 0 lost, 0 repeated, 0 late, 0 changed, 0 strange, whole
+> hart 1: 2 sent, 2 came, 0 lost, 0 repeated, 0 late, 0 changed, 0 strange, whole
+> all: 5 sent, 5 came, 0 lost, 0 repeated, 0 late, 0 changed, 0 strange, whole
 > strangers: 1 messages
+> first: message 5
 > result: not whole
 ? 1
 # All at once.
@@ -191,15 +230,74 @@ file received.capture
 |~ 0 2 4f
 |~ 7 7 1f
 $ tracebench audit sent.capture received.capture
-> message 1: hart 1 number 1: changed
-> message 2: hart 0 number 0: late
+> message 0: hart 0 number 2: skips 2
+> message 1: hart 1 number 1: changed, sent cf00 came cf01
+> message 2: hart 0 number 0: late by 2
 > message 3: hart 0 number 2: repeat
 > message 4: hart 7 number 7: stranger
 > hart 0: number 1 lost
 > hart 1: numbers 0 to 1 lost
-> hart 0: 3 sent, 3 came, 1 lost, 1 repeated, 1 late, 0 changed, not whole
-> hart 1: 2 sent, 1 came, 2 lost, 0 repeated, 0 late, 1 changed, not whole
+> hart 0: 3 sent, 3 came, 1 lost, 1 repeated, 1 late, 0 changed, 0 strange, not whole
+> hart 0: lost in 1 runs, the longest of 1
+> hart 0: late by at most 2
+> hart 1: 2 sent, 1 came, 2 lost, 0 repeated, 0 late, 1 changed, 0 strange, not whole
+> hart 1: lost in 1 runs, the longest of 2
+> all: 5 sent, 4 came, 3 lost, 1 repeated, 1 late, 1 changed, 0 strange, not whole
 > strangers: 1 messages
+> first: message 0
+> result: not whole
+? 1
+# The same in a summary.
+$ tracebench audit --summary sent.capture received.capture
+> hart 0: 3 sent, 3 came, 1 lost, 1 repeated, 1 late, 0 changed, 0 strange, not whole
+> hart 0: lost in 1 runs, the longest of 1
+> hart 0: late by at most 2
+> hart 1: 2 sent, 1 came, 2 lost, 0 repeated, 0 late, 1 changed, 0 strange, not whole
+> hart 1: lost in 1 runs, the longest of 2
+> all: 5 sent, 4 came, 3 lost, 1 repeated, 1 late, 1 changed, 0 strange, not whole
+> strangers: 1 messages
+> first: message 0
+> result: not whole
+? 1
+# A burst of losses over both harts: the first message that came after it shows where.
+file burst.capture
+|~ 0 0 1f
+|~ 1 0 1f
+|~ 0 1 7300000020
+|~ 0 2 01
+|~ 1 1 02
+|~ 1 2 03
+|~ 0 3 04
+|~ 1 3 05
+|~ 0 4 4f
+|~ 1 4 4f
+file received.capture
+|~ 0 0 1f
+|~ 1 0 1f
+|~ 0 1 7300000020
+|~ 1 3 05
+|~ 0 4 4f
+|~ 1 4 4f
+$ tracebench audit burst.capture received.capture
+> message 3: hart 1 number 3: skips 2
+> message 4: hart 0 number 4: skips 2
+> hart 0: numbers 2 to 3 lost
+> hart 1: numbers 1 to 2 lost
+> hart 0: 5 sent, 3 came, 2 lost, 0 repeated, 0 late, 0 changed, 0 strange, not whole
+> hart 0: lost in 1 runs, the longest of 2
+> hart 1: 5 sent, 3 came, 2 lost, 0 repeated, 0 late, 0 changed, 0 strange, not whole
+> hart 1: lost in 1 runs, the longest of 2
+> all: 10 sent, 6 came, 4 lost, 0 repeated, 0 late, 0 changed, 0 strange, not whole
+> first: message 3
+> result: not whole
+? 1
+$ tracebench audit burst.capture received.capture --summary
+> hart 0: 5 sent, 3 came, 2 lost, 0 repeated, 0 late, 0 changed, 0 strange, not whole
+> hart 0: lost in 1 runs, the longest of 2
+> hart 1: 5 sent, 3 came, 2 lost, 0 repeated, 0 late, 0 changed, 0 strange, not whole
+> hart 1: lost in 1 runs, the longest of 2
+> all: 10 sent, 6 came, 4 lost, 0 repeated, 0 late, 0 changed, 0 strange, not whole
+> first: message 3
 > result: not whole
 ? 1
 # Two runs of lost numbers of one hart. A late message lies between them.
@@ -214,10 +312,14 @@ file received.capture
 |~ 0 5 4f
 |~ 0 2 02
 $ tracebench audit long.capture received.capture
-> message 1: hart 0 number 2: late
+> message 0: hart 0 number 5: skips 5
+> message 1: hart 0 number 2: late by 3
 > hart 0: numbers 0 to 1 lost
 > hart 0: numbers 3 to 4 lost
-> hart 0: 6 sent, 2 came, 4 lost, 0 repeated, 1 late, 0 changed, not whole
+> hart 0: 6 sent, 2 came, 4 lost, 0 repeated, 1 late, 0 changed, 0 strange, not whole
+> hart 0: lost in 2 runs, the longest of 2
+> hart 0: late by at most 3
+> first: message 0
 > result: not whole
 ? 1
 # A hart that sent nothing: by the header, and below the highest that stands in SENT without one.
@@ -225,16 +327,18 @@ file headed.capture
 |= ffff727674726163653200 00 0004 0300
 |< sent.capture
 $ tracebench audit headed.capture headed.capture
-> hart 0: 3 sent, 3 came, 0 lost, 0 repeated, 0 late, 0 changed, whole
-> hart 1: 2 sent, 2 came, 0 lost, 0 repeated, 0 late, 0 changed, whole
-> hart 2: 0 sent, 0 came, 0 lost, 0 repeated, 0 late, 0 changed, whole
+> hart 0: 3 sent, 3 came, 0 lost, 0 repeated, 0 late, 0 changed, 0 strange, whole
+> hart 1: 2 sent, 2 came, 0 lost, 0 repeated, 0 late, 0 changed, 0 strange, whole
+> hart 2: 0 sent, 0 came, 0 lost, 0 repeated, 0 late, 0 changed, 0 strange, whole
+> all: 5 sent, 5 came, 0 lost, 0 repeated, 0 late, 0 changed, 0 strange, whole
 > result: whole
 file gap.capture
 |~ 2 0 4f
 $ tracebench audit gap.capture gap.capture
-> hart 0: 0 sent, 0 came, 0 lost, 0 repeated, 0 late, 0 changed, whole
-> hart 1: 0 sent, 0 came, 0 lost, 0 repeated, 0 late, 0 changed, whole
-> hart 2: 1 sent, 1 came, 0 lost, 0 repeated, 0 late, 0 changed, whole
+> hart 0: 0 sent, 0 came, 0 lost, 0 repeated, 0 late, 0 changed, 0 strange, whole
+> hart 1: 0 sent, 0 came, 0 lost, 0 repeated, 0 late, 0 changed, 0 strange, whole
+> hart 2: 1 sent, 1 came, 0 lost, 0 repeated, 0 late, 0 changed, 0 strange, whole
+> all: 1 sent, 1 came, 0 lost, 0 repeated, 0 late, 0 changed, 0 strange, whole
 > result: whole
 # SENT has no message and no header: it has no hart.
 $ tracebench audit empty.capture empty.capture
@@ -242,26 +346,30 @@ $ tracebench audit empty.capture empty.capture
 $ tracebench audit empty.capture gap.capture
 > message 0: hart 2 number 0: stranger
 > strangers: 1 messages
+> first: message 0
 > result: not whole
 ? 1
 # One version against the other, both ways: only where both have a header can these differ.
 $ tracebench audit headed.capture sent.capture
-> hart 0: 3 sent, 3 came, 0 lost, 0 repeated, 0 late, 0 changed, whole
-> hart 1: 2 sent, 2 came, 0 lost, 0 repeated, 0 late, 0 changed, whole
-> hart 2: 0 sent, 0 came, 0 lost, 0 repeated, 0 late, 0 changed, whole
+> hart 0: 3 sent, 3 came, 0 lost, 0 repeated, 0 late, 0 changed, 0 strange, whole
+> hart 1: 2 sent, 2 came, 0 lost, 0 repeated, 0 late, 0 changed, 0 strange, whole
+> hart 2: 0 sent, 0 came, 0 lost, 0 repeated, 0 late, 0 changed, 0 strange, whole
+> all: 5 sent, 5 came, 0 lost, 0 repeated, 0 late, 0 changed, 0 strange, whole
 > result: whole
 $ tracebench audit sent.capture headed.capture
-> hart 0: 3 sent, 3 came, 0 lost, 0 repeated, 0 late, 0 changed, whole
-> hart 1: 2 sent, 2 came, 0 lost, 0 repeated, 0 late, 0 changed, whole
+> hart 0: 3 sent, 3 came, 0 lost, 0 repeated, 0 late, 0 changed, 0 strange, whole
+> hart 1: 2 sent, 2 came, 0 lost, 0 repeated, 0 late, 0 changed, 0 strange, whole
+> all: 5 sent, 5 came, 0 lost, 0 repeated, 0 late, 0 changed, 0 strange, whole
 > result: whole
 # Headers that differ: in the mode, in the period, in the count of harts.
 file other.capture
 |= ffff727674726163653200 01 0004 0300
 |< sent.capture
 $ tracebench audit headed.capture other.capture
-> hart 0: 3 sent, 3 came, 0 lost, 0 repeated, 0 late, 0 changed, whole
-> hart 1: 2 sent, 2 came, 0 lost, 0 repeated, 0 late, 0 changed, whole
-> hart 2: 0 sent, 0 came, 0 lost, 0 repeated, 0 late, 0 changed, whole
+> hart 0: 3 sent, 3 came, 0 lost, 0 repeated, 0 late, 0 changed, 0 strange, whole
+> hart 1: 2 sent, 2 came, 0 lost, 0 repeated, 0 late, 0 changed, 0 strange, whole
+> hart 2: 0 sent, 0 came, 0 lost, 0 repeated, 0 late, 0 changed, 0 strange, whole
+> all: 5 sent, 5 came, 0 lost, 0 repeated, 0 late, 0 changed, 0 strange, whole
 > headers differ
 > result: not whole
 ? 1
@@ -269,9 +377,10 @@ file other.capture
 |= ffff727674726163653200 00 0005 0300
 |< sent.capture
 $ tracebench audit headed.capture other.capture
-> hart 0: 3 sent, 3 came, 0 lost, 0 repeated, 0 late, 0 changed, whole
-> hart 1: 2 sent, 2 came, 0 lost, 0 repeated, 0 late, 0 changed, whole
-> hart 2: 0 sent, 0 came, 0 lost, 0 repeated, 0 late, 0 changed, whole
+> hart 0: 3 sent, 3 came, 0 lost, 0 repeated, 0 late, 0 changed, 0 strange, whole
+> hart 1: 2 sent, 2 came, 0 lost, 0 repeated, 0 late, 0 changed, 0 strange, whole
+> hart 2: 0 sent, 0 came, 0 lost, 0 repeated, 0 late, 0 changed, 0 strange, whole
+> all: 5 sent, 5 came, 0 lost, 0 repeated, 0 late, 0 changed, 0 strange, whole
 > headers differ
 > result: not whole
 ? 1
@@ -281,11 +390,13 @@ file other.capture
 |~ 9 9 4f
 $ tracebench audit headed.capture other.capture
 > message 5: hart 9 number 9: stranger
-> hart 0: 3 sent, 3 came, 0 lost, 0 repeated, 0 late, 0 changed, whole
-> hart 1: 2 sent, 2 came, 0 lost, 0 repeated, 0 late, 0 changed, whole
-> hart 2: 0 sent, 0 came, 0 lost, 0 repeated, 0 late, 0 changed, whole
+> hart 0: 3 sent, 3 came, 0 lost, 0 repeated, 0 late, 0 changed, 0 strange, whole
+> hart 1: 2 sent, 2 came, 0 lost, 0 repeated, 0 late, 0 changed, 0 strange, whole
+> hart 2: 0 sent, 0 came, 0 lost, 0 repeated, 0 late, 0 changed, 0 strange, whole
+> all: 5 sent, 5 came, 0 lost, 0 repeated, 0 late, 0 changed, 0 strange, whole
 > strangers: 1 messages
 > headers differ
+> first: message 5
 > result: not whole
 ? 1
 # As many harts as there may be.
@@ -293,17 +404,20 @@ file many.capture
 |= ffff727674726163653200 00 0004 0004
 |*1024~ @ 0 1f\n@ 1 4f
 $ tracebench audit many.capture many.capture
->*1024 hart @: 2 sent, 2 came, 0 lost, 0 repeated, 0 late, 0 changed, whole
+>*1024 hart @: 2 sent, 2 came, 0 lost, 0 repeated, 0 late, 0 changed, 0 strange, whole
+> all: 2048 sent, 2048 came, 0 lost, 0 repeated, 0 late, 0 changed, 0 strange, whole
 > result: whole
 $ tracebench audit many.capture empty.capture
 >*1024 hart @: numbers 0 to 1 lost
->*1024 hart @: 2 sent, 0 came, 2 lost, 0 repeated, 0 late, 0 changed, not whole
+>*1024 hart @: 2 sent, 0 came, 2 lost, 0 repeated, 0 late, 0 changed, 0 strange, not whole\nhart @: lost in 1 runs, the longest of 2
+> all: 2048 sent, 0 came, 2048 lost, 0 repeated, 0 late, 0 changed, 0 strange, not whole
 > result: not whole
 ? 1
 file highest.capture
 |~ 1023 0 4f
 $ tracebench audit highest.capture highest.capture
->*1023 hart @: 0 sent, 0 came, 0 lost, 0 repeated, 0 late, 0 changed, whole
-> hart 1023: 1 sent, 1 came, 0 lost, 0 repeated, 0 late, 0 changed, whole
+>*1023 hart @: 0 sent, 0 came, 0 lost, 0 repeated, 0 late, 0 changed, 0 strange, whole
+> hart 1023: 1 sent, 1 came, 0 lost, 0 repeated, 0 late, 0 changed, 0 strange, whole
+> all: 1 sent, 1 came, 0 lost, 0 repeated, 0 late, 0 changed, 0 strange, whole
 > result: whole
 ";

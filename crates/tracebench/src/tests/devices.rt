@@ -58,15 +58,18 @@ $ tracebench dump gap.capture
 $ tracebench audit open.capture gap.capture
 > message 1: hart 0 number 1: stranger
 > message 2: hart 0 number 3: stranger
-> hart 0: 1 sent, 3 came, 0 lost, 0 repeated, 0 late, 0 changed, not whole
+> hart 0: 1 sent, 3 came, 0 lost, 0 repeated, 0 late, 0 changed, 2 strange, not whole
 > strangers: 2 messages
+> first: message 1
 > result: not whole
 ? 1
 $ tracebench audit open.capture unopened.capture
 > message 0: hart 0 number 1: stranger
 > hart 0: number 0 lost
-> hart 0: 1 sent, 1 came, 1 lost, 0 repeated, 0 late, 0 changed, not whole
+> hart 0: 1 sent, 1 came, 1 lost, 0 repeated, 0 late, 0 changed, 1 strange, not whole
+> hart 0: lost in 1 runs, the longest of 1
 > strangers: 1 messages
+> first: message 0
 > result: not whole
 ? 1
 $ tracebench decode --base 80000000 image.bin open.capture

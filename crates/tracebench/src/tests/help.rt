@@ -170,14 +170,15 @@ $ tracebench bench --help
 $ tracebench audit --help
 ! Compare a capture that came with the one that was sent, message by message
 !
-! Usage: tracebench audit <SENT> <RECEIVED>
+! Usage: tracebench audit [OPTIONS] <SENT> <RECEIVED>
 !
 ! Arguments:
 !   <SENT>      File of all trace messages that were sent
 !   <RECEIVED>  File of the trace messages that came
 !
 ! Options:
-!   -h, --help  Print help
+!       --summary  Leave out the lines of single messages and of lost numbers
+!   -h, --help     Print help
 !
 ! Example:
 !   tracebench audit examples/two_harts/both.capture examples/two_harts/both.capture

@@ -237,7 +237,7 @@ file sent.capture
 |*{1..70000}~ 0 @ 6300000020
 |~ 0 70001 cf00
 $ tracebench audit sent.capture sent.capture
-> hart 0: 70002 sent, 70002 came, 0 lost, 0 repeated, 0 late, 0 changed, whole
+> hart 0: 70002 sent, 70002 came, 0 lost, 0 repeated, 0 late, 0 changed, 0 strange, whole
 > result: whole
 
 # One is lost and the last comes twice; then all but the first and the last are changed.
@@ -248,9 +248,12 @@ file received.capture
 |~ 0 70001 cf00
 |~ 0 70001 cf00
 $ tracebench audit sent.capture received.capture
+> message 35000: hart 0 number 35001: skips 1
 > message 70001: hart 0 number 70001: repeat
 > hart 0: number 35000 lost
-> hart 0: 70002 sent, 70002 came, 1 lost, 1 repeated, 0 late, 0 changed, not whole
+> hart 0: 70002 sent, 70002 came, 1 lost, 1 repeated, 0 late, 0 changed, 0 strange, not whole
+> hart 0: lost in 1 runs, the longest of 1
+> first: message 35000
 > result: not whole
 ? 1
 file received.capture
@@ -258,9 +261,12 @@ file received.capture
 |*{1..70000}~ 0 @ 7300000020
 |~ 0 70001 cf00
 $ tracebench audit sent.capture received.capture
->*{1..70000} message @: hart 0 number @: changed
+>*{1..70000} message @: hart 0 number @: changed, sent 6300000020 came 7300000020
+> message 70001: hart 0 number 70001: skips 70000
 > hart 0: numbers 1 to 70000 lost
-> hart 0: 70002 sent, 70002 came, 70000 lost, 0 repeated, 0 late, 70000 changed, not whole
+> hart 0: 70002 sent, 70002 came, 70000 lost, 0 repeated, 0 late, 70000 changed, 0 strange, not whole
+> hart 0: lost in 1 runs, the longest of 70000
+> first: message 1
 > result: not whole
 ? 1
 ";

@@ -233,9 +233,17 @@ pub(crate) const TEXT: &str = r#"
 !
 ! For more information, try '--help'.
 
-# `audit`.
+# `audit`, and its summary.
 % tracebench audit sent.capture received.capture
-> Audit(Audit { sent: "sent.capture", received: "received.capture" })
+> Audit(Audit { summary: false, sent: "sent.capture", received: "received.capture" })
+% tracebench audit sent.capture --summary received.capture
+> Audit(Audit { summary: true, sent: "sent.capture", received: "received.capture" })
+% tracebench audit --summary sent.capture received.capture --summary
+! error: the argument '--summary' cannot be used multiple times
+!
+! Usage: tracebench audit [OPTIONS] <SENT> <RECEIVED>
+!
+! For more information, try '--help'.
 % tracebench audit sent.capture
 ! error: the following required arguments were not provided:
 !   <RECEIVED>
