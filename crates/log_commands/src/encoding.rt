@@ -41,7 +41,8 @@ use subcommands::Encode;
 /// logs are asked for, and else 16,777,216.
 ///
 /// The logs are read side by side, each a piece at a time. The messages are made while the events come, and kept until
-/// it is known that all logs are legal. No list holds the events of a log.
+/// it is known that all logs are legal. No list holds the events of a log. A capture that is written decodes to the logs
+/// again, to long ones too: so `captures::decode_capture` promises.
 pub fn encode<'a, F: Files + Sync, O: Write, R: Threads + Sync>(
     alloc: Global,
     rt: &R,
