@@ -1,15 +1,15 @@
 -- The entries of a file stand for its symbols, and rise in its bytes.
-use Rattle.std.proofs.Common.{◌≡◌, ℕ, ◌+◌, ◌-◌, ◌<◌, ◌≤◌, ◌&&◌, ◌==◌, Bool, true, false, cond, List, [], ◌∷◌, ◌++◌}
+use Rattle.std.proofs.Common.{◌≡◌, ◌↔◌, ℕ, ◌+◌, ◌-◌, ◌<◌, ◌≤◌, ◌&&◌, ◌==◌, Bool, true, false, cond, List, [], ◌∷◌, ◌++◌}
 use Rattle.std.proofs.Common.{Option, Some, None, All, IfSome, length, map, option_map, take, drop, refl, sym, ap, ◌∙◌}
 use Rattle.std.proofs.Common.{subst, arith, append_assoc, append-nil, length-append}
-use Rattle.std.proofs.Math.Seq.{drop-append-add, take-append_seam}
-use Rattle.std.proofs.lemmas.List.{drop-append-le, length-drop, length-take-le, take-append-drop}
+use Rattle.std.proofs.Math.Seq.{take-append_seam}
+use Rattle.std.proofs.lemmas.List.{drop_at, length-map, nil_from_length, take-append-drop}
 use Rattle.std.proofs.lemmas.List.Splits.{join_with_byte-slice_split}
 use Rattle.std.proofs.lemmas.List.Elements.{All-cons, All-nil, All-weaker}
 use Rattle.std.specs.List.{after_first, before_first, cons_option, filter_map, join_with_byte, position_or_len}
 use Rattle.retire.specs.Number.{digits_number}
-use Rattle.symbols.specs.File.{Symbol, is_blank, is_code_type, lines_of, name_behind, symbol_of, symbol_with}
-use Rattle.symbols.specs.File.{symbols_of, without_return}
+use Rattle.symbols.specs.File.{Symbol, is_blank, is_code_type, is_name, is_size, lines_of, name_behind, symbol_of, symbol_with}
+use Rattle.symbols.specs.File.{symbols_of, without_return, without_size}
 use Rattle.symbols.specs.declared.entry.Entry.{Entry}
 use Rattle.symbols.specs.steps.Entries.{entries_from, entries_of, entry_of, entry_with, symbol_in}
 use Rattle.symbols.proofs.NearestLemmas.{AreRising}
@@ -29,45 +29,76 @@ return_cut (byte ∷ []) = cut_byte byte (byte == 13)
 return_cut (byte ∷ next ∷ rest) =
     let cut = return_cut (next ∷ rest) in (cut.0, ap (λ l. byte ∷ l) cut.1)
 
--- A name stands behind two bytes, and is not empty.
-record IsName (behind name : List ℕ) : Type 0 where
-  is : name ≡ drop 2 behind
-  some : 3 ≤ length behind
+-- A name is the end of a text, and is not empty.
+record IsName (text name : List ℕ) : Type 0 where
+  front : List ℕ
+  is : text ≡ front ++ name
+  some : 1 ≤ length name
 
-named_behind : (kind blank byte : ℕ) (rest name : List ℕ) (b : Bool)
-    → cond b (Some (byte ∷ rest)) None ≡ Some name → IsName (kind ∷ blank ∷ byte ∷ rest) name
-named_behind kind blank byte rest name true e = record { is = cc; some = omega arith }
-named_behind kind blank byte rest name false e = cc
+named_behind : (kind blank : ℕ) (rest name : List ℕ) (a b : Bool) → is_name rest ≡ b
+    → cond (a && b) (Some rest) None ≡ Some name → IsName (kind ∷ blank ∷ rest) name
+named_behind kind blank rest name false b n e = cc
+named_behind kind blank rest name true false n e = cc
+named_behind kind blank [] name true true n e = cc
+named_behind kind blank (byte ∷ rest) name true true n e =
+    let same : byte ∷ rest ≡ name = cc in
+    let long = ap length same in
+    record {
+      front = kind ∷ blank ∷ [];
+      is = ap (λ l. kind ∷ blank ∷ l) same;
+      some = omega (arith, long);
+    }
 
 name_is : (behind name : List ℕ) → name_behind behind ≡ Some name → IsName behind name
 name_is [] name e = cc
 name_is (kind ∷ []) name e = cc
-name_is (kind ∷ blank ∷ []) name e = cc
-name_is (kind ∷ blank ∷ byte ∷ rest) name e =
-    named_behind kind blank byte rest name (is_code_type kind && is_blank blank) e
+name_is (kind ∷ blank ∷ rest) name e =
+    named_behind kind blank rest name (is_code_type kind && is_blank blank) (is_name rest) refl e
 
-drop_twice : (m : ℕ) (xs : List ℕ) → m ≤ length xs → drop 2 (drop m xs) ≡ drop (m + 2) xs
-drop_twice m xs h =
-    sym (drop-append-add (take m xs) (drop m xs) 2)
-    ∙ (λ i. drop (length-take-le m xs h i + 2) (take-append-drop m xs i))
+-- The end of an end of a text is one of the text.
+within : (front text rest name : List ℕ) → text ≡ front ++ rest → IsName rest name → IsName text name
+within front text rest name e h = record {
+  front = front ++ h.front;
+  is = e ∙ ap (λ l. front ++ l) h.is ∙ sym (append_assoc front h.front name);
+  some = h.some;
+}
+
+-- What is left without a size is an end.
+sized : (text : List ℕ) (b : Bool) → (front : List ℕ) × (text ≡ front ++ cond b (after_first is_blank text) text)
+sized text true =
+    let count = position_or_len is_blank text + 1 in
+    (take count text, sym (take-append-drop count text))
+sized text false = ([], refl)
+
+-- The name of a line's symbol is the end of the line without its carriage return.
+line_named : (text name : List ℕ) → name_behind (without_size (after_first is_blank text)) ≡ Some name
+    → IsName text name
+line_named text name e =
+    let count = position_or_len is_blank text + 1 in
+    let after = after_first is_blank text in
+    let left = sized after (is_size (before_first is_blank after)) in
+    within (take count text) text after name (sym (take-append-drop count text))
+    (within left.0 after (without_size after) name left.1 (name_is (without_size after) name e))
 
 -- The bytes of a name, found again in the file.
-name_bytes : (front line more name : List ℕ) (p : ℕ) → IsName (drop (p + 1) (without_return line)) name
-    → take (length name) (drop (length front + p + 3) (front ++ (line ++ more))) ≡ name
-name_bytes front line more name p h =
+name_bytes : (front line more name : List ℕ) → IsName (without_return line) name
+    → take (length name)
+    (drop (length front + length (without_return line) - length name) (front ++ (line ++ more))) ≡ name
+name_bytes front line more name h =
     let text = without_return line in
     let end = (return_cut line).0 in
-    let long : p + 3 ≤ length text = omega (arith, h.some, length-drop (p + 1) text) in
-    let place : length front + p + 3 ≡ length front + (p + 3) = omega arith in
-    let parted : line ++ more ≡ text ++ (end ++ more) =
-    ap (λ l. l ++ more) (return_cut line).1 ∙ append_assoc text end more in
-    let behind : p + 1 + 2 ≡ p + 3 = omega arith in
-    let few : p + 1 ≤ length text = omega (arith, long) in
-    let rest : drop (p + 3) text ≡ name = sym (h.is ∙ drop_twice (p + 1) text few ∙ ap (λ k. drop k text) behind) in
-    let found : drop (length front + p + 3) (front ++ (line ++ more)) ≡ name ++ (end ++ more) =
-    ap (λ k. drop k (front ++ (line ++ more))) place ∙ drop-append-add front (line ++ more) (p + 3)
-    ∙ ap (drop (p + 3)) parted ∙ drop-append-le (p + 3) text (end ++ more) long ∙ ap (λ l. l ++ (end ++ more)) rest in
-    ap (take (length name)) found ∙ take-append_seam name (end ++ more)
+    let rest = name ++ (end ++ more) in
+    let long : length text ≡ length h.front + length name = ap length h.is ∙ length-append h.front name in
+    let place : length (front ++ h.front) ≡ length front + length text - length name =
+    omega (arith, long, length-append front h.front) in
+    let parted : front ++ (line ++ more) ≡ (front ++ h.front) ++ rest =
+    ap (λ l. front ++ (l ++ more)) ((return_cut line).1 ∙ ap (λ l. l ++ end) h.is)
+    ∙ ap (λ l. front ++ l) (append_assoc (h.front ++ name) end more ∙ append_assoc h.front name (end ++ more))
+    ∙ sym (append_assoc front h.front rest) in
+    ap (take (length name))
+    (ap (drop (length front + length text - length name)) parted
+    ∙ drop_at (front ++ h.front) rest (length front + length text - length name) place)
+    ∙ take-append_seam name (end ++ more)
 
 -- The symbol at an address with this name.
 abbrev symbol_made : ℕ → List ℕ → Symbol
@@ -85,28 +116,26 @@ record Stands (file : List ℕ) (from count : ℕ) (symbol : Option Symbol) (ent
   lies : IfSome entry (Lies from count)
 
 stand : (front line more : List ℕ) (n : Option ℕ) (m : Option (List ℕ))
-    → ((name : List ℕ) → m ≡ Some name → IsName (after_first is_blank (without_return line)) name)
+    → ((name : List ℕ) → m ≡ Some name → IsName (without_return line) name)
     → Stands (front ++ (line ++ more)) (length front) (length line) (symbol_with n m)
-    (entry_with (length front + position_or_len is_blank (without_return line) + 3) n m)
+    (entry_with (length front + length (without_return line)) n m)
 stand front line more None None h = record { same = refl; lies = tt }
 stand front line more None (Some name) h = record { same = refl; lies = tt }
 stand front line more (Some address) None h = record { same = refl; lies = tt }
 stand front line more (Some address) (Some name) h =
     let text = without_return line in
-    let p = position_or_len is_blank text in
     let named = h name refl in
-    let long : p + 4 ≤ length text = omega (arith, named.some, length-drop (p + 1) text) in
+    let some = named.some in
+    let long : length text ≡ length named.front + length name =
+    ap length named.is ∙ length-append named.front name in
     let whole : length line ≡ length text + length (return_cut line).0 =
     ap length (return_cut line).1 ∙ length-append text (return_cut line).0 in
-    let few : p + 1 ≤ length text = omega (arith, long) in
-    let count : length name ≡ length text - (p + 1) - 2 =
-    ap length named.is ∙ length-drop 2 (drop (p + 1) text) ∙ ap (λ k. k - 2) (length-drop (p + 1) text) in
     record {
-      same = ap (λ l. Some (symbol_made address l)) (sym (name_bytes front line more name p named));
+      same = ap (λ l. Some (symbol_made address l)) (sym (name_bytes front line more name named));
       lies = record {
-        above = omega arith;
-        within = omega (arith, long, whole, count);
-        some = omega (arith, long, count);
+        above = omega (arith, long);
+        within = omega (arith, long, whole);
+        some = some;
       };
     }
 
@@ -115,8 +144,8 @@ line_stands : (front line more : List ℕ)
     → Stands (front ++ (line ++ more)) (length front) (length line) (symbol_of line) (entry_of (length front) line)
 line_stands front line more =
     let text = without_return line in
-    stand front line more (digits_number (before_first is_blank text)) (name_behind (after_first is_blank text))
-    (name_is (after_first is_blank text))
+    stand front line more (digits_number (before_first is_blank text))
+    (name_behind (without_size (after_first is_blank text))) (line_named text)
 
 -- Entries of a file stand for symbols, rise, and lie in the file from here on.
 pub record AreFrom (file : List ℕ) (from : ℕ) (symbols : List Symbol) (entries : List Entry) : Type 0 where
@@ -189,3 +218,12 @@ lines_from file front (line ∷ next ∷ rest) e =
 -- The entries of a file stand for its symbols.
 pub entries_stand : (file : List ℕ) → AreFrom file 0 (symbols_of file) (entries_of file)
 entries_stand file = lines_from file [] (lines_of file) (sym (join_with_byte-slice_split 10 file))
+
+-- A file has no symbol if and only if it has no entry.
+pub none_stand : (file : List ℕ) → (length (entries_of file) ≡ 0) ↔ (symbols_of file ≡ [])
+none_stand file =
+    let long : length (symbols_of file) ≡ length (entries_of file) =
+    ap length (entries_stand file).same ∙ length-map (entries_of file) (symbol_in file) in (
+      λ none. nil_from_length (symbols_of file) (long ∙ none),
+      λ none. sym long ∙ ap length none,
+    )

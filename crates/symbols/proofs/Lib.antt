@@ -4,4 +4,5 @@ pub mod LineLemmas
 pub mod BlankLemmas
 pub mod OrderLemmas
 pub mod FileLemmas
+pub mod RefusedLemmas
 mod WorkedSymbols

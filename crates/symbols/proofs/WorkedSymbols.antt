@@ -69,5 +69,57 @@ a_prefix : symbol_text (codes "0x8 t one\n") 9 ≡ []
 unfolding digits
 a_prefix = refl
 
+-- Sizes are passed over, and bound nothing.
+abbrev sized_file : List ℕ
+sized_file = codes "80000000 00000010 T start\n" ++ codes "80000020 00000000ABCDEF08 t last two\n"
+
+within_a_size : symbol_text sized_file 0x8000_0004 ≡ codes " <start+4>"
+unfolding digits
+within_a_size = refl
+
+behind_a_size : symbol_text sized_file 0x8000_001f ≡ codes " <start+1f>"
+unfolding digits
+behind_a_size = refl
+
+after_a_size_of_sixteen_digits : symbol_text sized_file 0x8000_0020 ≡ codes " <last two+0>"
+unfolding digits
+after_a_size_of_sixteen_digits = refl
+
+a_size_of_seven_digits : symbol_text (codes "8 0000010 t one\n") 9 ≡ []
+unfolding digits
+a_size_of_seven_digits = refl
+
+a_size_of_nine_digits : symbol_text (codes "8 000000010 t one\n") 9 ≡ []
+unfolding digits
+a_size_of_nine_digits = refl
+
+eight_bytes_that_are_no_size : symbol_text (codes "8 0000001g t one\n") 9 ≡ []
+unfolding digits
+eight_bytes_that_are_no_size = refl
+
+two_sizes : symbol_text (codes "8 00000010 00000010 t one\n") 9 ≡ []
+unfolding digits
+two_sizes = refl
+
+a_size_and_no_type : symbol_text (codes "8 00000010 \n") 9 ≡ []
+unfolding digits
+a_size_and_no_type = refl
+
+a_size_of_data : symbol_text (codes "8 00000010 D one\n") 9 ≡ []
+unfolding digits
+a_size_of_data = refl
+
+a_dollar_in_front : symbol_text (codes "8 t $x\n") 9 ≡ []
+unfolding digits
+a_dollar_in_front = refl
+
+a_size_and_a_dollar_in_front : symbol_text (codes "8 00000010 t $d.1\n") 9 ≡ []
+unfolding digits
+a_size_and_a_dollar_in_front = refl
+
+a_dollar_inside : symbol_text (codes "8 t x$y\n") 9 ≡ codes " <x$y+1>"
+unfolding digits
+a_dollar_inside = refl
+
 no_file : symbol_text [] 9 ≡ []
 no_file = refl

@@ -1,6 +1,7 @@
--- The symbols of a file, which has them in lines as `nm` prints them: an address, a type and a name, with single blanks
--- between them.
-use Rattle.std.specs.Prelude.{ℕ, ◌==◌, ◌&&◌, ◌||◌, if◌then◌else◌, Bool, List, [], ◌∷◌, Option, Some, None}
+-- The symbols of a file, which has them in lines as `nm` prints them: an address, perhaps a size, a type and a name,
+-- with single blanks between them.
+use Rattle.std.specs.Prelude.{ℕ, ◌==◌, ◌&&◌, ◌||◌, not, if◌then◌else◌, is_some, Bool, false, List, [], ◌∷◌, Option, Some, None}
+use Rattle.std.specs.Prelude.{length}
 use Rattle.std.specs.List.{after_first, before_first, filter_map, slice_split}
 use Rattle.retire.specs.Number.{digits_number}
 
@@ -31,22 +32,37 @@ is_blank byte = byte == 32
 abbrev pub is_code_type : ℕ → Bool
 is_code_type byte = (byte == 116) || (byte == 84) || (byte == 119) || (byte == 87)
 
--- The name after a type of code and a blank. It has at least one byte.
+-- The bytes are a symbol's name: there is one at least, and the first is no dollar. By names that begin with a dollar
+-- an assembler marks data and instructions.
+abbrev pub is_name : List ℕ → Bool
+is_name [] = false
+is_name (byte ∷ rest) = not (byte == 36)
+
+-- The name after a type of code and a blank.
 abbrev pub name_behind : List ℕ → Option (List ℕ)
-name_behind (kind ∷ blank ∷ byte ∷ rest) = if is_code_type kind && is_blank blank then Some (byte ∷ rest) else None
+name_behind (kind ∷ blank ∷ name) =
+    if (is_code_type kind && is_blank blank) && is_name name then Some name else None
 name_behind _ = None
+
+-- The text is a size: 8 or 16 hexadecimal digits.
+abbrev pub is_size : List ℕ → Bool
+is_size text = ((length text == 8) || (length text == 16)) && is_some (digits_number text)
+
+-- What is left of a text without a size in front and the blank after it, where it begins with a size.
+abbrev pub without_size : List ℕ → List ℕ
+without_size text = if is_size (before_first is_blank text) then after_first is_blank text else text
 
 -- The symbol at this address with this name, if there are both.
 abbrev pub symbol_with : Option ℕ → Option (List ℕ) → Option Symbol
 symbol_with (Some address) (Some name) = Some (record { address = address; name = name })
 symbol_with _ _ = None
 
--- The symbol of a line: one to sixteen hexadecimal digits, a blank, the type, a blank and the name. Another line has
--- none.
+-- The symbol of a line: one to sixteen hexadecimal digits, a blank, perhaps a size and a blank, the type, a blank and
+-- the name. Another line has none.
 abbrev pub symbol_of : List ℕ → Option Symbol
 symbol_of line =
     let text = without_return line in
-    symbol_with (digits_number (before_first is_blank text)) (name_behind (after_first is_blank text))
+    symbol_with (digits_number (before_first is_blank text)) (name_behind (without_size (after_first is_blank text)))
 
 -- The symbols of a file, in its order.
 abbrev pub symbols_of : List ℕ → List Symbol

@@ -1,4 +1,5 @@
 pub mod File
+pub mod Refused
 pub mod Nearest
 pub mod Naming
 pub mod FaultText

@@ -11,6 +11,8 @@ use std::fmt;
 pub enum SymbolsFault {
     /// The file has more than 16,777,216 bytes.
     TooLarge,
+    /// No line of the file is a symbol of code.
+    NoSymbol,
     /// Memory was refused.
     Memory,
 }
@@ -21,6 +23,7 @@ impl fmt::Display for SymbolsFault {
     fn fmt<W: fmt::Write>(&self, f: &mut fmt::Formatter<W>) -> fmt::Result {
         f.write_str(match *self {
             SymbolsFault::TooLarge => "larger than 16777216 bytes",
+            SymbolsFault::NoSymbol => "no symbol of code: give it what nm prints",
             SymbolsFault::Memory => "out of memory",
         })
     }

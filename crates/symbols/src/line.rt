@@ -1,9 +1,9 @@
 //! The symbol of one line.
 
-ghost use Rattle.std.specs.Prelude.{◌≡◌, ◌+◌, ◌<◌, ◌≤◌, ◌^◌, length, option_map};
-ghost use Rattle.std.specs.List.{position_or_len};
+ghost use Rattle.std.specs.Prelude.{◌≡◌, ◌+◌, ◌<◌, ◌≤◌, ◌^◌, IfSome, length, option_map};
+ghost use Rattle.std.specs.List.{after_first, position_or_len};
 ghost use Rattle.retire.specs.Number.{digits_number};
-ghost use Rattle.symbols.specs.File.{is_blank, is_code_type, name_behind, without_return};
+ghost use Rattle.symbols.specs.File.{is_blank, is_code_type, is_name, is_size, name_behind, without_return, without_size};
 ghost use Rattle.symbols.specs.steps.Entries.{entry_in, entry_of};
 
 use crate::entry::Entry;
@@ -56,13 +56,57 @@ fn digits(text: &[u8]) -> Option<u64>
     }
 }
 
-/// The name after a type of code and a blank. It has at least one byte.
+/// Whether a text is a size: 8 or 16 hexadecimal digits.
+fn is_size(text: &[u8]) -> bool
+    ensures { result ≡ is_size text.now }
+{
+    (text.len() == 8 || text.len() == 16) && digits(text).is_some()
+}
+
+/// What is after the first blank, or nothing where there is none.
+fn after_blank(text: &[u8]) -> &[u8]
+    ensures text { result.now ≡ after_first is_blank text.now }
+    ensures short { length result.now ≤ length text.now }
+{
+    let blank = first_blank(text);
+    if blank < text.len() {
+        &text[blank + 1..]
+    } else {
+        &text[blank..]
+    }
+}
+
+/// A text without a size in front and the blank after it, where it begins with a size.
+fn without_size(text: &[u8]) -> &[u8]
+    ensures text { result.now ≡ without_size text.now }
+    ensures short { length result.now ≤ length text.now }
+{
+    let blank = first_blank(text);
+    if is_size(&text[..blank]) {
+        after_blank(text)
+    } else {
+        text
+    }
+}
+
+/// The name after a type of code and a blank. It has at least one byte, and does not begin with a dollar.
 fn name_behind(text: &[u8]) -> Option<&[u8]>
-    ensures { option_map (λ name. name.now) result ≡ name_behind text.now }
+    ensures name { option_map (λ name. name.now) result ≡ name_behind text.now }
+    ensures short { IfSome result (λ name. length name.now ≤ length text.now) }
 {
     match text {
-        [kind, b' ', name @ ..] if is_code_type(*kind) && !name.is_empty() => Some(name),
+        [kind, b' ', name @ ..] if is_code_type(*kind) && is_name(name) => Some(name),
         _ => None,
+    }
+}
+
+/// Whether these bytes are a symbol's name: there is one at least, and the first is no dollar.
+fn is_name(bytes: &[u8]) -> bool
+    ensures { result ≡ is_name bytes.now }
+{
+    match bytes {
+        [] => false,
+        [first, ..] => *first != b'$',
     }
 }
 
@@ -72,19 +116,14 @@ fn entry_in(from: usize, text: &[u8]) -> Option<Entry>
     ensures { result ≡ entry_in from text.now }
 {
     let blank = first_blank(text);
-    let behind = if blank < text.len() {
-        &text[blank + 1..]
-    } else {
-        &text[blank..]
-    };
-    let name = match name_behind(behind) {
+    let name = match name_behind(without_size(after_blank(text))) {
         Some(name) => name,
         None => return None,
     };
     match digits(&text[..blank]) {
         Some(address) => Some(Entry {
             address,
-            start: from + blank + 3,
+            start: from + text.len() - name.len(),
             length: name.len(),
         }),
         None => None,

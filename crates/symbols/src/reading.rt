@@ -22,7 +22,7 @@ fn count_one(from: usize, line: &[u8]) -> usize
 }
 
 /// How many entries a file has.
-fn count_entries(bytes: &[u8]) -> usize
+pub(crate) fn count_entries(bytes: &[u8]) -> usize
     requires { length bytes.now ≤ most_bytes }
     ensures { result ≡ length (entries_of bytes.now) }
 {
@@ -53,12 +53,16 @@ fn add<A: Allocator>(
     Ok(())
 }
 
-/// The entries of a file, in its order.
-fn all_entries<A: Allocator>(alloc: A, bytes: &[u8]) -> Result<Vec<Entry, A>, AllocError>
+/// The entries of a file, in its order. There is capacity for `count` of them at first.
+fn all_entries<A: Allocator>(
+    alloc: A,
+    bytes: &[u8],
+    count: usize,
+) -> Result<Vec<Entry, A>, AllocError>
     requires { length bytes.now ≤ most_bytes }
     ensures { IfOk result (λ entries. entries.items ≡ entries_of bytes.now) }
 {
-    let mut entries = Vec::with_capacity(alloc, count_entries(bytes))?;
+    let mut entries = Vec::with_capacity(alloc, count)?;
     let mut from = 0;
     for (place, byte) in bytes.iter().enumerate() {
         if *byte == b'\n' {
@@ -78,15 +82,16 @@ fn sort(entries: &mut [Entry])
     entries.sort_unstable_by_key(|entry| (entry.address, entry.start));
 }
 
-/// The entries of a file, in order.
+/// The entries of a file, in order. There is capacity for `count` of them at first.
 pub(crate) fn entries_in_order<A: Allocator>(
     alloc: A,
     bytes: &[u8],
+    count: usize,
 ) -> Result<Vec<Entry, A>, AllocError>
     requires { length bytes.now ≤ most_bytes }
     ensures { IfOk result (λ entries. AreInOrder bytes.now entries.items) }
 {
-    let mut entries = all_entries(alloc, bytes)?;
+    let mut entries = all_entries(alloc, bytes, count)?;
     sort(entries.as_mut_slice());
     Ok(entries)
 }

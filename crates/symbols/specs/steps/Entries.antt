@@ -1,23 +1,23 @@
 -- Where the names of a file's symbols are in its bytes.
-use Rattle.std.specs.Prelude.{ℕ, ◌≡◌, ◌<◌, ◌≤◌, ◌+◌, ◌⊎◌, List, [], ◌∷◌, Option}
+use Rattle.std.specs.Prelude.{ℕ, ◌≡◌, ◌<◌, ◌≤◌, ◌+◌, ◌-◌, ◌⊎◌, List, [], ◌∷◌, Option}
 use Rattle.std.specs.Prelude.{Some, None, length, slice_index_or, take, drop}
-use Rattle.std.specs.List.{after_first, before_first, cons_option, position_or_len}
+use Rattle.std.specs.List.{after_first, before_first, cons_option}
 use Rattle.std.specs.List.Sorted.{IsPermutation}
 use Rattle.retire.specs.Number.{digits_number}
-use Rattle.symbols.specs.File.{Symbol, is_blank, lines_of, name_behind, without_return}
+use Rattle.symbols.specs.File.{Symbol, is_blank, lines_of, name_behind, without_return, without_size}
 use Rattle.symbols.specs.declared.entry.Entry.{Entry}
 
--- The entry of a symbol with this address and this name, which begins here, if there are both.
+-- The entry of a symbol with this address and this name, which ends here, if there are both.
 abbrev pub entry_with : ℕ → Option ℕ → Option (List ℕ) → Option Entry
-entry_with start (Some address) (Some name) =
-    Some (record { address = address; start = start; length = length name })
-entry_with start _ _ = None
+entry_with end (Some address) (Some name) =
+    Some (record { address = address; start = end - length name; length = length name })
+entry_with end _ _ = None
 
 -- The entry of a line without its carriage return, which begins here.
 abbrev pub entry_in : ℕ → List ℕ → Option Entry
 entry_in from text =
-    entry_with (from + position_or_len is_blank text + 3) (digits_number (before_first is_blank text))
-    (name_behind (after_first is_blank text))
+    entry_with (from + length text) (digits_number (before_first is_blank text))
+    (name_behind (without_size (after_first is_blank text)))
 
 -- The entry of the symbol of a line that begins here, if it has one.
 abbrev pub entry_of : ℕ → List ℕ → Option Entry
