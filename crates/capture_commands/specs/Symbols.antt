@@ -1,17 +1,21 @@
 -- What is found of a file of symbols: its bytes, or a fault.
-use Rattle.std.specs.Prelude.{◌≡◌, ℕ, List, Option, Some, None, Result, Ok, Err, if◌then◌else◌, length, nat_lt}
+use Rattle.std.specs.Prelude.{◌≡◌, ℕ, List, Option, Some, None, Result, Ok, Err}
 use Rattle.files.specs.Known.{Content}
-use Rattle.symbols.specs.File.{most_bytes}
-use Rattle.symbols.specs.declared.fault.SymbolsFault.TheVariants.{TooLarge}
+use Rattle.symbols.specs.Refused.{file_or_fault}
+use Rattle.symbols.specs.declared.fault.SymbolsFault.{SymbolsFault}
 use Rattle.command_inputs.specs.Faults.{Path}
 use Rattle.command_inputs.specs.Found.{IsRead}
 use Rattle.capture_commands.specs.Faults.{Fault, symbols_fault}
 
--- The file that has these symbols, or the fault where it is too large.
+-- The file of symbols at a path, or the fault where it is refused: it is too large, or has no symbol.
+abbrev pub symbols_or_fault : Path → Result (List ℕ) SymbolsFault → Result (Option (List ℕ)) Fault
+symbols_or_fault path (Ok file) = Ok (Some file)
+symbols_or_fault path (Err why) = Err (symbols_fault path why)
+
+-- The file of symbols that these bytes are, or the fault where they are not read or refused.
 abbrev pub symbols_at : Path → Result (List ℕ) Fault → Result (Option (List ℕ)) Fault
 symbols_at path (Err why) = Err why
-symbols_at path (Ok bytes) =
-    if nat_lt most_bytes (length bytes) then Err (symbols_fault path TooLarge) else Ok (Some bytes)
+symbols_at path (Ok bytes) = symbols_or_fault path (file_or_fault bytes)
 
 -- The file of symbols at a path is found.
 pub record AreSymbolsAt (content : Content) (path : Path) (found : Result (Option (List ℕ)) Fault) : Type 0 where

@@ -55,6 +55,8 @@ pub(crate) fn symbols_fault<'a>(path: &'a str, why: SymbolsFault) -> Fault<'a>
 {
     match why {
         SymbolsFault::Memory => Fault::Memory,
-        SymbolsFault::TooLarge => Fault::Own(CaptureReason::Symbols(path, why)),
+        SymbolsFault::TooLarge | SymbolsFault::NoSymbol => {
+            Fault::Own(CaptureReason::Symbols(path, why))
+        }
     }
 }

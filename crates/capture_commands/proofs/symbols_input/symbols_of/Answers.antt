@@ -20,8 +20,7 @@ returns-in-Ok-new-clause-symbols g c =
     let file = c.in-Ok-new.symbols in
     let is : c.args.path ≡ Some c.in-Some.path = grind (arith, common_steps) in
     subst (λ path. AreSymbols content path (Ok (Some file))) (sym is)
-    (symbols_made content c.in-Some.path c.in-Ok.bytes.items c.in-Ok.ensures.held file c.in-Ok-new.ensures.file
-    c.in-Ok-new.ensures.too_large)
+    (symbols_made content c.in-Some.path c.in-Ok.bytes.items c.in-Ok.ensures.held file c.in-Ok-new.ensures.value)
 
 pub returns-in-Err-new-clause-fault : goal.returns-in-Err-new-clause-fault
 returns-in-Err-new-clause-fault g c =
@@ -32,4 +31,4 @@ returns-in-Err-new-clause-fault g c =
     (subst (λ why. (why ≡ fault.Memory) ⊎ AreSymbols content (Some c.in-Some.path) (Err why))
     (sym c.symbols_fault.ensures)
     (symbols_refused content c.in-Some.path c.in-Ok.bytes.items c.in-Ok.ensures.held c.in-Err-new.why
-    c.in-Err-new.ensures.too_large))
+    c.in-Err-new.ensures.value))
