@@ -1,5 +1,5 @@
 -- The hypotheses on the events that were seen are handed to the callees.
-use Rattle.std.proofs.Common.{◌≡◌, ◌∙◌, ◌++◌, None, ap, sym}
+use Rattle.std.proofs.Common.{◌∙◌, ◌++◌, None, ap, sym}
 use Rattle.std.specs.List.{last_or}
 use Rattle.std.proofs.lemmas.List.Elements.{All-append}
 use Rattle.legalpath.proofs.FollowOnLemmas.{last_or-append}

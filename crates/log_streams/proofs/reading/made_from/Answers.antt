@@ -1,5 +1,5 @@
 -- The prover is handed the events that were read and checked so far.
-use Rattle.std.proofs.Common.{◌≡◌, ◌≤◌, ◌++◌, Ok, ap, arith, length, subst, sym}
+use Rattle.std.proofs.Common.{◌≤◌, ◌++◌, Ok, ap, arith, length, subst, sym}
 use Rattle.retire.specs.HasRead.{HasRead}
 use Rattle.retire.specs.Log.{most_long_rows}
 use Rattle.log_streams.specs.steps.Judging.{IsJudged}
