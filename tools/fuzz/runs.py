@@ -115,6 +115,9 @@ def of_listed(maker, harts, case):
     if symbols is not None:
         words += ["--symbols", lists.SYMBOLS]
         known = lists.symbols_of(symbols)
+        if not known:
+            yield Run(words, 2, b"", f"{lists.SYMBOLS}: {lists.NO_SYMBOL}")
+            return
     yield Run(words, *lists.listing(maker.program, harts, capture, known))
 
 
