@@ -18,13 +18,34 @@ $ tracebench list --base 80000000 --symbols nm.txt image.bin log.capture
 > 0000001c 0 2 address diff=4 map=- plain => nothing, waits
 > 00000028 0 3 close ended_rep => 1 event, 80000004 <_start+4>, closed
 
-# A file with nothing in it names nothing; a symbol at 0 names all, and the distance has no leading zeros.
+# A file without a symbol of code is refused, after the image and before the capture: an empty one, and one of data.
 file nm.txt
+$ tracebench list --base 80000000 --symbols nm.txt no.bin no.capture
+! tracebench: no.bin: cannot be read
+? 3
+$ tracebench list --base 80000000 --symbols nm.txt image.bin no.capture
+! tracebench: nm.txt: no symbol of code: give it what nm prints
+? 2
+file nm.txt
+| 80000000 D data
+| 80000000 00000010 B buffer
+| 80000000 t $x
+$ tracebench list --base 80000000 --symbols nm.txt image.bin log.capture
+! tracebench: nm.txt: no symbol of code: give it what nm prints
+? 2
+
+# Sizes are passed over, and bound nothing. Names that begin with a dollar are no symbols.
+file nm.txt
+| 80000000 00000002 T first
+| 80000002 t $x
+| 80000003 0000000000000001 t $d
 $ tracebench list --base 80000000 --symbols nm.txt image.bin log.capture
 > 00000000 0 0 open => nothing
-> 0000000c 0 1 sync addr=80000000 priv=3 branch=1 => 1 event, 80000000
+> 0000000c 0 1 sync addr=80000000 priv=3 branch=1 => 1 event, 80000000 <first+0>
 > 0000001c 0 2 address diff=4 map=- plain => nothing, waits
-> 00000028 0 3 close ended_rep => 1 event, 80000004, closed
+> 00000028 0 3 close ended_rep => 1 event, 80000004 <first+4>, closed
+
+# A symbol at 0 names all, and the distance has no leading zeros.
 file nm.txt
 |+ 0 t low
 $ tracebench list --base 80000000 --symbols nm.txt image.bin log.capture
@@ -164,8 +185,9 @@ $ tracebench list --base ffffffff80000000 --symbols nm.txt image.bin far.capture
 
 # Files of symbols that are not there, too large, or just not too large; faults in order.
 file large.txt
-|*262144+ ................................................................
-|+ .
+| 80000000 T s
+|*262143+ ................................................................
+|+ ....................................................
 $ tracebench list --base zz --symbols no.txt no.bin no.capture
 ! tracebench: base is not a number
 ? 2
