@@ -26,6 +26,11 @@ pub use Rattle.captures.specs.Returned
 pub use Rattle.captures.specs.FaultText as CaptureFaultText
 pub use Rattle.captures.specs.PacketText
 pub use Rattle.captures.specs.Dump
+pub use Rattle.capture_lines.specs.Line as CaptureLine
+pub use Rattle.capture_lines.specs.Lines as CaptureLines
+pub use Rattle.capture_lines.specs.Capture as LinesCapture
+pub use Rattle.capture_lines.specs.ReadBack as LinesReadBack
+pub use Rattle.capture_lines.specs.FaultText as LinesFaultText
 pub use Rattle.symbols.specs.File as SymbolFile
 pub use Rattle.symbols.specs.Nearest
 pub use Rattle.symbols.specs.Naming

@@ -1,5 +1,7 @@
-//! Messages of several harts and the captures that hold them: writing, reading, dumping, listing, decoding.
+//! Messages of several harts and the captures that hold them: writing, also from lines of text, reading, dumping,
+//! listing, decoding.
 
+pub use capture_lines::{LineFault, LinesFault, Settings, write_capture};
 pub use captures::{
     CaptureBytes, CaptureFault, CaptureFront, CaptureOutcome, Dumped, Form, HexLines, ReadFault,
     ReadingText, WholeCapture, decode_capture, dump_capture, encode_capture, encode_hart,
