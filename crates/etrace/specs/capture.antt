@@ -34,6 +34,7 @@ pub use Rattle.capture_lines.specs.FaultText as LinesFaultText
 pub use Rattle.symbols.specs.File as SymbolFile
 pub use Rattle.symbols.specs.Nearest
 pub use Rattle.symbols.specs.Naming
+pub use Rattle.symbols.specs.Refused as SymbolsRefused
 pub use Rattle.symbols.specs.FaultText as SymbolsFaultText
 pub use Rattle.symbols.specs.SymbolText
 pub use Rattle.listing.specs.Effect

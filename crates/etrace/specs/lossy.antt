@@ -21,3 +21,6 @@ pub use Rattle.auditing.specs.Sent
 pub use Rattle.auditing.specs.Untouched
 pub use Rattle.auditing.specs.DecodedAgain
 pub use Rattle.auditing.specs.FateText
+pub use Rattle.auditing.specs.Findings
+pub use Rattle.auditing.specs.HartRows
+pub use Rattle.auditing.specs.SentPayload

@@ -1,4 +1,4 @@
--- What the contract on damaged messages cites.
+-- What the contracts on damaged messages and on frames cite.
 pub use Rattle.salvaging.specs.Strangers
 pub use Rattle.salvaging.specs.Entries
 pub use Rattle.salvaging.specs.Copies
@@ -13,3 +13,7 @@ pub use Rattle.salvaging.specs.FromLogs
 pub use Rattle.salvaging.specs.LogsSalvaged
 pub use Rattle.salvaging.specs.LossyParts
 pub use Rattle.salvaging.specs.AlikeParts
+pub use Rattle.frames.specs.Frame
+pub use Rattle.frames.specs.Taken as FramesTaken
+pub use Rattle.frames.specs.Spans as FrameSpans
+pub use Rattle.frames.specs.Written as FramesWritten

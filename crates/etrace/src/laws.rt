@@ -1,7 +1,9 @@
 //! The theorems: functions with empty bodies, whose contracts are theorems about the definitions that the other
 //! contracts cite.
 
-pub use auditing::{harts_are_received_alone, whole_decodes_again, whole_is_untouched};
+pub use auditing::{
+    harts_are_received_alone, rows_add_up, skips_add_up, whole_decodes_again, whole_is_untouched,
+};
 pub use bench::turns_let_beginnings_through;
 pub use capture_lines::{hex_lines_become_the_capture, hex_lines_say_their_messages};
 pub use decoder::{
