@@ -389,3 +389,41 @@ class Maker:
             return reading.HEADER.encode() + b"\n" + b"".join(random.choice(pieces) for _ in range(random.randrange(20)))
         text = b"\n".join(rows)
         return self.broken(text) if what >= 10 else text
+
+    def spelt_field(self, field):
+        """A field in quotes or not, which `csv` reads as the same."""
+        what = self.random.randrange(4)
+        if what == 0:
+            return b'"' + field + b'"'
+        if what == 1:
+            return b'""' + field
+        return b'"' + field[:1] + b'"' + field[1:] if what == 2 else field
+
+    def misspelt(self, row):
+        """A row with a quote too many or too few, a comma or the end of a line in quotes."""
+        at = self.random.randrange(len(row) + 1)
+        return row[:at] + self.random.choice((b'""', b'"', b'"\n', b'"\r\n4', b'""""', b'","')) + row[at:]
+
+    def spelt_log(self):
+        """A log of a few rows in one of many spellings: fields in quotes, other ends of lines, empty lines, a byte order
+        mark; some with a faulty row or bytes changed."""
+        random = self.random
+        events = random.choice(self.logs)
+        first = random.randrange(max(len(events), 1))
+        events = events[first : first + random.choice((1, 1, 2, 2, 3, 5))]
+        rows = [row.encode() for row in reading.log_text(events).splitlines()]
+        at = random.randrange(1, len(rows)) if len(rows) > 1 and random.randrange(20) else 0
+        if random.randrange(4) == 0:
+            rows[at] = self.any_row(rows[at])
+        if random.randrange(3):
+            share = random.choice((0.2, 1))
+            quoted = [b",".join(map(self.spelt_field, row.split(b","))) for row in rows]
+            rows = [other if random.random() < share else row for row, other in zip(rows, quoted)]
+        if random.randrange(6) == 0:
+            rows[at] = self.misspelt(rows[at])
+        ends = random.choice(((b"\n",), (b"\r\n",), (b"\r",), (b"\n", b"\r\n", b"\r", b"\n\n", b"\r\r\n")))
+        text = b"".join(row + random.choice(ends) for row in rows)
+        text = random.choice((b"", b"", b"", b"\xef\xbb\xbf", b"\n", b"\r\n")) + text
+        if random.randrange(2):
+            text = text.rstrip(b"\r\n")
+        return self.broken(text) if random.randrange(10) == 0 else text
