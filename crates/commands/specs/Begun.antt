@@ -1,21 +1,21 @@
--- What is written where memory is refused or the output fails: a prefix of the text.
+-- What is written where allocation or the output fails: a prefix of the text.
 use Rattle.std.specs.Prelude.{ℕ, List, Option}
 use Rattle.subcommands.specs.declared.words.Asked.{Asked}
 use Rattle.command_inputs.specs.Begun.{IsCutOf}
 use Rattle.files.specs.Known.{Content}
 use Rattle.commands.specs.Meanings.{meaning_of}
 
--- The run may write a part of its text before memory is refused, as those of `check`, `decode` and `list` may.
+-- The run may write a part of its text before allocation fails, as those of `check`, `decode` and `list` may.
 abbrev pub WritesInParts : Asked → Type 0
 WritesInParts asked = (meaning_of asked).WritesInParts
 
--- What may have been written where memory is refused: by `check` nothing or the lines of the first logs, by `decode`
--- nothing or a prefix of a text that it may print, by `list` nothing or all lines before the message at which memory
--- was refused, and by the others nothing.
+-- What may have been written where allocation fails: by `check` nothing or the lines of the first logs, by `decode`
+-- nothing or a prefix of a text that it may print, by `list` nothing or all lines before the message at which
+-- allocation failed, and by the others nothing.
 abbrev pub IsBegun : Content → Asked → Option (List ℕ) → Option (List ℕ) → Type 0
 IsBegun content asked old new = (meaning_of asked).Begins content old new
 
--- Nothing was written, or a beginning of a text that the run may print. For `check` that text may also be the lines of
--- the first logs alone, for `list` the listing of a front of the capture.
+-- Nothing was written, or a prefix of a text that the run may print. For `check` that text may also be the lines of the
+-- first logs alone, for `list` the listing of a front of the capture.
 abbrev pub IsCutOutput : Content → Asked → Option (List ℕ) → Option (List ℕ) → Type 0
 IsCutOutput content asked = IsCutOf ((meaning_of asked).Cuts content)

@@ -1,4 +1,8 @@
+pub mod Faults
+pub mod FaultText
+pub mod Joined
 pub mod Meanings
 pub mod CarriedOut
 pub mod Begun
 pub mod Order
+pub mod steps

@@ -2,7 +2,6 @@
 use Rattle.subcommands.specs.declared.words.Asked.{Asked}
 use Rattle.subcommands.specs.declared.words.Asked.TheVariants.{Audit, Bench, Check, Decode, Dump, Encode, Listing}
 use Rattle.subcommands.specs.declared.words.Asked.TheVariants.{Measure, Replay, Salvage}
-use Rattle.command_inputs.specs.Meaning.{Meaning}
 use Rattle.log_commands.specs.Benching.{bench_meaning}
 use Rattle.log_commands.specs.Checking.{check_meaning}
 use Rattle.log_commands.specs.Encoding.{encode_meaning}
@@ -13,16 +12,19 @@ use Rattle.capture_commands.specs.Dumping.{dump_meaning}
 use Rattle.capture_commands.specs.Listed.{list_meaning}
 use Rattle.capture_commands.specs.Salvaging.{salvage_meaning}
 use Rattle.path_commands.specs.Audited.{audit_meaning}
+use Rattle.commands.specs.Faults.{Meaning}
+use Rattle.commands.specs.Joined.{joined}
+use Rattle.commands.specs.declared.reason.CommandReason.TheVariants.{Capture, Log, Path}
 
 -- What the subcommand means that is asked for, with what is asked of it.
 abbrev pub meaning_of : Asked → Meaning
-meaning_of (Check asked) = check_meaning asked
-meaning_of (Encode asked) = encode_meaning asked
-meaning_of (Dump asked) = dump_meaning asked
-meaning_of (Decode asked) = decode_meaning asked
-meaning_of (Replay asked) = replay_meaning asked
-meaning_of (Bench asked) = bench_meaning asked
-meaning_of (Audit asked) = audit_meaning asked
-meaning_of (Measure asked) = measure_meaning asked
-meaning_of (Listing asked) = list_meaning asked
-meaning_of (Salvage asked) = salvage_meaning asked
+meaning_of (Check asked) = joined Log (check_meaning asked)
+meaning_of (Encode asked) = joined Log (encode_meaning asked)
+meaning_of (Dump asked) = joined Capture (dump_meaning asked)
+meaning_of (Decode asked) = joined Capture (decode_meaning asked)
+meaning_of (Replay asked) = joined Log (replay_meaning asked)
+meaning_of (Bench asked) = joined Log (bench_meaning asked)
+meaning_of (Audit asked) = joined Path (audit_meaning asked)
+meaning_of (Measure asked) = joined Log (measure_meaning asked)
+meaning_of (Listing asked) = joined Capture (list_meaning asked)
+meaning_of (Salvage asked) = joined Capture (salvage_meaning asked)

@@ -3,15 +3,17 @@
 ghost use Rattle.std.specs.Prelude.{◌≡◌, Err, IfSome};
 ghost use Rattle.subcommands.specs.Kind.{IsCheck};
 ghost use Rattle.subcommands.specs.Limits.{IsWithinLimits};
-ghost use Rattle.command_inputs.specs.Faults.{final_status};
+ghost use Rattle.command_inputs.specs.declared.fault.Fault.TheVariants as Fault;
 ghost use Rattle.commands.specs.Begun.{IsBegun, IsCutOutput, WritesInParts};
 ghost use Rattle.commands.specs.CarriedOut.{IsCarriedOut};
+ghost use Rattle.commands.specs.Faults.{final_status};
 ghost use Rattle.commands.specs.Order.{early_fault};
+ghost use Rattle.commands.specs.steps.Running.{IsRun};
 
-use capture_commands::{decode, dump, list, salvage};
-use command_inputs::{Fault, Files, Status};
-use log_commands::{bench, check, encode, measure, replay};
-use path_commands::audit;
+use crate::capture_runs::{run_audit, run_decode, run_dump, run_list, run_salvage};
+use crate::log_runs::{run_bench, run_check, run_encode, run_measure, run_replay};
+use crate::reason::Fault;
+use command_inputs::{Files, Status};
 use std::alloc::Global;
 use std::io::Write;
 use std::sync::Wait;
@@ -36,24 +38,40 @@ where
     ensures cut { IsCutOutput (F.content files.old) asked.now (O.contents out.old) (O.contents out.new) }
     ensures early { IfSome (early_fault asked.now) (λ fault. result ≡ Err fault) }
     ensures printed { IsCarriedOut (F.content files.old) asked.now result (O.contents out.old) (O.contents out.new) }
-    // Where memory is refused, nothing or a prefix of the text was written.
+    // Where allocation fails, nothing or a prefix of the text was written.
     ensures begun { result ≡ Err Fault.Memory
         → IsBegun (F.content files.old) asked.now (O.contents out.old) (O.contents out.new) }
-    // Where memory is refused, only `check`, `decode` and `list` may have written anything.
+    // Where allocation fails, only `check`, `decode` and `list` may have written anything.
     ensures untouched { ¬ WritesInParts asked.now → result ≡ Err Fault.Memory → out.new ≡ out.old }
     // Where the input is refused, nothing is written, but for the lines of `check`.
     ensures refused { ¬ IsCheck asked.now → final_status result ≡ Status.Refused → out.new ≡ out.old }
 {
+    run(alloc, rt, files, asked, out)
+}
+
+/// A run of whichever subcommand is asked for.
+fn run<'a, F: Files + Sync, O: Write, R: Threads + Wait + Sync>(
+    alloc: Global,
+    rt: &R,
+    files: &mut F,
+    asked: &Asked<'a>,
+    out: &mut O,
+) -> Result<Status, Fault<'a>>
+where
+    F::Reader: Send,
+    requires { IsWithinLimits asked.now }
+    ensures { IsRun (F.content files.old) asked.now O.contents result out.old out.new }
+{
     match asked {
-        Asked::Check(asked) => check(alloc, rt, files, asked, out),
-        Asked::Encode(asked) => encode(alloc, rt, files, asked, out),
-        Asked::Dump(asked) => dump(files, asked, out),
-        Asked::Decode(asked) => decode(alloc, files, asked, out),
-        Asked::Replay(asked) => replay(alloc, rt, files, asked, out),
-        Asked::Bench(asked) => bench(alloc, rt, files, asked, out),
-        Asked::Audit(asked) => audit(alloc, files, asked, out),
-        Asked::Measure(asked) => measure(alloc, rt, files, asked, out),
-        Asked::Listing(asked) => list(alloc, files, asked, out),
-        Asked::Salvage(asked) => salvage(alloc, files, asked, out),
+        Asked::Check(asked) => run_check(alloc, rt, files, asked, out),
+        Asked::Encode(asked) => run_encode(alloc, rt, files, asked, out),
+        Asked::Dump(asked) => run_dump(files, asked, out),
+        Asked::Decode(asked) => run_decode(alloc, files, asked, out),
+        Asked::Replay(asked) => run_replay(alloc, rt, files, asked, out),
+        Asked::Bench(asked) => run_bench(alloc, rt, files, asked, out),
+        Asked::Audit(asked) => run_audit(alloc, files, asked, out),
+        Asked::Measure(asked) => run_measure(alloc, rt, files, asked, out),
+        Asked::Listing(asked) => run_list(alloc, files, asked, out),
+        Asked::Salvage(asked) => run_salvage(alloc, files, asked, out),
     }
 }

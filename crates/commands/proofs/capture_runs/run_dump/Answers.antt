@@ -1,0 +1,23 @@
+-- The prover makes no record by itself: what is said of the subcommand's run is handed to it, with the joined reasons.
+use Rattle.std.proofs.Common.{◌∙◌, sym}
+use Rattle.capture_commands.specs.Dumping.{CanDump, Dumps}
+use Rattle.commands.specs.declared.reason.CommandReason.TheVariants.{Capture}
+use Rattle.commands.proofs.JoinedRuns.{joined_cut, joined_prints, keeps_same}
+use Rattle.commands.proofs.capture_runs.run_dump.Goals as goal
+
+pub returns : goal.returns
+returns g c =
+    let content = g.F.Files.content c.args.files.now in
+    let contents = g.O.Write.contents in
+    let asked = c.args.asked.now in
+    let out = c.args.out.now in
+    let value = c.joined_end.ensures.value in record {
+      cut = joined_cut Capture (Dumps content asked) (contents out) (contents c.dump.new.out) c.dump.ensures.cut;
+      early = tt;
+      printed = joined_prints Capture (Dumps content asked) (CanDump content asked) c.dump.result c.joined_end.result
+          (contents out) (contents c.dump.new.out) value c.dump.ensures.printed;
+      begun = λ memory. keeps_same contents out c.dump.new.out
+          (c.dump.ensures.untouched (c.joined_end.ensures.memory memory));
+      untouched = λ whole memory. c.dump.ensures.untouched (c.joined_end.ensures.memory memory);
+      refused = λ other ended. absurd (c.dump.ensures.refused (sym c.joined_end.ensures.status ∙ ended));
+    }
