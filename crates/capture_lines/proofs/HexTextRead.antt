@@ -21,7 +21,8 @@ use Rattle.message.specs.declared.message.Message.{Message}
 use Rattle.payload.specs.declared.mode.Mode.{Mode}
 use Rattle.capture_lines.specs.Capture.{capture_of_text, capture_or_fault, header_with}
 use Rattle.capture_lines.specs.Lines.{before, form_of, harts_up_to, lines_from, lines_of, messages_after, messages_of, with_line}
-use Rattle.capture_lines.specs.ReadBack.{IsEncoded, settings_of}
+use Rattle.captures.specs.Returned.{IsLongLegalLog}
+use Rattle.capture_lines.specs.ReadBack.{settings_of}
 use Rattle.capture_lines.specs.declared.form.Form.TheVariants.{Numbered}
 use Rattle.capture_lines.specs.declared.line.Line.{Line}
 use Rattle.capture_lines.specs.declared.settings.Settings.{Settings}
@@ -111,7 +112,7 @@ few_harts Two = omega arith
 
 -- The lines of hexadecimal of logs become the capture of these logs.
 pub become_the_capture : (version : Version) (mode : Mode) (period : ℕ) (logs : List ProgramLog) → 1 ≤ length logs
-    → length logs ≤ most_harts version → All IsEncoded logs
+    → length logs ≤ most_harts version → All IsLongLegalLog logs
     → capture_of_text (settings_of version mode period) (hex_text (messages_of_harts period mode 0 logs))
     ≡ Ok (capture_of version period mode logs)
 become_the_capture version mode period logs some few legal =

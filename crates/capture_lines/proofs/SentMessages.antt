@@ -17,7 +17,7 @@ use Rattle.message.specs.Cut.{IsMessage}
 use Rattle.message.specs.Numbered.{messages_from}
 use Rattle.message.specs.declared.message.Message.{Message}
 use Rattle.captures.specs.Messages.{messages_of_harts}
-use Rattle.capture_lines.specs.ReadBack.{IsEncoded}
+use Rattle.captures.specs.Returned.{IsLongLegalLog}
 
 -- The message is in its ranges, and its hart is below this count.
 abbrev pub IsOf : ℕ → Message → Type 0
@@ -42,10 +42,10 @@ packets_are harts hart number (p ∷ ps) known few room profile =
 
 -- Each message of these logs is in its ranges, and its hart is below the count.
 pub messages_are_of : (period : ℕ) (mode : Mode) (harts hart : ℕ) (logs : List ProgramLog) → hart + length logs ≤ harts
-    → harts ≤ 2 ^ 16 → All IsEncoded logs → All (IsOf harts) (messages_of_harts period mode hart logs)
+    → harts ≤ 2 ^ 16 → All IsLongLegalLog logs → All (IsOf harts) (messages_of_harts period mode hart logs)
 messages_are_of period mode harts hart [] room few legal = All-nil (IsOf harts)
 messages_are_of period mode harts hart (log ∷ logs) room few legal =
-    let log_is = All-head IsEncoded log logs legal in
+    let log_is = All-head IsLongLegalLog log logs legal in
     let words = words_of log.program in
     let count = few_packets words period mode log.events in
     let short = log_is.short in
@@ -55,4 +55,4 @@ messages_are_of period mode harts hart (log ∷ logs) room few legal =
     (omega (arith, count, short))
     (packets_in_profile words (words_of-IsProgram log.program log_is.image).even period mode log.events
     log_is.numbers log_is.legal))
-    (messages_are_of period mode harts (hart + 1) logs (omega (arith, room)) few (All-tail IsEncoded log logs legal))
+    (messages_are_of period mode harts (hart + 1) logs (omega (arith, room)) few (All-tail IsLongLegalLog log logs legal))

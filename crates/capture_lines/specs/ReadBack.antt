@@ -1,10 +1,5 @@
 -- Lines of hexadecimal that are written for messages, and for logs, are read back.
 use Rattle.std.specs.Prelude.{◌≡◌, ◌≤◌, ◌<◌, ℕ, All, List, None, Ok, length}
-use Rattle.retire.specs.Is64Bit.{Is64Bit}
-use Rattle.retire.specs.Log.{most_long_rows}
-use Rattle.rvclass.specs.Fetch.{words_of}
-use Rattle.rvclass.specs.Image.{IsImage}
-use Rattle.legalpath.specs.Legal.{Legal}
 use Rattle.legalpath.specs.ProgramLog.{ProgramLog}
 use Rattle.payload.specs.declared.mode.Mode.{Mode}
 use Rattle.message.specs.Cut.{IsMessage}
@@ -13,6 +8,7 @@ use Rattle.message.specs.declared.header.Version.{Version}
 use Rattle.message.specs.declared.message.Message.{Message}
 use Rattle.captures.specs.HexLines.{hex_text}
 use Rattle.captures.specs.Messages.{messages_of_harts}
+use Rattle.captures.specs.Returned.{IsLongLegalLog}
 use Rattle.captures.specs.Versions.{capture_of}
 use Rattle.capture_lines.specs.Capture.{capture_of_text}
 use Rattle.capture_lines.specs.Lines.{lines_of, messages_of}
@@ -23,20 +19,12 @@ use Rattle.capture_lines.specs.declared.settings.Settings.{Settings}
 abbrev pub settings_of : Version → Mode → ℕ → Settings
 settings_of version mode period = record { version = version; mode = mode; period = period; harts = None }
 
--- The log is legal for its program, and has no more events than a long log may have. Its numbers have 64 bits, and its
--- image keeps what the image of every program keeps.
-pub record IsEncoded (log : ProgramLog) : Type 0 where
-  pub legal : Legal (words_of log.program) log.events
-  pub short : length log.events ≤ most_long_rows
-  pub numbers : All Is64Bit log.events
-  pub image : IsImage log.program
-
 -- The lines of hexadecimal of the messages of one log or more, and of no more than a capture of the version has, become
 -- the capture of these logs, in the same version and mode, at the same period. The logs are legal and may be long.
 abbrev pub LinesBecomeTheCapture : Type 0
 LinesBecomeTheCapture =
     (version : Version) (mode : Mode) (period : ℕ) (logs : List ProgramLog) → 1 ≤ length logs
-    → length logs ≤ most_harts version → All IsEncoded logs
+    → length logs ≤ most_harts version → All IsLongLegalLog logs
     → capture_of_text (settings_of version mode period) (hex_text (messages_of_harts period mode 0 logs))
     ≡ Ok (capture_of version period mode logs)
 

@@ -9,9 +9,9 @@ pub enum Status {
     /// All that was asked for is done.
     Whole,
     /// Reading or decoding a capture stopped at a fault, a payload of it is bad, a hart's closing packet did not come
-    /// or there are gaps; or not every log came back complete.
+    /// or there are gaps; or not every log came back complete; or `audit` found that a path is not whole.
     NotWhole,
-    /// The arguments, the image, a log, the symbols or the schedule is refused.
+    /// The arguments, the base, the image, a log, the symbols, the schedule or the capture that was sent is refused.
     Refused,
     /// A file was not read, the output failed, allocation failed, or there was a stop of `replay` or `bench`.
     Machine,

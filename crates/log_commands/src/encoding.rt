@@ -42,7 +42,8 @@ use subcommands::Encode;
 ///
 /// The logs are read side by side, each a piece at a time. The messages are made while the events come, and kept until
 /// it is known that all logs are legal. No list holds the events of a log. A capture that is written decodes to the logs
-/// again, to long ones too: so `captures::decode_capture` promises.
+/// again, to long ones too, unless allocation fails, and in version 1 if the count of logs is given: so
+/// `captures::decode_capture` promises.
 pub fn encode<'a, F: Files + Sync, O: Write, R: Threads + Sync>(
     alloc: Global,
     rt: &R,

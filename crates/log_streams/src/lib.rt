@@ -1,7 +1,7 @@
 //! Logs that are read side by side, each a piece at a time, and checked as they are read.
 //!
-//! [`made_of_logs`] is handed the paths of logs and a [`LogTask`], which makes something of the events of each log. No
-//! list holds all events of a log, and no memory all of its text.
+//! [`made_of_logs`] is handed the paths of logs and a [`LogTask`], which makes something of the events of each log. This
+//! crate keeps no list of a log's events, and of its text one piece, or the longest record.
 #![tactic(auto)]
 
 mod entry;

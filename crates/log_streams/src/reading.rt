@@ -75,8 +75,8 @@ fn made_from<S: Source, X, T: LogTask<X>>(
 ) -> Result<X, Stop>
     requires { HasReadAndJudged (T.Keeps task.now program.now hart) program.now S.given S.left most reader.old
         judged }
-    ensures made { IsMadeOfSource (T.Makes task.now program.now) (T.MakesOfIllegal task.now program.now) program.now most
-        hart S.given S.left reader.new result }
+    ensures made { IsMadeOfSource (T.Makes task.now program.now) (T.MakesOfIllegal task.now program.now) program.now
+        most hart S.given S.left reader.new result }
     ensures refused { IfErr result (MayStop (T.MayRefuse task.now)) }
     ensures kept { Keeps (content_of S.given S.left reader.old) (content_of S.given S.left reader.new) }
 {
@@ -127,8 +127,8 @@ pub(crate) fn made_of<S: Source, X, T: LogTask<X>>(
     piece: &mut Vec<Event>,
 ) -> Result<X, Stop>
     requires { HasRead S.given S.left most [] reader.old }
-    ensures made { IsMadeOfSource (T.Makes task.now program.now) (T.MakesOfIllegal task.now program.now) program.now most
-        hart S.given S.left reader.new result }
+    ensures made { IsMadeOfSource (T.Makes task.now program.now) (T.MakesOfIllegal task.now program.now) program.now
+        most hart S.given S.left reader.new result }
     ensures refused { IfErr result (MayStop (T.MayRefuse task.now)) }
     ensures kept { Keeps (content_of S.given S.left reader.old) (content_of S.given S.left reader.new) }
 {

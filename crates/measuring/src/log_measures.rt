@@ -23,8 +23,8 @@ use std::alloc::Allocator;
 use std::marker::Model;
 
 /// Counts the events and the packets of a log whose events come piece by piece, and returns of all of them what
-/// [`measure`] returns of a legal log. It counts at most 2^32 - 1 events, more than a log can have. It keeps the counts
-/// and what an encoder keeps, and no call allocates.
+/// [`measure`] returns of a legal log. It counts at most 2^32 - 1 events, as many as a long log can have. It keeps the
+/// counts and what an encoder keeps, and no call allocates.
 #[derive(Drop)]
 pub struct LogMeasures {
     encoder: Encoder,

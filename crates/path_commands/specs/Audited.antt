@@ -49,8 +49,8 @@ behind_findings summary sent header received stop =
 
 -- The text of an audit: a line for each message of RECEIVED that is not in order or skips a number, one for each longest
 -- run of lost numbers of each hart, and the lines of each hart; then all harts together, how many strangers came,
--- whether headers differ, which message is the first with a line, and the result. A summary has no lines of messages
--- and of runs.
+-- whether headers differ, which message is the first that is not in order or skips a number, and the result. A summary
+-- has no lines of messages and of runs.
 abbrev pub audit_text : Bool → Sent → Option Header → List Message → Option (ℕ × MessageFault) → List ℕ
 audit_text summary sent header received stop =
     finding_lines summary sent.messages 0 (findings sent.messages received)
