@@ -6,6 +6,8 @@
 #[cfg(test)]
 mod faults;
 #[cfg(test)]
+mod large;
+#[cfg(test)]
 mod messages;
 #[cfg(test)]
 mod texts;

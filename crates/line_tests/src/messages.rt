@@ -1,6 +1,7 @@
 //! The messages of lines.
 
 use crate::written::{is_written, settings};
+use capture_lines::Settings;
 use message::Version;
 use payload::Mode;
 
@@ -66,5 +67,26 @@ fn captures_of_version_1(rt: HostRuntime) {
 fn captures_of_version_2(rt: HostRuntime) {
     for (text, mode, harts, wanted) in WITH_HEADER {
         is_written(&rt, settings(Version::Two, mode, harts), text, Ok(wanted));
+    }
+}
+
+/// Periods, and the header of a capture of no message at each.
+#[rattlefmt::skip]
+const PERIODS: [(u16, &[u8]); 3] = [
+    (1, b"\xff\xffrvtrace2\0\0\x01\0\x01\0"),
+    (258, b"\xff\xffrvtrace2\0\0\x02\x01\x01\0"),
+    (65535, b"\xff\xffrvtrace2\0\0\xff\xff\x01\0"),
+];
+
+#[test]
+fn periods(rt: HostRuntime) {
+    for (period, wanted) in PERIODS {
+        let settings = Settings {
+            version: Version::Two,
+            mode: Mode::Differential,
+            period,
+            harts: None,
+        };
+        is_written(&rt, settings, b"", Ok(wanted));
     }
 }
