@@ -11,18 +11,28 @@ use Rattle.capture_commands.specs.Decoded.{WritesLogs}
 use Rattle.capture_commands.specs.Dumping.{WritesDump}
 use Rattle.capture_commands.specs.Listed.{WritesListing}
 use Rattle.capture_commands.specs.Salvaging.{WritesSalvaged}
+use Rattle.capture_commands.specs.Symbols.{AreSymbols}
+use Rattle.capture_commands.specs.declared.reason.CaptureReason.TheVariants as capture
+use Rattle.log_commands.specs.declared.reason.LogReason.TheVariants as log
+use Rattle.path_commands.specs.declared.reason.PathReason.TheVariants as audit
+use Rattle.commands.specs.Faults.{Fault, Printed, command_reason_status, final_status, status_of}
+use Rattle.commands.specs.Joined.{joined_end, joined_printed}
+use Rattle.commands.specs.declared.reason.CommandReason.{CommandReason}
+use Rattle.commands.specs.declared.reason.CommandReason.TheVariants.{Capture, Log, Path, Words}
 use Rattle.log_commands.specs.Encoding.{WritesMessages}
-use Rattle.command_inputs.specs.Faults.{Path, final_status, status_of}
+use Rattle.command_inputs.specs.Faults.{Path as FilePath}
 use Rattle.command_inputs.specs.Finding.{After, IsFoundFrom}
-use Rattle.command_inputs.specs.Found.{AreAskedLogs, AreFew, AreLegalLogs, AreSymbols, IsAskedProgram, IsBase}
-use Rattle.command_inputs.specs.Found.{IsProgramAt, IsRead, program_at}
+use Rattle.command_inputs.specs.Found.{AreFew, IsAskedProgram, IsBase, IsProgramAt, IsRead, program_at}
+use Rattle.command_inputs.specs.FoundLogs.{AreAskedLogsUpTo, AreLegalLogsUpTo}
 use Rattle.files.specs.Known.{Content, content_in}
-use Rattle.command_inputs.specs.Printed.{First, GoesOn, Printed}
+use Rattle.command_inputs.specs.Printed.{First, GoesOn, Printed as AnyPrinted}
 use Rattle.log_commands.specs.Measuring.{WritesTable}
+use Rattle.log_commands.specs.Most.{most_of}
+use Rattle.retire.specs.Log.{most_rows}
 use Rattle.log_commands.specs.Replaying.{ReplaysLogs}
 use Rattle.path_commands.specs.Audited.{IsFoundSent, WritesAudit}
 use Rattle.command_inputs.specs.Status.{code_of}
-use Rattle.command_inputs.specs.declared.fault.Fault.{Fault}
+use Rattle.command_inputs.specs.declared.fault.Fault.{Fault as AnyFault}
 use Rattle.command_inputs.specs.declared.fault.Fault.TheVariants as fault
 use Rattle.command_inputs.specs.declared.status.Status.{Status}
 use Rattle.tracebench.specs.Words.{AreCarriedOut}
@@ -32,122 +42,167 @@ abbrev none : Content
 none = λ path. content_in [] path
 
 -- No value is found.
-abbrev NeverFound : {A : Type 0} → (Result A Fault → Type 0) → Type 0
-NeverFound {A} Finds = (value : A) → Finds (Ok value) → ⊥
+abbrev NeverFound : {W A : Type 0} → (Result A (AnyFault W) → Type 0) → Type 0
+NeverFound {W} {A} Finds = (value : A) → Finds (Ok value) → ⊥
 
--- No bytes are found.
-no_bytes : (path : Path) → NeverFound (IsRead none path)
+-- No bytes are found, whatever the reasons are.
+no_bytes : (path : FilePath) → NeverFound (IsRead {W = ⊥} none path)
 no_bytes path bytes read = read
 
 -- No program is made of bytes of no file.
-no_image : (base : ℕ) (path : Path) (bytes : Result (List ℕ) Fault) → IsRead none path bytes
+no_image : {W : Type 0} (base : ℕ) (path : FilePath) (bytes : Result (List ℕ) (AnyFault W)) → IsRead none path bytes
     → NeverFound (λ found. found ≡ program_at base bytes)
 no_image base path (Ok bytes) read program made = read
 no_image base path (Err why) read program made = cc
 
 -- No program is found.
-no_program : (base : ℕ) (path : Path) → NeverFound (IsProgramAt none base path)
+no_program : {W : Type 0} (base : ℕ) (path : FilePath) → NeverFound (IsProgramAt {W = W} none base path)
 no_program base path program found = no_image base path found.bytes found.read program found.made
 
 -- Nothing is found from what was, where that never leads to a value.
-not_from : {A B : Type 0} (Finds : Result A Fault → Type 0) (Next : A → Result B Fault → Type 0)
-    (first : Result A Fault)
+not_from : {W A B : Type 0} (Finds : Result A (AnyFault W) → Type 0) (Next : A → Result B (AnyFault W) → Type 0)
+    (first : Result A (AnyFault W))
     → ((a : A) → Finds (Ok a) → NeverFound (Next a)) → Finds first → NeverFound (IsFoundFrom first Next)
 not_from Finds Next (Err why) never finds value found = cc
 not_from Finds Next (Ok a) never finds value found = never a finds value found
 
 -- Nothing is found after what never leads to a value.
-not_after : {A B : Type 0} (Finds : Result A Fault → Type 0) (Next : A → Result B Fault → Type 0)
+not_after : {W A B : Type 0} (Finds : Result A (AnyFault W) → Type 0) (Next : A → Result B (AnyFault W) → Type 0)
     → ((a : A) → Finds (Ok a) → NeverFound (Next a)) → NeverFound (After Finds Next)
 not_after Finds Next never value found = not_from Finds Next found.0 never found.1 value found.2
 
 -- No program is found that is asked for with logs.
-no_asked : (most : ℕ) (text : List ℕ) (image : Path) (paths : List Path)
-    → NeverFound (IsAskedProgram none most text image paths)
+no_asked : {W : Type 0} (most : ℕ) (text : List ℕ) (image : FilePath) (paths : List FilePath)
+    → NeverFound (IsAskedProgram {W = W} none most text image paths)
 no_asked most text image paths =
     not_after (IsBase text) (λ base. After (AreFew most paths) (λ _. IsProgramAt none base image)) (λ base is.
     not_after (AreFew most paths) (λ _. IsProgramAt none base image) (λ few counted. no_program base image))
 
 -- No logs are found.
-no_logs : (most : ℕ) (text : List ℕ) (image : Path) (paths : List Path)
-    → NeverFound (AreAskedLogs none most text image paths)
-no_logs most text image paths =
-    not_after (IsAskedProgram none most text image paths) (λ program. AreLegalLogs none program paths)
+no_logs : {W : Type 0} (rows most : ℕ) (text : List ℕ) (image : FilePath) (paths : List FilePath)
+    → NeverFound (AreAskedLogsUpTo {W = W} rows none most text image paths)
+no_logs rows most text image paths =
+    not_after (IsAskedProgram none most text image paths) (λ program. AreLegalLogsUpTo rows none program paths)
     (λ program is logs legal. no_asked most text image paths program is)
 
 -- No run ends well whose input, once found, leads to no such end.
-not_going : {A : Type 0} (Finds : Result A Fault → Type 0) (next : A → Printed → Type 0) (printed : Printed)
-    (status : Status) (found : Result A Fault) → printed.ended ≡ Ok status
+not_going : {W A : Type 0} (Finds : Result A (AnyFault W) → Type 0) (next : A → AnyPrinted W → Type 0)
+    (printed : AnyPrinted W) (status : Status) (found : Result A (AnyFault W)) → printed.ended ≡ Ok status
     → ((a : A) → Finds (Ok a) → next a printed → ⊥) → Finds found → GoesOn found next printed → ⊥
-not_going Finds next printed status (Err why) ended never finds goes =
-    let stopped : printed.ended ≡ Err why = ap (λ (p : Printed). p.ended) goes in cc
+not_going {W} Finds next printed status (Err why) ended never finds goes =
+    let stopped : printed.ended ≡ Err why = ap (λ (p : AnyPrinted W). p.ended) goes in cc
 not_going Finds next printed status (Ok a) ended never finds goes = never a finds goes
 
 -- It is so of what is found first.
-not_first : {A : Type 0} (Finds : Result A Fault → Type 0) (next : A → Printed → Type 0) (printed : Printed)
-    (status : Status) → printed.ended ≡ Ok status → ((a : A) → Finds (Ok a) → next a printed → ⊥)
-    → First Finds next printed → ⊥
+not_first : {W A : Type 0} (Finds : Result A (AnyFault W) → Type 0) (next : A → AnyPrinted W → Type 0)
+    (printed : AnyPrinted W) (status : Status) → printed.ended ≡ Ok status
+    → ((a : A) → Finds (Ok a) → next a printed → ⊥) → First Finds next printed → ⊥
 not_first Finds next printed status ended never prints =
     not_going Finds next printed status prints.0 ended never prints.1 prints.2
+
+-- What ends with a status among the ends of all subcommands ends so.
+same_status : {W : Type 0} (to : W → CommandReason) (status : Status) (ended : Result Status (AnyFault W))
+    → Ok status ≡ joined_end to ended → ended ≡ Ok status
+same_status to status (Ok own) is = cc
+same_status to status (Err why) is = cc
+
+-- What is printed with a status was printed so by its subcommand.
+ends_so : {W : Type 0} (to : W → CommandReason) (text : List ℕ) (status : Status) (own : AnyPrinted W)
+    → ◌≡◌ {A = Printed} (record { text = text; ended = Ok status }) (joined_printed to own)
+    → own.ended ≡ Ok status
+ends_so to text status own is =
+    same_status to status own.ended (ap (λ (p : Printed). p.ended) is)
 
 -- Nothing is carried out to its end.
 not_ended : (asked : Asked) (status : Status) (old new : Option (List ℕ)) → IsCarriedOut none asked (Ok status) old new
     → ⊥
 not_ended (Check asked) status old new done =
+    let own = done.prints.own in
+    let ends = ends_so Log done.text status own done.prints.is in
     not_first (IsAskedProgram none _ asked.base.now asked.image asked.logs.items)
-    (λ program. WritesLines none asked.explain program asked.logs.items)
-    (record { text = done.text; ended = Ok status }) status refl
-    (λ program is lines. no_asked _ asked.base.now asked.image asked.logs.items program is) done.prints
+    (λ program. WritesLines (most_of asked.long) none asked.explain program asked.logs.items)
+    own status ends
+    (λ program is lines. no_asked _ asked.base.now asked.image asked.logs.items program is) done.prints.prints
 not_ended (Encode asked) status old new done =
-    not_first (AreAskedLogs none _ asked.base.now asked.image asked.logs.items) (WritesMessages asked)
-    (record { text = done.text; ended = Ok status }) status refl
-    (λ logs are messages. no_logs _ asked.base.now asked.image asked.logs.items logs are) done.prints
+    let own = done.prints.own in
+    let ends = ends_so Log done.text status own done.prints.is in
+    not_first (AreAskedLogsUpTo (most_of asked.long) none _ asked.base.now asked.image asked.logs.items)
+    (WritesMessages asked) own status ends
+    (λ logs are messages. no_logs (most_of asked.long) _ asked.base.now asked.image asked.logs.items logs are)
+    done.prints.prints
 not_ended (Dump asked) status old new done =
-    not_first (IsRead none asked.capture) WritesDump (record { text = done.text; ended = Ok status }) status refl
-    (λ bytes read dump. no_bytes asked.capture bytes read) done.prints
+    let own = done.prints.own in
+    let ends = ends_so Capture done.text status own done.prints.is in
+    not_first (IsRead none asked.capture) WritesDump own status ends
+    (λ bytes read dump. no_bytes asked.capture bytes read) done.prints.prints
 not_ended (Decode asked) status old new done =
-    let printed : Printed = record { text = done.text; ended = Ok status } in
+    let own = done.prints.own in
+    let ends = ends_so Capture done.text status own done.prints.is in
     not_first (IsBase asked.base.now) (λ base. First (IsProgramAt none base asked.image) (λ program.
-    First (IsRead none asked.capture) (WritesLogs asked.lossy asked.harts program))) printed status refl
+    First (IsRead none asked.capture) (WritesLogs asked.lossy asked.harts program))) own status ends
     (λ base is prints. not_first (IsProgramAt none base asked.image) (λ program.
-    First (IsRead none asked.capture) (WritesLogs asked.lossy asked.harts program)) printed status refl
-    (λ program made logs. no_program base asked.image program made) prints) done.prints
+    First (IsRead none asked.capture) (WritesLogs asked.lossy asked.harts program)) own status ends
+    (λ program made logs. no_program base asked.image program made) prints) done.prints.prints
 not_ended (Replay asked) status old new done =
-    not_first (AreAskedLogs none _ asked.base.now asked.image asked.logs.items) (ReplaysLogs none asked)
-    (record { text = done.text; ended = Ok status }) status refl
-    (λ logs are report. no_logs _ asked.base.now asked.image asked.logs.items logs are) done.prints
+    let own = done.prints.own in
+    let ends = ends_so Log done.text status own done.prints.is in
+    not_first (AreAskedLogsUpTo most_rows none _ asked.base.now asked.image asked.logs.items) (ReplaysLogs none asked)
+    own status ends
+    (λ logs are report. no_logs most_rows _ asked.base.now asked.image asked.logs.items logs are) done.prints.prints
 not_ended (Bench asked) status old new done =
-    not_first (AreAskedLogs none _ asked.base.now asked.image asked.logs.items) (BenchesLogs asked)
-    (record { text = done.text; ended = Ok status }) status refl
-    (λ logs are report. no_logs _ asked.base.now asked.image asked.logs.items logs are) done.prints
+    let own = done.prints.own in
+    let ends = ends_so Log done.text status own done.prints.is in
+    not_first (AreAskedLogsUpTo most_rows none _ asked.base.now asked.image asked.logs.items) (BenchesLogs asked)
+    own status ends
+    (λ logs are report. no_logs most_rows _ asked.base.now asked.image asked.logs.items logs are) done.prints.prints
 not_ended (Audit asked) status old new done =
+    let own = done.prints.own in
+    let ends = ends_so Path done.text status own done.prints.is in
     not_first (IsRead none asked.sent) (λ bytes. First (IsFoundSent asked.sent bytes) (λ sent.
-    First (IsRead none asked.received) (WritesAudit sent))) (record { text = done.text; ended = Ok status }) status refl
-    (λ bytes read prints. no_bytes asked.sent bytes read) done.prints
+    First (IsRead none asked.received) (WritesAudit asked.summary sent))) own status ends
+    (λ bytes read prints. no_bytes asked.sent bytes read) done.prints.prints
 not_ended (Measure asked) status old new done =
-    not_first (AreAskedLogs none _ asked.base.now asked.image asked.logs.items) (WritesTable asked)
-    (record { text = done.text; ended = Ok status }) status refl
-    (λ logs are table. no_logs _ asked.base.now asked.image asked.logs.items logs are) done.prints
+    let own = done.prints.own in
+    let ends = ends_so Log done.text status own done.prints.is in
+    not_first (AreAskedLogsUpTo (most_of asked.long) none _ asked.base.now asked.image asked.logs.items)
+    (WritesTable asked) own status ends
+    (λ logs are table. no_logs (most_of asked.long) _ asked.base.now asked.image asked.logs.items logs are)
+    done.prints.prints
 not_ended (Listing asked) status old new done =
-    let printed : Printed = record { text = done.text; ended = Ok status } in
+    let own = done.prints.own in
+    let ends = ends_so Capture done.text status own done.prints.is in
     not_first (IsBase asked.base.now) (λ base. First (IsProgramAt none base asked.image) (λ program.
     First (AreSymbols none asked.symbols) (λ symbols. First (IsRead none asked.capture)
-    (WritesListing asked.harts program symbols)))) printed status refl
+    (WritesListing asked.harts program symbols)))) own status ends
     (λ base is prints. not_first (IsProgramAt none base asked.image) (λ program.
     First (AreSymbols none asked.symbols) (λ symbols. First (IsRead none asked.capture)
-    (WritesListing asked.harts program symbols))) printed status refl
-    (λ program made listing. no_program base asked.image program made) prints) done.prints
+    (WritesListing asked.harts program symbols))) own status ends
+    (λ program made listing. no_program base asked.image program made) prints) done.prints.prints
 not_ended (Salvage asked) status old new done =
-    let printed : Printed = record { text = done.text; ended = Ok status } in
+    let own = done.prints.own in
+    let ends = ends_so Capture done.text status own done.prints.is in
     not_first (IsBase asked.base.now) (λ base. First (IsProgramAt none base asked.image) (λ program.
-    First (IsRead none asked.capture) (WritesSalvaged asked.harts program))) printed status refl
+    First (IsRead none asked.capture) (WritesSalvaged asked.harts program))) own status ends
     (λ base is prints. not_first (IsProgramAt none base asked.image) (λ program.
-    First (IsRead none asked.capture) (WritesSalvaged asked.harts program)) printed status refl
-    (λ program made left. no_program base asked.image program made) prints) done.prints
+    First (IsRead none asked.capture) (WritesSalvaged asked.harts program)) own status ends
+    (λ program made left. no_program base asked.image program made) prints) done.prints.prints
+
+-- No reason ends with status 0.
+reason_faulty : (why : CommandReason) → code_of (command_reason_status why) ≢ 0
+reason_faulty Words = λ is. omega arith
+reason_faulty (Log (log.Schedule why)) = λ is. omega arith
+reason_faulty (Log (log.Unsent why)) = λ is. omega arith
+reason_faulty (Capture capture.Header) = λ is. omega arith
+reason_faulty (Capture (capture.Message number why)) = λ is. omega arith
+reason_faulty (Capture (capture.Unclosed hart)) = λ is. omega arith
+reason_faulty (Capture (capture.Symbols path why)) = λ is. omega arith
+reason_faulty (Path audit.Header) = λ is. omega arith
+reason_faulty (Path (audit.Message number why)) = λ is. omega arith
+reason_faulty (Path (audit.Sent sent why)) = λ is. omega arith
 
 -- No fault ends with status 0.
 faulty : (why : Fault) → code_of (status_of why) ≢ 0
-faulty fault.Words = λ is. omega arith
+faulty (fault.Own why) = reason_faulty why
 faulty fault.Base = λ is. omega arith
 faulty fault.NoLogs = λ is. omega arith
 faulty (fault.ManyLogs most) = λ is. omega arith
@@ -155,13 +210,6 @@ faulty (fault.Unreadable path) = λ is. omega arith
 faulty (fault.Image why) = λ is. omega arith
 faulty (fault.Log path why) = λ is. omega arith
 faulty (fault.Illegal path why) = λ is. omega arith
-faulty (fault.Sent path why) = λ is. omega arith
-faulty (fault.Symbols path why) = λ is. omega arith
-faulty (fault.Schedule why) = λ is. omega arith
-faulty (fault.Unsent why) = λ is. omega arith
-faulty fault.Header = λ is. omega arith
-faulty (fault.Message number why) = λ is. omega arith
-faulty (fault.Unclosed hart) = λ is. omega arith
 faulty fault.Output = λ is. omega arith
 faulty fault.Memory = λ is. omega arith
 

@@ -4,12 +4,11 @@ use Rattle.cli.specs.Asking.{WordsAsk}
 use Rattle.output.specs.Begun.{AppendsBeginning}
 use Rattle.commands.specs.Begun.{IsBegun, IsCutOutput}
 use Rattle.commands.specs.CarriedOut.{IsCarriedOut}
-use Rattle.command_inputs.specs.Faults.{final_status}
-use Rattle.command_inputs.specs.FaultText.{error_line}
+use Rattle.commands.specs.FaultText.{error_line}
+use Rattle.commands.specs.Faults.{Fault, final_status}
 use Rattle.files.specs.Known.{Content}
 use Rattle.commands.specs.Order.{early_fault}
 use Rattle.command_inputs.specs.Status.{code_of}
-use Rattle.command_inputs.specs.declared.fault.Fault.{Fault}
 use Rattle.command_inputs.specs.declared.fault.Fault.TheVariants as fault
 use Rattle.command_inputs.specs.declared.status.Status.{Status}
 use Rattle.subcommands.specs.declared.words.Asked.{Asked}
@@ -21,7 +20,7 @@ ReportsFault contents (Ok status) old new = new ≡ old
 ReportsFault contents (Err why) old new = AppendsBeginning (error_line why) (contents old) (contents new)
 
 -- What is asked was carried out, and this is its status. A fault that is found before any file is read ends the run.
--- The text is that of what is asked, or a prefix of it where memory was refused or the output failed. A fault was
+-- The text is that of what is asked, or a prefix of it where allocation or the output failed. A fault was
 -- reported on standard error.
 pub record IsDone {E : Type 0} (content : Content) (asked : Asked) (status : Status)
     (out_old out_new : Option (List ℕ)) (contents : E → Option (List ℕ)) (err_old err_new : E) : Type 0 where

@@ -2,13 +2,14 @@
 
 ghost use Rattle.std.specs.Prelude.{◌≡◌, ◌⊎◌, ◌≤◌, Err, map, string_bytes};
 ghost use Rattle.cli.specs.Asking.{AreRefused, AskNoCheck};
+ghost use Rattle.command_inputs.specs.declared.fault.Fault.TheVariants as Fault;
 ghost use Rattle.subcommands.specs.Kind.{IsCheck};
 ghost use Rattle.subcommands.specs.Limits.{IsWithinLimits};
 ghost use Rattle.tracebench.specs.Words.{AreCarriedOut, IsDone, ReportsFault};
 
 use crate::words_fault::report_words_error;
 use cli::asked;
-use commands::{Fault, Files, Status, carry_out, report_error};
+use commands::{Files, Status, carry_out, report_error};
 use std::alloc::Global;
 use std::io::Write;
 use std::sync::Wait;
@@ -18,7 +19,7 @@ use subcommands::Asked;
 /// Does what the arguments ask for, and returns the exit status. The first argument is the program's name. The status
 /// is 0 where all is done; 1 where a capture is not good or a log does not come back complete; 2 where the arguments,
 /// the base, the count of logs, the image, the symbols, a log or the schedule is refused or a log is illegal; and 3
-/// where a file is not read, the output is not written, memory is refused or there is a stop of `replay` or `bench`.
+/// where a file is not read, the output is not written, allocation fails or there is a stop of `replay` or `bench`.
 ///
 /// The first fault is reported on `err`, in the order arguments, base, count of logs, image, symbols, each log in turn,
 /// schedule, capture. It has one line there, or `clap`'s own text where the arguments are at fault. Where a write to
@@ -36,8 +37,8 @@ pub fn command<F: Files + Sync, O: Write, E: Write, R: Threads + Wait + Sync>(
 where
     F::Reader: Send,
     ensures statuses { result ≤ 3 }
-    // Where `clap` refuses the arguments, nothing is written to `out`, and the status is 2, or 3 where memory is
-    // refused.
+    // Where `clap` refuses the arguments, nothing is written to `out`, and the status is 2, or 3 where allocation
+    // fails.
     ensures words { AreRefused (map string_bytes words.now) → (out.new ≡ out.old) × ((result ≡ 2)
         ⊎ ((result ≡ 3) × ReportsFault E.contents (Err Fault.Memory) err.old err.new)) }
     // Where the input is refused, nothing is written, but for the lines of `check`.
@@ -45,7 +46,7 @@ where
     // Where all is done, nothing is written to `err`.
     ensures quiet { result ≡ 0 → err.new ≡ err.old }
     // Where `clap` does not refuse the arguments, what they ask for is carried out on what is known of the files,
-    // unless memory for the arguments themselves is refused.
+    // unless allocation for the arguments themselves fails.
     ensures printed { AreRefused (map string_bytes words.now)
         ⊎ (((result ≡ 3) × (out.new ≡ out.old) × ReportsFault E.contents (Err Fault.Memory) err.old err.new)
         ⊎ AreCarriedOut (F.content files.old) (map string_bytes words.now) result (O.contents out.old)

@@ -2,14 +2,15 @@
 
 ghost use Rattle.std.specs.Prelude.{◌≡◌, ◌≢◌, Err};
 ghost use Rattle.cli.specs.Errors.{kind_of};
+ghost use Rattle.command_inputs.specs.declared.fault.Fault.TheVariants as Fault;
 ghost use Rattle.tracebench.specs.Words.{ReportsFault};
 
 use cli::{Error, ErrorKind};
 use commands::{Fault, Status, report_error};
 use std::io::Write;
 
-/// Reports why arguments ask for nothing, by `clap`'s own text, and returns how the command ends. Where memory was
-/// refused, the line of that fault is written instead.
+/// Reports why arguments ask for nothing, by `clap`'s own text, and returns how the command ends. Where allocation
+/// failed, the line of that fault is written instead.
 pub(crate) fn report_words_error<E: Write>(err: &mut E, error: &Error) -> Status
     ensures memory { kind_of error.now ≡ ErrorKind.OutOfMemory → result ≡ Status.Machine }
     ensures line { kind_of error.now ≡ ErrorKind.OutOfMemory
