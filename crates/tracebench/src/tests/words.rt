@@ -262,7 +262,7 @@ pub(crate) const TEXT: &str = r#"
 % tracebench audit sent.capture received.capture more.capture
 ! error: unexpected argument 'more.capture' found
 !
-! Usage: tracebench audit <SENT> <RECEIVED>
+! Usage: tracebench audit [OPTIONS] <SENT> <RECEIVED>
 !
 ! For more information, try '--help'.
 
