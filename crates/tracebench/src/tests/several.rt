@@ -400,7 +400,7 @@ $ tracebench measure --base 80000000 --long --period 2 image.bin kinds.csv empty
 file far.csv
 | addr,itype,priv,cause,tval
 | 80000004,0,3,,
-| 80000000,0,3,,
+| 80000000,5,3,,
 file odd.csv
 | addr,itype,priv,cause,tval
 | 80000004,0,3,,
