@@ -1,10 +1,12 @@
 -- The capture that was written is one of the logs, which the prover is told.
-use Rattle.std.proofs.Common.{◌≡◌, List, get_or, arith, rules}
+use Rattle.std.proofs.Common.{◌≡◌, ◌≤◌, List, get_or, length, arith, rules}
 use Rattle.etrace.specs.capture.Header.{IsHeader}
+use Rattle.etrace.specs.capture.Returned.{IsLongLegalLog}
 use Rattle.etrace.specs.capture.Versions.{capture_of, header_of}
 use Rattle.etrace.specs.declared.capture.Version.TheVariants.{Two}
 use Rattle.etrace.specs.declared.packets.Mode.TheVariants.{Differential}
-use Rattle.etrace.specs.logs.ProgramLog.{IsLegalLog, ProgramLog}
+use Rattle.etrace.specs.logs.Log.{most_long_rows}
+use Rattle.etrace.specs.logs.ProgramLog.{ProgramLog}
 use Rattle.two_harts.proofs.TwoLogs.{all_of_two}
 use Rattle.two_harts.proofs.there_and_back.Goals as goal
 
@@ -12,17 +14,21 @@ pub returns : goal.returns
 returns g c =
     let logs : List ProgramLog = c.args.logs.now in
     let two = c.type_inv.logs in
-    let first : IsLegalLog (get_or logs 0 c.index-logs-0.result) =
+    let short : length (get_or logs 0 c.index-logs-0.result).events ≤ most_long_rows =
+    omega (arith, c.events.ensures.short) in
+    let short-2 : length (get_or logs 1 c.index-logs-1.result).events ≤ most_long_rows =
+    omega (arith, c.events-2.ensures.short) in
+    let first : IsLongLegalLog (get_or logs 0 c.index-logs-0.result) =
     record {
       legal = c.events.ensures.legal;
-      short = c.events.ensures.short;
+      short = short;
       numbers = c.events.ensures.numbers;
       image = c.events.ensures.image;
     } in
-    let second : IsLegalLog (get_or logs 1 c.index-logs-1.result) =
+    let second : IsLongLegalLog (get_or logs 1 c.index-logs-1.result) =
     record {
       legal = c.events-2.ensures.legal;
-      short = c.events-2.ensures.short;
+      short = short-2;
       numbers = c.events-2.ensures.numbers;
       image = c.events-2.ensures.image;
     } in
@@ -36,7 +42,7 @@ returns g c =
     let written : c.as_slice.result.now ≡ capture_of Two 1024 Differential logs = search rules in
     let back = c.in_ok-decoded.ensures.whole Two 1024 Differential logs
     (record {
-      legal = all_of_two IsLegalLog logs _ _ two first second;
+      legal = all_of_two IsLongLegalLog logs _ _ two first second;
       same = c.requires;
       start = start;
       whole = written;
