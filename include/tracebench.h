@@ -37,7 +37,7 @@ extern "C" {
 /* The buffer is too small: nothing was written to it. */
 #define TRACEBENCH_TOO_SMALL 1u
 
-/* Memory was refused. */
+/* An allocation failed. */
 #define TRACEBENCH_MEMORY 2u
 
 /* The capture has no hart of this number. */
@@ -451,7 +451,7 @@ uint32_t tracebench_dump(const uint8_t *capture, size_t capture_length, uint8_t 
  * How decoding a capture ends. Where it stops before the end, `fault` is the status of what is wrong with the bytes
  * (TRACEBENCH_SHORT, TRACEBENCH_BAD_LENGTH or TRACEBENCH_BAD_HEADER), with a payload (TRACEBENCH_BAD_PAD to
  * TRACEBENCH_BAD_REPORT), with a message (TRACEBENCH_STRANGER to TRACEBENCH_OTHER_MODE) or with a packet
- * (TRACEBENCH_NOT_OPENED to TRACEBENCH_WALKS_AT_WRONG_PRIVILEGE); or it is TRACEBENCH_MEMORY, where memory was refused
+ * (TRACEBENCH_NOT_OPENED to TRACEBENCH_WALKS_AT_WRONG_PRIVILEGE); or it is TRACEBENCH_MEMORY, where an allocation failed
  * for events: the call ends as if decoding had stopped there for another reason.
  */
 struct tracebench_decode_end {

@@ -86,7 +86,7 @@ BODIES = [
                 "    let mut receiver = Receiver::new(alloc, harts_by(header, harts))?;\n")),
     ("list_capture Memory past 4,096 bytes", "listing", "capture_listing.rt",
         *unless("capture.len() > 4_096", "WriteFault::Memory", "    let mut messages = Messages::new(capture);\n")),
-    ("list_capture stops for want of memory at message 10", "listing", "capture_listing.rt",
+    ("list_capture stops as if an allocation failed at message 10", "listing", "capture_listing.rt",
         "        let message = match messages.next() {\n",
         "        if number == 10 {\n"
         "            return Ok(Some((number, CaptureFault::Decode(decoder::DecodeFault::Memory))));\n        }\n"

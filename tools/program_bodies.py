@@ -5,7 +5,7 @@ Each has a name, a crate, a file, and pairs of a text that stands once in the fi
 
 
 def memory_first(line, condition):
-    """A line, and the same behind a refusal of memory where this holds."""
+    """A line, and the same behind a failed allocation where this holds."""
     return line, f"    if {condition} {{\n        return Err(Fault::Memory);\n    }}\n{line}"
 
 
@@ -24,7 +24,7 @@ IMAGE = "    let bytes = content_of(files, image)?;\n"
 SENT = "    let sent = content_of(files, asked.sent)?;\n"
 
 BODIES = [
-    # Several logs in full mode, at another period, and large inputs, for which memory is refused at will.
+    # Several logs in full mode, at another period, and large inputs, for which an allocation fails at will.
     ("encode --hex --full of five logs always Memory", "log_commands", "encoding.rt",
         *memory_first(MADE, f"asked.hex && {FULL} && paths.len() > 4")),
     ("encode --full of five logs always Memory", "log_commands", "encoding.rt",
@@ -76,7 +76,7 @@ BODIES = [
     ("audit reads SENT twice", "path_commands", "comparing.rt", *read_twice(SENT, "asked.sent")),
     ("replay reads its schedule twice", "log_commands", "replaying.rt",
         *read_twice("    let bytes = content_of(files, path)?;\n", "path")),
-    # A log that is opened twice, and memory that is refused at will.
+    # A log that is opened twice, and allocations that fail at will.
     ("made_of_logs opens each log twice", "log_streams", "one_log.rt",
         PIECE, f"    let _ = files.open_file(path).is_ok();\n{PIECE}"),
     ("made_of_logs Memory past hart 63", "log_streams", "one_log.rt",

@@ -213,7 +213,7 @@ module _ (words : Words) (program : IsProgram words) (harts : ℕ) (announced : 
           ap (of_hart message.hart) is ∙ of_hart-append message.hart xs (message ∷ ys)
           ∙ ap (λ l. of_hart message.hart xs ++ l) (of_hart-own message ys)
 
-  -- No message is refused but for want of memory.
+  -- No message is refused, unless an allocation failed.
   not_refused : (front : List Message) (message : Message) (back : List Message) (why : ReceiveFault)
       → received ≡ front ++ message ∷ back → AreAccepted (newcomers harts) front
       → IsNotReceived words harts announced front message why → why ≡ receiving.Decode Memory
@@ -268,7 +268,7 @@ module _ (words : Words) (program : IsProgram words) (harts : ℕ) (announced : 
       each_same (x ∷ xs) (y ∷ ys) count each = λ i.
           each 0 x y refl refl i ∷ each_same xs ys (omega (arith, count)) (λ k. each (suc k)) i
 
-  -- A message at which decoding stops is refused for want of memory.
+  -- A message at which decoding stops is refused because an allocation failed.
   at_message : (ranges : All IsMessage received) (messages : List Message) (rest : List ℕ) (why : ReceiveFault)
       → All IsMessage messages → capture received ≡ capture messages ++ rest → AreAccepted (newcomers harts) messages
       → BeginsRefused words harts announced messages rest why → why ≡ receiving.Decode Memory

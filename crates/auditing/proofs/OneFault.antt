@@ -48,7 +48,7 @@ never_stops number why is = cc
 never_misplaced : (why : DemuxFault) (o : Option DemuxFault) → o ≡ None → o ≡ Some why → ⊥
 never_misplaced why o none some = cc
 
--- The only fault of SENT that is whole is that memory was refused.
+-- The only fault of SENT that is whole is that an allocation failed.
 pub only_memory : (bytes : List ℕ) (header : Option Header) (messages : List Message) (why : SentFault)
     → IsSent bytes header messages → IsSentFault bytes why → why ≡ fault.Memory
 only_memory bytes header messages fault.Memory is stops = refl

@@ -14,8 +14,8 @@ pub record AreAllWhole (header : Option Header) (sent received : List Message) :
   pub harts : (hart : ℕ) → hart < harts_of header sent → is_whole sent received hart ≡ true
   pub strangers : strangers_in sent received ≡ 0
 
--- The same lists and the same flags come once more, and decoding comes to the end; or it stopped where memory was
--- refused.
+-- The same lists and the same flags come once more, and decoding comes to the end; or it stopped where an allocation
+-- failed.
 abbrev pub AreDecodedAgain : List (List Event) → List Bool → List (List Event) → List Bool
     → Option (ℕ × CaptureFault) → Type 0
 AreDecodedAgain lists closed again flags None = (again ≡ lists) × (flags ≡ closed)

@@ -79,7 +79,7 @@ pub record BeginsMisplaced (why : DemuxFault) (harts : ℕ) (messages : List Mes
   pub misplaced : misplaced harts messages message ≡ Some why
 
 -- Why SENT is refused: its header is cut short or bad; or after the first messages there is no complete message, or one
--- that is not the next of its hart; or memory was refused.
+-- that is not the next of its hart; or an allocation failed.
 abbrev pub IsSentFault : List ℕ → SentFault → Type 0
 IsSentFault bytes (fault.Unread number why) =
     IsHeaderless bytes number why ⊎ StopsBehind bytes number (λ harts messages rest. BeginsNone rest why)

@@ -75,7 +75,7 @@ impl<'a, A: Allocator + Copy> Audit<'a, A> {
         ensures audits { IfOk result (λ audit. (sent : List AnyMessage) × IsSent bytes.entry.now audit.header sent
             × Audits sent [] audit) }
         ensures fault { IfErr result (IsSentFault bytes.entry.now) }
-        // If SENT is complete, the only fault is that memory was refused.
+        // If SENT is complete, the only fault is that an allocation failed.
         ensures memory { (header : Option AnyHeader) (sent : List AnyMessage) → IsSent bytes.entry.now header sent
             → IfErr result (λ fault. fault ≡ SentFault.Memory) }
     {

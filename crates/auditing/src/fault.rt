@@ -17,7 +17,7 @@ pub enum SentFault {
     Unread(u64, MessageFault),
     /// The message after so many is not the next one of a known hart: it is a stranger, a repeat or a gap.
     Misplaced(u64, DemuxFault),
-    /// Memory was refused.
+    /// An allocation failed.
     Memory,
 }
 

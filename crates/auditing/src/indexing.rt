@@ -7,11 +7,8 @@ ghost use Rattle.message.specs.declared.message.Message.{Message as AnyMessage};
 ghost use Rattle.auditing.specs.steps.Indexing.{AreIndexed, added};
 
 use crate::hart::HartAudit;
-use message::Messages;
+use message::{HEAD, Messages};
 use std::alloc::{AllocError, Allocator};
-
-/// How many bytes of a message come before its payload.
-const HEAD: usize = 11;
 
 /// What an audit keeps of each of so many harts before a message of SENT is indexed, with capacities for these counts
 /// of messages.

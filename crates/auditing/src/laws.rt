@@ -58,7 +58,7 @@ pub fn skips_add_up()
         ≡ fates_counted sent received hart Fate.Late + length (lost_below sent received hart) }
 {}
 
-/// RECEIVED decodes to the same logs and flags as SENT, without a fault, unless memory is refused. This holds if SENT
+/// RECEIVED decodes to the same logs and flags as SENT, without a fault, unless an allocation fails. This holds if SENT
 /// decodes without a fault, every hart of SENT is whole in RECEIVED, RECEIVED has no stranger and is read to its end,
 /// and it has SENT's header or neither has one. The messages of the harts may be mixed in any way. Both are decoded
 /// with the same count of harts.

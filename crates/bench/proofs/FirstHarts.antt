@@ -40,7 +40,7 @@ module _ {A : Type 0} (harts : List (HartOutcome A)) where
       apart (get_or harts h d).closed shut
       (subst (λ o. IsSomeAnd o is_open) (slice_get-get_or harts h d within) given)
 
-  -- Its channel ended where it is not closed and memory was not refused.
+  -- Its channel ended where it is not closed and no allocation failed.
   pub ended_here : (h : ℕ) (d e : HartOutcome A) → h < length harts → (get_or harts h d).closed ≡ false
       → (get_or harts h e).refused ≡ false → IsOpenNotRefused harts h
   ended_here h d e within opened going =
@@ -49,7 +49,7 @@ module _ {A : Type 0} (harts : List (HartOutcome A)) where
       subst (λ o. IsSomeAnd o has_ended) (sym (slice_get-get_or harts h d within))
       (opened, ap (λ (came : HartOutcome A). came.refused) same ∙ going)
 
-  -- It did not where it is closed, or memory was refused.
+  -- It did not where it is closed, or an allocation failed.
   pub shut_not_ended : (h : ℕ) (d : HartOutcome A) → h < length harts → (get_or harts h d).closed ≡ true
       → ¬ IsOpenNotRefused harts h
   shut_not_ended h d within shut = λ given.
@@ -80,7 +80,7 @@ module _ {A : Type 0} (harts : List (HartOutcome A)) where
   open_within h None at opened = absurd opened
   open_within h (Some came) at opened = slice_get_within harts h came at
 
-  -- An open hart was refused memory where the channel of none ended.
+  -- An allocation for an open hart failed where the channel of none ended.
   pub open_refused : (h : ℕ) → ClosedUnlessRefused harts → IsOpenHart harts h
       → IsSomeAnd (slice_get harts h) (λ (came : HartOutcome A). IsTrue came.refused)
   open_refused h none given = by_found (slice_get harts h) refl given

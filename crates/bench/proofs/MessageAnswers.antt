@@ -61,7 +61,7 @@ not_demux (Err fault.Memory) before after left why is = cc
 same_of : (hart : ℕ) (c : Collected) → IsSameOf hart c c
 same_of hart c = record { taken = refl; received = same_hart hart c.received c.received refl }
 
--- A message of a hart of which memory was refused is passed over.
+-- A message of a hart for which an allocation failed is passed over.
 passed_over : (message : Message) (c : Collected) → IsRefusedHart message.hart c → TakesMessage message (Ok tt) c c
 passed_over message c refused = record {
   logs = (refl, refl);

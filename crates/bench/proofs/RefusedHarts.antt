@@ -1,4 +1,4 @@
--- Of which harts memory was refused, by their outcomes.
+-- For which harts an allocation failed, by their outcomes.
 use Rattle.std.proofs.Common.{◌≡◌, ◌<◌, ℕ, true, false, List, Option, Some, get_or, length, slice_get, refl, sym, ap}
 use Rattle.std.proofs.Common.{subst, ◌∙◌}
 use Rattle.std.specs.Prelude.{IsSomeAnd, IsTrue}
@@ -24,7 +24,7 @@ IsRefused at = IsSomeAnd at (λ (taken : Taken). IsTrue taken.refused)
 pub apart : false ≡ true → ⊥
 apart is = cc
 
--- Memory was refused for a hart of which so much came.
+-- An allocation failed for a hart of which so much came.
 pub came_refused : (hart : ℕ) (got : Got) (collected : Collected) → HasOutcome hart got true collected
     → IsRefusedHart hart collected
 came_refused hart got collected came =

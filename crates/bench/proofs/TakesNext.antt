@@ -35,7 +35,7 @@ abbrev beginning : ℕ → Mode → ProgramLog → ℕ → List Event
 beginning period mode log count = take (reach (words_of log.program) period mode log.events count) log.events
 
 module _ (message : Message) (packet : Packet) (old new : Collected) where
-  -- The next message of a log is refused for want of memory alone.
+  -- The next message of a log is refused only where an allocation failed.
   pub takes_only_memory : (answer : Result (Unit {0}) CollectFault) → TakesIn message packet answer old new
       → (period : ℕ) (mode : Mode) (count : ℕ) (log : ProgramLog)
       → HasCollected period mode log count message.hart old → IsMessageOf period mode log count message

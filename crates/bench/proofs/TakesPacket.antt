@@ -49,7 +49,7 @@ module _ (message : Message) (packet : Packet) (old new : Collected) where
     closed = ap (λ (r : Received). slice_get r.closed message.hart) (stays ∙ moved) ∙ came.closed;
   }
 
-  -- Memory was refused then.
+  -- An allocation failed then.
   pub takes_memory : (answer : Result (Unit {0}) CollectFault) → TakesIn message packet answer old new
       → (got : Got) (refused : Bool)
       → HasOutcome message.hart got refused old → answer ≡ Err fault.Memory → HasOutcome message.hart got true new
@@ -98,7 +98,7 @@ module _ (message : Message) (packet : Packet) (old new : Collected) where
         one log some accepts has (t.holds some);
   }
 
-  -- Else no log is described with it, or memory was refused.
+  -- Else no log is described with it, or an allocation failed.
   pub takes_none : (answer : Result (Unit {0}) CollectFault) → TakesIn message packet answer old new
       → (one : Packet) (log : ProgramLog) (some : List Packet) → Accepts message one old
       → HasDecoded log message.hart some old → IfErr answer (λ why. (why ≡ fault.Memory)

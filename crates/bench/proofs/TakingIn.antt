@@ -38,7 +38,7 @@ module _ (message : Message) (result : Result (Unit {0}) CollectFault) (old new 
   cut_off_refused count log cut =
       came_refused message.hart (kept old.keep (got_after period mode log cut.count)) old cut.came
 
-  -- A hart of which memory was refused stays as it was.
+  -- A hart for which an allocation failed stays as it was.
   pub cut_off_stays : (count : ℕ) (log : ProgramLog) → IsCutOff period mode log count message.hart old
       → IsCutOff period mode log (count + 1) message.hart new
   cut_off_stays count log cut =
@@ -59,7 +59,7 @@ module _ (message : Message) (result : Result (Unit {0}) CollectFault) (old new 
       let within = slice_get_within (payloads period mode log) count message.payload own.payload in
       omega (arith, within, length-map (packets (words_of log.program) period mode log.events) payload_of)
 
-  -- The next message of a hart came, or memory for it was refused.
+  -- The next message of a hart came, or an allocation for it failed.
   pub own_taken : (count : ℕ) (log : ProgramLog) → IsMessageOf period mode log count message
       → IsTakenOf period mode log count message.hart old → IsTakenOf period mode log (count + 1) message.hart new
   own_taken count log own (inl has) =
@@ -108,11 +108,11 @@ module _ (period : ℕ) (mode : Mode) (logs : List ProgramLog) (taken : List Mes
   one_more : length (of_hart message.hart (taken ++ message ∷ [])) ≡ before + 1
   one_more = ap length (of_hart-next taken message) ∙ length_push (of_hart message.hart taken) message
 
-  -- A message of a hart of which memory was refused is no fault and changes nothing.
+  -- A message of a hart for which an allocation failed is no fault and changes nothing.
   passed_over : IsCutOff period mode next.log before message.hart old → (result ≡ Ok tt) × (new ≡ old)
   passed_over cut = takes.passed_over (cut_off_refused message result old new takes period mode before next.log cut)
 
-  -- A message is refused for want of memory alone.
+  -- A message is refused only where an allocation failed.
   pub only_memory : IfErr result (λ why. why ≡ fault.Memory)
   only_memory = by_case own_before
     where
@@ -121,7 +121,7 @@ module _ (period : ℕ) (mode : Mode) (logs : List ProgramLog) (taken : List Mes
       by_case (inr cut) =
           subst (λ r. IfErr r (λ why. why ≡ fault.Memory)) (sym (passed_over cut).0) tt
 
-  -- Of each hart the messages that were taken and this one came, or memory for it was refused.
+  -- Of each hart the messages that were taken and this one came, or an allocation for it failed.
   pub takes_more : CameUnlessRefused period mode logs (taken ++ message ∷ []) new
   takes_more = record {
     own = takes.logs.0 ∙ came.own;
@@ -195,7 +195,7 @@ module _ (period : ℕ) (mode : Mode) (logs : List ProgramLog) (taken : List Mes
       let same = ap length (takes.logs.0 ∙ came.own) in
       omega (arith, within, same)
 
-  -- Where memory was refused the message's hart may be named.
+  -- Where an allocation failed the message's hart may be named.
   pub names_own : result ≡ Err fault.Memory → NamesRefusedHart (Some (stop.Memory message.hart)) new
   names_own memory = (has_place, by_case own_before)
     where

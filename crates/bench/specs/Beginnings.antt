@@ -44,7 +44,7 @@ AreCarried {A} config logs taken harts =
     → slice_get harts hart ≡ Some came → IsFalse came.refused
     → CarryFirst config.period config.mode log (of_hart hart taken)
 
--- If memory was refused for a hart, fewer packets of it were decoded than messages of it are among these.
+-- If an allocation failed for a hart, fewer packets of it were decoded than messages of it are among these.
 abbrev pub LackSome : {A : Type 0} → List Message → List (HartOutcome A) → Type 0
 LackSome {A} taken harts =
     (hart : ℕ) (came : HartOutcome A) → slice_get harts hart ≡ Some came → IsTrue came.refused
@@ -56,8 +56,8 @@ LackSomeTaken {A} taken harts =
     (hart : ℕ) (came : HartOutcome A) → slice_get harts hart ≡ Some came → IsTrue came.refused
     → 0 < length (of_hart hart taken) → came.taken < length (of_hart hart taken)
 
--- There is no stop if and only if memory was refused for no hart. Otherwise the stop is of the kind `Memory`. It names
--- a hart for which memory was refused, and whose closing packet did not come.
+-- There is no stop if and only if no allocation for a hart failed. Otherwise the stop is of the kind `Memory`. It names
+-- a hart for which an allocation failed, and whose closing packet did not come.
 abbrev pub NamesRefused : {A : Type 0} → Option Stop → List (HartOutcome A) → Type 0
 NamesRefused None harts = All (λ hart. IsFalse hart.refused) harts
 NamesRefused (Some (stop.Memory hart)) harts =

@@ -111,11 +111,11 @@ impl<'l, 'p, A: Allocator + Copy, B: Allocator> Collector<'l, 'p, A, B> {
     /// Takes the next message of a hart in: demultiplexes it and decodes its packet.
     ///
     /// A fault leaves what was decoded of all harts as it was. After [`CollectFault::Memory`] the collector notes that
-    /// memory was refused for the hart. From then on messages of that hart change nothing.
+    /// an allocation failed for the hart. From then on messages of that hart change nothing.
     pub fn take_in(&mut self, message: Message) -> Result<(), CollectFault>
         ensures logs { (self.new.logs ≡ self.old.logs) × (self.new.keep ≡ self.old.keep) }
 
-        // The next message of a log adds what it settles, unless memory is refused.
+        // The next message of a log adds what it settles, unless an allocation fails.
         ensures next { (period : ℕ) (mode : Mode) (count : ℕ) (log : ProgramLog)
             → HasCollected period mode log count message.hart self.old
             → IsMessageOf period mode log count message
@@ -136,8 +136,8 @@ impl<'l, 'p, A: Allocator + Copy, B: Allocator> Collector<'l, 'p, A, B> {
             → (result ≡ Err (CollectFault.Demux why)) ↔ (accepting self.old.received.expected message ≡ Err why) }
         ensures passed_over { IsRefusedHart message.hart self.old → (result ≡ Ok tt) × (self.new ≡ self.old) }
 
-        // Of any hart for which memory was never refused, whatever its messages were. The packet of an accepted message
-        // is decoded after those before it, and counted, unless no log is described with it or memory is refused.
+        // Of any hart for which no allocation failed, whatever its messages were. The packet of an accepted message
+        // is decoded after those before it, and counted, unless no log is described with it or an allocation fails.
         ensures decoded { (packet : AnyPacket) (log : ProgramLog) (packets : List AnyPacket)
             → Accepts message packet self.old → HasDecoded log message.hart packets self.old
             → OnOk result (HasDecoded log message.hart (packets ++ packet ∷ []) self.new) }
@@ -272,7 +272,7 @@ fn is_refused<A: Allocator>(harts: &Vec<HartOutcome<A>, A>, hart: usize) -> bool
 ///
 /// Capacity is reserved first: for the packet, where packets are kept, and, from the second packet on, for all events
 /// of the log. The second packet is the first that settles an event. So a fault leaves the receiver and the outcome as
-/// they were, but that the outcome notes memory that was refused.
+/// they were, but that the outcome notes an allocation that failed.
 fn take_packet<A: Allocator + Copy>(
     receiver: &mut Receiver<A>,
     outcome: &mut HartOutcome<A>,
@@ -339,7 +339,7 @@ fn has_room<A: Allocator + Copy>(
     outcome.taken == 0 || receiver.reserve(hart, events).is_ok()
 }
 
-/// Why a packet is not decoded. The outcome notes memory that was refused.
+/// Why a packet is not decoded. The outcome notes an allocation that failed.
 fn undecoded<A: Allocator>(fault: DecodeFault, outcome: &mut HartOutcome<A>) -> CollectFault
     ensures left { IsLeftBy result (taken_of_outcome outcome.old) (taken_of_outcome outcome.new) }
     ensures memory { fault ≡ DecodeFault.Memory → result ≡ CollectFault.Memory }

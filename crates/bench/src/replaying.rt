@@ -40,7 +40,7 @@ pub fn replay<A: Allocator + Copy, B: Allocator>(
     turns: &[Turn],
 ) -> Result<Outcome<A>, Setup>
     ensures beginnings { IfOk result (λ outcome. AreBeginnings config logs.now outcome.harts.items) }
-    // As many messages of each hart were decoded as were taken, unless memory for it was refused.
+    // As many messages of each hart were decoded as were taken, unless an allocation for it failed.
     ensures taken { IfOk result (λ outcome. AreThoseTaken config logs.now
         (replayed config.period config.mode config.capacity logs.now turns.now).taken outcome.harts.items) }
     ensures lacks { IfOk result (λ outcome. LackSome
@@ -125,8 +125,8 @@ fn send<A: Allocator, C: Allocator, B: Allocator>(
     }
 }
 
-/// The turn of the collector: it takes the front message and decodes it, where there is one. Where memory for it is
-/// refused, the stop names its hart.
+/// The turn of the collector: it takes the front message and decodes it, where there is one. Where an allocation for it
+/// fails, the stop names its hart.
 fn collect<A: Allocator + Copy, B: Allocator>(
     core: &mut Core<A>,
     collector: &mut Collector<'_, '_, A, B>,

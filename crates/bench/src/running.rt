@@ -38,8 +38,8 @@ use std::thread::{Scope, Threads};
 /// the channel ended; memory or a thread was refused. Of several harts with that reason the first is named.
 ///
 /// The funnel takes its memory from `global`, and all else is taken from `alloc`. A fault says why nothing is sent at
-/// all: the count of logs, the capacity or the period, in this order and before memory is taken, or memory that was
-/// refused and is for no single hart.
+/// all: the count of logs, the capacity or the period, in this order and before memory is taken, or an allocation that
+/// failed and is for no single hart.
 pub fn run<A: Allocator + Copy, G: Gate, R: Threads + Wait + Sync>(
     alloc: A,
     global: Global,
@@ -110,7 +110,7 @@ pub fn run_in_rooms<A: Allocator + Copy, G: Gate, R: Threads + Wait + Sync>(
 /// The same over the ends of a funnel that was opened for as many harts and through which nothing was sent. The period
 /// is 1 or more; the configuration's capacity is not looked at.
 ///
-/// An error comes where memory is refused that is for no single hart. Then nothing is taken out of the funnel, and the
+/// An error comes where an allocation fails that is for no single hart. Then nothing is taken out of the funnel, and the
 /// ports are dropped.
 pub fn run_on<A: Allocator + Copy, G: Gate, R: Threads + Wait + Sync>(
     alloc: A,

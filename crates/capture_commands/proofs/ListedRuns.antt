@@ -53,7 +53,7 @@ module _ (content : Content) (asked : Listing) (base : ℕ) (program : Image) (s
       leads_on (WritesListing asked.harts program symbols bytes) (Lists content asked) ⊤ (CanList content asked) ended
       old new list_leads (λ _. can_list)
 
-  -- What is written where memory is refused is what `list` writes then.
+  -- What is written where an allocation fails is what `list` writes then.
   pub list_begun : (old new : Option (List ℕ))
       → ListsUpToMemory (WritesListing asked.harts program symbols bytes) old new
       → ListsUpToMemory (Lists content asked) old new

@@ -24,7 +24,7 @@ use Rattle.capture_commands.specs.Decoded.{WritesDecoded, harts_text}
 use Rattle.capture_commands.specs.EachHart.{hart_line}
 use Rattle.capture_commands.specs.steps.Writing.{EndsWriting, StopsBehindLine}
 
--- However the writing of what a capture decodes to ended, that is what is printed, unless memory was refused or the
+-- However the writing of what a capture decodes to ended, that is what is printed, unless an allocation failed or the
 -- output failed.
 pub ends_printed : (harts : ℕ) (program : Image) (bytes : List ℕ) (lists : List (List Event)) (closed : List Bool)
     (stop : Option (ℕ × CaptureFault)) (ended : Result Status Fault) (old new : Option (List ℕ))
@@ -44,7 +44,7 @@ ends_printed harts program bytes lists closed stop ended old new decoded (inr (i
 ends_printed harts program bytes lists closed stop ended old new decoded (inr (inr memory)) =
     subst (λ end. PrintsUnlessDenied (WritesDecoded harts program bytes) ⊤ end old new) (sym memory.0) (inl (inl refl))
 
--- Where writing the logs was refused memory or the output failed, the writing ended so.
+-- Where an allocation for the logs or the output failed, the writing ended so.
 pub refused_writing : (lists : List (List Event)) (closed : List Bool) (stop : Option (ℕ × CaptureFault)) (why : Fault)
     (old new : Option (List ℕ)) → IsPrintingDenied ⊤ why → (why ≡ fault.Memory → StopsBehindLine lists old new)
     → EndsWriting lists closed stop (Err why) old new

@@ -1,4 +1,4 @@
--- A capture of legal logs decodes to those logs, unless memory is refused.
+-- A capture of legal logs decodes to those logs, unless an allocation fails.
 use Rattle.std.proofs.Common.{◌≡◌, ℕ, ◌<◌, ◌≤◌, ◌^◌, All, Bool, true, List, [], ◌∷◌, ◌++◌, Option, Some, None, length}
 use Rattle.std.proofs.Common.{map, replicate, get_or, refl, sym, ap, subst, ◌∙◌, ⊎_elim, arith}
 use Rattle.std.specs.Prelude.{false}
@@ -236,7 +236,7 @@ module _ (program : Image) (period : ℕ) (mode : Mode) (harts : ℕ) (logs : Li
   return_two sent (NoHeader why none is_stop no_lists none_closed) =
       absurd (has_header (header_of period mode logs) sent_all bytes why sent.start sent.whole none)
 
-  -- A capture of legal logs decodes to those logs, with every hart closed, unless memory was refused.
+  -- A capture of legal logs decodes to those logs, with every hart closed, unless an allocation failed.
   pub captures_return : (version : Version) → IsCaptureOf program version period mode logs bytes
       → AreAskedFor version harts logs → harts ≤ 2 ^ 16
       → IsDecoded (words_of program) harts bytes lists closed stop → AreReturned logs lists closed stop

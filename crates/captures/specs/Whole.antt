@@ -65,7 +65,7 @@ pub data StopsReading (bytes : List ℕ) (number : ℕ) (why : MessageFault) : T
   AtHeader : IsHeaderless bytes number why → StopsReading bytes number why
   AtMessage : IsUnread bytes number why → StopsReading bytes number why
 
--- The fault is the one for which a capture is not read to its end, or memory was refused.
+-- The fault is the one for which a capture is not read to its end, or an allocation failed.
 abbrev pub IsReadFault : List ℕ → ReadFault → Type 0
 IsReadFault bytes (fault.Message number why) = StopsReading bytes number why
 IsReadFault bytes fault.Memory = Unit {0}

@@ -21,7 +21,7 @@ use std::alloc::{AllocError, Allocator};
 /// Reads the messages of a capture, splits them by hart, and decodes each hart's, up to the first fault.
 ///
 /// The harts are those below the count in the header of a capture of version 2, and else those below `harts`. In
-/// version 2 a packet that opens a trace in another mode than the header's is a fault. Memory that is refused for the
+/// version 2 a packet that opens a trace in another mode than the header's is a fault. An allocation that fails for the
 /// events of a packet is a fault too. After a fault the outcome holds what was decoded before, of every hart; where the
 /// header is cut short or bad, that is nothing. An error comes only where memory for the outcome itself was refused.
 pub fn decode_capture<A: Allocator + Copy>(
@@ -34,8 +34,8 @@ pub fn decode_capture<A: Allocator + Copy>(
         IsDecoded (words_of program.now) harts bytes.now (events_in outcome.harts.items) outcome.closed.items
         outcome.fault) }
 
-    // The capture of all messages of legal logs, in either version and mode, gives the logs back, unless memory was
-    // refused.
+    // The capture of all messages of legal logs, in either version and mode, gives the logs back, unless an allocation
+    // failed.
     ensures whole { (version : Version) (period : ℕ) (mode : AnyMode) (logs : List ProgramLog)
         → IsCaptureOf program.now version period mode logs bytes.now
         → AreAskedFor version harts logs

@@ -38,7 +38,7 @@ pub enum ReadFault {
     /// After so many messages there is no complete message, for this reason. The number is 0 where the header is cut
     /// short or bad.
     Message(u64, MessageFault),
-    /// Memory was refused.
+    /// An allocation failed.
     Memory,
 }
 
@@ -64,7 +64,7 @@ pub fn read_messages<A: Allocator>(alloc: A, bytes: &[u8]) -> Result<WholeCaptur
     ensures read { IfOk result (λ whole. IsWhole bytes.now whole.header whole.messages.items) }
     ensures fault { IfErr result (IsReadFault bytes.now) }
 
-    // A capture of messages is read to its end, unless memory was refused.
+    // A capture of messages is read to its end, unless an allocation failed.
     ensures reads_back { (header : Option AnyHeader) (messages : List AnyMessage) → IsWhole bytes.now header messages
         → IfOk result (λ whole. (whole.header ≡ header) × (whole.messages.items ≡ messages)) }
     ensures memory { (header : Option AnyHeader) (messages : List AnyMessage) → IsWhole bytes.now header messages

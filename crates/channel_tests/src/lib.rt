@@ -1,6 +1,6 @@
 //! Tests of the channel that all harts share: messages, the funnel, and runs of the bench over it.
 //!
-//! Messages and captures (`message`) against worked captures, devices that fail and memory that is refused; the queue
+//! Messages and captures (`message`) against worked captures, devices that fail and allocations that fail; the queue
 //! and the channel (`funnel`), in one thread and between threads, their limits and their ends that are dropped; what
 //! the bench (`bench`) makes of messages that are taken in by hand, of replays and of runs, and the reports of it.
 //!

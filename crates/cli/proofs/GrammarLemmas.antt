@@ -57,7 +57,7 @@ adds_rules old new app (rule ∷ rules) (a ∷ args) has read adds =
     adds_rules adds.0 new (with_rule app rule) rules args (adds_rule old a adds.0 app rule has read.0 adds.1) read.1
     adds.2
 
--- The same of what adding them gives, where memory may be refused.
+-- The same of what adding them gives, where an allocation may fail.
 pub adds_all : {E : Type 0} (made : Result Command E) (old : Command) (app : App) (args : List Arg) → HasGrammar app old
     → IfOk made (AddsInTurn AddsArg old args)
     → IfOk made (λ command. (rules : List Rule) → AllZip IsReadBy rules args
@@ -94,7 +94,7 @@ adds_subcommands old new app (inner ∷ apps) (sub ∷ subs) has hold adds =
     adds_subcommands adds.0 new (with_subcommand app inner.top) apps subs
     (adds_subcommand old sub adds.0 app inner has hold.0 adds.1) hold.1 adds.2
 
--- The same of what adding them gives, where memory may be refused.
+-- The same of what adding them gives, where an allocation may fail.
 pub adds_all_subcommands : {E : Type 0} (made : Result Command E) (old : Command) (app : App) (apps : List App)
     (subs : List Command) → HasGrammar app old → AllZip HasGrammar apps subs
     → IfOk made (AddsInTurn AddsSubcommand old subs)

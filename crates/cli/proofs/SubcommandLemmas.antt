@@ -330,7 +330,7 @@ among_some : (kind : ErrorKind) (kinds : Kinds) → IsAmong kind kinds → kinds
 among_some kind [] among = absurd among
 among_some kind (other ∷ kinds) among = λ same. cc
 
--- An error is want of memory, or the words are refused.
+-- An error is a failed allocation, or the words are refused.
 pub refused_by : (words : List Text) (e : Error) → HasKind (fault_of program_app words) e
     → (kind_of e ≡ OutOfMemory) ⊎ AreRefused words
 refused_by words e (inl memory) = inl memory

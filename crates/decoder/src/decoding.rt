@@ -142,7 +142,7 @@ impl Decoder {
     /// Takes the next packet, and adds the events that it settles to the log. Hand in the same program at each call,
     /// and the log with the events of the packets before, or any other list: it grows by the same events.
     ///
-    /// A fault leaves the decoder and the log as they were: the packet may be fed again where memory was refused.
+    /// A fault leaves the decoder and the log as they were: the packet may be fed again where an allocation failed.
     /// Events that were written before the fault are removed again. The log's capacity grows only where it is too
     /// small.
     pub fn feed<A: Allocator>(

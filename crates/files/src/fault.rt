@@ -8,7 +8,7 @@ pub enum FileFault {
     /// There is no such file, or it was not read to its end.
     #[error("cannot be read")]
     CannotRead,
-    /// Memory was refused.
+    /// An allocation failed.
     #[error("out of memory")]
     Memory,
 }

@@ -1,18 +1,16 @@
 //! A message that is known again.
+
 ghost use Rattle.std.specs.Prelude.{◌≡◌, ◌↔◌, ◌≤◌, IsTrue, length};
 ghost use Rattle.frames.specs.Frame.{BeginsFrame, frame_in, frame_size, is_complete, is_frame, length_in};
 ghost use Rattle.payload.specs.Limits.{most_bytes};
 ghost use Rattle.message.specs.steps.Filling.{AreBytes};
 
 use byteorder::{ByteOrder, LittleEndian};
-use message::Message;
+use message::{HEAD, Message};
 use payload::{MOST_BYTES, Payload};
 
 /// The number from which on no message is known again: 2^32.
 pub const END_OF_FRAMES: u64 = 1 << 32;
-
-/// How many bytes of a message come before its payload: the hart, the number and the payload's length.
-const HEAD: usize = 11;
 
 /// Whether bytes begin with a frame: a complete message of a hart below `known`, with a number below
 /// [`END_OF_FRAMES`]. Takes no memory.

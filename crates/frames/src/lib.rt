@@ -3,6 +3,7 @@
 //! A *frame* is a complete message that looks like one: its hart is known, and its number is below 2^32. [`Spans`] goes
 //! over bytes from a place on and gives each frame that it takes, and each longest run of bytes between them. Nothing
 //! here takes memory.
+
 #![tactic(auto)]
 
 mod frame;

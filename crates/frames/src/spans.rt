@@ -1,4 +1,5 @@
 //! Bytes to the frames among them.
+
 ghost use Rattle.std.specs.Prelude.{◌≡◌, ◌≤◌, ℕ, All, List, drop, length};
 ghost use Rattle.frames.specs.Frame.{IsFrame};
 ghost use Rattle.frames.specs.Spans.{spans_from};

@@ -1,4 +1,5 @@
 //! Which frames are taken.
+
 ghost use Rattle.std.specs.Prelude.{◌≡◌, ◌≤◌, ◌<◌, ◌-◌, ◌⊎◌, ℕ, true, false, length, drop};
 ghost use Rattle.frames.specs.Taken.{has_firm_inside, is_firm, is_taken};
 ghost use Rattle.frames.specs.Frame.{frame_size};

@@ -15,7 +15,7 @@ pub enum OpenFault {
     /// The capacity is not 1 to 65,536 messages.
     #[error("capacity is not 1 to 65536")]
     Capacity,
-    /// Memory was refused.
+    /// An allocation failed.
     #[error("out of memory")]
     Memory,
 }

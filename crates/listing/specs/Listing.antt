@@ -37,7 +37,7 @@ pub record IsRefusedLine (mode : Mode) (offset : ℕ) (bytes line : List ℕ) : 
   pub text : line ≡ refused_line mode offset message
 
 -- The line before a fault at this offset, where these bytes are: the offset alone where there is no complete message;
--- no line where memory is refused; and else the line of the message that is refused.
+-- no line where an allocation fails; and else the line of the message that is refused.
 abbrev pub IsFaultLine : Mode → ℕ → List ℕ → CaptureFault → List ℕ → Type 0
 IsFaultLine mode offset bytes (fault.Message why) line = line ≡ offset_line offset
 IsFaultLine mode offset bytes (fault.Decode Memory) line = line ≡ []

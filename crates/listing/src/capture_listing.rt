@@ -41,11 +41,11 @@ const HEADER_SIZE: u64 = 16;
 ///
 /// The harts are those below the count in the header of a capture of version 2, and else those below `harts`. The lines
 /// end where [`decode_capture`](captures::decode_capture) stops. A message that is refused there has its line too,
-/// without ` => ` and its effect. Where there is no complete message, there is a line of the offset alone. Where memory
-/// was refused for the events of a packet, its message has no line. Where the header is cut short or bad, there is no
+/// without ` => ` and its effect. Where there is no complete message, there is a line of the offset alone. Where an
+/// allocation failed for the events of a packet, its message has no line. Where the header is cut short or bad, there is no
 /// line at all.
 ///
-/// [`WriteFault::Memory`] comes where memory was refused before anything was written, and [`WriteFault::Write`] where
+/// [`WriteFault::Memory`] comes where an allocation failed before anything was written, and [`WriteFault::Write`] where
 /// the writer failed: what was written then is a prefix of the text. The writer is not flushed. Memory is taken for the
 /// events of all harts.
 pub fn list_capture<A: Allocator + Copy, S: Allocator, W: Write>(

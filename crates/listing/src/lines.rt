@@ -96,7 +96,7 @@ fn closes_text(closes: bool) -> &'static str
     if closes { ", closed" } else { "" }
 }
 
-/// Whether a message is not received because memory was refused.
+/// Whether a message is not received because an allocation failed.
 fn denies_memory(why: ReceiveFault) -> bool
     ensures { result ≡ denies_memory why }
 {
@@ -134,7 +134,7 @@ pub(crate) fn write_effect_line<S: Allocator, W: Write>(
     Ok(())
 }
 
-/// Writes the line of a message that is not received, for this reason. There is none where memory was refused.
+/// Writes the line of a message that is not received, for this reason. There is none where an allocation failed.
 pub(crate) fn write_fault_line<W: Write>(
     mode: Mode,
     offset: u64,

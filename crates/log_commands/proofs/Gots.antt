@@ -15,7 +15,7 @@ use Rattle.bench.specs.declared.stop.Stop.TheVariants as stop
 use Rattle.log_commands.specs.Replaying.{AreGot, AreGotOfSome, gots_after}
 
 -- Of each hart, the first of them this one, came the first packets of its log: as many as messages of it were taken, or
--- at most that many where memory for it was refused.
+-- at most that many where an allocation for it failed.
 abbrev pub AreEach : {A : Type 0} → ℕ → ℕ → Mode → List ProgramLog → List Message → List (HartOutcome A) → Type 0
 AreEach {A} hart period mode logs taken harts =
     (place : ℕ) (log : ProgramLog) (came : HartOutcome A) → slice_get logs place ≡ Some log
@@ -32,7 +32,7 @@ behind hart period mode log logs taken came harts each place l c at there =
     let next : hart + suc place ≡ hart + 1 + place = omega arith in
     (count, has, subst (λ h. CameOf c.refused (length (of_hart h taken)) count) next from)
 
--- All of it came where memory was not refused.
+-- All of it came where no allocation failed.
 all_came : (refused : Bool) (taken count : ℕ) → refused ≡ false → CameOf refused taken count → count ≡ taken
 all_came true taken count is from = cc
 all_came false taken count is from = from

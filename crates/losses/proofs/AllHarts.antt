@@ -367,7 +367,7 @@ module _ {A : Type 0} (program : Image) (period : ℕ) (handed : Mode) (own_mode
         collected_more program period handed own_mode logs messages left message harts traces pieces trace collected f
         at_trace at_pieces new_trace new_pieces (own_trace (Ok tt) takes) (closed ∙ ap is_closing_packet same_packet)
 
-    -- Its packet is refused for want of memory alone.
+    -- Its packet is refused only where an allocation failed.
     pub memory_alone : (why : DecodeFault)
         → TakesPacket (words_of program) handed packet missed trace new_trace collected.parts.items
         new_pieces.parts.items (Err why)

@@ -31,7 +31,7 @@ pub record StateLaws : Type 0 where
   pub passing : (mode : Mode) (decoder : Decoder) → PassesOver mode decoder → ¬ IsClosed decoder
 
 -- What is known then: the events are the stretch of the packets, and where the packet closes nothing the decoder
--- follows them. It is refused for want of memory alone.
+-- follows them. It is refused only where an allocation failed.
 pub record Fed (words : Words) (handed mode : Mode) (first : ℕ) (ps : List Packet) (closing : Bool) (stretch : List
     Event)
     (new : Decoder) (after : List Event) (result : Result ⊤ DecodeFault) : Type 0 where

@@ -248,7 +248,7 @@ module _ (words : Words) (program : IsProgram words) (period : ℕ) (handed mode
           (stretch_of_block ps pieces longer) result feeds described (f.decodes p later here)
           (place_of first count f.place)
 
-      -- The stretch is longer by the events that it settles, unless memory was refused.
+      -- The stretch is longer by the events that it settles, unless an allocation failed.
       pub follows_packet : HoldsUnless result Memory (λ taken. FollowsTrace words period handed mode log numbers
           (number + 1) left new seen after)
       follows_packet = by_result result fed

@@ -27,8 +27,8 @@ pub record GivesPieces {A : Type 0} (program : Image) (harts : ℕ) (mode : Mode
       → AreCollected program period own logs messages pieces
 
 -- Collecting the messages of so many harts returns this fault, where this mode is handed in. The fault names the first
--- message that is refused or whose packet is not decoded, unless memory was refused. Where the messages are some of
--- those of legal logs of the program, memory was refused.
+-- message that is refused or whose packet is not decoded, unless an allocation failed. Where the messages are some of
+-- those of legal logs of the program, an allocation failed.
 pub record GivesFault (program : Image) (harts : ℕ) (mode : Mode) (messages : List Message) (fault : LossyFault)
     : Type 0 where
   pub stops : CollectingStopsBy (words_of program) mode harts messages fault

@@ -6,7 +6,7 @@ use Rattle.losses.specs.declared.fault.LossyFault.{LossyFault}
 use Rattle.losses.specs.declared.fault.LossyFault.TheVariants as fault
 
 -- Why messages are not collected, as a line of text: the fault of the demultiplexer or of the decoder, without the
--- place of the message, or that memory was refused.
+-- place of the message, or that an allocation failed.
 abbrev pub lossy_fault_text : LossyFault → List ℕ
 lossy_fault_text (fault.Demux place why) = demux_fault_text why
 lossy_fault_text (fault.Decode place why) = decode_fault_text why

@@ -59,7 +59,7 @@ pub record IsNotDecodedLossy (words : Words) (mode : Mode) (messages : List Mess
 
 -- A demultiplexer of so many harts accepts the messages up to the one at this place, and those before it describe some
 -- parts of each hart. The packet of the message at this place is not decoded, for this reason. The reason is not that
--- memory was refused.
+-- an allocation failed.
 pub record IsUndecodedAt (words : Words) (mode : Mode) (harts : ℕ) (messages : List Message) (place : ℕ)
     (why : DecodeFault) : Type 0 where
   pub front : List Message
@@ -73,7 +73,7 @@ pub record IsUndecodedAt (words : Words) (mode : Mode) (harts : ℕ) (messages :
   pub not_decoded : IsNotDecodedLossy words mode front message why
 
 -- Collecting stops by this fault, with this program and where this mode is handed in. It names the place of the message
--- that is refused or whose packet is not decoded. Of a stop because memory was refused nothing more is known.
+-- that is refused or whose packet is not decoded. Of a stop because an allocation failed nothing more is known.
 abbrev pub CollectingStopsBy : Words → Mode → ℕ → List Message → LossyFault → Type 0
 CollectingStopsBy words mode harts messages (fault.Demux place why) = IsRefusedAt words mode harts messages place why
 CollectingStopsBy words mode harts messages (fault.Decode place why) = IsUndecodedAt words mode harts messages place why

@@ -205,7 +205,7 @@ pub fn collect_lossy<A: Allocator + Copy>(
     messages: &[Message],
 ) -> Result<Vec<HartPieces<A>, A>, LossyFault>
     // Of the messages of legal logs, of which some are lost: each hart's parts are those of its log, and the only fault
-    // is that memory was refused.
+    // is that an allocation failed.
     ensures parts { (period : ℕ) (own : ℕ → AnyMode) (logs : List ProgramLog) → AreOfLogs program.now period mode own
         logs messages.now
         → length logs ≡ harts

@@ -17,7 +17,7 @@ pub enum LossyFault {
     Demux(usize, DemuxFault),
     /// The packet of the message at this place, counted from 0, is not decoded. The decoder's fault is never Memory.
     Decode(usize, DecodeFault),
-    /// Memory was refused.
+    /// An allocation failed.
     Memory,
 }
 

@@ -10,7 +10,7 @@ use byteorder::{ByteOrder, LittleEndian};
 use payload::{MOST_BYTES, Payload};
 
 /// How many bytes of a message come before its payload: the hart, the number and the payload's length.
-pub(crate) const HEAD: usize = 11;
+pub const HEAD: usize = 11;
 
 /// The payload's length in a head.
 pub(crate) fn payload_length(head: &[u8]) -> Result<usize, MessageFault>

@@ -21,6 +21,7 @@ mod writing;
 pub use capacity::MOST_CAPACITY;
 pub use demux::Demux;
 pub use fault::{DemuxFault, MessageFault};
+pub use head::HEAD;
 pub use header::{Header, MOST_HARTS, Start, Version};
 pub use in_memory::Messages;
 pub use message::Message;

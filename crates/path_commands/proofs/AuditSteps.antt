@@ -17,7 +17,7 @@ use Rattle.path_commands.specs.Audited.{Audits, CanAudit, Sent, WritesAudit}
 use Rattle.path_commands.specs.declared.reason.PathReason.{PathReason}
 
 module _ (content : Content) (asked : Audit) where
-  -- SENT is not read, or memory was refused.
+  -- SENT is not read, or an allocation failed.
   pub sent_lacked : (why : Fault) (old : Option (List ℕ)) → (why ≡ fault.Memory) ⊎ IsRead content asked.sent (Err why)
       → PrintsUnlessDenied (Audits content asked) (CanAudit content asked) (Err why) old old
   sent_lacked why old lacked =
@@ -34,7 +34,7 @@ module _ (content : Content) (asked : Audit) where
         (inr is) (λ is. (Ok bytes, read, (Err why, (found, is, why_is), refl)))
 
     module _ (sent : Sent) (is : IsSent bytes sent.header sent.messages) where
-      -- RECEIVED is not read, or memory was refused.
+      -- RECEIVED is not read, or an allocation failed.
       pub received_lacked : (why : Fault) (old : Option (List ℕ))
           → (why ≡ fault.Memory) ⊎ IsRead content asked.received (Err why)
           → PrintsUnlessDenied (Audits content asked) (CanAudit content asked) (Err why) old old

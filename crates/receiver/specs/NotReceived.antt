@@ -17,9 +17,9 @@ use Rattle.receiver.specs.Agreeing.{Agrees, opens_another}
 use Rattle.receiver.specs.declared.fault.ReceiveFault.{ReceiveFault}
 use Rattle.receiver.specs.declared.fault.ReceiveFault.TheVariants as fault
 
--- Why a packet is not decoded after these packets: memory was refused, or no log is described by them and it. The
+-- Why a packet is not decoded after these packets: an allocation failed, or no log is described by them and it. The
 -- reason is NotOpened if and only if the packet comes first and opens no trace. It is AfterClose if and only if the
--- last of the packets closes the trace. If memory was refused, the packets describe a log, and with this packet a
+-- last of the packets closes the trace. If an allocation failed, the packets describe a log, and with this packet a
 -- longer one.
 pub record IsNotDecoded (words : Words) (packets : List Packet) (packet : Packet) (why : DecodeFault) : Type 0 where
   pub not_opened : (why ≡ NotOpened) ↔ ((packets ≡ []) × ¬ IsOpen packet)

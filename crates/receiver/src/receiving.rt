@@ -91,7 +91,7 @@ impl<A: Allocator + Copy> Receiver<A> {
     }
 
     /// Decodes the hart's next packet, and adds the events that it settles to the hart's list. The program is that of
-    /// the hart. A fault leaves the receiver as it was; where memory was refused, the packet may be decoded again.
+    /// the hart. A fault leaves the receiver as it was; where an allocation failed, the packet may be decoded again.
     pub fn decode(
         &mut self,
         program: &Program,
@@ -132,8 +132,8 @@ impl<A: Allocator + Copy> Receiver<A> {
         Ok(())
     }
 
-    /// Reserves capacity in the hart's list for `total` events in all. The events in it stay, also where memory is
-    /// refused.
+    /// Reserves capacity in the hart's list for `total` events in all. The events in it stay, also where an allocation
+    /// fails.
     pub fn reserve(&mut self, hart: u16, total: usize) -> Result<(), AllocError>
         requires known { hart < length self.old.lists }
         ensures { self.new ≡ self.old }

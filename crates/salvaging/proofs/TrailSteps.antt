@@ -189,7 +189,7 @@ module _ {A : Type 0} (words : Words) (mode reads : Mode) (run : Run) (next : �
         },
       )
 
--- A message whose packet is not decoded is bad, unless memory was refused.
+-- A message whose packet is not decoded is bad, unless an allocation failed.
 pub judged_bad : {A : Type 0} (words : Words) (mode reads : Mode) (run : Run) (next : ℕ) (payload : List ℕ)
     (following : Option ℕ) (fault : DecodeFault) (new : Trail A) (result : Result (Option Reason) AllocError)
     → IfOk result (λ found. (found ≡ Some (reason.Decode fault)) × (fault ≢ Memory))

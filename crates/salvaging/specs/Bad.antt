@@ -24,7 +24,7 @@ pub record IsGood (words : Words) (mode : Mode) (run : Run) (payload : List ℕ)
 
 -- The packet of a used message is not decoded after the run under way, for this reason: with it the trace of the run
 -- describes no log. The reason is NotOpened if and only if the message is its hart's number 0 and its packet opens no
--- trace. It is never AfterClose, and never that memory was refused. Which of the others it is, the decoder decides by
+-- trace. It is never AfterClose, and never that an allocation failed. Which of the others it is, the decoder decides by
 -- the first fault on the way.
 pub record IsUndecoded (words : Words) (mode : Mode) (run : Run) (payload : List ℕ) (following : Option ℕ)
     (why : DecodeFault) : Type 0 where

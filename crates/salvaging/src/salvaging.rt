@@ -52,7 +52,7 @@ fn salvage_each<A: Allocator + Copy>(
 /// A stretch without an event is left out. A gap says how many numbers did not come or are doubtful; after the last
 /// number that came there is no gap. Neighbouring numbers that are bad for the same reason are one part.
 ///
-/// An error is returned only where memory is refused, and then nothing is kept. The time grows with the messages and
+/// An error is returned only where an allocation fails, and then nothing is kept. The time grows with the messages and
 /// their events. Where messages did not come in the order of their numbers, it also grows with the logarithm of how
 /// many a hart has.
 pub fn salvage<A: Allocator + Copy>(

@@ -56,7 +56,7 @@ fn is_sync(packet: &Packet) -> bool
     matches!(packet, Packet::Sync { .. })
 }
 
-/// Why a message is bad whose packet the decoder refuses with this fault. Refused memory is an error.
+/// Why a message is bad whose packet the decoder refuses with this fault. A failed allocation is an error.
 fn reason_of(fault: DecodeFault) -> Result<Option<Reason>, AllocError>
     ensures { IfOk result (λ found. (found ≡ Some (Reason.Decode fault)) × (fault ≢ Memory)) }
 {

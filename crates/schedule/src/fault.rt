@@ -13,7 +13,7 @@ pub enum ScheduleFault {
     Word(u32),
     /// There are more words than a schedule may have.
     TooLong,
-    /// Memory was refused.
+    /// An allocation failed.
     Memory,
 }
 

@@ -13,7 +13,7 @@ pub enum SymbolsFault {
     TooLarge,
     /// No line of the file is a symbol of code.
     NoSymbol,
-    /// Memory was refused.
+    /// An allocation failed.
     Memory,
 }
 

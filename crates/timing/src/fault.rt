@@ -20,7 +20,7 @@ pub(crate) enum Fault {
     /// A file or the clock is not read.
     #[error("{0}")]
     Io(#[from] io::Error),
-    /// Memory was refused.
+    /// An allocation failed.
     #[error("out of memory")]
     Memory,
 }

@@ -66,7 +66,7 @@ pub record HasNoSender (sent : List ℕ) (hart : ℕ) : Type 0 where
   pub past : harts_of header was_sent ≤ hart
 
 -- The result of an audit of a hart: what became of its messages; or SENT is refused, for this reason, or has no such
--- hart; or memory was refused.
+-- hart; or an allocation failed.
 abbrev pub IsHartAudited : List ℕ → List ℕ → ℕ → Result HartAudited AuditFault → Type 0
 IsHartAudited sent received hart (Ok found) = IsAudited sent received hart found.tally found.end
 IsHartAudited sent received hart (Err NoHart) = HasNoSender sent hart

@@ -23,8 +23,8 @@ abbrev pub IsNoLog : ℕ → List ℕ → List ℕ → LogFault → Type 0
 IsNoLog base image text why =
     (program : Image) × (program_of base image ≡ Ok program) × (log_of_records (records_of text) ≡ Err why)
 
--- The result for an image and the text of a log: a legal log of so many events, or the first fault; or memory was
--- refused.
+-- The result for an image and the text of a log: a legal log of so many events, or the first fault; or an allocation
+-- failed.
 abbrev pub IsChecked : ℕ → List ℕ → List ℕ → Result ℕ Fault → Type 0
 IsChecked base image text (Ok count) =
     (program : Image) × (events : List Event) × (program_of base image ≡ Ok program) × IsLogOf text events
@@ -49,7 +49,7 @@ abbrev pub ReportsCheck : ℕ → List ℕ → List ℕ → ℕ → ℕ → Type
 ReportsCheck base image text status row =
     (checked : Result ℕ Fault) × IsChecked base image text checked × IsReported checked status row
 
--- An image makes no program, for this reason; or memory was refused.
+-- An image makes no program, for this reason; or an allocation failed.
 abbrev pub IsNoProgram : ℕ → List ℕ → Fault → Type 0
 IsNoProgram base image (Program why) = program_of base image ≡ Err why
 IsNoProgram base image Memory = Unit {0}

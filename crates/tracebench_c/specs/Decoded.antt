@@ -72,7 +72,7 @@ pub record HasNoHart (base : ℕ) (image : List ℕ) (harts : ℕ) (capture : Li
   pub past : length lists ≤ hart
 
 -- The result for a capture and a hart: the text of its log and how decoding ends; or there is no such hart, or the
--- image makes no program; or memory was refused.
+-- image makes no program; or an allocation failed.
 abbrev pub IsHartDecoded : ℕ → List ℕ → ℕ → List ℕ → ℕ → Result HartText Fault → Type 0
 IsHartDecoded base image harts capture hart (Ok found) =
     HasHart base image harts capture hart found.text.items found.end

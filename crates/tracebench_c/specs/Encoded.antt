@@ -44,7 +44,7 @@ abbrev pub IsLegalText : Image → Option (List ℕ) → ProgramLog → Type 0
 IsLegalText program None log = ⊥
 IsLegalText program (Some text) log = IsLogOf text log.events × (log.program ≡ program) × IsLegalLog log
 
--- There is no text, or it is no text of a legal log of the program, for this reason; or memory was refused.
+-- There is no text, or it is no text of a legal log of the program, for this reason; or an allocation failed.
 abbrev pub IsNoLegalText : Image → Option (List ℕ) → Fault → Type 0
 IsNoLegalText program text Memory = Unit {0}
 IsNoLegalText program None Ends = Unit {0}
@@ -97,7 +97,7 @@ abbrev pub HasRefusedLog : ℕ → List ℕ → List ℕ → List ℕ → ℕ �
 HasRefusedLog base image bytes ends place fault =
     (program : Image) × (program_of base image ≡ Ok program) × IsRefusedLog program bytes ends place fault
 
--- Why there is no capture of texts: the image makes no program, a text is no legal log's, or memory was refused, for a
+-- Why there is no capture of texts: the image makes no program, a text is no legal log's, or an allocation failed, for a
 -- text or for something else.
 abbrev pub IsNoCapture : ℕ → List ℕ → List ℕ → List ℕ → ℕ → Fault → Type 0
 IsNoCapture base image bytes ends place Memory = (place ≡ 0) ⊎ HasRefusedLog base image bytes ends place Memory

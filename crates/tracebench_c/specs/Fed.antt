@@ -70,7 +70,7 @@ pub record TakesPayload (base : ℕ) (image payload : List ℕ) (before after : 
   pub passes : PassesOn (words_of program) packet before after events
   pub short : length events ≤ 64 * (length image / 2) + 2
 
--- If the numbers stand for packets, those and this packet describe no log, unless memory was refused. The fault is
+-- If the numbers stand for packets, those and this packet describe no log, unless an allocation failed. The fault is
 -- AfterClose if and only if the last of the packets closed the trace. It is NotOpened if and only if there are no
 -- packets and this one opens no trace.
 pub record Refuses (words : Words) (packet : Packet) (numbers : DecoderNumbers) (why : DecodeFault) : Type 0 where
@@ -82,8 +82,8 @@ pub record Refuses (words : Words) (packet : Packet) (numbers : DecoderNumbers) 
       → (why ≡ decode.NotOpened) ↔ ((packets ≡ []) × ¬ IsOpen packet)
 
 -- The fault is AfterClose if and only if the numbers say that the trace was closed. A decoder that passes over packets
--- refuses only a synchronisation. The packet that opens a trace and this one describe no log then, unless memory was
--- refused, and where it was they describe one. The fault is not NotOpened.
+-- refuses only a synchronisation. The packet that opens a trace and this one describe no log then, unless an allocation
+-- failed, and where it was they describe one. The fault is not NotOpened.
 pub record RefusesByPhase (words : Words) (packet : Packet) (numbers : DecoderNumbers) (why : DecodeFault) : Type 0 where
   pub after_close : (why ≡ decode.AfterClose) ↔ AreClosed numbers
   pub passed_over : (mode : Mode) → PassOver mode numbers → IsSync packet
@@ -105,7 +105,7 @@ pub record RefusesPayload (base : ℕ) (image payload : List ℕ) (numbers : Dec
     pub by_phase : RefusesByPhase (words_of program) packet numbers why
 
 -- The result of feeding a payload to a decoder with these numbers: it took the payload; or no decoder has these
--- numbers, the payload is that of no packet, the image makes no program or memory was refused, or the decoder refused
+-- numbers, the payload is that of no packet, the image makes no program or an allocation failed, or the decoder refused
 -- the packet.
 abbrev pub IsFed : ℕ → List ℕ → List ℕ → DecoderNumbers → Result FedPayload FeedFault → Type 0
 IsFed base image payload numbers (Ok fed) = TakesPayload base image payload numbers fed.numbers fed.events.items

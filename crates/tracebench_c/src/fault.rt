@@ -13,7 +13,7 @@ use std::alloc::AllocError;
 /// Why a call gives no answer.
 #[derive(Clone, Copy)]
 pub enum Fault {
-    /// Memory was refused.
+    /// An allocation failed.
     Memory,
     /// The image makes no program.
     Program(ProgramFault),

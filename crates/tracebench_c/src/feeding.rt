@@ -34,7 +34,7 @@ pub enum FeedFault {
     State,
     /// The payload is that of no packet.
     Payload(PackFault),
-    /// The image makes no program, or memory was refused.
+    /// The image makes no program, or an allocation failed.
     Image(Fault),
     /// The decoder refuses the packet.
     Decode(DecodeFault),
@@ -64,7 +64,7 @@ pub extern "C" fn tracebench_decoder(state: &mut DecoderNumbers)
 /// - [`ODD_BASE`](crate::status::ODD_BASE) to [`PAST_END`](crate::status::PAST_END): the image makes no program.
 /// - [`NOT_OPENED`](crate::status::NOT_OPENED) to
 ///   [`AFTER_CLOSING_PACKET`](crate::status::AFTER_CLOSING_PACKET): the packet does not follow those before.
-/// - [`MEMORY`](crate::status::MEMORY): memory was refused.
+/// - [`MEMORY`](crate::status::MEMORY): an allocation failed.
 #[unsafe(no_mangle)]
 pub extern "C" fn tracebench_feed(
     alloc: Global,

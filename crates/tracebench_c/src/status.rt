@@ -6,7 +6,7 @@ pub const DONE: u32 = 0;
 /// The buffer is too small: nothing was written to it.
 pub const TOO_SMALL: u32 = 1;
 
-/// Memory was refused.
+/// An allocation failed.
 pub const MEMORY: u32 = 2;
 
 /// The capture has no hart of this number.

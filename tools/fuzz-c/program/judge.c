@@ -91,7 +91,7 @@ static void run_refused(const struct call *call, const struct given *given, size
     if (refused && stops) {
         bool fits = answer.status == TRACEBENCH_DONE && whole->status == TRACEBENCH_DONE;
         require(fits && begin_alike(&answer.buffer, &whole->buffer, (size_t)wanted_of(&answer) * call->unit), call,
-                "where memory is refused, the text is no beginning of the whole one");
+                "where an allocation fails, the text is no beginning of the whole one");
     } else if (!refused || answer.status != TRACEBENCH_MEMORY) {
         agree(call, &answer, whole);
     }

@@ -15,7 +15,7 @@ struct answer run(const struct call *call, const struct given *given, size_t len
 
 /*
  * Makes a call several times: with a buffer of any size, then with one that is as large as it wants, now and then with
- * one that is too small, and with a request for memory refused. Returns the second answer.
+ * one that is too small, and with an allocation that fails. Returns the second answer.
  */
 struct answer exercise(const struct call *call, const struct given *given);
 

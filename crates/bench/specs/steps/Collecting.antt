@@ -33,7 +33,7 @@ closed_in harts = map (λ hart. hart.closed) harts
 abbrev pub nothing : Taken
 nothing = record { packets = []; taken = 0; bytes = 0; refused = false }
 
--- The outcome of a hart after a packet of it was not decoded. It is the same, but the flag that memory was refused is
+-- The outcome of a hart after a packet of it was not decoded. It is the same, but the flag that an allocation failed is
 -- set where that is the reason. A fault of the demultiplexer is not the reason.
 abbrev pub IsLeftBy : CollectFault → Taken → Taken → Type 0
 IsLeftBy fault.Memory old new = new ≡ record old { refused = true }

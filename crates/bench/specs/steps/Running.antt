@@ -8,7 +8,7 @@ use Rattle.bench.specs.declared.config.Config.{Config}
 use Rattle.bench.specs.declared.outcome.Outcome.{Outcome}
 
 -- Of each hart the first payloads of its log were taken and decoded, unless memory or its thread was refused for it:
--- then fewer were decoded. The stop names a hart that is not closed. Where memory is refused that is for no single
+-- then fewer were decoded. The stop names a hart that is not closed. Where an allocation fails that is for no single
 -- hart, the outlet is as it was. Otherwise only what it took changes.
 pub record IsRun {A E : Type 0} (config : Config) (logs : List ProgramLog) (old new : OutletView)
     (result : Result (Outcome A) E) : Type 0 where

@@ -61,8 +61,8 @@ pub record IsReady (waiting : List Message) (collected : Collected) : Type 0 whe
   pub came : CameUnlessRefused period mode logs taken collected
   pub next : IsFrontNext period mode logs taken waiting
 
--- There is no stop if and only if memory was refused for no hart. Otherwise the stop is of the kind `Memory` and names
--- a hart for which memory was refused.
+-- There is no stop if and only if no allocation for a hart failed. Otherwise the stop is of the kind `Memory` and names
+-- a hart for which an allocation failed.
 abbrev pub NamesRefusedHart : Option Stop → Collected → Type 0
 NamesRefusedHart None collected = (hart : ℕ) → hart < length collected.logs → ¬ IsRefusedHart hart collected
 NamesRefusedHart (Some (stop.Memory hart)) collected = (hart < length collected.logs) × IsRefusedHart hart collected

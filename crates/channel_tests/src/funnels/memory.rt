@@ -1,4 +1,4 @@
-//! Memory that is refused.
+//! Allocations that fail.
 
 ghost use Rattle.std.specs.Prelude.{◌≡◌};
 

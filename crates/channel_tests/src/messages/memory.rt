@@ -1,4 +1,4 @@
-//! Memory that is refused.
+//! Allocations that fail.
 
 use crate::fixtures::message;
 use crate::same::same_at;

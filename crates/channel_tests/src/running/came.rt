@@ -8,7 +8,7 @@ use std::fmt::Debug;
 use std::process::Abort;
 
 /// The outcome of a hart, but for its events: how many packets, how many bytes their payloads had, how many packets
-/// were kept, whether it is closed, and whether memory was refused.
+/// were kept, whether it is closed, and whether an allocation failed.
 #[derive(Clone, Copy, Debug, PartialEq, Eq)]
 pub(crate) struct End {
     pub(crate) taken: u64,

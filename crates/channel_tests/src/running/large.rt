@@ -1,4 +1,4 @@
-//! Calls that may return that memory is refused, with the most harts and with more than 65,536 messages of one hart.
+//! Calls that may return that an allocation fails, with the most harts and with more than 65,536 messages of one hart.
 
 use super::collect::send;
 use super::made::{MESSAGES, add_turns, came_back, kinds, legal_log, program, retired};

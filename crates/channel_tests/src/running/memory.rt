@@ -1,4 +1,4 @@
-//! Memory that is refused.
+//! Allocations that fail.
 
 use super::made::{TURNS, logs, program, reports_at};
 use crate::same::same_at;
@@ -18,7 +18,7 @@ pub(crate) const CONFIG: Config = Config {
     keep: false,
 };
 
-/// The report where memory is refused for the first hart: its 33 events want more memory than the four of the second.
+/// The report where an allocation fails for the first hart: its 33 events want more memory than the four of the second.
 pub(crate) const FIRST_REFUSED: &str =
     "hart 0: 33 events, 1 packets, 1 payload bytes, decoded 0, beginning\n\
     hart 1: 4 events, 4 packets, 9 payload bytes, decoded 4, whole\n\

@@ -1,4 +1,4 @@
-//! Each request for memory is refused in turn: those of a replay, of a run of two harts, and of what a report is
+//! Each allocation fails in turn: those of a replay, of a run of two harts, and of what a report is
 //! written into.
 
 use super::made::{TURNS, WHOLE, logs, program, reports_at};

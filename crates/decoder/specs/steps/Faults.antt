@@ -3,8 +3,8 @@ use Rattle.decoder.specs.declared.fault.DecodeFault.{DecodeFault}
 use Rattle.decoder.specs.declared.fault.DecodeFault.TheVariants.{NotOpened, OffProgram, MissedNotify, Branches}
 use Rattle.decoder.specs.declared.fault.DecodeFault.TheVariants.{WrongPlace, WrongPrivilege, AfterClose, Memory}
 
--- The fault is about the events that a packet reports. It is not about a trace that is not open, and not about refused
--- memory.
+-- The fault is about the events that a packet reports. It is not about a trace that is not open, and not about a
+-- failed allocation.
 abbrev pub IsOnTheWay : DecodeFault → Type 0
 IsOnTheWay NotOpened = ⊥
 IsOnTheWay OffProgram = Unit {0}

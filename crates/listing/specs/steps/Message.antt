@@ -34,12 +34,12 @@ read_closes (Err why) = false
 abbrev pub effect_of : List Event → Result Packet PackFault → Effect
 effect_of added read = record { added = added; waits = read_waits read; closes = read_closes read }
 
--- A message is not received because memory was refused.
+-- A message is not received because an allocation failed.
 abbrev pub denies_memory : ReceiveFault → Bool
 denies_memory (fault.Decode Memory) = true
 denies_memory other = false
 
--- The line of a message that is not received, for this reason: none where memory is refused.
+-- The line of a message that is not received, for this reason: none where an allocation fails.
 abbrev pub fault_line : Mode → ℕ → Message → ReceiveFault → List ℕ
 fault_line mode offset message why = if denies_memory why then [] else refused_line mode offset message
 

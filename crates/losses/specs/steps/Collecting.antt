@@ -75,15 +75,15 @@ pub record FollowsAll {A : Type 0} (program : Image) (period : ℕ) (handed : Mo
       → FollowsHart program period handed (own hart) log hart messages left expects trace.decoder trace.stretch.items
       (parts_in collected.parts.items) collected.closed
 
--- The fault for a packet that is not taken, whose message is at this place: it names the place, or says that memory was
--- refused.
+-- The fault for a packet that is not taken, whose message is at this place: it names the place, or says that an allocation
+-- failed.
 abbrev pub IsNotTaken : ℕ → LossyFault → Type 0
 IsNotTaken place (fault.Demux at why) = ⊥
 IsNotTaken place (fault.Decode at why) = (at ≡ place) × (why ≢ Memory)
 IsNotTaken place fault.Memory = Unit {0}
 
 -- The fault for a message at this place that is not collected, where this is expected of each hart. The demultiplexer
--- refuses the message; or it accepts it, and its packet is not decoded; or memory was refused.
+-- refuses the message; or it accepts it, and its packet is not decoded; or an allocation failed.
 abbrev pub IsNotCollected : Harts → Message → ℕ → LossyFault → Type 0
 IsNotCollected harts message place (fault.Demux at why) = (at ≡ place) × (accepting_lossy harts message ≡ Err why)
 IsNotCollected harts message place (fault.Decode at why) =

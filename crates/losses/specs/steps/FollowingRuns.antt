@@ -84,7 +84,7 @@ pub record Refuses (words : Words) (p : Packet) (old : Decoder) (before : List E
   pub after_close : (result ≡ Err AfterClose) ↔ IsClosed old
   pub never_unopened : (mode : Mode) → PassesOver mode old → ¬ (result ≡ Err NotOpened)
 
--- Why a packet is not decoded after these packets of a run: memory was refused, or no log is described by the trace of
+-- Why a packet is not decoded after these packets of a run: an allocation failed, or no log is described by the trace of
 -- the run with it. The reason is NotOpened if and only if the packet has number 0 and opens no trace. It is never
 -- AfterClose.
 pub record IsNotDecodedInRun (words : Words) (reads : Mode) (missing : ℕ) (before : List Packet) (packet : Packet)
@@ -94,7 +94,7 @@ pub record IsNotDecodedInRun (words : Words) (reads : Mode) (missing : ℕ) (bef
   pub reason : (why ≡ Memory)
       ⊎ ((log : List Event) → ¬ Describes words (trace_after missing reads (before ++ packet ∷ [])) log)
 
--- A packet was fed after these packets of the run under way. It is collected; or memory was refused, or the fault says
+-- A packet was fed after these packets of the run under way. It is collected; or an allocation failed, or the fault says
 -- why it is not decoded.
 pub record FedRuns (words : Words) (mode : Mode) (done : List Run) (missing : ℕ) (packets : List Packet) (next : ℕ)
     (packet : Packet) (new : Decoder) (seen : List LogPart) (after : List Event) (result : Result ⊤ DecodeFault)

@@ -38,7 +38,7 @@ pub record IsPacketOf (words : Words) (period : ℕ) (mode : Mode) (log : List E
   pub here : drop number (packets words period mode log) ≡ packet ∷ later
 
 -- A hart's next packet was taken or refused, before which so many numbers are missing. Where it is the next one of a
--- legal log, it is collected, unless memory was refused. After any runs, it is collected, or the fault says why not.
+-- legal log, it is collected, unless an allocation failed. After any runs, it is collected, or the fault says why not.
 pub record TakesPacket {A : Type 0} (words : Words) (mode : Mode) (packet : Packet) (missed : ℕ)
     (old new : HartTrace A) (before after : List (Part A)) (result : Result ⊤ DecodeFault) : Type 0 where
   pub of_log : (period : ℕ) (own : Mode) (log : List Event) (numbers left : List ℕ) (next number : ℕ)
@@ -77,7 +77,7 @@ abbrev pub Collects : {A : Type 0} → Image → Mode → List Message → Colle
 Collects program mode messages collection =
     FollowsEveryHart (words_of program) mode messages collection.demux collection.traces.items collection.pieces.items
 
--- A message was taken or refused. Where it is the next one of legal logs, it is collected, unless memory was refused.
+-- A message was taken or refused. Where it is the next one of legal logs, it is collected, unless an allocation failed.
 -- After any messages, it is collected, or the fault says why not.
 pub record CollectsMessage {A : Type 0} (program : Image) (mode : Mode) (message : Message) (old new : Collection A)
     (result : Result ⊤ LossyFault) : Type 0 where

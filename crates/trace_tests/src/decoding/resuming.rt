@@ -200,7 +200,7 @@ fn modes_by_table(rt: HostRuntime) {
     }
 }
 
-/// A synchronisation off the program is refused, and so is one where memory is refused. The decoder then goes on
+/// A synchronisation off the program is refused, and so is one where an allocation fails. The decoder then goes on
 /// passing over packets.
 #[test]
 fn synchronisation_that_is_refused(rt: HostRuntime) {

@@ -1,6 +1,6 @@
 //! Captures that are not audited to their ends, and why.
 
-/// Refusals of SENT, faults of RECEIVED, memory that is refused, and files that are not there.
+/// Refusals of SENT, faults of RECEIVED, allocations that fail, and files that are not there.
 pub(crate) const TEXT: &str = r"
 file sent.capture
 |~ 0 0 1f
@@ -126,7 +126,7 @@ $ tracebench audit gap.capture received.capture
 > result: not whole
 ! tracebench: message 0: the capture ends inside a message
 ? 1
-# Memory is refused for a file: nothing is printed.
+# An allocation for a file fails: nothing is printed.
 $ tracebench audit full sent.capture
 ! tracebench: out of memory
 ? 3

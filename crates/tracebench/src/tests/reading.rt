@@ -15,7 +15,7 @@
 //! and S more at each further number, with eight digits at least.
 //!
 //! Among the arguments of a run, `COUNT*WORD` repeats an argument, `{A..B}` means a run with each number from A to B,
-//! `NAME:COUNT` names a file's first bytes, and `full` names a file that memory is refused for. A file takes the place
+//! `NAME:COUNT` names a file's first bytes, and `full` names a file whose allocation fails. A file takes the place
 //! of one that had its name before. Each run is played once more with a standard error that fails. No run reads a file
 //! more often than its arguments name it, and one of status 0 or 1 reads each as often. A request has no status.
 
@@ -32,25 +32,47 @@ pub(crate) fn play<R: Abort + AllocGlobal + Threads + Wait + Sync>(
     transcript: &'static str,
     way: Way,
 ) {
+    play_parts(rt, &[transcript], way);
+}
+
+/// Plays transcripts of which each goes on with the files of those before it.
+pub(crate) fn play_parts<R: Abort + AllocGlobal + Threads + Wait + Sync>(
+    rt: &R,
+    transcripts: &[&'static str],
+    way: Way,
+) {
     let mut shelf = Shelf::new(rt.alloc());
     let mut run = Run::new(rt.alloc(), "");
-    for line in transcript.lines() {
-        if let Some(name) = line.strip_prefix("file ") {
-            is_played(rt, &mut shelf, &run, way);
-            run = Run::new(rt.alloc(), "");
-            shelf.begin(rt, name);
-        } else if line.starts_with(['$', '%']) {
-            is_played(rt, &mut shelf, &run, way);
-            run = Run::new(rt.alloc(), line);
-        } else if let Some(content) = line.strip_prefix('|') {
-            let mut bytes = Vec::new(rt.alloc());
-            add_line(rt, &shelf, &mut bytes, content);
-            shelf.append(rt, bytes.as_slice());
-        } else {
-            expect(rt, &shelf, &mut run, line);
+    for transcript in transcripts {
+        for line in transcript.lines() {
+            read_line(rt, &mut shelf, &mut run, line, way);
         }
     }
     is_played(rt, &mut shelf, &run, way);
+}
+
+/// Reads a line: it begins a file or a run, before which the run under way is played, or adds to one.
+fn read_line<R: Abort + AllocGlobal + Threads + Wait + Sync>(
+    rt: &R,
+    shelf: &mut Shelf,
+    run: &mut Run,
+    line: &'static str,
+    way: Way,
+) {
+    if let Some(name) = line.strip_prefix("file ") {
+        is_played(rt, shelf, run, way);
+        *run = Run::new(rt.alloc(), "");
+        shelf.begin(rt, name);
+    } else if line.starts_with(['$', '%']) {
+        is_played(rt, shelf, run, way);
+        *run = Run::new(rt.alloc(), line);
+    } else if let Some(content) = line.strip_prefix('|') {
+        let mut bytes = Vec::new(rt.alloc());
+        add_line(rt, shelf, &mut bytes, content);
+        shelf.append(rt, bytes.as_slice());
+    } else {
+        expect(rt, shelf, run, line);
+    }
 }
 
 /// Adds to what is expected of a run.

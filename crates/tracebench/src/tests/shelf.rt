@@ -113,7 +113,7 @@ impl Shelf {
         }
     }
 
-    /// A copy of the content of the file of this name. Memory is refused for the file `full`.
+    /// A copy of the content of the file of this name. The allocation for the file `full` fails.
     fn copy(&self, name: &str) -> Result<Vec<u8>, FileFault>
         ensures { let files = map (λ file. (string_bytes file.name, file.bytes.items)) self.now.files.items in
             MatchResult result (λ bytes. content_in files name.now ≡ Present bytes.items)

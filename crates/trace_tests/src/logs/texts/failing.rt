@@ -1,4 +1,4 @@
-//! Devices that fail, and memory that is refused.
+//! Devices that fail, and allocations that fail.
 
 use super::{RETIRED, ROW, text_of_rows};
 use crate::same::same_at;
