@@ -8,22 +8,23 @@ _tracebench_files() {
 
 _tracebench() {
     local current=${COMP_WORDS[COMP_CWORD]} previous=${COMP_WORDS[COMP_CWORD - 1]}
-    local subcommands="check encode dump decode replay bench audit measure list salvage" options=""
+    local subcommands="check encode dump decode replay bench audit measure list salvage capture" options=""
     if ((COMP_CWORD == 1)); then
         mapfile -t COMPREPLY < <(compgen -W "$subcommands help --help --version" -- "$current")
         return
     fi
     case ${COMP_WORDS[1]} in
-    check) options="--base --explain --long --help" ;;
-    encode) options="--base --period --full --v1 --hex --long --help" ;;
-    dump) options="--help" ;;
+    check) options="--base --explain --long --progress --help" ;;
+    encode) options="--base --period --full --v1 --hex --long --progress --help" ;;
+    dump) options="--search --help" ;;
     decode) options="--base --harts --lossy --help" ;;
-    replay) options="--base --period --full --capacity --help" ;;
-    bench) options="--base --period --full --capacity --help" ;;
-    audit) options="--summary --help" ;;
-    measure) options="--base --period --full --long --help" ;;
+    replay) options="--base --period --full --capacity --progress --help" ;;
+    bench) options="--base --period --full --capacity --progress --help" ;;
+    audit) options="--packets --summary --help" ;;
+    measure) options="--base --period --full --long --progress --help" ;;
     list) options="--base --harts --symbols --help" ;;
-    salvage) options="--base --harts --help" ;;
+    salvage) options="--base --harts --summary --help" ;;
+    capture) options="--v1 --full --period --harts --help" ;;
     help)
         mapfile -t COMPREPLY < <(compgen -W "$subcommands" -- "$current")
         return

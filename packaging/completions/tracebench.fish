@@ -19,13 +19,15 @@ complete -c tracebench -n '__tracebench_given' -a audit -d 'Compare a capture th
 complete -c tracebench -n '__tracebench_given' -a measure -d 'Count the packets and bytes that logs take, as CSV'
 complete -c tracebench -n '__tracebench_given' -a list -d 'List what each message of a capture says and settles'
 complete -c tracebench -n '__tracebench_given' -a salvage -d 'Write what is left of the log of each hart after any damage to a capture'
+complete -c tracebench -n '__tracebench_given' -a capture -d 'Write the capture of lines, each of one message, as `encode --hex` prints them'
 complete -c tracebench -n '__tracebench_given' -a help -d 'Print this message or the help of the given subcommand(s)'
-complete -c tracebench -n '__tracebench_given help' -a 'check encode dump decode replay bench audit measure list salvage'
+complete -c tracebench -n '__tracebench_given help' -a 'check encode dump decode replay bench audit measure list salvage capture'
 
 complete -c tracebench -n '__tracebench_given check' -F
 complete -c tracebench -n '__tracebench_given check' -l base -x -d 'Address of the image'\''s first byte, in hexadecimal'
 complete -c tracebench -n '__tracebench_given check' -l explain -d 'Print below an illegal row what is there and what may follow'
 complete -c tracebench -n '__tracebench_given check' -l long -d 'Take logs of up to 4294967295 rows, not 16777216'
+complete -c tracebench -n '__tracebench_given check' -l progress -d 'Show how far the logs are read, where standard error is a terminal'
 
 complete -c tracebench -n '__tracebench_given encode' -F
 complete -c tracebench -n '__tracebench_given encode' -l base -x -d 'Address of the image'\''s first byte, in hexadecimal'
@@ -34,8 +36,10 @@ complete -c tracebench -n '__tracebench_given encode' -l full -d 'Report address
 complete -c tracebench -n '__tracebench_given encode' -l v1 -d 'Write a capture of version 1, which has no header, of at most 64 logs'
 complete -c tracebench -n '__tracebench_given encode' -l hex -d 'Write a line of hexadecimal for each message'
 complete -c tracebench -n '__tracebench_given encode' -l long -d 'Take logs of up to 4294967295 rows, not 16777216'
+complete -c tracebench -n '__tracebench_given encode' -l progress -d 'Show how far the logs are read, where standard error is a terminal'
 
 complete -c tracebench -n '__tracebench_given dump' -F
+complete -c tracebench -n '__tracebench_given dump' -l search -d 'Go on where bytes are no message, and print how many are passed over'
 
 complete -c tracebench -n '__tracebench_given decode' -F
 complete -c tracebench -n '__tracebench_given decode' -l base -x -d 'Address of the image'\''s first byte, in hexadecimal'
@@ -47,14 +51,17 @@ complete -c tracebench -n '__tracebench_given replay' -l base -x -d 'Address of 
 complete -c tracebench -n '__tracebench_given replay' -l period -x -d 'Retirements from one periodic synchronisation to the next, 1 to 65535'
 complete -c tracebench -n '__tracebench_given replay' -l full -d 'Report addresses in full, not as differences'
 complete -c tracebench -n '__tracebench_given replay' -l capacity -x -d 'How many messages the funnel holds, 1 to 65536'
+complete -c tracebench -n '__tracebench_given replay' -l progress -d 'Show how far the logs are read, where standard error is a terminal'
 
 complete -c tracebench -n '__tracebench_given bench' -F
 complete -c tracebench -n '__tracebench_given bench' -l base -x -d 'Address of the image'\''s first byte, in hexadecimal'
 complete -c tracebench -n '__tracebench_given bench' -l period -x -d 'Retirements from one periodic synchronisation to the next, 1 to 65535'
 complete -c tracebench -n '__tracebench_given bench' -l full -d 'Report addresses in full, not as differences'
 complete -c tracebench -n '__tracebench_given bench' -l capacity -x -d 'How many messages the funnel holds, 1 to 65536'
+complete -c tracebench -n '__tracebench_given bench' -l progress -d 'Show how far the logs are read, where standard error is a terminal'
 
 complete -c tracebench -n '__tracebench_given audit' -F
+complete -c tracebench -n '__tracebench_given audit' -l packets -d 'Compare messages by the packets that they unpack to, not by their bytes'
 complete -c tracebench -n '__tracebench_given audit' -l summary -d 'Leave out the lines of single messages and of lost numbers'
 
 complete -c tracebench -n '__tracebench_given measure' -F
@@ -62,6 +69,7 @@ complete -c tracebench -n '__tracebench_given measure' -l base -x -d 'Address of
 complete -c tracebench -n '__tracebench_given measure' -l period -x -d 'Retirements from one periodic synchronisation to the next, 1 to 65535'
 complete -c tracebench -n '__tracebench_given measure' -l full -d 'Report addresses in full, not as differences'
 complete -c tracebench -n '__tracebench_given measure' -l long -d 'Take logs of up to 4294967295 rows, not 16777216'
+complete -c tracebench -n '__tracebench_given measure' -l progress -d 'Show how far the logs are read, where standard error is a terminal'
 
 complete -c tracebench -n '__tracebench_given list' -F
 complete -c tracebench -n '__tracebench_given list' -l base -x -d 'Address of the image'\''s first byte, in hexadecimal'
@@ -70,4 +78,11 @@ complete -c tracebench -n '__tracebench_given list' -l symbols -r -F -d 'File of
 
 complete -c tracebench -n '__tracebench_given salvage' -F
 complete -c tracebench -n '__tracebench_given salvage' -l base -x -d 'Address of the image'\''s first byte, in hexadecimal'
-complete -c tracebench -n '__tracebench_given salvage' -l harts -x -d 'How many harts a capture of version 1 may have, 1 to 1024'
+complete -c tracebench -n '__tracebench_given salvage' -l harts -x -d 'How many harts a capture with no valid header has, 1 to 1024; without it, those of its messages'
+complete -c tracebench -n '__tracebench_given salvage' -l summary -d 'Leave out the texts of the logs'
+
+complete -c tracebench -n '__tracebench_given capture' -F
+complete -c tracebench -n '__tracebench_given capture' -l v1 -d 'Write a capture of version 1, which has no header, of at most 64 logs'
+complete -c tracebench -n '__tracebench_given capture' -l full -d 'Report addresses in full, not as differences'
+complete -c tracebench -n '__tracebench_given capture' -l period -x -d 'Retirements from one periodic synchronisation to the next, 1 to 65535'
+complete -c tracebench -n '__tracebench_given capture' -l harts -x -d 'How many harts the header counts, 1 to 1024, with --v1 to 64; without it, those up to the highest'

@@ -7,20 +7,17 @@ import os
 import re
 
 import calls
+from documents import grammar
 
 DOCUMENT = "docs/FORMATS.md"
 README = "README.md"
 HELP = "crates/cli/src/help.rt"
-RULES = "crates/arguments/src/rules.rt"
 # Which limits README has, by the first column of their table.
 LIMITS_OF_README = ("an image", "a log", "a log of `check`, `encode`, `measure` with `--long`",
                     "logs of a run, harts of a capture")
 # The texts of faults that the program does not report: of calls of the library, and of runs that it never begins.
 NOT_REPORTED = {
     "no logs", "no harts", "too many harts", "capacity is not 1 to 65536", "period is 0", "cannot be written",
-    # Faults of lines: no subcommand reads them.
-    "line ", "hart is not a number below 64", "hart is not a number below 1024", "number is not a number",
-    "bytes are not 1 to 18", "hart is not below --harts",
 }
 FAULT_TEXTS = ("FaultText", "FateText", "SetupText")
 # Fates, which are no faults, and what each line begins with.
@@ -85,16 +82,31 @@ def limits():
             yield f"{README}: {what}: no word of {limit}"
 
 
+def spans():
+    """The name, the subcommands, the range and the default of each row of options of the table of limits."""
+    for option, of, _, span in (row for row in rows("Limits") if len(row) == 4):
+        between, _, default = span.replace("`", "").partition("; default ")
+        yield option.strip("`").split()[0][2:], re.findall(r"`(\w+)`", of), between, default
+
+
 def arguments():
-    readme, rules = plain(content(README)), content(RULES)
-    for argument, _, _, span in (row for row in rows("Limits") if len(row) == 4):
-        name = argument.strip("`").split()[0][2:]
-        body = re.search(rf"^pub fn {name}<.*?^}}", rules, re.MULTILINE | re.DOTALL)
-        between, _, default = span.partition("; default ")
-        if not body or between not in body[0] or f'"{default}"' not in body[0]:
-            yield f"{RULES}: the help of --{name} does not say {span}"
-        if not re.search(rf"{re.escape(argument.lower())}[^(]*\({re.escape(span)}\)", readme):
-            yield f"{README}: {argument} is not followed by ({span})"
+    readme = plain(content(README))
+    taken = {(option.name, one.name): option for one in grammar.subcommands() for option in one.options()}
+    for name, subcommands, between, default in spans():
+        options = [taken.get((name, one)) for one in subcommands]
+        if not all(it and between in it.about and default in (it.default or it.about) for it in options):
+            yield f"{grammar.RULES}: the help of --{name} does not say {between}; default {default}"
+        if default.isdigit() and not re.search(
+                rf"--{name} n`[^(]*\({re.escape(f'{between}; default {default}')}\)", readme):
+            yield f"{README}: --{name} is not followed by ({between}; default {default})"
+
+
+def flags():
+    """Whether the table of flags has those of the grammar, with their subcommands."""
+    told = {(flag.strip("`")[2:], name) for flag, of, _ in rows("Flags") for name in re.findall(r"`(\w+)`", of)}
+    taken = {(option.name, one.name) for one in grammar.subcommands() for option in one.options() if not option.value}
+    for name, of in sorted(told ^ taken):
+        yield f"{DOCUMENT}: {'no flag' if (name, of) in told else 'no row of'} --{name} of {of}"
 
 
 def left_out():
@@ -120,4 +132,4 @@ def texts():
 
 
 def check():
-    return [*statuses(), *limits(), *arguments(), *left_out(), *texts()]
+    return [*statuses(), *limits(), *arguments(), *flags(), *left_out(), *texts()]

@@ -88,6 +88,8 @@ def argument(name, rules):
         return Argument(texts[0], texts[1], is_option=False, is_required=True)
     if texts := called("number", body):
         return Argument(texts[0], texts[2], value="N", default=texts[1])
+    if texts := called("given_harts", body):
+        return Argument("harts", texts[0], value="N", default=set_by("default_value", body))
     found, about = re.match(rf"\s*Arg::new\(alloc, {TEXT}\)", body), set_by("help", body)
     if not found or not about:
         raise Unread(f"{RULES}: {name} has a form that tools/documents/grammar.py does not read")

@@ -46,12 +46,6 @@ def full(text):
     return text.replace("@statuses@\n", statuses).replace("@limits@\n", limits)
 
 
-def ranges():
-    """The range and default of each option of the table of limits."""
-    rows = [row for row in facts.rows("Limits") if len(row) == 4]
-    return {row[0].strip("`").split()[0][2:]: row[3] for row in rows}
-
-
 def of_page(one):
     """What is wrong with the page of a subcommand."""
     name = f"tracebench-{one.name}.1"
@@ -68,10 +62,10 @@ def of_page(one):
         yield f"{place}: OPTIONS has {options}, and the grammar {want}"
     if files != (want := [(each.name, "..." * each.is_many) for each in one.files()]):
         yield f"{place}: ARGUMENTS has {files}, and the grammar {want}"
-    for option, span in ranges().items():
+    for option, subcommands, between, default in facts.spans():
         body = re.search(rf"^\*--{option}\*.*?\n\n", text, re.MULTILINE | re.DOTALL)
-        if body and span not in body[0]:
-            yield f"{place}: --{option} does not say {span}"
+        if one.name in subcommands and (not body or f"{between}; default {default}" not in unmarked(body[0])):
+            yield f"{place}: --{option} does not say {between}; default {default}"
     if "@statuses@" not in section(text, "EXIT STATUS"):
         yield f"{place}: EXIT STATUS has no line @statuses@"
 

@@ -3,6 +3,7 @@
 import itertools
 
 import cases
+import frames
 import reading
 
 SENT, RECEIVED = "sent", "received"
@@ -31,37 +32,84 @@ def judged(capture):
     return header, own if header else own[: highest + 1]
 
 
-def read(capture):
-    """The header of a capture, its messages up to the place where none stands, and the fault there, or None."""
+HEAD = 11
+
+
+class Sent:
+    """What was sent: the payloads of each hart, and whether a payload that came is the one that was sent."""
+
+    def __init__(self, own, packets):
+        self.own, self.packets = own, packets
+
+    def has(self, message):
+        return message[0] < len(self.own) and message[1] < len(self.own[message[0]])
+
+    def is_true(self, message):
+        if not self.has(message):
+            return False
+        sent, came = self.own[message[0]][message[1]], message[2]
+        return sent == came or self.packets and (packet := packet_of(sent)) is not None and packet == packet_of(came)
+
+
+def packet_of(payload):
+    """The packet that a payload unpacks to, or None."""
     try:
-        header, at = reading.start(capture)
-    except reading.NoHeader as why:
-        return None, [], str(why)
-    made = list(reading.messages(capture, at))
-    if made and isinstance(made[-1], str):
-        return header, made[:-1], f"message {len(made) - 1}: {made[-1]}"
-    return header, made, None
+        return reading.unpack(payload)
+    except reading.Refused:
+        return None
 
 
-def found(own, came, place):
-    """What is found of the message at a place: its fate, and how far it is from its place."""
-    hart, number, payload = came[place]
+def message_at(data, at):
+    """The message that stands at a place, or None."""
+    if at + HEAD >= len(data) or not 1 <= data[at + 10] <= 18 or at + HEAD + data[at + 10] > len(data):
+        return None
+    hart, number = (int.from_bytes(data[at + first : at + last], "little") for first, last in ((0, 2), (2, 10)))
+    return hart, number, data[at + HEAD : at + HEAD + data[at + 10]]
 
-    def is_true(message):
-        return message[2] == own[message[0]][message[1]]
 
-    def is_known(message):
-        return message[0] < len(own) and message[1] < len(own[message[0]])
+def is_backed(sent, data, at):
+    """Whether what follows a message backs it: an end, a message of SENT's harts and numbers, or one after which again
+    there is an end or a message."""
+    if at == len(data):
+        return True
+    if (message := message_at(data, at)) is None:
+        return False
+    after = at + HEAD + len(message[2])
+    return sent.has(message) or after == len(data) or message_at(data, after) is not None
 
-    if not is_known(came[place]):
-        return "stranger", 0
-    if not is_true(came[place]):
-        return "changed", 0
-    earlier = [it for it in came[:place] if it[0] == hart and is_known(it) and is_true(it)]
-    if any(it[1] == number for it in earlier):
-        return "repeat", 0
-    greatest = max((it[1] for it in earlier), default=-1)
-    return ("late", greatest - number) if greatest > number else ("in order", number - greatest - 1)
+
+def read(sent, data, at):
+    """From a place on, each message that is taken, and the count of the bytes of each run between, after their
+    offsets."""
+    while at < len(data):
+        message = message_at(data, at)
+        if message and (sent.is_true(message) or is_backed(sent, data, at + HEAD + len(message[2]))):
+            yield at, message
+            at += HEAD + len(message[2])
+            continue
+        run = at
+        at += 1
+        while at < len(data) and not ((message := message_at(data, at)) and sent.is_true(message)):
+            at += 1
+        yield run, at - run
+
+
+def found(sent, came):
+    """What is found of each message, in their order: its fate, and how far it is from its place."""
+    true_ones, greatest = set(), {}
+    for message in came:
+        hart, number = message[:2]
+        if not sent.has(message):
+            yield "stranger", 0
+        elif not sent.is_true(message):
+            yield "changed", 0
+        elif (hart, number) in true_ones:
+            yield "repeat", 0
+        else:
+            before = greatest.get(hart, -1)
+            yield ("late", before - number) if before > number else ("in order", number - before - 1)
+            true_ones.add((hart, number))
+            greatest[hart] = max(before, number)
 
 
 def words(own, message, what, far):
@@ -80,63 +128,93 @@ def counts(row, is_whole):
     return "".join(f"{row[name]} {name}, " for name in names) + ("whole\n" if is_whole else "not whole\n")
 
 
-def audit(sent, received, summary=False):
+def lines_of(sent, spans, fates):
+    """The lines of the messages that have one and of the runs of bytes, and the places of these messages."""
+    text, places, place = "", [], 0
+    for offset, it in spans:
+        if isinstance(it, int):
+            text += f"bytes: {it} at {offset:08x}\n"
+            continue
+        if said := words(sent.own, it, *fates[place]):
+            text += f"message {place}: hart {it[0]} number {it[1]}: {said}\n"
+            places.append(place)
+        place += 1
+    return text, places
+
+
+def lost_runs(lost):
+    """The longest runs of these numbers, each by its first and its last."""
+    runs = [
+        [number for _, number in run]
+        for _, run in itertools.groupby(enumerate(lost), lambda it: it[1] - it[0])
+    ]
+    return [(run[0], run[-1]) for run in runs]
+
+
+def row_of(sent, hart, mine, fates):
+    """What a hart's row counts, whether it is whole, its lost runs and by how much a message of it is late at most."""
+    payloads = sent.own[hart]
+    true = {message[1] for message in mine if sent.is_true(message)}
+    lost = [number for number in range(len(payloads)) if number not in true]
+    names = [what for what, _ in fates]
+    same = [message[1] for message in mine] == list(range(len(payloads))) and all(map(sent.is_true, mine))
+    row = {"sent": len(payloads), "came": len(mine), "lost": len(lost), "repeated": names.count("repeat"),
+           "late": names.count("late"), "changed": names.count("changed"), "strange": names.count("stranger")}
+    return row, same, lost_runs(lost), max((far for what, far in fates if what == "late"), default=0)
+
+
+def audit(sent, received, summary=False, packets=False):
     """The status, the text and the error of an audit."""
     try:
         header, own = judged(sent)
     except reading.Refused as why:
         return 2, "", f"{SENT}: {why}"
-    other, came, fault = read(received)
-    fates = [found(own, came, place) for place in range(len(came))]
-    said = [words(own, message, *it) for message, it in zip(came, fates)]
-    single = "".join(
-        f"message {place}: hart {hart} number {number}: {said[place]}\n"
-        for place, (hart, number, _) in enumerate(came)
-        if said[place]
-    )
-    rows, is_whole, all_rows, all_same = "", not fault, [], True
-    for hart, payloads in enumerate(own):
-        mine = [it for it in came if it[0] == hart]
-        true = {number for _, number, payload in mine if number < len(payloads) and payloads[number] == payload}
-        lost = [number for number in range(len(payloads)) if number not in true]
-        runs = [
-            [number for _, number in run]
-            for _, run in itertools.groupby(enumerate(lost), lambda it: it[1] - it[0])
-        ]
-        for numbers in runs:
-            last = numbers[-1]
-            which = f"number {last}" if len(numbers) == 1 else f"numbers {numbers[0]} to {last}"
+    try:
+        other, at, fault = *reading.start(received), None
+    except reading.NoHeader:
+        other, at, fault = None, 0, f"{RECEIVED}: capture header is not valid"
+    sent = Sent(own, packets)
+    spans = list(read(sent, received, at))
+    came = [it for _, it in spans if not isinstance(it, int)]
+    runs = [it for _, it in spans if isinstance(it, int)]
+    fates = list(found(sent, came))
+    single, places = lines_of(sent, spans, fates)
+    of_hart = [[] for _ in own]
+    for message, fate in zip(came, fates):
+        if message[0] < len(own):
+            of_hart[message[0]].append((message, fate))
+    rows, all_rows, all_same = "", [], True
+    for hart, its in enumerate(of_hart):
+        row, same, lost, latest = row_of(sent, hart, [it for it, _ in its], [it for _, it in its])
+        for first, last in lost:
+            which = f"number {last}" if first == last else f"numbers {first} to {last}"
             single += f"hart {hart}: {which} lost\n"
-        own_fates = [it for message, it in zip(came, fates) if message[0] == hart]
-        names = [what for what, _ in own_fates]
-        same = [(number, payload) for _, number, payload in mine] == list(enumerate(payloads))
-        is_whole &= same
         all_same &= same
-        row = {"sent": len(payloads), "came": len(mine), "lost": len(lost), "repeated": names.count("repeat"),
-               "late": names.count("late"), "changed": names.count("changed"), "strange": names.count("stranger")}
         all_rows.append(row)
         rows += f"hart {hart}: {counts(row, same)}"
-        if runs:
-            rows += f"hart {hart}: lost in {len(runs)} runs, the longest of {max(map(len, runs))}\n"
-        if latest := max((far for what, far in own_fates if what == "late"), default=0):
+        if lost:
+            rows += f"hart {hart}: lost in {len(lost)} runs, the longest of {max(last - first + 1 for first, last in lost)}\n"
+        if latest:
             rows += f"hart {hart}: late by at most {latest}\n"
     if len(own) > 1:
         rows += f"all: {counts({name: sum(row[name] for row in all_rows) for name in all_rows[0]}, all_same)}"
     text = rows if summary else single + rows
     if strangers := [what for what, _ in fates].count("stranger"):
         text += f"strangers: {strangers} messages\n"
-    if header and other and header != other:
+    if runs:
+        text += f"bytes: {sum(runs)} in {len(runs)} runs\n"
+    unlike = bool(header) if fault else bool(header and other and header != other)
+    if unlike:
         text += "headers differ\n"
-        is_whole = False
-    is_whole &= not strangers
-    if first := [place for place, line in enumerate(said) if line]:
-        text += f"first: message {first[0]}\n"
+    if places:
+        text += f"first: message {places[0]}\n"
+    is_whole = all_same and not strangers and not unlike and not runs and not fault
     return (0 if is_whole else 1), text + f"result: {'whole' if is_whole else 'not whole'}\n", fault
 
 
 def kind_of(text):
     """What an audit found, without numbers: the fates, what was lost, and the result."""
-    looked_for = ("stranger\n", "changed, sent", "repeat\n", "late by", "skips", " lost\n", "headers differ\n")
+    looked_for = ("bytes:", "stranger\n", "changed, sent", "repeat\n", "late by", "skips", " lost\n", "headers differ\n")
     return ", ".join(word.strip() for word in (*(it for it in looked_for if it in text), text.splitlines()[-1]))
 
 
@@ -178,6 +256,14 @@ def damaged(random, made, harts):
     return made
 
 
+def respelt(random, message):
+    """A message whose payload is spelt in more bytes or in fewer, where that may be one packet."""
+    hart, number, payload = message
+    top = b"\xff" if payload[-1] & 0x80 else b"\0"
+    longer = payload + top * random.choice((1, 1, 2, 5))
+    return hart, number, random.choice((payload, longer[:18], payload[:-1] or payload))
+
+
 def spoiled(random, capture):
     """A capture whose end is cut, or a byte of which is changed."""
     what, made = random.randrange(3), bytearray(capture)
@@ -192,7 +278,7 @@ def pair(random):
     harts = random.choice((0, 1, 1, 2, 2, 3, 5))
     counts = [random.choice((0, 1, 1, 2, 3, 8)) for _ in range(harts)]
     queues = [
-        [(hart, number, random.choice((b"\1", b"\2", random.randbytes(random.randint(1, 18))))) for number in range(count)]
+        [(hart, number, random.choice((b"\1", b"\2", b"\x1f", b"\x89\xfd", random.randbytes(random.randint(1, 18))))) for number in range(count)]
         for hart, count in enumerate(counts)
     ]
     has_header = random.random() < 0.5 and harts
@@ -202,5 +288,9 @@ def pair(random):
     received = damaged(random, mixed(random, queues), harts)
     if random.random() < 0.1:
         sent = damaged(random, sent, harts)
+    if random.random() < 0.3:
+        received = [respelt(random, message) if random.random() < 0.5 else message for message in received]
     texts = [start + b"".join(cases.message(*it) for it in made) for start, made in ((sent_header, sent), (received_header, received))]
+    if random.random() < 0.3:
+        texts[1] = frames.damaged(random, texts[1])
     return tuple(spoiled(random, text) if random.random() < 0.08 else text for text in texts)

@@ -6,6 +6,8 @@ import tempfile
 
 import audits
 import cases
+import frames
+import line_texts
 import lists
 import measures
 import reading
@@ -94,7 +96,16 @@ def of_salvaged(maker, harts, capture):
     words = ["--base", f"{maker.program.base:x}", "--harts", str(harts), "image", "case"]
     status, text, error = salvages.salvage(maker.program, harts, capture)
     yield Run(["salvage", *words], status, text.encode(), error)
+    status, text, error = salvages.salvage(maker.program, None, capture, True)
+    uncounted = ["--base", f"{maker.program.base:x}", "--summary", "image", "case"]
+    yield Run(["salvage", *uncounted], status, text.encode(), error)
     yield of_lossy_capture(maker, harts, capture, ["decode", "--lossy", *words])
+
+
+def of_searched(_, __, capture):
+    """What a search of a damaged capture prints."""
+    status, text, error = frames.search(capture)
+    yield Run(["dump", "--search", "case"], status, text.encode(), error)
 
 
 def of_measured(maker, _, logs):
@@ -121,12 +132,21 @@ def of_listed(maker, harts, case):
     yield Run(words, *lists.listing(maker.program, harts, capture, known))
 
 
+def of_lines(_, __, case):
+    """What `capture` writes of lines."""
+    text, settings = case
+    status, out, error = line_texts.capture(text, *settings)
+    yield Run(line_texts.words(*settings), status, out, error)
+
+
 def files_of(kind, case):
     """The files that the runs over a case read, but for the image."""
     if kind == "audits":
         return {audits.SENT: case[0], audits.RECEIVED: case[1]}
     if kind == "lists":
         return {lists.CAPTURE: case[0]} | ({} if case[1] is None else {lists.SYMBOLS: case[1]})
+    if kind == "lines":
+        return {line_texts.LINES: case[0]}
     if kind == "measures":
         return {f"case{hart}": reading.log_text(events).encode() for hart, events in enumerate(case)}
     return {"case": case}
@@ -139,7 +159,7 @@ def answer(binary, folder, words):
 
 OF_CASE = {
     "captures": of_capture, "logs": of_log, "audits": of_pair, "measures": of_measured, "lists": of_listed,
-    "salvages": of_salvaged,
+    "salvages": of_salvaged, "lines": of_lines, "dumps": of_searched,
 }
 
 

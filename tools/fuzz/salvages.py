@@ -1,12 +1,11 @@
 """What `tracebench salvage` prints, read by whole lists of messages, and damaged captures for it."""
 
-import itertools
-
-import audits
 import cases
+import frames
 import reading
 
 END_OF_NUMBERS = 1 << 63
+MODES = {reading.DIFFERENTIAL: "differential", reading.FULL: "full"}
 
 
 def is_stranger(message, harts):
@@ -14,16 +13,19 @@ def is_stranger(message, harts):
 
 
 def sorted_out(came):
-    """The used messages of a hart by number, each with its place among those that came, its doubtful numbers, and how
-    many copies there are."""
+    """The used messages of a hart by number, each with the place where it first came, its doubtful numbers with the
+    places of the first two that differ, and how many copies there are."""
     payloads = {}
     for number, payload in came:
         payloads.setdefault(number, []).append(payload)
-    doubtful = {number for number, own in payloads.items() if len(set(own)) > 1}
     copies = sum(it in came[:place] for place, it in enumerate(came))
-    used = {
-        number: (own[0], came.index((number, own[0]))) for number, own in payloads.items() if number not in doubtful
-    }
+    used, doubtful = {}, {}
+    for number, own in payloads.items():
+        places = [came.index((number, payload)) for payload in dict.fromkeys(own)]
+        if len(places) > 1:
+            doubtful[number] = places[:2]
+        else:
+            used[number] = own[0], places[0]
     return used, doubtful, copies
 
 
@@ -34,16 +36,17 @@ def packet_or_fault(payload):
         return None, f"bad packet: {why}"
 
 
-class Salvage:
-    """What is left of one hart's log: its parts in the order of numbers, and what is bad of it."""
+class Taken:
+    """What some numbers of a hart leave, taken in their order: its parts, and what is bad of it. To the packets up to
+    `end` it is as if no number above it were used."""
 
-    def __init__(self, program, mode, came):
-        self.program, self.parts, self.bad, self.closed = program, [], {}, False
-        self.used, doubtful, self.copies = sorted_out(came)
-        opening = packet_or_fault(self.used[0][0])[0] if 0 in self.used else None
-        self.mode = opening[1] if opening and opening[0] == "open" else mode
+    def __init__(self, program, mode, used, doubtful, end=None):
+        self.program, self.mode, self.used, self.end = program, mode, used, end
+        self.parts, self.bad = [], {}
         self.decoder, self.numbers, expected = reading.Decoder(program), [], 0
-        for number in sorted(doubtful.union(self.used)):
+        for number in sorted({**doubtful, **used}):
+            if end is not None and number > end:
+                break
             if number > expected:
                 self.pass_over()
                 self.parts.append(("gap", number - expected))
@@ -55,10 +58,6 @@ class Salvage:
                 self.take(number)
                 expected = number + 1
         self.pass_over()
-        self.late = sum(
-            any(place < mine and it > number and it not in self.bad for it, (_, place) in self.used.items())
-            for number, (_, mine) in self.used.items()
-        )
 
     def pass_over(self):
         """Ends the stretch under way; a synchronisation is looked for."""
@@ -70,22 +69,16 @@ class Salvage:
         if why := self.fault(number):
             self.pass_over()
             self.bad[number] = why
-            last = self.parts[-1] if self.parts else ("none",)
-            if last[0] == "bad" and last[2:] == (number - 1, why):
-                self.parts[-1] = "bad", last[1], number, why
-            else:
-                self.parts.append(("bad", number, number, why))
+            self.parts.append(("bad", number))
 
     def fault(self, number):
         """Takes the message with this number; why it is bad, or None."""
         packet, why = packet_or_fault(self.used[number][0])
         if why:
             return why
-        later = [it for it in self.used if it > number]
-        if packet[0].startswith("ended"):
-            if later:
-                return f"closing, but number {min(later)} came"
-            self.closed = True
+        later = [it for it in self.used if number < it and (self.end is None or it <= self.end)]
+        if packet[0].startswith("ended") and later:
+            return f"closing, but number {min(later)} came"
         if not self.decoder and packet[0] != "sync":
             return None
         if not self.decoder:
@@ -98,55 +91,119 @@ class Salvage:
         self.numbers.append(number)
         return None
 
+
+def closes(payload):
+    packet, _ = packet_or_fault(payload)
+    return bool(packet) and packet[0].startswith("ended")
+
+
+class Salvage:
+    """What is left of one hart's log: its parts in the order of numbers, and what is bad and alone of it."""
+
+    def __init__(self, program, mode, came):
+        self.used, self.doubtful, self.copies = sorted_out(came)
+        opening = packet_or_fault(self.used[0][0])[0] if 0 in self.used else None
+        self.mode = opening[1] if opening and opening[0] == "open" else mode
+        first = Taken(program, self.mode, self.used, self.doubtful)
+        end = self.end_of(first)
+        taken = Taken(program, self.mode, self.used, self.doubtful, end) if end is not None else first
+        self.parts, self.bad, self.alone = taken.parts, dict(taken.bad), set()
+        if end is not None:
+            self.beyond(first, end)
+        last = end if end is not None else max(self.used, default=None)
+        self.closed = last is not None and closes(self.used[last][0])
+        good = [number for number in self.used if number not in self.bad and number not in self.alone]
+        self.late = sum(
+            any(self.used[it][1] < mine and it > number for it in good) for number, (_, mine) in self.used.items()
+        )
+
+    def end_of(self, first):
+        """The lowest number whose packet closes the trace, which is not the last that is used, and above which no
+        stretch is found where all such are taken as bad; None where there is none."""
+        stretches = [part[2] for part in first.parts if part[0] == "stretch"]
+        ends = [
+            number
+            for number, (payload, _) in self.used.items()
+            if closes(payload) and number < max(self.used) and not any(begin > number for begin in stretches)
+        ]
+        return min(ends, default=None)
+
+    def beyond(self, first, end):
+        """What is above the end: bad and doubtful as it was, and else alone. No gap is counted."""
+        for number in sorted(it for it in {**self.used, **self.doubtful} if it > end):
+            if number in self.doubtful:
+                self.parts.append(("doubtful", number))
+            elif number in first.bad:
+                self.bad[number] = first.bad[number]
+                self.parts.append(("bad", number))
+            else:
+                self.alone.add(number)
+                self.parts.append(("alone", number))
+
     def is_whole(self):
         return self.closed and all(part[0] == "stretch" for part in self.parts)
 
-    def text(self):
-        lines = "".join(map(part_text, self.parts))
-        return lines + counted("copies", self.copies) + counted("late", self.late)
+    def text(self, offsets, header_mode=None, is_summary=False):
+        """The lines of a hart whose messages are at these offsets."""
+        lines = "".join(self.part_text(part, offsets, is_summary) for part in self.parts)
+        opens = header_mode is not None and self.mode != header_mode
+        mode = f"mode: {MODES[self.mode]}, the header says {MODES[header_mode]}\n" if opens else ""
+        return mode + lines + counted("copies", self.copies) + counted("late", self.late)
+
+    def part_text(self, part, offsets, is_summary):
+        if part[0] == "gap":
+            return f"gap: {part[1]} messages\n"
+        if part[0] == "doubtful":
+            return f"doubtful: number {part[1]}\n"
+        if part[0] == "bad":
+            return f"bad: number {part[1]} at {offsets[self.used[part[1]][1]]:08x}: {self.bad[part[1]]}\n"
+        if part[0] == "alone":
+            return f"alone: number {part[1]} at {offsets[self.used[part[1]][1]]:08x}\n"
+        _, events, first, last = part
+        rows = "" if is_summary else reading.log_text(events)
+        return f"stretch: {len(events)} events, numbers {first} to {last}\n{rows}"
 
 
 def counted(name, count):
     return f"{name}: {count} messages\n" if count else ""
 
 
-def part_text(part):
-    if part[0] == "gap":
-        return f"gap: {part[1]} messages\n"
-    if part[0] == "doubtful":
-        return f"doubtful: number {part[1]}\n"
-    if part[0] == "bad":
-        _, first, last, why = part
-        which = f"number {first}" if first == last else f"numbers {first} to {last}"
-        return f"bad: {which}: {why}\n"
-    _, events, first, last = part
-    return f"stretch: {len(events)} events, numbers {first} to {last}\n{reading.log_text(events)}"
+def harts_of(found, header, harts):
+    """How many harts there are: the header's; or as many as are asked for; or up to the highest of a frame."""
+    if header:
+        return header[2]
+    if harts is not None:
+        return harts
+    return max((hart for _, (hart, *_) in found), default=0) + 1
 
 
-def salvage_messages(program, harts, mode, made):
-    """What is left of each hart's log by these messages, and how many strangers there are."""
-    known = [it for it in made if not is_stranger(it, harts)]
-    own = [[(number, payload) for of, number, payload in known if of == hart] for hart in range(harts)]
-    return [Salvage(program, mode, came) for came in own], len(made) - len(known)
-
-
-def salvage(program, harts, capture):
-    """The status, the text and the error of salvaging a capture."""
-    header, made, fault = audits.read(capture)
-    if fault and not header and not made and capture.startswith(reading.MARK):
-        return 1, "".join(f"hart {hart}\n" for hart in range(harts)), fault
-    mode, _, harts = header or (reading.DIFFERENTIAL, None, harts)
-    left, strangers = salvage_messages(program, harts, mode, made)
-    text = "".join(f"hart {hart}\n{it.text()}" for hart, it in enumerate(left)) + counted("strangers", strangers)
+def salvage(program, harts, capture, is_summary=False):
+    """The status, the text and the error of salvaging a capture; `harts` is the count that is asked for, or None."""
+    header, at, fault = frames.start(capture)
+    spans = list(frames.spans(capture, header, at))
+    found = [span for span in spans if not isinstance(span[1], int)]
+    runs = [span for span in spans if isinstance(span[1], int)]
+    count = harts_of(found, header, harts)
+    own = [(offset, message) for offset, message in found if not is_stranger(message, count)]
+    text, left = "", []
+    for hart in range(count):
+        mine = [(offset, message[1:]) for offset, message in own if message[0] == hart]
+        it = Salvage(program, header[0] if header else reading.DIFFERENTIAL, [came for _, came in mine])
+        text += f"hart {hart}\n" + it.text([offset for offset, _ in mine], header and header[0], is_summary)
+        left.append(it)
+    text += "".join(f"bytes: {size} at {offset:08x}\n" for offset, size in runs)
+    text += counted("strangers", len(found) - len(own))
     open_harts = (f"hart {hart}: no closing packet" for hart, it in enumerate(left) if not it.closed)
     error = fault or next(open_harts, None)
-    is_good = not error and not strangers and all(it.is_whole() for it in left)
+    is_good = not error and not runs and len(found) == len(own) and all(it.is_whole() for it in left)
     return (0 if is_good else 1), text, error
 
 
 def kind_of(text, error):
     """What was salvaged, without numbers: which words stand in the text, and the error."""
-    words = ("stretch: ", "gap: ", "bad: ", "doubtful: ", "copies: ", "late: ", "strangers: ")
+    words = (
+        "mode: ", "stretch: ", "gap: ", "bad: ", "doubtful: ", "alone: ", "copies: ", "late: ", "bytes: ", "strangers: ",
+    )
     found = [word.strip(": ") for word in words if word in text]
     return ", ".join((*found, *([error] if error else ["all closed"])))
 

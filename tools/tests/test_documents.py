@@ -77,6 +77,7 @@ CHANGES = [
     ("at most 31 |", "at most 32 |", "docs/FORMATS.md: the outcomes of a packet: at most 32, and "),
     ("default 16", "default 17", "crates/arguments/src/rules.rt: the help of --capacity does not say"),
     ("  2  The arguments", "  2  The words", "crates/cli/src/help.rt: status 2 is not `The arguments"),
+    ("| `--search` | `dump` |", "| `--search` | `list` |", "docs/FORMATS.md: no flag --search of list"),
     ("| data trace |", "| data traces |", "README.md: no word of what is left out: data traces"),
 ]
 NOTIONS = """-- What was sent.
@@ -175,7 +176,7 @@ class Facts(unittest.TestCase):
         self.assertEqual({limit: facts.number_of(limit) for limit in limits}, limits)
 
     def test_the_tables_have_rows(self):
-        counts = {"Exit statuses": 4, "Limits": 16, "What of E-Trace is left out": 12}
+        counts = {"Exit statuses": 4, "Limits": 18, "What of E-Trace is left out": 12}
         self.assertEqual({title: len(facts.rows(title)) for title in counts}, counts)
         self.assertEqual(facts.rows("Exit statuses")[0], ["0", "All is written, and all is good"])
 

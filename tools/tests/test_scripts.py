@@ -6,7 +6,7 @@ import unittest
 
 from support import TOOLS
 
-NEED_WORDS = ["examples", "fuzz/fuzz", "fuzz-c/fuzz-c", "record", "side-by-side", "verdict"]
+NEED_WORDS = ["examples", "fuzz/fuzz", "fuzz-c/fuzz-c", "let-through", "record", "side-by-side", "verdict"]
 SCRIPTS = NEED_WORDS + [
     "at-scale",
     "check-docs",
@@ -16,6 +16,7 @@ SCRIPTS = NEED_WORDS + [
     "long-edits/check-functions",
     "long-edits/long-edits",
     "long-tests/long-tests",
+    "planted-bodies",
     "random-runs/random-runs",
     "refused-memory",
     "stack",

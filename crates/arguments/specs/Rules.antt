@@ -46,6 +46,21 @@ abbrev pub long_rule : Rule
 long_rule =
     record (new_rule (codes "long")) { long = Some (codes "long"); action = Some SetTrue }
 
+-- `--packets`.
+abbrev pub packets_rule : Rule
+packets_rule =
+    record (new_rule (codes "packets")) { long = Some (codes "packets"); action = Some SetTrue }
+
+-- `--progress`.
+abbrev pub progress_rule : Rule
+progress_rule =
+    record (new_rule (codes "progress")) { long = Some (codes "progress"); action = Some SetTrue }
+
+-- `--search`.
+abbrev pub search_rule : Rule
+search_rule =
+    record (new_rule (codes "search")) { long = Some (codes "search"); action = Some SetTrue }
+
 -- `--summary`.
 abbrev pub summary_rule : Rule
 summary_rule =
@@ -117,6 +132,19 @@ harts_rule = record (new_rule (codes "harts")) {
   defaults = codes "1" ∷ [];
   parser = Some harts_parser;
 }
+
+-- `--harts N`, which may be left out.
+abbrev pub given_harts_rule : Rule
+given_harts_rule = record (new_rule (codes "harts")) {
+  long = Some (codes "harts");
+  action = Some Set;
+  value_names = 1;
+  parser = Some harts_parser;
+}
+
+-- LINES, an argument with no name that has to be there.
+abbrev pub lines_rule : Rule
+lines_rule = record (new_rule (codes "LINES")) { action = Some Set; required = true }
 
 -- CAPTURE, an argument with no name that has to be there.
 abbrev pub capture_rule : Rule

@@ -5,6 +5,7 @@
 mod rules;
 
 pub use rules::{
-    base, capacity, capture, explain, full, harts, hex, image, logs, long, lossy, period, received,
-    schedule, sent, summary, symbols, version_one,
+    base, capacity, capture, counted_harts, explain, full, harts, hex, image, lines, logs, long,
+    lossy, packets, period, progress, received, salvaged_harts, schedule, search, sent, summary,
+    symbols, version_one, without_logs,
 };

@@ -1,8 +1,11 @@
 //! One function for each argument.
 
 ghost use Rattle.arguments.specs.Rules.{IsReadBy, base_rule, capacity_rule, capture_rule, explain_rule, full_rule};
-ghost use Rattle.arguments.specs.Rules.{harts_rule, hex_rule, image_rule, logs_rule, long_rule, lossy_rule};
-ghost use Rattle.arguments.specs.Rules.{period_rule, received_rule, schedule_rule, sent_rule, summary_rule, symbols_rule};
+ghost use Rattle.arguments.specs.Rules.{given_harts_rule, harts_rule, hex_rule, image_rule, lines_rule, logs_rule};
+ghost use Rattle.arguments.specs.Rules.{long_rule};
+ghost use Rattle.arguments.specs.Rules.{lossy_rule, packets_rule};
+ghost use Rattle.arguments.specs.Rules.{period_rule, progress_rule, received_rule, schedule_rule};
+ghost use Rattle.arguments.specs.Rules.{search_rule, sent_rule, summary_rule, symbols_rule};
 ghost use Rattle.arguments.specs.Rules.{version_one_rule};
 ghost use Rattle.arguments.specs.steps.Forms.{file_rule, flag_rule, number_rule};
 
@@ -43,6 +46,18 @@ fn number<'a>(alloc: Global, name: &'a str, default: &'a str, help: &'a str) -> 
         .help(help)
 }
 
+/// `--harts N`, a count of harts, 1 to 1024, which may be left out.
+fn given_harts<'a>(alloc: Global, help: &'a str) -> Arg<'a>
+    ensures { IsReadBy given_harts_rule result }
+{
+    Arg::new(alloc, "harts")
+        .long("harts")
+        .value_name("N")
+        .action(ArgAction::Set)
+        .help(help)
+        .value_parser(value_parser!(u16).range(1..=i64::from(MOST_HARTS)))
+}
+
 /// `--base B`, the address of the image's first byte, which has to be given.
 pub fn base<'a>(alloc: Global) -> Arg<'a>
     ensures { IsReadBy base_rule result }
@@ -75,6 +90,17 @@ pub fn capture<'a>(alloc: Global) -> Arg<'a>
     file(alloc, "CAPTURE", "File of trace messages")
 }
 
+/// `--harts N` of `capture`, how many harts the capture's header counts, 1 to 1024. Where it is not given, they are
+/// those up to the highest of a line.
+pub fn counted_harts<'a>(alloc: Global) -> Arg<'a>
+    ensures { IsReadBy given_harts_rule result }
+{
+    given_harts(
+        alloc,
+        "How many harts the header counts, 1 to 1024, with --v1 to 64; without it, those up to the highest",
+    )
+}
+
 /// `--explain`, which asks for a line that explains an illegal row.
 pub fn explain<'a>(alloc: Global) -> Arg<'a>
     ensures { IsReadBy explain_rule result }
@@ -101,13 +127,11 @@ pub fn full<'a>(alloc: Global) -> Arg<'a>
 pub fn harts<'a>(alloc: Global) -> Arg<'a>
     ensures { IsReadBy harts_rule result }
 {
-    number(
+    given_harts(
         alloc,
-        "harts",
-        "1",
         "How many harts a capture of version 1 may have, 1 to 1024",
     )
-    .value_parser(value_parser!(u16).range(1..=i64::from(MOST_HARTS)))
+    .default_value("1")
 }
 
 /// `--hex`, which asks for a line of hexadecimal for each message.
@@ -122,6 +146,17 @@ pub fn image<'a>(alloc: Global) -> Arg<'a>
     ensures { IsReadBy image_rule result }
 {
     file(alloc, "IMAGE", "File of the program's bytes")
+}
+
+/// LINES, the file of lines, each of one message, which has to be given.
+pub fn lines<'a>(alloc: Global) -> Arg<'a>
+    ensures { IsReadBy lines_rule result }
+{
+    file(
+        alloc,
+        "LINES",
+        "File of lines, each of one message: HART NUMBER BYTES, or HART BYTES",
+    )
 }
 
 /// LOG..., the logs' files. At least one has to be given.
@@ -157,6 +192,17 @@ pub fn lossy<'a>(alloc: Global) -> Arg<'a>
     )
 }
 
+/// `--packets`, which asks to compare messages by their packets, not by their bytes.
+pub fn packets<'a>(alloc: Global) -> Arg<'a>
+    ensures { IsReadBy packets_rule result }
+{
+    flag(
+        alloc,
+        "packets",
+        "Compare messages by the packets that they unpack to, not by their bytes",
+    )
+}
+
 /// `--period N`, the retirements from one periodic synchronisation to the next, 1 to 65535, and 1024 where it is not
 /// given.
 pub fn period<'a>(alloc: Global) -> Arg<'a>
@@ -171,11 +217,33 @@ pub fn period<'a>(alloc: Global) -> Arg<'a>
     .value_parser(value_parser!(u16).range(i64::from(SHORTEST_PERIOD)..=i64::from(LONGEST_PERIOD)))
 }
 
+/// `--progress`, which asks to show on a terminal how far the logs are read.
+pub fn progress<'a>(alloc: Global) -> Arg<'a>
+    ensures { IsReadBy progress_rule result }
+{
+    flag(
+        alloc,
+        "progress",
+        "Show how far the logs are read, where standard error is a terminal",
+    )
+}
+
 /// RECEIVED, the file of the trace messages that came, which has to be given.
 pub fn received<'a>(alloc: Global) -> Arg<'a>
     ensures { IsReadBy received_rule result }
 {
     file(alloc, "RECEIVED", "File of the trace messages that came")
+}
+
+/// `--harts N` of `salvage`, how many harts a capture with no valid header has, 1 to 1024. Where it is not given, they
+/// are those of its messages.
+pub fn salvaged_harts<'a>(alloc: Global) -> Arg<'a>
+    ensures { IsReadBy given_harts_rule result }
+{
+    given_harts(
+        alloc,
+        "How many harts a capture with no valid header has, 1 to 1024; without it, those of its messages",
+    )
 }
 
 /// SCHEDULE, the path of the schedule file, which has to be given.
@@ -186,6 +254,17 @@ pub fn schedule<'a>(alloc: Global) -> Arg<'a>
         alloc,
         "SCHEDULE",
         "File of the turns: hart numbers, and `c` for taking a message",
+    )
+}
+
+/// `--search`, which asks to look for messages where bytes are none.
+pub fn search<'a>(alloc: Global) -> Arg<'a>
+    ensures { IsReadBy search_rule result }
+{
+    flag(
+        alloc,
+        "search",
+        "Go on where bytes are no message, and print how many are passed over",
     )
 }
 
@@ -227,4 +306,11 @@ pub fn version_one<'a>(alloc: Global) -> Arg<'a>
         "v1",
         "Write a capture of version 1, which has no header, of at most 64 logs",
     )
+}
+
+/// `--summary` of `salvage`, which asks to leave out the texts of the logs.
+pub fn without_logs<'a>(alloc: Global) -> Arg<'a>
+    ensures { IsReadBy summary_rule result }
+{
+    flag(alloc, "summary", "Leave out the texts of the logs")
 }

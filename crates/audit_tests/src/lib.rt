@@ -6,6 +6,8 @@
 #[cfg(test)]
 mod audited;
 #[cfg(test)]
+mod damages;
+#[cfg(test)]
 mod far;
 #[cfg(test)]
 mod tables;

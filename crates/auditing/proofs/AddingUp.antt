@@ -11,6 +11,7 @@ use Rattle.std.proofs.lemmas.List.Sums.{sum_by-cons, sum_by-set}
 use Rattle.std.proofs.lemmas.Option.{slice_get_within}
 use Rattle.message.specs.OfHart.{of_hart}
 use Rattle.message.specs.declared.message.Message.{Message}
+use Rattle.alike.specs.declared.by.By.TheVariants as by
 use Rattle.auditing.proofs.Appending.{counted-next}
 use Rattle.auditing.proofs.FindingLemmas.{skips-other, skips-own}
 use Rattle.auditing.proofs.TakingLemmas.{fate_is, takes, takes_other}
@@ -298,12 +299,12 @@ module _ (sent received : List Message) (message : Message) (has : AddsUp sent r
   adds_own : AddsUp sent more message.hart
   adds_own = found (slice_get own.payloads number) refl
     where
-      is : (its : Fate) → fate_in own number message.payload ≡ its → fate_of sent received message ≡ its
+      is : (its : Fate) → fate_in by.Bytes own number message.payload ≡ its → fate_of sent received message ≡ its
       is its at = sym (fate_is sent received message own has.stands) ∙ at
 
       found : (o : Option (List ℕ)) → slice_get own.payloads number ≡ o → AddsUp sent more message.hart
       found None none =
-          plain fate.Stranger (is fate.Stranger (ap (fate_by own number message.payload) none)) refl refl refl refl
+          plain fate.Stranger (is fate.Stranger (ap (fate_by by.Bytes own number message.payload) none)) refl refl refl refl
       found (Some payload) some =
           tested (bytes_eq message.payload payload) (get_or own.came number false) (ltb (number + 1) own.past) refl refl
           refl
@@ -319,7 +320,7 @@ module _ (sent received : List Message) (message : Message) (has : AddsUp sent r
               → fate_of sent received message ≡ chosen same again greater
           by_tests same again greater a b c =
               is (chosen same again greater)
-              (ap (fate_by own number message.payload) some ∙ (λ i. chosen (a i) (b i) (c i)))
+              (ap (fate_by by.Bytes own number message.payload) some ∙ (λ i. chosen (a i) (b i) (c i)))
 
           tested : (same again greater : Bool) → bytes_eq message.payload payload ≡ same
               → get_or own.came number false ≡ again → ltb (number + 1) own.past ≡ greater

@@ -1,10 +1,12 @@
 -- A capture with the same messages of each hart decodes to the same logs.
 use Rattle.std.proofs.Common.{◌≡◌, ◌⊎◌, inl, inr, ℕ, suc, ◌<◌, All, Bool, true, false, cond, eqb, List, []}
-use Rattle.std.proofs.Common.{◌∷◌, ◌++◌, Option, Some, None, Result, Ok, Err, length, slice_get, refl, sym, ap, subst}
+use Rattle.std.proofs.Common.{◌∷◌, ◌++◌, Option, Some, None, Result, Ok, Err, length, slice_get, refl, sym, ap, ap₂, subst}
 use Rattle.std.proofs.Common.{◌∙◌, arith, append-nil}
 use Rattle.std.specs.Prelude.{IsOk}
 use Rattle.std.proofs.lemmas.Bool.{true≢false}
-use Rattle.std.proofs.lemmas.List.{append_assoc, append_cancel_left}
+use Rattle.std.proofs.lemmas.List.{append_assoc, append_cancel_left, map-append}
+use Rattle.std.proofs.lemmas.List.Elements.{All-take}
+use lib.Seq.{take-append_seam}
 use Rattle.std.proofs.lemmas.Option.{slice_get_within}
 use Rattle.retire.specs.declared.event.Event.{Event}
 use Rattle.rvclass.specs.Words.{Words, IsProgram}
@@ -20,7 +22,7 @@ use Rattle.decoder.specs.declared.fault.DecodeFault.TheVariants.{Memory}
 use Rattle.message.proofs.AcceptedLemmas.{accepted_counted, answered}
 use Rattle.message.proofs.Answering.{answer-unpacked}
 use Rattle.message.proofs.Elements.{slice_get-some}
-use Rattle.message.proofs.HartMessages.{expected_of, packets_in-append, packets_in-cons}
+use Rattle.message.proofs.HartMessages.{expected_of, packets_in-append, packets_in-cons, packets_of-append}
 use Rattle.message.proofs.OfHartLemmas.{of_hart-append, of_hart-own}
 use Rattle.message.proofs.StartsRead.{header_only}
 use Rattle.message.specs.Accepted.{AreAccepted, expected_after, newcomers}
@@ -52,63 +54,16 @@ use Rattle.captures.specs.Returned.{IsMemory}
 use Rattle.captures.specs.Whole.{IsWhole}
 use Rattle.captures.specs.declared.outcome.CaptureFault.{CaptureFault}
 use Rattle.captures.specs.declared.outcome.CaptureFault.TheVariants as fault
+use Rattle.alike.specs.declared.by.By.{By}
+use Rattle.auditing.proofs.HartPlaces.{place_of}
+use Rattle.auditing.proofs.KnownPackets.{answer_alike, expected_alike, of_hart-messages, packets_alike, parted, reading_alike}
 use Rattle.auditing.specs.DecodedAgain.{AreDecodedAgain}
+use Rattle.auditing.specs.Known.{known_all, known_one}
 
--- A place in a list of messages.
-record Place (all : List Message) (hart : ℕ) (before : List Message) (message : Message) : Type 0 where
-  front : List Message
-  back : List Message
-  whole : all ≡ front ++ message ∷ back
-  own : of_hart hart front ≡ before
-
--- A message of a hart has a place, behind the hart's messages before it.
-place_of : (all : List Message) (hart : ℕ) (before after : List Message) (message : Message)
-    → of_hart hart all ≡ before ++ message ∷ after → Place all hart before message
-place_of [] hart [] after message same = absurd (never message after same)
-  where
-    never : (m : Message) (ms : List Message) → [] ≡ m ∷ ms → ⊥
-    never m ms is = cc
-place_of [] hart (first ∷ before) after message same = absurd (never first (before ++ message ∷ after) same)
-  where
-    never : (m : Message) (ms : List Message) → [] ≡ m ∷ ms → ⊥
-    never m ms is = cc
-place_of (first ∷ all) hart before after message same =
-    go (λ before same. place_of all hart before after message same) (eqb first.hart hart) refl before same
-  where
-    go : ((before : List Message) → of_hart hart all ≡ before ++ message ∷ after → Place all hart before message)
-        → (own : Bool) → eqb first.hart hart ≡ own → (before : List Message)
-        → cond own (first ∷ of_hart hart all) (of_hart hart all) ≡ before ++ message ∷ after
-        → Place (first ∷ all) hart before message
-    go later false is before same =
-        let rest = later before same in
-        record {
-          front = first ∷ rest.front;
-          back = rest.back;
-          whole = ap (λ l. first ∷ l) rest.whole;
-          own = ap (λ own. cond own (first ∷ of_hart hart rest.front) (of_hart hart rest.front)) is ∙ rest.own;
-        }
-    go later true is [] same = record {
-      front = [];
-      back = all;
-      whole = ap (λ m. m ∷ all) (first_is first message (of_hart hart all) after same);
-      own = refl;
-    }
-      where
-        first_is : (x y : Message) (xs ys : List Message) → x ∷ xs ≡ y ∷ ys → x ≡ y
-        first_is x y xs ys e = cc
-    go later true is (one ∷ before) same =
-        let split = both first one (of_hart hart all) (before ++ message ∷ after) same in
-        let rest = later before split.1 in
-        record {
-          front = first ∷ rest.front;
-          back = rest.back;
-          whole = ap (λ l. first ∷ l) rest.whole;
-          own = ap (λ own. cond own (first ∷ of_hart hart rest.front) (of_hart hart rest.front)) is
-              ∙ (λ i. split.0 i ∷ rest.own i);
-        }
-      where
-        both : (x y : Message) (xs ys : List Message) → x ∷ xs ≡ y ∷ ys → (x ≡ y) × (xs ≡ ys)
-        both x y xs ys e = (cc, cc)
+-- What holds of each of a list holds of each of its first ones.
+All-first : {X : Type 0} (P : X → Type 0) (front rest : List X) → All P (front ++ rest) → All P front
+All-first P front rest all =
+    subst (All P) (take-append_seam front rest) (All-take P (length front) (front ++ rest) all)
 
 -- An answer is one packet, and no fault.
 one_packet : (p q : Packet) (r : Result Packet DemuxFault) → r ≡ Ok p → r ≡ Ok q → p ≡ q
@@ -152,13 +107,16 @@ known_hart harts front message packet all is = go (slice_get (expected_after (ne
         omega (arith, within, counted)
 
 module _ (words : Words) (program : IsProgram words) (harts : ℕ) (announced : Option Mode)
-    (sent received : List Message) (same : (hart : ℕ) → of_hart hart received ≡ of_hart hart sent)
+    (how : By) (sent received : List Message) (are : All IsMessage sent) (come : All IsMessage received)
+    (same : (hart : ℕ) → known_all how (of_hart hart received) ≡ known_all how (of_hart hart sent))
     (accepted : AreAccepted (newcomers harts) sent) (agree : All (Agrees announced) sent)
     (lists : List (List Event)) (closed : List Bool)
     (decoded : AreDecoded (λ hart. words) harts sent lists closed) where
   -- The packets of each hart are the same.
   same_packets : (hart : ℕ) → packets_of hart received ≡ packets_of hart sent
-  same_packets hart = ap packets_in (same hart)
+  same_packets hart =
+      packets_alike how (of_hart hart received) (of_hart hart sent) (of_hart-messages hart received come)
+      (of_hart-messages hart sent are) (same hart)
 
   -- Each message of RECEIVED is accepted, agrees with the header, and its hart's packets describe a log.
   record Goes (front : List Message) (message : Message) : Type 0 where
@@ -169,49 +127,116 @@ module _ (words : Words) (program : IsProgram words) (harts : ℕ) (announced : 
     log : List Event
     described : Describes words (packets_of message.hart front ++ packet ∷ []) log
 
-  goes : (front back : List Message) (message : Message) → received ≡ front ++ message ∷ back → Goes front message
-  goes front back message whole =
+  -- A message of RECEIVED is known as one of SENT, after messages of its hart that are known as those before it.
+  record Sent (front : List Message) (message : Message) : Type 0 where
+    before : List Message
+    its : Message
+    later : List Message
+    whole : sent ≡ before ++ its ∷ later
+    own_is : known_all how (of_hart message.hart before) ≡ known_all how (of_hart message.hart front)
+    its_is : known_one how its ≡ known_one how message
+
+  sent_of : (front back : List Message) (message : Message) → received ≡ front ++ message ∷ back → Sent front message
+  sent_of front back message whole =
       let hart = message.hart in
-      let own : of_hart hart sent ≡ of_hart hart front ++ message ∷ of_hart hart back =
-      sym (same hart) ∙ ap (of_hart hart) whole ∙ of_hart-append hart front (message ∷ back)
-      ∙ ap (λ l. of_hart hart front ++ l) (of_hart-own message back) in
-      let at = place_of sent hart (of_hart hart front) (of_hart hart back) message own in
-      let good = accepted_at (newcomers harts) at.front message at.back
-      (subst (AreAccepted (newcomers harts)) at.whole accepted) in
-      let its = answered (accepting (expected_after (newcomers harts) at.front) message) good.1 in
-      let known = known_hart harts at.front message its.0 good.0 its.1 in
-      let same_expected : expected_of hart at.front ≡ expected_of hart front =
-      ap (λ (l : List Message). record { expected = length l; closed = last_is_closing (packets_in l) }) at.own in
-      let answer_is : answer (expected_of hart front) message ≡ Ok its.0 =
-      ap (λ h. answer h message) (sym same_expected)
-      ∙ sym (answer_by_hart harts at.front message good.0 known) ∙ its.1 in
-      let read : reading message.payload ≡ Ok its.0 =
-      ((answer-unpacked (Some (expected_of hart front)) message (Ok its.0)).0 answer_is).1 in
-      let known_list = slice_get-some lists hart (omega (arith, known, decoded.lists_count)) in
-      let described = decoded.described hart known_list.0 known_list.1 in
-      let packets : packets_of hart sent ≡ (packets_of hart front ++ its.0 ∷ []) ++ packets_of hart at.back =
-      ap packets_in (own_of hart at.front at.back at.whole)
-      ∙ packets_in-append (of_hart hart at.front) (message ∷ of_hart hart at.back)
-      ∙ ap (λ l. packets_in l ++ packets_in (message ∷ of_hart hart at.back)) at.own
-      ∙ ap (λ l. packets_of hart front ++ l) (packets_in-cons message (of_hart hart at.back) its.0 read)
-      ∙ sym (append_assoc (packets_of hart front) (its.0 ∷ []) (packets_of hart at.back)) in
-      let all : Describes words ((packets_of hart front ++ its.0 ∷ []) ++ packets_of hart at.back) known_list.0 =
-      subst (λ ps. Describes words ps known_list.0) packets described in
-      let first =
-      front_describes words (packets_of hart front ++ its.0 ∷ []) (packets_of hart at.back) known_list.0 all in
+      let own : known_all how (of_hart hart sent)
+      ≡ known_all how (of_hart hart front) ++ known_one how message ∷ known_all how (of_hart hart back) =
+      sym (same hart) ∙ ap (λ l. known_all how (of_hart hart l)) whole
+      ∙ ap (known_all how) (of_hart-append hart front (message ∷ back)
+      ∙ ap (λ l. of_hart hart front ++ l) (of_hart-own message back))
+      ∙ map-append (known_one how) (of_hart hart front) (message ∷ of_hart hart back) in
+      let split = parted how (of_hart hart sent) (known_all how (of_hart hart front)) (known_all how (of_hart hart back))
+      (known_one how message) own in
+      let at = place_of sent hart split.front split.back split.its split.whole in
       record {
-        packet = its.0;
-        taken = λ before. answer_by_hart harts front message before known ∙ answer_is;
-        agrees = All-middle (Agrees announced) at.front message at.back (subst (All (Agrees announced)) at.whole agree);
-        log = _;
-        described = first.0;
+        before = at.front;
+        its = split.its;
+        later = at.back;
+        whole = at.whole;
+        own_is = ap (known_all how) at.own ∙ split.front_is;
+        its_is = split.its_is;
       }
-    where
-      own_of : (hart : ℕ) (xs ys : List Message) → sent ≡ xs ++ message ∷ ys
-          → of_hart message.hart sent ≡ of_hart message.hart xs ++ message ∷ of_hart message.hart ys
-      own_of hart xs ys is =
-          ap (of_hart message.hart) is ∙ of_hart-append message.hart xs (message ∷ ys)
-          ∙ ap (λ l. of_hart message.hart xs ++ l) (of_hart-own message ys)
+
+  module _ (front back : List Message) (message : Message) (whole : received ≡ front ++ message ∷ back) where
+    abbrev hart : ℕ
+    hart = message.hart
+
+    at : Sent front message
+    at = sent_of front back message whole
+
+    hart_is : at.its.hart ≡ hart
+    hart_is = ap (λ (m : Message). m.hart) at.its_is
+
+    its_good : IsMessage at.its
+    its_good = All-middle IsMessage at.before at.its at.later (subst (All IsMessage) at.whole are)
+
+    came_good : IsMessage message
+    came_good = All-middle IsMessage front message back (subst (All IsMessage) whole come)
+
+    before_good : All IsMessage (of_hart hart at.before)
+    before_good = of_hart-messages hart at.before (All-first IsMessage at.before (at.its ∷ at.later) (subst (All IsMessage) at.whole are))
+
+    front_good : All IsMessage (of_hart hart front)
+    front_good = of_hart-messages hart front (All-first IsMessage front (message ∷ back) (subst (All IsMessage) whole come))
+
+    all_before : AreAccepted (newcomers harts) at.before
+    all_before = (accepted_at (newcomers harts) at.before at.its at.later
+        (subst (AreAccepted (newcomers harts)) at.whole accepted)).0
+
+    answer_to : (packet : Packet) × (accepting (expected_after (newcomers harts) at.before) at.its ≡ Ok packet)
+    answer_to = answered (accepting (expected_after (newcomers harts) at.before) at.its)
+        (accepted_at (newcomers harts) at.before at.its at.later
+        (subst (AreAccepted (newcomers harts)) at.whole accepted)).1
+
+    its_known : at.its.hart < harts
+    its_known = known_hart harts at.before at.its answer_to.0 all_before answer_to.1
+
+    known : hart < harts
+    known = subst (λ h. h < harts) hart_is its_known
+
+    answer_is : answer (expected_of hart front) message ≡ Ok answer_to.0
+    answer_is =
+        sym (answer_alike how (expected_of hart front) at.its message its_good came_good at.its_is)
+        ∙ ap (λ h. answer h at.its)
+        (sym (expected_alike how hart at.before front before_good front_good at.own_is)
+        ∙ ap (λ h. expected_of h at.before) (sym hart_is))
+        ∙ sym (answer_by_hart harts at.before at.its all_before its_known) ∙ answer_to.1
+
+    read : reading message.payload ≡ Ok answer_to.0
+    read = ((answer-unpacked (Some (expected_of hart front)) message (Ok answer_to.0)).0 answer_is).1
+
+    its_read : reading at.its.payload ≡ Ok answer_to.0
+    its_read = reading_alike how at.its message its_good came_good at.its_is ∙ read
+
+    packets : packets_of hart sent ≡ (packets_of hart front ++ answer_to.0 ∷ []) ++ packets_of hart at.later
+    packets =
+        ap (packets_of hart) at.whole
+        ∙ packets_of-append hart at.before (at.its ∷ at.later)
+        ∙ ap₂ (λ l m. l ++ m)
+        (packets_alike how (of_hart hart at.before) (of_hart hart front) before_good front_good at.own_is)
+        (ap (λ h. packets_of h (at.its ∷ at.later)) (sym hart_is)
+        ∙ ap packets_in (of_hart-own at.its at.later)
+        ∙ packets_in-cons at.its (of_hart at.its.hart at.later) answer_to.0 its_read
+        ∙ ap (λ h. answer_to.0 ∷ packets_of h at.later) hart_is)
+        ∙ sym (append_assoc (packets_of hart front) (answer_to.0 ∷ []) (packets_of hart at.later))
+
+    goes : Goes front message
+    goes =
+        let known_list = slice_get-some lists hart (let count = decoded.lists_count in omega (arith, known, count)) in
+        let described = decoded.described hart known_list.0 known_list.1 in
+        let all : Describes words ((packets_of hart front ++ answer_to.0 ∷ []) ++ packets_of hart at.later) known_list.0 =
+        subst (λ ps. Describes words ps known_list.0) packets described in
+        let first =
+        front_describes words (packets_of hart front ++ answer_to.0 ∷ []) (packets_of hart at.later) known_list.0 all in
+        let its_agrees =
+        All-middle (Agrees announced) at.before at.its at.later (subst (All (Agrees announced)) at.whole agree) in
+        record {
+          packet = answer_to.0;
+          taken = λ before. answer_by_hart harts front message before known ∙ answer_is;
+          agrees = λ packet is. its_agrees packet (reading_alike how at.its message its_good came_good at.its_is ∙ is);
+          log = _;
+          described = first.0;
+        }
 
   -- No message is refused, unless an allocation failed.
   not_refused : (front : List Message) (message : Message) (back : List Message) (why : ReceiveFault)
@@ -374,20 +399,22 @@ never_unread words harts announced messages lists closed stop ranges is number w
     ends_well split.later why behind (subst (λ rest. BeginsNone rest why) split.bytes stops.1)
 
 -- RECEIVED decodes as SENT does.
-pub decoded_again : (words : Words) (harts : ℕ) (sent received : List ℕ) (header : Option Header)
+pub decoded_again : (how : By) (words : Words) (harts : ℕ) (sent received : List ℕ) (header : Option Header)
     (messages others : List Message) (lists again_lists : List (List Event)) (closed flags : List Bool)
     (stop : Option (ℕ × CaptureFault)) → IsProgram words → IsWhole sent header messages → IsWhole received header others
-    → ((hart : ℕ) → of_hart hart others ≡ of_hart hart messages) → IsDecoded words harts sent lists closed None
+    → ((hart : ℕ) → known_all how (of_hart hart others) ≡ known_all how (of_hart hart messages))
+    → IsDecoded words harts sent lists closed None
     → IsDecoded words harts received again_lists flags stop → AreDecodedAgain lists closed again_lists flags stop
-decoded_again words harts sent received header messages others lists again_lists closed flags stop program whole other
-    same first second =
+decoded_again how words harts sent received header messages others lists again_lists closed flags stop program whole
+    other same first second =
     let one = by_messages words harts sent header messages lists closed None whole first in
     let two = by_messages words harts received header others again_lists flags stop other second in
     let split = capture_split messages one.messages one.rest whole.ranges one.ranges one.whole in
     let no_more = capture_none split.later (sym split.bytes ∙ one.stops) in
     let all : one.messages ≡ messages =
     sym (split.whole ∙ ap (λ l. one.messages ++ l) no_more ∙ append-nil one.messages) in
-    again words program (counted_harts harts header) (announced_mode header) messages others same
+    again words program (counted_harts harts header) (announced_mode header) how messages others whole.ranges other.ranges
+    same
     (subst (AreAccepted (newcomers (counted_harts harts header))) all one.accepted)
     (subst (All (Agrees (announced_mode header))) all one.agree) lists closed
     (subst (λ ms. AreDecoded (λ hart. words) (counted_harts harts header) ms lists closed) all one.decoded)

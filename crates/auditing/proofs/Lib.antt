@@ -10,6 +10,9 @@ pub mod TallyLemmas
 pub mod WholeLemmas
 pub mod WholeTallies
 pub mod Taken
+pub mod KnownLemmas
+pub mod TakenKnown
+pub mod Sights
 pub mod PayloadLemmas
 pub mod Counting
 pub mod Indexed
@@ -17,5 +20,7 @@ pub mod Starting
 pub mod AllWhole
 pub mod AddingUp
 pub mod OneFault
+pub mod HartPlaces
+pub mod KnownPackets
 pub mod DecodedAgain
 pub mod AloneLemmas

@@ -1,14 +1,12 @@
 -- The payload that SENT has with a hart and a number.
-use Rattle.std.proofs.Common.{◌≡◌, ℕ, zero, suc, ◌+◌, ◌≤◌, Bool, true, false, cond, eqb, List, [], ◌∷◌}
-use Rattle.std.proofs.Common.{Some, None, length, slice_get, refl, sym, ap, ◌∙◌, arith, zero-add}
+use Rattle.std.proofs.Common.{◌≡◌, ℕ, zero, suc, ◌+◌, Bool, true, false, cond, eqb, List, [], ◌∷◌}
+use Rattle.std.proofs.Common.{Some, None, slice_get, refl, sym, ap, ◌∙◌, arith, zero-add}
 use Rattle.std.specs.Prelude.{◌&&◌}
 use Rattle.std.proofs.lemmas.Bool.{and_from, and_right, eq-eqb, ne_eqb}
 use Rattle.message.specs.Numbered.{messages_from}
 use Rattle.message.specs.OfHart.{of_hart}
 use Rattle.message.specs.declared.message.Message.{Message}
-use Rattle.auditing.specs.Audits.{Audits, AuditsHart}
 use Rattle.auditing.specs.Fates.{is_numbered}
-use Rattle.auditing.specs.Ledger.{HartLedger, Ledger}
 use Rattle.auditing.specs.SentPayload.{payload_sent}
 
 -- It is one of the hart's own messages.
@@ -44,16 +42,14 @@ payload_numbered hart start (payload ∷ payloads) (suc place) number at =
     ∙ payload_numbered hart (start + 1) payloads place number (omega (arith, at))
 
 -- It is the one that is kept.
-pub payload_kept : (sent received : List Message) (hart number : ℕ) (own : HartLedger)
-    → AuditsHart sent received hart own → slice_get own.payloads number ≡ payload_sent sent hart number
-payload_kept sent received hart number own stands =
-    sym (payload_of_hart sent hart number
-    ∙ ap (λ messages. payload_sent messages hart number) stands.payloads
-    ∙ payload_numbered hart 0 own.payloads number number (zero-add number))
+pub payload_kept : (sent : List Message) (hart number : ℕ) (payloads : List (List ℕ))
+    → of_hart hart sent ≡ messages_from hart 0 payloads → slice_get payloads number ≡ payload_sent sent hart number
+payload_kept sent hart number payloads stands =
+    sym (payload_of_hart sent hart number ∙ ap (λ messages. payload_sent messages hart number) stands
+    ∙ payload_numbered hart 0 payloads number number (zero-add number))
 
 -- A hart that SENT does not have has none.
-pub payload_none : (sent received : List Message) (hart number : ℕ) (ledger : Ledger) → Audits sent received ledger
-    → length ledger.harts ≤ hart → None ≡ payload_sent sent hart number
-payload_none sent received hart number ledger audits past =
-    sym (payload_of_hart sent hart number
-    ∙ ap (λ messages. payload_sent messages hart number) (audits.others hart past))
+pub payload_none : (sent : List Message) (hart number : ℕ) → of_hart hart sent ≡ []
+    → None ≡ payload_sent sent hart number
+payload_none sent hart number none =
+    sym (payload_of_hart sent hart number ∙ ap (λ messages. payload_sent messages hart number) none)

@@ -10,7 +10,8 @@ use Rattle.message.specs.declared.header.Header.{Header}
 use Rattle.message.specs.declared.message.Message.{Message}
 use Rattle.captures.specs.NoMessage.{BeginsNone}
 use Rattle.captures.specs.Whole.{BeginsWith}
-use Rattle.auditing.proofs.TallyLemmas.{starts}
+use Rattle.alike.specs.declared.by.By.{By}
+use Rattle.auditing.proofs.TakenKnown.{starts_known}
 use Rattle.auditing.specs.Audits.{Audits}
 use Rattle.auditing.specs.Ledger.{HartLedger, Ledger}
 use Rattle.auditing.specs.Sent.{AreInTurn, BeginsMisplaced, IsSent, IsSentFault, StopsBehind, harts_in, harts_of}
@@ -32,13 +33,20 @@ counts_harts None highest sent is = is
 counts_harts (Some header) highest sent is = refl
 
 -- Messages that were counted and indexed are audited.
-pub started : (header : Option Header) (harts count highest number : ℕ) (bytes counts : List ℕ)
+pub started : (how : By) (header : Option Header) (harts count highest number : ℕ) (bytes counts : List ℕ)
     (index : List HartLedger) → harts ≡ known_harts header → HasCounted harts bytes [] counts highest number
     → count ≡ harts_by header highest
     → ((messages : List Message) → All IsMessage messages → bytes ≡ capture messages
     → AreIndexed count messages index)
-    → IsStarted bytes harts (record { header = header; harts = index; strangers = 0; taken = 0; first = None })
-started header harts count highest number bytes counts index harts_is has count_is indexed =
+    → IsStarted bytes harts (record {
+      by = how;
+      header = header;
+      harts = index;
+      strangers = 0;
+      taken = 0;
+      first = None;
+    })
+started how header harts count highest number bytes counts index harts_is has count_is indexed =
     let sent = has.messages in
     let whole : bytes ≡ capture sent = has.whole ∙ append-nil (capture sent) in
     let turn : AreInTurn (known_harts header) [] sent = subst (λ h. AreInTurn h [] sent) harts_is has.in_turn in
@@ -47,7 +55,7 @@ started header harts count highest number bytes counts index harts_is has count_
       has.ranges,
       whole,
       has.in_turn,
-      starts header sent index turn (subst (λ c. AreIndexed c sent index) counted (indexed sent has.ranges whole)),
+      starts_known how header sent index turn (subst (λ c. AreIndexed c sent index) counted (indexed sent has.ranges whole)),
     )
 
 -- What stands behind a header, or without one, makes SENT whole.

@@ -1,4 +1,4 @@
--- One more message of RECEIVED, by what is kept of all harts.
+-- One more message of RECEIVED, by what is kept of all harts, where payloads are compared by their bytes.
 use Rattle.std.proofs.Common.{◌≡◌, ◌≢◌, ◌⊎◌, inl, inr, ℕ, ◌<◌, ◌≤◌, List, [], ◌∷◌, ◌++◌, Option, Some, None}
 use Rattle.std.proofs.Common.{length, slice_get, refl, sym, ap, subst, ◌∙◌, arith}
 use Rattle.std.specs.List.{list_any}
@@ -8,11 +8,13 @@ use Rattle.std.proofs.lemmas.Option.{slice_get_within}
 use Rattle.message.proofs.AcceptedLemmas.{slice_get-set}
 use Rattle.message.proofs.Elements.{slice_get-some}
 use Rattle.message.specs.declared.message.Message.{Message}
+use Rattle.alike.specs.declared.by.By.{By}
+use Rattle.alike.specs.declared.by.By.TheVariants as by
 use Rattle.auditing.proofs.CountLemmas.{capped_more, strangers-next}
 use Rattle.auditing.proofs.FindingLemmas.{first-next, found_by_past}
 use Rattle.auditing.proofs.OwnMessages.{any_of_hart}
 use Rattle.auditing.proofs.TakingLemmas.{chosen, fate_is, of_its_hart, takes, takes_other}
-use Rattle.auditing.specs.Audits.{Audits, AuditsHart, capped}
+use Rattle.auditing.specs.Audits.{AuditsBytes, AuditsHart, capped}
 use Rattle.auditing.specs.Fates.{fate_of, has_greater, has_number, is_numbered, is_true, true_ones}
 use Rattle.auditing.specs.Findings.{fate_of_finding, finding_by, finding_of, greatest_number}
 use Rattle.auditing.specs.Judged.{strangers_in}
@@ -35,7 +37,7 @@ beyond_end harts hart is = go (cases_lt hart (length harts))
         never : (own : HartLedger) → Some own ≡ None → ⊥
         never own e = cc
 
-module _ (sent received : List Message) (ledger : Ledger) (audits : Audits sent received ledger) (message : Message) where
+module _ (sent received : List Message) (ledger : Ledger) (audits : AuditsBytes sent received ledger) (message : Message) where
   abbrev more : List Message
   more = received ++ message ∷ []
 
@@ -49,23 +51,23 @@ module _ (sent received : List Message) (ledger : Ledger) (audits : Audits sent 
       ∙ ap (list_any (is_numbered message.hart message.number)) (audits.others message.hart (beyond_end ledger.harts message.hart is))))
 
   -- The fate is the one of the definition.
-  pub fate_is_from : fate_from ledger message ≡ fate_of sent received message
+  pub fate_is_from : fate_from by.Bytes ledger message ≡ fate_of sent received message
   fate_is_from = go (slice_get ledger.harts message.hart) refl
     where
       go : (o : Option HartLedger) → slice_get ledger.harts message.hart ≡ o
-          → fate_found o message ≡ fate_of sent received message
+          → fate_found by.Bytes o message ≡ fate_of sent received message
       go None is = stranger is
       go (Some own) is = fate_is sent received message own (audits.each message.hart own is)
 
   -- What is found is what the definition says.
-  pub finding_is_from : finding_from ledger message ≡ finding_of sent received message
+  pub finding_is_from : finding_from by.Bytes ledger message ≡ finding_of sent received message
   finding_is_from = go (slice_get ledger.harts message.hart) refl
     where
       greatest : Option ℕ
       greatest = greatest_number (true_ones sent received) message.hart
 
       go : (o : Option HartLedger) → slice_get ledger.harts message.hart ≡ o
-          → finding_found o message ≡ finding_of sent received message
+          → finding_found by.Bytes o message ≡ finding_of sent received message
       go None is = ap (λ f. finding_by f greatest message.number) (stranger is)
       go (Some own) is =
           let each = audits.each message.hart own is in
@@ -75,22 +77,22 @@ module _ (sent received : List Message) (ledger : Ledger) (audits : Audits sent 
 
   -- What is kept of each hart.
   each_of : (o : Option HartLedger) → slice_get ledger.harts message.hart ≡ o → (hart : ℕ) (own : HartLedger)
-      → slice_get (harts_found ledger.harts message o) hart ≡ Some own → AuditsHart sent more hart own
+      → slice_get (harts_found by.Bytes ledger.harts message o) hart ≡ Some own → AuditsHart sent more hart own
   each_of None found hart own is =
       let within = slice_get_within ledger.harts hart own is in
       let past = beyond_end ledger.harts message.hart found in
       takes_other sent received message hart own (λ same. omega (arith, same, within, past)) (audits.each hart own is)
   each_of (Some its) found hart own is =
       go (slice_get-set ledger.harts message.hart
-      (hart_after its message.number (fate_found (Some its) message)) hart own is)
+      (hart_after its message.number (fate_found by.Bytes (Some its) message)) hart own is)
     where
-      taken : AuditsHart sent more message.hart (hart_after its message.number (fate_found (Some its) message))
+      taken : AuditsHart sent more message.hart (hart_after its message.number (fate_found by.Bytes (Some its) message))
       taken =
           subst (λ f. AuditsHart sent more message.hart (hart_after its message.number f))
           (sym (fate_is sent received message its (audits.each message.hart its found)))
           (takes sent received message its (audits.each message.hart its found))
 
-      go : ((message.hart ≡ hart) × (own ≡ hart_after its message.number (fate_found (Some its) message)))
+      go : ((message.hart ≡ hart) × (own ≡ hart_after its message.number (fate_found by.Bytes (Some its) message)))
           ⊎ ((message.hart ≢ hart) × (slice_get ledger.harts hart ≡ Some own)) → AuditsHart sent more hart own
       go (inl here) =
           subst (λ h. AuditsHart sent more h own) here.0
@@ -98,19 +100,19 @@ module _ (sent received : List Message) (ledger : Ledger) (audits : Audits sent 
       go (inr there) = takes_other sent received message hart own there.0 (audits.each hart own there.1)
 
   -- There are as many harts as before.
-  pub as_many : (o : Option HartLedger) → length (harts_found ledger.harts message o) ≡ length ledger.harts
+  pub as_many : (o : Option HartLedger) → length (harts_found by.Bytes ledger.harts message o) ≡ length ledger.harts
   as_many None = refl
   as_many (Some own) = length-set ledger.harts message.hart _
 
   -- What is kept after the message is what the messages so far make it.
-  pub takes_all : Audits sent more (ledger_after ledger message)
+  pub takes_all : AuditsBytes sent more (ledger_after by.Bytes ledger message)
   takes_all =
       let o = slice_get ledger.harts message.hart in
       record {
         count = as_many o ∙ audits.count;
         each = each_of o refl;
         others = λ hart past. let count = as_many o in audits.others hart (omega (arith, past, count));
-        strangers = ap (λ n. strangers_after n (fate_from ledger message)) audits.strangers
+        strangers = ap (λ n. strangers_after n (fate_from by.Bytes ledger message)) audits.strangers
             ∙ ap (strangers_after (capped (strangers_in sent received))) fate_is_from
             ∙ strangers-next sent received message (fate_of sent received message) refl;
         taken = ap one_more audits.taken
@@ -127,10 +129,10 @@ fate_in_at fate.Repeat past number = refl
 fate_in_at fate.Late past number = refl
 fate_in_at fate.InOrder past number = refl
 
-pub fate_in_found : (ledger : Ledger) (message : Message)
-    → fate_of_finding (finding_from ledger message) ≡ fate_from ledger message
-fate_in_found ledger message = go (slice_get ledger.harts message.hart)
+pub fate_in_found : (how : By) (ledger : Ledger) (message : Message)
+    → fate_of_finding (finding_from how ledger message) ≡ fate_from how ledger message
+fate_in_found how ledger message = go (slice_get ledger.harts message.hart)
   where
-    go : (o : Option HartLedger) → fate_of_finding (finding_found o message) ≡ fate_found o message
+    go : (o : Option HartLedger) → fate_of_finding (finding_found how o message) ≡ fate_found how o message
     go None = refl
-    go (Some own) = fate_in_at (fate_in own message.number message.payload) own.past message.number
+    go (Some own) = fate_in_at (fate_in how own message.number message.payload) own.past message.number

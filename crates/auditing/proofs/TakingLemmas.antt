@@ -9,6 +9,7 @@ use Rattle.std.proofs.lemmas.Bool.{and_from, and_parts, eq-eqb, eqb-true, le-ltb
 use Rattle.std.proofs.lemmas.Bool.{true≢false}
 use Rattle.message.specs.OfHart.{of_hart}
 use Rattle.message.specs.declared.message.Message.{Message}
+use Rattle.alike.specs.declared.by.By.TheVariants as by
 use Rattle.auditing.proofs.Appending.{any-next, any-other, any_weaker, or_false, true_ones-same}
 use Rattle.auditing.proofs.CountLemmas.{counts-next, counts-other}
 use Rattle.auditing.proofs.FindingLemmas.{greatest_above, latest-other, latest-own, past-false, past-other, past-true}
@@ -81,11 +82,11 @@ module _ (sent received : List Message) (message : Message) (own : HartLedger)
       is)
 
   -- The fate is the one of the definition.
-  pub fate_is : fate_in own number message.payload ≡ fate_of sent received message
+  pub fate_is : fate_in by.Bytes own number message.payload ≡ fate_of sent received message
   fate_is = go found refl
     where
       go : (o : Option (List ℕ)) → found ≡ o
-          → fate_by own number message.payload o ≡ fate_of sent received message
+          → fate_by by.Bytes own number message.payload o ≡ fate_of sent received message
       go None is = sym (
           ap (λ b. chosen b (is_true sent message) (has_number (true_ones sent received) hart number)
           (has_greater (true_ones sent received) hart number)) (known ∙ ap is_some is))

@@ -9,9 +9,10 @@ use Rattle.message.specs.Numbered.{messages_from}
 use Rattle.message.specs.OfHart.{of_hart}
 use Rattle.message.specs.declared.header.Header.{Header}
 use Rattle.message.specs.declared.message.Message.{Message}
+use Rattle.alike.specs.declared.by.By.{By}
 use Rattle.auditing.proofs.OwnMessages.{flags}
 use Rattle.auditing.proofs.SentLemmas.{none_above, none_beyond, numbered}
-use Rattle.auditing.specs.Audits.{Audits, AuditsHart, capped}
+use Rattle.auditing.specs.Audits.{AuditsBytes, AuditsHart, capped}
 use Rattle.auditing.specs.Fates.{has_number, true_ones}
 use Rattle.auditing.specs.Judged.{Judged, fates_counted, is_fate, judged, judged_behind, strangers_in}
 use Rattle.auditing.specs.Ledger.{HartLedger}
@@ -47,10 +48,10 @@ others_none None sent turn hart beyond = none_above hart sent beyond
 others_none (Some header) sent turn hart beyond = none_beyond header.harts hart [] sent turn beyond
 
 -- What is kept of all harts then.
-pub starts : (header : Option Header) (sent : List Message) (index : List HartLedger)
+pub starts : (how : By) (header : Option Header) (sent : List Message) (index : List HartLedger)
     → AreInTurn (known_harts header) [] sent → AreIndexed (harts_of header sent) sent index
-    → Audits sent [] (record { header = header; harts = index; strangers = 0; taken = 0; first = None })
-starts header sent index turn indexed = record {
+    → AuditsBytes sent [] (record { by = how; header = header; harts = index; strangers = 0; taken = 0; first = None })
+starts how header sent index turn indexed = record {
   count = indexed.count;
   each = λ hart own is. subst (AuditsHart sent [] hart) (sym (indexed.each hart own is))
       (starts_hart (known_harts header) hart sent turn);

@@ -6,7 +6,8 @@ use Rattle.message.specs.declared.message.Message.{Message}
 use Rattle.auditing.specs.Fates.{has_greater, has_number, true_ones}
 use Rattle.auditing.specs.Findings.{first_found, greatest_number, latest}
 use Rattle.auditing.specs.Judged.{fates_counted, strangers_in}
-use Rattle.auditing.specs.Ledger.{HartLedger, Ledger}
+use Rattle.auditing.specs.Known.{known_all}
+use Rattle.auditing.specs.Ledger.{HartLedger, Ledger, known_ledger}
 use Rattle.auditing.specs.Sent.{harts_of}
 use Rattle.auditing.specs.declared.fate.Fate.TheVariants as fate
 use Rattle.auditing.specs.declared.tally.Counts.{Counts}
@@ -48,10 +49,10 @@ pub record AuditsHart (sent received : List Message) (hart : ℕ) (own : HartLed
   pub latest : own.latest ≡ latest sent received hart
   pub counts : own.counts ≡ counts_of sent received hart
 
--- An audit of SENT that took the messages of RECEIVED keeps this: of each hart what its messages make it; how many
+-- An audit of SENT that took the messages of RECEIVED, and that compares payloads by their bytes, keeps this: of each hart what its messages make it; how many
 -- strangers came; how many messages came; and the place of the first that is not in order or skips a number, if there is
 -- one. The harts are those of SENT; it has no message of another.
-pub record Audits (sent received : List Message) (ledger : Ledger) : Type 0 where
+pub record AuditsBytes (sent received : List Message) (ledger : Ledger) : Type 0 where
   pub count : length ledger.harts ≡ harts_of ledger.header sent
   pub each : (hart : ℕ) (own : HartLedger) → slice_get ledger.harts hart ≡ Some own
       → AuditsHart sent received hart own
@@ -59,3 +60,12 @@ pub record Audits (sent received : List Message) (ledger : Ledger) : Type 0 wher
   pub strangers : ledger.strangers ≡ capped (strangers_in sent received)
   pub taken : ledger.taken ≡ capped (length received)
   pub first : ledger.first ≡ capped_place (first_found sent received)
+
+-- An audit of SENT that took the messages of RECEIVED keeps the payloads of SENT, of as many harts as SENT has. Where each
+-- payload is what it is known by, the rest is what such an audit by bytes keeps.
+pub record Audits (sent received : List Message) (ledger : Ledger) : Type 0 where
+  pub payloads : (hart : ℕ) (own : HartLedger) → slice_get ledger.harts hart ≡ Some own
+      → of_hart hart sent ≡ messages_from hart 0 own.payloads
+  pub others : (hart : ℕ) → length ledger.harts ≤ hart → of_hart hart sent ≡ []
+  pub count : length ledger.harts ≡ harts_of ledger.header sent
+  pub known : AuditsBytes (known_all ledger.by sent) (known_all ledger.by received) (known_ledger ledger)

@@ -1,5 +1,7 @@
 -- What an audit keeps.
-use Rattle.std.specs.Prelude.{ℕ, Bool, List, Option}
+use Rattle.std.specs.Prelude.{ℕ, Bool, List, Option, map}
+use Rattle.alike.specs.Same.{known_by}
+use Rattle.alike.specs.declared.by.By.{By}
 use Rattle.message.specs.declared.header.Header.{Header}
 use Rattle.auditing.specs.declared.tally.Counts.{Counts}
 
@@ -12,11 +14,20 @@ pub record HartLedger : Type 0 where
   pub latest : ℕ
   pub counts : Counts
 
--- SENT's header, if it has one; what is kept of each hart; how many strangers came; how many messages came; and the
+-- By what payloads are compared; SENT's header, if it has one; what is kept of each hart; how many strangers came; how many messages came; and the
 -- place of the first that was not in order or skipped a number, if there was one.
 pub record Ledger : Type 0 where
+  pub by : By
   pub header : Option Header
   pub harts : List HartLedger
   pub strangers : ℕ
   pub taken : ℕ
   pub first : Option ℕ
+
+-- What is kept of a hart, where each payload is what it is known by.
+abbrev pub known_own : By → HartLedger → HartLedger
+known_own how own = record own { payloads = map (known_by how) own.payloads }
+
+-- What an audit keeps, where each payload is what it is known by.
+abbrev pub known_ledger : Ledger → Ledger
+known_ledger ledger = record ledger { harts = map (known_own ledger.by) ledger.harts }

@@ -1,3 +1,4 @@
+pub mod Known
 pub mod Fates
 pub mod FateText
 pub mod Judged
@@ -8,6 +9,7 @@ pub mod Tallies
 pub mod HartRows
 pub mod Ledger
 pub mod Audits
+pub mod Seen
 pub mod Sent
 pub mod Untouched
 pub mod DecodedAgain

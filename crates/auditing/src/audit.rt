@@ -10,12 +10,14 @@ ghost use Rattle.auditing.specs.Fates.{fate_of};
 ghost use Rattle.auditing.specs.Findings.{finding_of, first_found};
 ghost use Rattle.auditing.specs.HartRows.{row_of};
 ghost use Rattle.auditing.specs.Judged.{strangers_in};
+ghost use Rattle.auditing.specs.Known.{known_all, known_one};
 ghost use Rattle.auditing.specs.Ledger.{Ledger};
 ghost use Rattle.auditing.specs.Losing.{lost_runs};
 ghost use Rattle.auditing.specs.SentPayload.{payload_sent};
 ghost use Rattle.auditing.specs.Sent.{AreInTurn, IsSent, IsSentFault, known_harts};
 ghost use Rattle.auditing.specs.Tallies.{tally_of};
 ghost use Rattle.auditing.specs.steps.Indexing.{IsCountFault, harts_by};
+ghost use Rattle.auditing.specs.steps.Seeing.{sight_in};
 ghost use Rattle.auditing.specs.steps.Taking.{finding_from, first_after, ledger_after};
 
 use crate::fate::Fate;
@@ -27,7 +29,9 @@ use crate::judging::count_messages;
 use crate::lost::LostRuns;
 use crate::row::HartRow;
 use crate::tally::Tally;
+use alike::By;
 use message::{Header, MOST_HARTS, Message, Messages};
+use resuming::{Sent, Sight};
 use std::alloc::{Allocator, Global};
 use std::marker::Model;
 
@@ -35,8 +39,12 @@ use std::marker::Model;
 const HEADER: usize = 16;
 
 /// What became of the messages of SENT, as far as the messages of RECEIVED were taken.
+///
+/// As a [`Sent`] it knows the messages of SENT. Taking messages does not change that.
 #[derive(Drop)]
 pub struct Audit<'a, A: Allocator = Global> {
+    /// By what payloads are compared.
+    by: By,
     /// The header of SENT.
     header: Option<Header>,
     /// What is kept of each hart of SENT.
@@ -53,6 +61,7 @@ impl<'a, A: Allocator> Model for Audit<'a, A> {
     ghost Value = { Ledger };
 
     ghost view = { λ a. record {
+      by = a.by;
       header = a.header;
       harts = a.harts.items;
       strangers = a.strangers;
@@ -67,33 +76,52 @@ impl<'a, A: Allocator + Copy> Audit<'a, A> {
     /// SENT is complete if the hart of each message is known, and the number of each is the next one of its hart,
     /// counted from 0. The harts are those that the header counts, or without a header 0 to the highest that has a
     /// message, which is below 1,024. The fault is the header, where it is cut short or bad, or else the first message
-    /// that is not so. A stranger is tested before a repeat, and a repeat before a gap. Payloads are not unpacked.
+    /// that is not so. A stranger is tested before a repeat, and a repeat before a gap. Payloads are compared by their
+    /// bytes, and never unpacked.
     ///
     /// No other fault comes but [`SentFault::Memory`]. At most 17 bytes are taken for each message, and 150 for each
     /// hart that may come.
     pub fn new(alloc: A, bytes: &'a [u8]) -> Result<Audit<'a, A>, SentFault>
         ensures audits { IfOk result (λ audit. (sent : List AnyMessage) × IsSent bytes.entry.now audit.header sent
             × Audits sent [] audit) }
+        ensures by { IfOk result (λ audit. audit.by ≡ By.Bytes) }
         ensures fault { IfErr result (IsSentFault bytes.entry.now) }
         // If SENT is complete, the only fault is that an allocation failed.
         ensures memory { (header : Option AnyHeader) (sent : List AnyMessage) → IsSent bytes.entry.now header sent
             → IfErr result (λ fault. fault ≡ SentFault.Memory) }
     {
-        Audit::by_header(alloc, bytes)
+        Audit::with(alloc, bytes, By::Bytes)
+    }
+
+    /// As [`Audit::new`], where payloads are compared by these.
+    ///
+    /// By packets a message is true where its payload unpacks to the packet that was sent; where what was sent does not
+    /// unpack, where its bytes are the same. SENT is not complete for that: its payloads may be any.
+    pub fn with(alloc: A, bytes: &'a [u8], by: By) -> Result<Audit<'a, A>, SentFault>
+        ensures audits { IfOk result (λ audit. (sent : List AnyMessage) × IsSent bytes.entry.now audit.header sent
+            × Audits sent [] audit) }
+        ensures by { IfOk result (λ audit. audit.by ≡ by) }
+        ensures fault { IfErr result (IsSentFault bytes.entry.now) }
+        // If SENT is complete, the only fault is that an allocation failed.
+        ensures memory { (header : Option AnyHeader) (sent : List AnyMessage) → IsSent bytes.entry.now header sent
+            → IfErr result (λ fault. fault ≡ SentFault.Memory) }
+    {
+        Audit::by_header(alloc, bytes, by)
     }
 
     /// As [`Audit::new`], by the header.
-    fn by_header(alloc: A, bytes: &'a [u8]) -> Result<Audit<'a, A>, SentFault>
+    fn by_header(alloc: A, bytes: &'a [u8], by: By) -> Result<Audit<'a, A>, SentFault>
         ensures audits { IfOk result (λ audit. (sent : List AnyMessage) × IsSent bytes.entry.now audit.header sent
             × Audits sent [] audit) }
+        ensures by { IfOk result (λ audit. audit.by ≡ by) }
         ensures fault { IfErr result (IsSentFault bytes.entry.now) }
     {
         let mut messages = Messages::new(bytes);
         match messages.header() {
             Ok(Some(header)) => {
-                Audit::of_messages(alloc, Some(header), header.harts, &bytes[HEADER..])
+                Audit::of_messages(alloc, Some(header), header.harts, &bytes[HEADER..], by)
             }
-            Ok(None) => Audit::of_messages(alloc, None, MOST_HARTS, bytes),
+            Ok(None) => Audit::of_messages(alloc, None, MOST_HARTS, bytes, by),
             Err(why) => Err(SentFault::Unread(0, why)),
         }
     }
@@ -105,8 +133,10 @@ impl<'a, A: Allocator + Copy> Audit<'a, A> {
         header: Option<Header>,
         harts: u16,
         bytes: &'a [u8],
+        by: By,
     ) -> Result<Audit<'a, A>, SentFault>
         requires { harts ≡ known_harts header }
+        ensures by { IfOk result (λ audit. audit.by ≡ by) }
         ensures audits { IfOk result (λ audit. (audit.header ≡ header)
             × ((sent : List AnyMessage) × All IsMessage sent × (bytes.entry.now ≡ capture sent)
             × AreInTurn harts [] sent × Audits sent [] audit)) }
@@ -116,6 +146,7 @@ impl<'a, A: Allocator + Copy> Audit<'a, A> {
         let count = count_of_harts(header, counted.highest);
         let index = index_messages(alloc, counted.counts.as_slice(), count, bytes)?;
         Ok(Audit {
+            by,
             header,
             harts: index,
             strangers: 0,
@@ -126,6 +157,13 @@ impl<'a, A: Allocator + Copy> Audit<'a, A> {
 }
 
 impl<'a, A: Allocator> Audit<'a, A> {
+    /// By what payloads are compared.
+    pub fn by(&self) -> By
+        ensures { result ≡ self.now.by }
+    {
+        self.by
+    }
+
     /// The header of SENT, if it has one.
     pub fn header(&self) -> Option<Header>
         ensures { result ≡ self.now.header }
@@ -143,9 +181,11 @@ impl<'a, A: Allocator> Audit<'a, A> {
     /// Takes the next message of RECEIVED, and returns what became of it. Takes no memory.
     pub fn take(&mut self, message: &Message) -> Fate
         ensures fate { (sent received : List AnyMessage) → Audits sent received self.old
-            → result ≡ fate_of sent received message.now }
+            → result ≡ fate_of (known_all self.old.by sent) (known_all self.old.by received)
+            (known_one self.old.by message.now) }
         ensures taken { (sent received : List AnyMessage) → Audits sent received self.old
             → Audits sent (received ++ message.now ∷ []) self.new }
+        ensures by { self.new.by ≡ self.old.by }
         ensures header { self.new.header ≡ self.old.header }
         ensures harts { length self.new.harts ≡ length self.old.harts }
     {
@@ -156,9 +196,11 @@ impl<'a, A: Allocator> Audit<'a, A> {
     /// numbers it skips or by how much it is late. Takes no memory.
     pub fn examine(&mut self, message: &Message) -> Finding
         ensures finding { (sent received : List AnyMessage) → Audits sent received self.old
-            → result ≡ finding_of sent received message.now }
+            → result ≡ finding_of (known_all self.old.by sent) (known_all self.old.by received)
+            (known_one self.old.by message.now) }
         ensures taken { (sent received : List AnyMessage) → Audits sent received self.old
             → Audits sent (received ++ message.now ∷ []) self.new }
+        ensures by { self.new.by ≡ self.old.by }
         ensures header { self.new.header ≡ self.old.header }
         ensures harts { length self.new.harts ≡ length self.old.harts }
     {
@@ -167,11 +209,11 @@ impl<'a, A: Allocator> Audit<'a, A> {
 
     /// As [`Audit::examine`], by what is kept.
     fn take_by_hart(&mut self, message: &Message) -> Finding
-        ensures finding { result ≡ finding_from self.old message.now }
-        ensures after { self.new ≡ ledger_after self.old message.now }
+        ensures finding { result ≡ finding_from self.old.by self.old message.now }
+        ensures after { self.new ≡ ledger_after self.old.by self.old message.now }
     {
         let finding = match self.harts.get_mut(usize::from(message.hart)) {
-            Some(hart) => hart.take(message.number, message.payload.bytes()),
+            Some(hart) => hart.take(message.number, message.payload.bytes(), self.by),
             None => Finding::Stranger,
         };
         if let Finding::Stranger = finding {
@@ -197,7 +239,7 @@ impl<'a, A: Allocator> Audit<'a, A> {
     pub fn tally(&self, hart: usize) -> Tally
         requires known { hart < length self.now.harts }
         ensures { (sent received : List AnyMessage) → Audits sent received self.now → length received < 2 ^ 64
-            → result ≡ tally_of sent received hart }
+            → result ≡ tally_of (known_all self.now.by sent) (known_all self.now.by received) hart }
     {
         let own = &self.harts[hart];
         own.tally()
@@ -207,7 +249,7 @@ impl<'a, A: Allocator> Audit<'a, A> {
     pub fn lost(&self, hart: usize) -> LostRuns<'_>
         requires known { hart < length self.now.harts }
         ensures { (sent received : List AnyMessage) → Audits sent received self.now
-            → result ≡ lost_runs sent received hart }
+            → result ≡ lost_runs (known_all self.now.by sent) (known_all self.now.by received) hart }
     {
         let own = &self.harts[hart];
         LostRuns::new(own.came.as_slice())
@@ -218,7 +260,7 @@ impl<'a, A: Allocator> Audit<'a, A> {
     pub fn row(&self, hart: usize) -> HartRow
         requires known { hart < length self.now.harts }
         ensures { (sent received : List AnyMessage) → Audits sent received self.now → length received < 2 ^ 64
-            → result ≡ row_of sent received hart }
+            → result ≡ row_of (known_all self.now.by sent) (known_all self.now.by received) hart }
     {
         let own = &self.harts[hart];
         own.row()
@@ -228,7 +270,7 @@ impl<'a, A: Allocator> Audit<'a, A> {
     /// there is none. The place is not above 2^64 - 1.
     pub fn first(&self) -> Option<u64>
         ensures { (sent received : List AnyMessage) → Audits sent received self.now → length received < 2 ^ 64
-            → result ≡ first_found sent received }
+            → result ≡ first_found (known_all self.now.by sent) (known_all self.now.by received) }
     {
         self.first
     }
@@ -236,9 +278,20 @@ impl<'a, A: Allocator> Audit<'a, A> {
     /// How many strangers came, of whatever hart. The count is not above 2^64 - 1.
     pub fn strangers(&self) -> u64
         ensures { (sent received : List AnyMessage) → Audits sent received self.now → length received < 2 ^ 64
-            → result ≡ strangers_in sent received }
+            → result ≡ strangers_in (known_all self.now.by sent) (known_all self.now.by received) }
     {
         self.strangers
+    }
+}
+
+impl<'a, A: Allocator> Sent for Audit<'a, A> {
+    ghost sees = { λ audit message. sight_in audit message };
+
+    fn sight(&self, message: &Message) -> Sight {
+        match self.harts.get(usize::from(message.hart)) {
+            Some(own) => own.sight(message.number, message.payload.bytes(), self.by),
+            None => Sight::Strange,
+        }
     }
 }
 

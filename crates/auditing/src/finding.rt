@@ -2,7 +2,7 @@
 
 ghost use Rattle.std.specs.Prelude.{◌≡◌};
 ghost use Rattle.auditing.specs.Findings.{fate_of_finding, is_plain};
-ghost use Rattle.auditing.specs.steps.Taking.{finding_at};
+ghost use Rattle.auditing.specs.steps.Taking.{finding_at, lateness_at};
 
 use crate::fate::Fate;
 
@@ -63,10 +63,18 @@ pub(crate) fn finding_at(fate: Fate, past: u64, number: u64) -> Finding
         Fate::Changed => Finding::Changed,
         Fate::Repeat => Finding::Repeat,
         Fate::Late => Finding::Late {
-            by: past.saturating_sub(1).saturating_sub(number),
+            by: lateness(past, number),
         },
         Fate::InOrder => Finding::InOrder {
             skips: number.saturating_sub(past),
         },
     }
+}
+
+/// By how much a message with this number is late, where `past` is the number after the greatest true one of its hart
+/// before it.
+pub(crate) fn lateness(past: u64, number: u64) -> u64
+    ensures { result ≡ lateness_at past number }
+{
+    past.saturating_sub(1).saturating_sub(number)
 }

@@ -2,14 +2,17 @@
 
 ghost use Rattle.std.specs.Prelude.{◌≡◌, [], IfOk, OnOk, length, map, option_map, slice_get};
 ghost use Rattle.auditing.specs.Ledger.{HartLedger};
+ghost use Rattle.auditing.specs.Seen.{sight_by};
 ghost use Rattle.auditing.specs.steps.Indexing.{fresh, longer};
 ghost use Rattle.auditing.specs.steps.Taking.{counted, fate_in, finding_in, hart_after, row_in, tally_in};
 
 use crate::fate::Fate;
-use crate::finding::{Finding, finding_at};
+use crate::finding::{Finding, finding_at, lateness};
 use crate::lost::run_lengths;
 use crate::row::HartRow;
 use crate::tally::{Counts, Tally};
+use alike::{By, same};
+use resuming::Sight;
 use std::alloc::{AllocError, Allocator};
 use std::marker::Model;
 
@@ -68,15 +71,15 @@ impl<'a, A: Allocator> HartAudit<'a, A> {
         Ok(())
     }
 
-    /// The fate of the hart's message with this number and this payload.
-    fn fate(&self, number: u64, payload: &[u8]) -> Fate
-        ensures { result ≡ fate_in self.now number payload.now }
+    /// The fate of the hart's message with this number and this payload, by what payloads are compared by.
+    fn fate(&self, number: u64, payload: &[u8], by: By) -> Fate
+        ensures { result ≡ fate_in by self.now number payload.now }
     {
         let place = number as usize;
         match self.payloads.get(place) {
             None => Fate::Stranger,
             Some(own) => {
-                if *payload != **own {
+                if !same(own, payload, by) {
                     Fate::Changed
                 } else if self.came[place] {
                     Fate::Repeat
@@ -90,19 +93,18 @@ impl<'a, A: Allocator> HartAudit<'a, A> {
     }
 
     /// Takes the hart's message with this number and this payload, and returns what is found of it.
-    pub(crate) fn take(&mut self, number: u64, payload: &[u8]) -> Finding
-        ensures finding { result ≡ finding_in self.old number payload.now }
-        ensures after { self.new ≡ hart_after self.old number (fate_in self.old number payload.now) }
+    pub(crate) fn take(&mut self, number: u64, payload: &[u8], by: By) -> Finding
+        ensures finding { result ≡ finding_in by self.old number payload.now }
+        ensures after { self.new ≡ hart_after self.old number (fate_in by self.old number payload.now) }
     {
-        let fate = self.fate(number, payload);
+        let fate = self.fate(number, payload, by);
         let place = number as usize;
         let past = self.past;
         self.counts = counted(self.counts, fate);
         match fate {
             Fate::Late => {
                 self.came[place] = true;
-                let by = past.saturating_sub(1).saturating_sub(number);
-                self.latest = self.latest.max(by);
+                self.latest = self.latest.max(lateness(past, number));
             }
             Fate::InOrder => {
                 self.came[place] = true;
@@ -111,6 +113,22 @@ impl<'a, A: Allocator> HartAudit<'a, A> {
             _ => {}
         }
         finding_at(fate, past, number)
+    }
+
+    /// What is known of the hart's message with this number and this payload.
+    pub(crate) fn sight(&self, number: u64, payload: &[u8], by: By) -> Sight
+        ensures { result ≡ sight_by by (slice_get self.now.payloads number) payload.now }
+    {
+        match self.payloads.get(number as usize) {
+            None => Sight::Strange,
+            Some(own) => {
+                if same(own, payload, by) {
+                    Sight::Same
+                } else {
+                    Sight::Numbered
+                }
+            }
+        }
     }
 
     /// The payload that SENT has with this number, if it has one.

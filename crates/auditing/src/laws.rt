@@ -14,7 +14,13 @@ ghost use Rattle.message.specs.declared.header.Header.{Header};
 ghost use Rattle.message.specs.declared.message.Message.{Message};
 ghost use Rattle.receiver.specs.NotReceived.{IsNotReceived};
 ghost use Rattle.receiver.specs.declared.fault.ReceiveFault.{ReceiveFault};
+ghost use Rattle.alike.specs.declared.by.By.{By};
 ghost use Rattle.auditing.specs.declared.fate.Fate.TheVariants as Fate;
+ghost use Rattle.auditing.specs.Audits.{Audits};
+ghost use Rattle.auditing.specs.Known.{known_all};
+ghost use Rattle.auditing.specs.Ledger.{Ledger};
+ghost use Rattle.auditing.specs.Seen.{sight_of};
+ghost use Rattle.auditing.specs.steps.Seeing.{sight_in};
 ghost use Rattle.auditing.specs.Findings.{skips_in};
 ghost use Rattle.auditing.specs.HartRows.{lost_below, row_of};
 ghost use Rattle.auditing.specs.Judged.{fates_counted};
@@ -61,14 +67,29 @@ pub fn skips_add_up()
 /// RECEIVED decodes to the same logs and flags as SENT, without a fault, unless an allocation fails. This holds if SENT
 /// decodes without a fault, every hart of SENT is whole in RECEIVED, RECEIVED has no stranger and is read to its end,
 /// and it has SENT's header or neither has one. The messages of the harts may be mixed in any way. Both are decoded
-/// with the same count of harts.
+/// with the same count of harts. It holds where payloads are compared by their bytes, and where they are compared by
+/// their packets.
 pub fn whole_decodes_again()
-    ensures { (words : Words) (harts : ℕ) (sent received : List ℕ) (header : Option Header)
+    ensures bytes { (words : Words) (harts : ℕ) (sent received : List ℕ) (header : Option Header)
         (messages others : List Message) (lists again : List (List Event)) (closed flags : List Bool)
         (stop : Option (ℕ × CaptureFault)) → IsProgram words
         → IsSent sent header messages → IsWhole received header others → AreAllWhole header messages others
         → IsDecoded words harts sent lists closed None → IsDecoded words harts received again flags stop
         → AreDecodedAgain lists closed again flags stop }
+    ensures known { (how : By) (words : Words) (harts : ℕ) (sent received : List ℕ) (header : Option Header)
+        (messages others : List Message) (lists again : List (List Event)) (closed flags : List Bool)
+        (stop : Option (ℕ × CaptureFault)) → IsProgram words
+        → IsSent sent header messages → IsWhole received header others
+        → AreAllWhole header (known_all how messages) (known_all how others)
+        → IsDecoded words harts sent lists closed None → IsDecoded words harts received again flags stop
+        → AreDecodedAgain lists closed again flags stop }
+{}
+
+/// What an audit knows of a message is what SENT has: whether it has the message's hart and number, and if so, whether
+/// its payload is the one that was sent. It does not depend on the messages that came.
+pub fn sights_are_of_sent()
+    ensures { (sent received : List Message) (ledger : Ledger) (message : Message) → Audits sent received ledger
+        → sight_in ledger message ≡ sight_of ledger.by sent message }
 {}
 
 /// What a demultiplexer answers to a message depends on the earlier messages of its own hart alone. The same holds of

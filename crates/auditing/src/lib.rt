@@ -7,7 +7,8 @@
 //! messages of a hart, [`Audit::lost`] the numbers of those that were lost, and [`Audit::first`] where the first fault
 //! shows.
 //!
-//! Payloads are compared as bytes and never unpacked. Only [`Audit::new`] takes memory.
+//! Payloads are compared by their bytes and never unpacked, or with [`Audit::with`] by the packets that they unpack to.
+//! Only [`Audit::new`] and [`Audit::with`] take memory.
 #![tactic(auto)]
 
 mod audit;
@@ -22,12 +23,14 @@ mod lost;
 mod row;
 mod tally;
 
+pub use alike::By;
 pub use audit::Audit;
 pub use fate::Fate;
 pub use fault::SentFault;
 pub use finding::Finding;
 pub use laws::{
-    harts_are_received_alone, rows_add_up, skips_add_up, whole_decodes_again, whole_is_untouched,
+    harts_are_received_alone, rows_add_up, sights_are_of_sent, skips_add_up, whole_decodes_again,
+    whole_is_untouched,
 };
 pub use lost::{Lost, LostRuns};
 pub use row::HartRow;

@@ -6,63 +6,77 @@ use Rattle.std.proofs.lemmas.List.{drop_more, length-map, length-take-le, map-ap
 use Rattle.std.specs.Io.KnownBytes.{Appends}
 use Rattle.output.specs.Begun.{AppendsBeginning}
 use Rattle.output.proofs.Beginnings.{begun_between}
-use Rattle.capture_commands.specs.EachHart.{each_hart, hart_line}
+use Rattle.capture_commands.specs.EachHart.{each_hart, hart_line, numbered_harts}
 
-module _ {X : Type 0} (text : X → List ℕ) where
+module _ {X : Type 0} (text : ℕ → X → List ℕ) where
   -- The texts of harts, and of more harts.
-  each_hart-append : (hart : ℕ) (harts more : List X)
-      → each_hart text hart (harts ++ more) ≡ each_hart text hart harts ++ each_hart text (hart + length harts) more
-  each_hart-append hart [] more = ap (λ h. each_hart text h more) (omega arith)
-  each_hart-append hart (own ∷ harts) more =
-      let first = hart_line hart ++ text own in
-      ap (λ l. first ++ l) (each_hart-append (hart + 1) harts more)
-      ∙ sym (append_assoc first (each_hart text (hart + 1) harts) (each_hart text (hart + 1 + length harts) more))
-      ∙ ap (λ h. (first ++ each_hart text (hart + 1) harts) ++ each_hart text h more) (omega arith)
+  numbered-append : (hart : ℕ) (harts more : List X)
+      → numbered_harts text hart (harts ++ more) ≡ numbered_harts text hart harts ++ numbered_harts text (hart + length harts) more
+  numbered-append hart [] more = ap (λ h. numbered_harts text h more) (omega arith)
+  numbered-append hart (own ∷ harts) more =
+      let first = hart_line hart ++ text hart own in
+      ap (λ l. first ++ l) (numbered-append (hart + 1) harts more)
+      ∙ sym (append_assoc first (numbered_harts text (hart + 1) harts) (numbered_harts text (hart + 1 + length harts) more))
+      ∙ ap (λ h. (first ++ numbered_harts text (hart + 1) harts) ++ numbered_harts text h more) (omega arith)
 
   -- The text of one hart more.
-  each_hart-snoc : (hart : ℕ) (harts : List X) (own : X) → each_hart text hart (harts ++ own ∷ [])
-      ≡ each_hart text hart harts ++ (hart_line (hart + length harts) ++ text own)
-  each_hart-snoc hart harts own =
-      each_hart-append hart harts (own ∷ [])
-      ∙ ap (λ l. each_hart text hart harts ++ l) (append-nil (hart_line (hart + length harts) ++ text own))
+  numbered-snoc : (hart : ℕ) (harts : List X) (own : X) → numbered_harts text hart (harts ++ own ∷ [])
+      ≡ numbered_harts text hart harts ++ (hart_line (hart + length harts) ++ text (hart + length harts) own)
+  numbered-snoc hart harts own =
+      numbered-append hart harts (own ∷ [])
+      ∙ ap (λ l. numbered_harts text hart harts ++ l) (append-nil (hart_line (hart + length harts) ++ text (hart + length harts) own))
 
   module _ {R : Type 0} (f : R → X) (lists : List R) (i : ℕ) (list : R) (within : i < length lists)
       (is : list ≡ get_or lists i list) where
     -- A hart's line and its text were written behind those of the harts before.
-    pub hart_written : (old mid line new : Option (List ℕ))
-        → Appends old mid (each_hart text 0 (map f (take i lists)))
-        → Appends mid line (hart_line i) → Appends line new (text (f list))
-        → Appends old new (each_hart text 0 (map f (take (i + 1) lists)))
-    hart_written old mid line new before head own =
+    pub numbered_written : (old mid line new : Option (List ℕ))
+        → Appends old mid (numbered_harts text 0 (map f (take i lists)))
+        → Appends mid line (hart_line i) → Appends line new (text i (f list))
+        → Appends old new (numbered_harts text 0 (map f (take (i + 1) lists)))
+    numbered_written old mid line new before head own =
         let front = map f (take i lists) in
         let count : length front ≡ i = length-map (take i lists) f ∙ length-take-le i lists (omega (arith, within)) in
-        let more : each_hart text 0 (map f (take (i + 1) lists))
-        ≡ each_hart text 0 front ++ (hart_line i ++ text (f list)) =
-        ap (λ l. each_hart text 0 (map f l)) (take_more lists i list within ∙ ap (λ r. take i lists ++ r ∷ []) (sym is))
-        ∙ ap (each_hart text 0) (map-append f (take i lists) (list ∷ []))
-        ∙ each_hart-snoc 0 front (f list)
-        ∙ ap (λ h. each_hart text 0 front ++ (hart_line h ++ text (f list))) (omega (arith, count)) in
+        let more : numbered_harts text 0 (map f (take (i + 1) lists))
+        ≡ numbered_harts text 0 front ++ (hart_line i ++ text i (f list)) =
+        ap (λ l. numbered_harts text 0 (map f l)) (take_more lists i list within ∙ ap (λ r. take i lists ++ r ∷ []) (sym is))
+        ∙ ap (numbered_harts text 0) (map-append f (take i lists) (list ∷ []))
+        ∙ numbered-snoc 0 front (f list)
+        ∙ ap (λ h. numbered_harts text 0 front ++ (hart_line h ++ text h (f list))) (omega (arith, count)) in
         subst (Appends old new) (sym more)
-        (Appends-trans old mid new (each_hart text 0 front) (hart_line i ++ text (f list)) before
+        (Appends-trans old mid new (numbered_harts text 0 front) (hart_line i ++ text i (f list)) before
         (Appends-trans mid line new _ _ head own))
 
     -- A beginning of a hart's line and text was written behind the texts of the harts before.
-    pub hart_begun : (old mid new : Option (List ℕ)) → Appends old mid (each_hart text 0 (map f (take i lists)))
-        → AppendsBeginning (hart_line i ++ text (f list)) mid new
-        → AppendsBeginning (each_hart text 0 (map f lists)) old new
-    hart_begun old mid new before begun =
+    pub numbered_begun : (old mid new : Option (List ℕ)) → Appends old mid (numbered_harts text 0 (map f (take i lists)))
+        → AppendsBeginning (hart_line i ++ text i (f list)) mid new
+        → AppendsBeginning (numbered_harts text 0 (map f lists)) old new
+    numbered_begun old mid new before begun =
         let front = map f (take i lists) in
         let rest = map f (drop (i + 1) lists) in
         let count : length front ≡ i = length-map (take i lists) f ∙ length-take-le i lists (omega (arith, within)) in
         let cut : lists ≡ take i lists ++ list ∷ drop (i + 1) lists =
         sym (take-append-drop i lists)
         ∙ ap (λ l. take i lists ++ l) (drop_more lists i list within ∙ ap (λ r. r ∷ drop (i + 1) lists) (sym is)) in
-        let parted : each_hart text 0 (map f lists)
-        ≡ each_hart text 0 front ++ ((hart_line i ++ text (f list)) ++ each_hart text (i + 1) rest) =
-        ap (λ l. each_hart text 0 (map f l)) cut
-        ∙ ap (each_hart text 0) (map-append f (take i lists) (list ∷ drop (i + 1) lists))
-        ∙ each_hart-append 0 front (f list ∷ rest)
-        ∙ ap (λ h. each_hart text 0 front ++ each_hart text h (f list ∷ rest)) (omega (arith, count)) in
+        let parted : numbered_harts text 0 (map f lists)
+        ≡ numbered_harts text 0 front ++ ((hart_line i ++ text i (f list)) ++ numbered_harts text (i + 1) rest) =
+        ap (λ l. numbered_harts text 0 (map f l)) cut
+        ∙ ap (numbered_harts text 0) (map-append f (take i lists) (list ∷ drop (i + 1) lists))
+        ∙ numbered-append 0 front (f list ∷ rest)
+        ∙ ap (λ h. numbered_harts text 0 front ++ numbered_harts text h (f list ∷ rest)) (omega (arith, count)) in
         subst (λ l. AppendsBeginning l old new) (sym parted)
-        (begun_between (each_hart text 0 front) (hart_line i ++ text (f list)) (each_hart text (i + 1) rest) old mid new
+        (begun_between (numbered_harts text 0 front) (hart_line i ++ text i (f list)) (numbered_harts text (i + 1) rest) old mid new
         before begun)
+
+-- The same, where the text of a hart is that of what it has.
+module _ {X : Type 0} (text : X → List ℕ) {R : Type 0} (f : R → X) (lists : List R) (i : ℕ) (list : R)
+    (within : i < length lists) (is : list ≡ get_or lists i list) where
+  pub hart_written : (old mid line new : Option (List ℕ))
+      → Appends old mid (each_hart text 0 (map f (take i lists)))
+      → Appends mid line (hart_line i) → Appends line new (text (f list))
+      → Appends old new (each_hart text 0 (map f (take (i + 1) lists)))
+  hart_written = numbered_written (λ number. text) f lists i list within is
+
+  pub hart_begun : (old mid new : Option (List ℕ)) → Appends old mid (each_hart text 0 (map f (take i lists)))
+      → AppendsBeginning (hart_line i ++ text (f list)) mid new
+      → AppendsBeginning (each_hart text 0 (map f lists)) old new
+  hart_begun = numbered_begun (λ number. text) f lists i list within is

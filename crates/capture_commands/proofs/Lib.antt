@@ -1,6 +1,8 @@
 mod DecodedRuns
 mod HartTexts
+mod ItemTexts
 mod ListedRuns
+mod OffsetLists
 mod PartTexts
 mod SalvageRuns
 mod SymbolsFound

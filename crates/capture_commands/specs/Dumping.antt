@@ -3,6 +3,7 @@ use Rattle.std.specs.Prelude.{⊤, ◌≡◌, ℕ, Bool, true, false, List, Opti
 use Rattle.captures.specs.Dump.{IsDump}
 use Rattle.captures.specs.declared.outcome.CaptureFault.TheVariants as capture
 use Rattle.message.specs.declared.fault.MessageFault.{MessageFault}
+use Rattle.searching.specs.Search.{IsSearched}
 use Rattle.subcommands.specs.declared.words.Dump.{Dump}
 use Rattle.command_inputs.specs.Found.{IsRead}
 use Rattle.files.specs.Known.{Content}
@@ -19,16 +20,21 @@ end_of_dump bad (Some stop) = Err (capture_fault stop.0 (capture.Message stop.1)
 end_of_dump true None = Ok NotWhole
 end_of_dump false None = Ok Whole
 
--- The dump of a capture is written, and the run ends as the dump does.
-pub record WritesDump (bytes : List ℕ) (printed : Printed) : Type 0 where
+-- The text is the dump of a capture; or, where a search is asked for, what a search of it finds.
+abbrev pub IsDumpAsked : Bool → List ℕ → Bool → Option (ℕ × MessageFault) → List ℕ → Type 0
+IsDumpAsked false bytes = IsDump bytes
+IsDumpAsked true bytes = IsSearched bytes
+
+-- The dump of a capture is written, by a search or not, and the run ends as the dump does.
+pub record WritesDump (search : Bool) (bytes : List ℕ) (printed : Printed) : Type 0 where
   pub bad : Bool
   pub stop : Option (ℕ × MessageFault)
-  pub dumped : IsDump bytes bad stop printed.text
+  pub dumped : IsDumpAsked search bytes bad stop printed.text
   pub ended : printed.ended ≡ end_of_dump bad stop
 
 -- The capture is read. Where there is no fault, its dump is written.
 abbrev pub Dumps : Content → Dump → Printed → Type 0
-Dumps content asked = First (IsRead content asked.capture) WritesDump
+Dumps content asked = First (IsRead content asked.capture) (WritesDump asked.search)
 
 -- `dump` writes once it has the capture.
 abbrev pub CanDump : Content → Dump → Type 0

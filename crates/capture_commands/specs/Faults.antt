@@ -20,7 +20,7 @@ use Rattle.command_inputs.specs.declared.fault.Fault.TheVariants as fault
 use Rattle.command_inputs.specs.declared.status.Status.{Status}
 use Rattle.command_inputs.specs.declared.status.Status.TheVariants.{NotWhole, Refused}
 use Rattle.capture_commands.specs.declared.reason.CaptureReason.{CaptureReason}
-use Rattle.capture_commands.specs.declared.reason.CaptureReason.TheVariants.{Header, Message, Symbols, Unclosed}
+use Rattle.capture_commands.specs.declared.reason.CaptureReason.TheVariants.{Header, Message, Symbols}
 
 -- A fault of a subcommand that reads a capture.
 abbrev pub Fault : Type 0

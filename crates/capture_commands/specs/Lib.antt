@@ -7,6 +7,7 @@ pub mod Decoding
 pub mod Pieces
 pub mod Decoded
 pub mod Listed
+pub mod Frames
 pub mod SalvagedText
 pub mod Salvaging
 pub mod steps

@@ -1,13 +1,11 @@
 -- What `salvage` prints, and how it ends.
-use Rattle.std.specs.Prelude.{⊤, ◌≡◌, ◌||◌, ◌==◌, ℕ, not, Bool, true, false, List, Option, Some, None, Result, Ok, Err}
-use Rattle.std.specs.Prelude.{length, map}
+use Rattle.std.specs.Prelude.{⊤, ◌≡◌, ◌||◌, ◌==◌, ℕ, not, Bool, true, false, List, Option, Some, None, Result, Err}
+use Rattle.std.specs.Prelude.{map}
 use Rattle.std.specs.List.{list_any}
 use Rattle.std.specs.declared.alloc.Global.{Global}
-use Rattle.captures.specs.Whole.{IsFront}
 use Rattle.captures.specs.declared.outcome.CaptureFault.TheVariants as capture
 use Rattle.message.specs.declared.fault.MessageFault.{MessageFault}
 use Rattle.message.specs.declared.header.Header.{Header}
-use Rattle.message.specs.declared.message.Message.{Message}
 use Rattle.retire.specs.Number.{number_of}
 use Rattle.rvclass.specs.Image.{Image}
 use Rattle.salvaging.specs.LeftParts.{LeftPart, Events}
@@ -15,6 +13,8 @@ use Rattle.salvaging.specs.PartsIn.{parts_in}
 use Rattle.salvaging.specs.Salvages.{GivesSalvaged}
 use Rattle.salvaging.specs.declared.salvaged.Salvaged.{Salvaged}
 use Rattle.salvaging.specs.declared.salvaged.SalvagedHart.{SalvagedHart}
+use Rattle.searching.specs.Harts.{harts_counted}
+use Rattle.searching.specs.Start.{IsStart, spans_of}
 use Rattle.subcommands.specs.declared.words.Salvage.{Salvage}
 use Rattle.command_inputs.specs.Found.{IsBase, IsProgramAt, IsRead}
 use Rattle.files.specs.Known.{Content}
@@ -24,19 +24,20 @@ use Rattle.command_inputs.specs.Printed.{First}
 use Rattle.capture_commands.specs.Faults.{Fault, Meaning, Once, Printed, capture_fault}
 use Rattle.command_inputs.specs.declared.status.Status.{Status}
 use Rattle.capture_commands.specs.Decoding.{end_of_harts}
-use Rattle.capture_commands.specs.Pieces.{end_with_gaps, harts_counted, mode_of_header}
+use Rattle.capture_commands.specs.Frames.{is_run, messages_in}
+use Rattle.capture_commands.specs.Pieces.{end_with_gaps, mode_of_header}
 use Rattle.capture_commands.specs.SalvagedText.{salvaged_text}
 
--- The part is no stretch: numbers did not come, or they are bad or doubtful.
+-- The part is no stretch: numbers did not come, or one is bad, doubtful or alone.
 abbrev pub is_no_stretch : LeftPart → Bool
 is_no_stretch (Events first last events) = false
 is_no_stretch other = true
 
--- Some number of the hart did not come, or it is bad or doubtful.
+-- Some number of the hart did not come, or it is bad, doubtful or alone.
 abbrev pub has_loss : SalvagedHart Global → Bool
 has_loss own = list_any is_no_stretch (parts_in own.parts.items)
 
--- Some number of a hart did not come or is bad or doubtful, or there is a stranger.
+-- Some number of a hart did not come or is bad, doubtful or alone, or there is a stranger.
 abbrev pub is_damaged : Salvaged Global → Bool
 is_damaged salvaged = list_any has_loss salvaged.harts.items || not (salvaged.strangers == 0)
 
@@ -44,32 +45,31 @@ is_damaged salvaged = list_any has_loss salvaged.harts.items || not (salvaged.st
 abbrev pub closed_harts : List (SalvagedHart Global) → List Bool
 closed_harts harts = map (λ (own : SalvagedHart Global). own.closed) harts
 
--- The fault of the place where there is no complete message or no header, if there is such a place: it comes after so
--- many messages. Else the fault names the first hart that is not closed. If all are closed, the end is by whether there
--- is damage.
-abbrev pub end_of_salvage : ℕ → Option MessageFault → Salvaged Global → Result Status Fault
-end_of_salvage count (Some why) salvaged = Err (capture_fault count (capture.Message why))
-end_of_salvage count None salvaged =
-    end_with_gaps (is_damaged salvaged) (end_of_harts 0 (closed_harts salvaged.harts.items))
+-- The fault of a header that is cut short or not valid, if there is one: it comes before the first message. Else the
+-- fault names the first hart that is not closed. If all are closed, the end is by whether there is damage, or bytes that
+-- belong to no frame.
+abbrev pub end_of_salvage : Option MessageFault → Bool → Salvaged Global → Result Status Fault
+end_of_salvage (Some why) runs salvaged = Err (capture_fault 0 (capture.Message why))
+end_of_salvage None runs salvaged =
+    end_with_gaps (is_damaged salvaged || runs) (end_of_harts 0 (closed_harts salvaged.harts.items))
 
--- The messages of a capture are read up to the first place where there is none, after so many of them, and this is
--- salvaged of them.
-pub record IsSalvagedCapture (harts : ℕ) (program : Image) (bytes : List ℕ) (count : ℕ) (stop : Option MessageFault)
-    (salvaged : Salvaged Global) : Type 0 where
+-- A capture begins with this header, or with none, for this reason. The messages of its frames are read, and this is
+-- salvaged of them. This count of harts is asked for, if one is.
+pub record IsSalvagedCapture (asked : Option ℕ) (program : Image) (bytes : List ℕ) (header : Option Header)
+    (why : Option MessageFault) (salvaged : Salvaged Global) : Type 0 where
+  pub start : IsStart bytes header why
+  pub left : GivesSalvaged program (harts_counted asked header bytes) (mode_of_header header)
+      (messages_in (spans_of header bytes)) salvaged
+
+-- What is salvaged of a capture is written, as a summary or not, and the run ends by its header and by what is salvaged.
+pub record WritesSalvaged (asked : Option ℕ) (summary : Bool) (program : Image) (bytes : List ℕ) (printed : Printed)
+    : Type 0 where
   pub header : Option Header
-  pub messages : List Message
-  pub front : IsFront bytes header messages stop
-  pub counted : count ≡ length messages
-  pub left : GivesSalvaged program (harts_counted harts header) (mode_of_header header) messages salvaged
-
--- What is salvaged of a capture is written, and the run ends by where reading stopped and by what is salvaged.
-pub record WritesSalvaged (harts : ℕ) (program : Image) (bytes : List ℕ) (printed : Printed) : Type 0 where
-  pub count : ℕ
-  pub stop : Option MessageFault
+  pub why : Option MessageFault
   pub salvaged : Salvaged Global
-  pub found : IsSalvagedCapture harts program bytes count stop salvaged
-  pub text : printed.text ≡ salvaged_text salvaged
-  pub ended : printed.ended ≡ end_of_salvage count stop salvaged
+  pub found : IsSalvagedCapture asked program bytes header why salvaged
+  pub text : printed.text ≡ salvaged_text summary header (spans_of header bytes) salvaged
+  pub ended : printed.ended ≡ end_of_salvage why (list_any is_run (spans_of header bytes)) salvaged
 
 -- The base is looked at first, then the image and the capture. Where there is no fault, what is salvaged of the capture
 -- is written.
@@ -77,7 +77,7 @@ abbrev pub Salvages : Content → Salvage → Printed → Type 0
 Salvages content asked =
     First (IsBase asked.base.now) (λ base.
     First (IsProgramAt content base asked.image) (λ program.
-    First (IsRead content asked.capture) (WritesSalvaged asked.harts program)))
+    First (IsRead content asked.capture) (WritesSalvaged asked.harts asked.summary program)))
 
 -- `salvage` writes once it has the program and the capture.
 abbrev pub CanSalvage : Content → Salvage → Type 0

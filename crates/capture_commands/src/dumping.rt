@@ -1,22 +1,29 @@
 //! The subcommand `dump`.
 
-ghost use Rattle.std.specs.Prelude.{◌≡◌, ◌≢◌, Err};
+ghost use Rattle.std.specs.Prelude.{◌≡◌, ◌≢◌, Err, IfErr, IfOk, OnErr};
+ghost use Rattle.captures.specs.Dump.{AppendsDump, BeginsDump};
 ghost use Rattle.command_inputs.specs.Begun.{IsCutOf};
 ghost use Rattle.command_inputs.specs.Printed.{PrintsUnlessDenied};
 ghost use Rattle.capture_commands.specs.Faults.{final_status};
-ghost use Rattle.capture_commands.specs.Dumping.{CanDump, Dumps, end_of_dump};
+ghost use Rattle.capture_commands.specs.Dumping.{CanDump, Dumps, IsDumpAsked, end_of_dump};
 ghost use Rattle.command_inputs.specs.declared.fault.Fault.TheVariants as Fault;
 
 use crate::reason::Fault;
 use crate::stopping::capture_fault;
 use captures::{CaptureFault, Dumped, dump_capture};
 use command_inputs::{Files, Status, content_of};
+use retire::WriteFault;
+use searching::search_capture;
 use std::io::Write;
 use subcommands::Dump;
 
 /// Writes the line of a capture's header, if it has one, and a line for each message, up to the first place where there
 /// is no complete message. Returns that all is done if every payload is a packet, and else that the capture is not
 /// good.
+///
+/// Where a search is asked for, messages are looked for after damage too: a line for each frame that is taken, and one
+/// for each longest run of bytes between. Where there is such a run, the capture is not good. Where its header is cut
+/// short or bad, the lines go on to its end, and then that fault is returned.
 pub fn dump<'a, F: Files, O: Write>(
     files: &mut F,
     asked: &Dump<'a>,
@@ -30,9 +37,28 @@ pub fn dump<'a, F: Files, O: Write>(
     ensures cut { IsCutOf (Dumps (F.content files.old) asked.now) (O.contents out.old) (O.contents out.new) }
 {
     let bytes = content_of(files, asked.capture)?;
-    let dumped = dump_capture(bytes.as_slice(), out)?;
+    let dumped = write_dump(asked, bytes.as_slice(), out)?;
     out.flush()?;
     ended(&dumped)
+}
+
+/// Writes the dump of a capture's bytes, by a search where one is asked for.
+fn write_dump<'a, O: Write>(
+    asked: &Dump<'a>,
+    bytes: &[u8],
+    out: &mut O,
+) -> Result<Dumped, WriteFault>
+    ensures dumped { IfOk result (λ dumped. AppendsDump (IsDumpAsked asked.now.search bytes.now) dumped.bad dumped.fault
+        (O.contents out.old) (O.contents out.new)) }
+    ensures begun { OnErr result
+        (BeginsDump (IsDumpAsked asked.now.search bytes.now) (O.contents out.old) (O.contents out.new)) }
+    ensures fault { IfErr result (λ fault. fault ≡ WriteFault.Write) }
+{
+    if asked.search {
+        search_capture(bytes, out)
+    } else {
+        dump_capture(bytes, out)
+    }
 }
 
 /// How a dump ended: at the place where there is no complete message or no header, if there is such a place, or else by

@@ -6,6 +6,7 @@
 mod decoding;
 mod dumping;
 mod ending;
+mod frame_reading;
 mod lossy_decoding;
 mod message_listing;
 mod messages_line;

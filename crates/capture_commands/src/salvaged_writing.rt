@@ -1,69 +1,129 @@
-//! Writing what is salvaged of messages.
+//! Writing what is salvaged of a damaged capture.
 
-ghost use Rattle.std.specs.Prelude.{◌≡◌, ◌≤◌, IfErr, OnOk, vec_capacity};
+ghost use Rattle.std.specs.Prelude.{ℕ, ◌≡◌, ◌≤◌, IfErr, List, OnOk, vec_capacity};
 ghost use Rattle.std.specs.Io.KnownBytes.{Appends};
 ghost use Rattle.std.specs.List.{flat_map};
 ghost use Rattle.output.specs.Begun.{AppendsBeginning};
-ghost use Rattle.salvaging.specs.LeftParts.{BadNumbers, Events};
+ghost use Rattle.salvaging.specs.LeftParts.{Events};
 ghost use Rattle.salvaging.specs.PartsIn.{part_of, parts_in};
-ghost use Rattle.capture_commands.specs.EachHart.{each_hart};
-ghost use Rattle.capture_commands.specs.SalvagedText.{counted_line, hart_text, left_text, salvaged_text};
+ghost use Rattle.capture_commands.specs.EachHart.{numbered_harts};
+ghost use Rattle.capture_commands.specs.Frames.{offset_at, own_offsets};
+ghost use Rattle.capture_commands.specs.SalvagedText.{alone_line, bad_line, counted_line, hart_text, left_text};
+ghost use Rattle.capture_commands.specs.SalvagedText.{mode_line, parts_and_counts, rows_text, run_text};
 ghost use Rattle.command_inputs.specs.declared.fault.Fault.TheVariants as Fault;
 
 use crate::messages_line::write_messages;
 use crate::reason::Fault;
+use captures::{Offset, write_bytes_line};
+use frames::{Span, Spans};
+use message::Header;
 use output::write_text;
+use payload::Mode;
 use retire::{Event, LOG_ROOM, write_log_in};
-use salvaging::{Part, Reason, Salvaged, SalvagedHart};
+use salvaging::{Part, Reason, SalvagedHart};
 use std::io::Write;
 
-/// Writes what is salvaged: of each hart its line and what is left of its log, and then the count of strangers. It
-/// does not allocate, since the buffer `room` is large enough for the text of a log.
-pub(crate) fn write_salvaged<'a, O: Write>(
+/// Writes of each hart its line and its text. `offsets` are those of each hart's messages. It does not allocate, since
+/// the buffer `room` is large enough for the text of a log.
+pub(crate) fn write_harts<'a, O: Write>(
     room: &mut Vec<u8>,
-    salvaged: &Salvaged,
-    out: &mut O,
-) -> Result<(), Fault<'a>>
-    requires { LOG_ROOM ≤ vec_capacity room.old }
-    ensures output { IfErr result (λ fault. fault ≡ Fault.Output) }
-    ensures text { OnOk result (Appends (O.contents out.old) (O.contents out.new) (salvaged_text salvaged.now)) }
-    ensures begun { AppendsBeginning (salvaged_text salvaged.now) (O.contents out.old) (O.contents out.new) }
-{
-    write_harts(room, salvaged.harts.as_slice(), out)?;
-    write_counted("strangers", salvaged.strangers, out)
-}
-
-/// Writes of each hart its line and what is left of its log.
-fn write_harts<'a, O: Write>(
-    room: &mut Vec<u8>,
+    summary: bool,
+    header: Option<Header>,
+    offsets: &[Vec<usize>],
     harts: &[SalvagedHart],
     out: &mut O,
 ) -> Result<(), Fault<'a>>
     requires { LOG_ROOM ≤ vec_capacity room.old }
     ensures output { IfErr result (λ fault. fault ≡ Fault.Output) }
-    ensures text { OnOk result (Appends (O.contents out.old) (O.contents out.new) (each_hart hart_text 0 harts.now)) }
-    ensures begun { AppendsBeginning (each_hart hart_text 0 harts.now) (O.contents out.old) (O.contents out.new) }
+    ensures text { OnOk result (Appends (O.contents out.old) (O.contents out.new)
+        (numbered_harts (λ hart. hart_text summary header (own_offsets offsets.now hart)) 0 harts.now)) }
+    ensures begun { AppendsBeginning
+        (numbered_harts (λ hart. hart_text summary header (own_offsets offsets.now hart)) 0 harts.now)
+        (O.contents out.old) (O.contents out.new) }
 {
     for (hart, own) in harts.iter().enumerate() {
         write_text(out, format_args!("hart {hart}\n"))?;
-        write_hart(room, own, out)?;
+        write_hart(room, summary, header, offsets_of(offsets, hart), own, out)?;
     }
     Ok(())
 }
 
-/// Writes what is left of a hart's log, and then the counts of its copies and of its late messages.
+/// The offsets of a hart's messages; none of a hart that is not listed.
+fn offsets_of(offsets: &[Vec<usize>], hart: usize) -> &[usize]
+    ensures { result.now ≡ own_offsets offsets.now hart }
+{
+    match offsets.get(hart) {
+        Some(own) => own.as_slice(),
+        None => &[],
+    }
+}
+
+/// Writes in which mode a hart is read, where it is another than the header's, and then what is left of its log.
 fn write_hart<'a, O: Write>(
     room: &mut Vec<u8>,
+    summary: bool,
+    header: Option<Header>,
+    offsets: &[usize],
     own: &SalvagedHart,
     out: &mut O,
 ) -> Result<(), Fault<'a>>
     requires { LOG_ROOM ≤ vec_capacity room.old }
     ensures output { IfErr result (λ fault. fault ≡ Fault.Output) }
-    ensures text { OnOk result (Appends (O.contents out.old) (O.contents out.new) (hart_text own.now)) }
-    ensures begun { AppendsBeginning (hart_text own.now) (O.contents out.old) (O.contents out.new) }
+    ensures text { OnOk result (Appends (O.contents out.old) (O.contents out.new)
+        (hart_text summary header offsets.now own.now)) }
+    ensures begun { AppendsBeginning (hart_text summary header offsets.now own.now) (O.contents out.old)
+        (O.contents out.new) }
     ensures room { vec_capacity room.old ≤ vec_capacity room.new }
 {
-    write_parts(room, own.parts.as_slice(), out)?;
+    write_mode(header, own.mode, out)?;
+    write_left(room, summary, offsets, own, out)
+}
+
+/// Writes in which mode a hart is read, where it is another than the header's.
+fn write_mode<'a, O: Write>(header: Option<Header>, own: Mode, out: &mut O) -> Result<(), Fault<'a>>
+    ensures output { IfErr result (λ fault. fault ≡ Fault.Output) }
+    ensures text { OnOk result (Appends (O.contents out.old) (O.contents out.new) (mode_line header own)) }
+    ensures begun { AppendsBeginning (mode_line header own) (O.contents out.old) (O.contents out.new) }
+{
+    let Some(header) = header else {
+        return Ok(());
+    };
+    match (header.mode, own) {
+        (Mode::Differential, Mode::Full) => {
+            write_text(
+                out,
+                format_args!("mode: full, the header says differential\n"),
+            )?;
+            Ok(())
+        }
+        (Mode::Full, Mode::Differential) => {
+            write_text(
+                out,
+                format_args!("mode: differential, the header says full\n"),
+            )?;
+            Ok(())
+        }
+        _ => Ok(()),
+    }
+}
+
+/// Writes what is left of a hart's log, and then the counts of its copies and of its late messages.
+fn write_left<'a, O: Write>(
+    room: &mut Vec<u8>,
+    summary: bool,
+    offsets: &[usize],
+    own: &SalvagedHart,
+    out: &mut O,
+) -> Result<(), Fault<'a>>
+    requires { LOG_ROOM ≤ vec_capacity room.old }
+    ensures output { IfErr result (λ fault. fault ≡ Fault.Output) }
+    ensures text { OnOk result (Appends (O.contents out.old) (O.contents out.new)
+        (parts_and_counts summary offsets.now own.now)) }
+    ensures begun { AppendsBeginning (parts_and_counts summary offsets.now own.now) (O.contents out.old)
+        (O.contents out.new) }
+    ensures room { vec_capacity room.old ≤ vec_capacity room.new }
+{
+    write_parts(room, summary, offsets, own.parts.as_slice(), out)?;
     write_counted("copies", own.copies, out)?;
     write_counted("late", own.late, out)
 }
@@ -71,29 +131,37 @@ fn write_hart<'a, O: Write>(
 /// Writes the parts of a hart's log.
 fn write_parts<'a, O: Write>(
     room: &mut Vec<u8>,
+    summary: bool,
+    offsets: &[usize],
     parts: &[Part],
     out: &mut O,
 ) -> Result<(), Fault<'a>>
     requires { LOG_ROOM ≤ vec_capacity room.old }
     ensures output { IfErr result (λ fault. fault ≡ Fault.Output) }
     ensures text { OnOk result
-        (Appends (O.contents out.old) (O.contents out.new) (flat_map left_text (parts_in parts.now))) }
-    ensures begun { AppendsBeginning (flat_map left_text (parts_in parts.now)) (O.contents out.old)
+        (Appends (O.contents out.old) (O.contents out.new) (flat_map (left_text summary offsets.now) (parts_in parts.now))) }
+    ensures begun { AppendsBeginning (flat_map (left_text summary offsets.now) (parts_in parts.now)) (O.contents out.old)
         (O.contents out.new) }
     ensures room { vec_capacity room.old ≤ vec_capacity room.new }
 {
     for part in parts {
-        write_part(room, part, out)?;
+        write_part(room, summary, offsets, part, out)?;
     }
     Ok(())
 }
 
 /// Writes the line of a part, and the log of a stretch.
-fn write_part<'a, O: Write>(room: &mut Vec<u8>, part: &Part, out: &mut O) -> Result<(), Fault<'a>>
+fn write_part<'a, O: Write>(
+    room: &mut Vec<u8>,
+    summary: bool,
+    offsets: &[usize],
+    part: &Part,
+    out: &mut O,
+) -> Result<(), Fault<'a>>
     requires { LOG_ROOM ≤ vec_capacity room.old }
     ensures output { IfErr result (λ fault. fault ≡ Fault.Output) }
-    ensures text { OnOk result (Appends (O.contents out.old) (O.contents out.new) (left_text (part_of part.now))) }
-    ensures begun { AppendsBeginning (left_text (part_of part.now)) (O.contents out.old) (O.contents out.new) }
+    ensures text { OnOk result (Appends (O.contents out.old) (O.contents out.new) (left_text summary offsets.now (part_of part.now))) }
+    ensures begun { AppendsBeginning (left_text summary offsets.now (part_of part.now)) (O.contents out.old) (O.contents out.new) }
     ensures room { vec_capacity room.old ≤ vec_capacity room.new }
 {
     match part {
@@ -102,8 +170,11 @@ fn write_part<'a, O: Write>(room: &mut Vec<u8>, part: &Part, out: &mut O) -> Res
             first,
             last,
             events,
-        } => write_stretch(room, *first, *last, events.as_slice(), out),
-        Part::Bad { first, last, why } => write_bad(*first, *last, *why, out),
+        } => write_stretch(room, summary, *first, *last, events.as_slice(), out),
+        Part::Bad { number, place, why } => {
+            write_bad(*number, offset_at(offsets, *place), *why, out)
+        }
+        Part::Alone { number, place } => write_alone(*number, offset_at(offsets, *place), out),
         Part::Doubtful(number) => {
             write_text(out, format_args!("doubtful: number {number}\n"))?;
             Ok(())
@@ -111,9 +182,20 @@ fn write_part<'a, O: Write>(room: &mut Vec<u8>, part: &Part, out: &mut O) -> Res
     }
 }
 
+/// The offset at this place; 0 where there is none.
+fn offset_at(offsets: &[usize], place: usize) -> u64
+    ensures { result ≡ offset_at offsets.now place }
+{
+    match offsets.get(place) {
+        Some(offset) => *offset as u64,
+        None => 0,
+    }
+}
+
 /// Writes the line of a stretch, with how many events it has and its first and last number, and its log.
 fn write_stretch<'a, O: Write>(
     room: &mut Vec<u8>,
+    summary: bool,
     first: u64,
     last: u64,
     events: &[Event],
@@ -121,10 +203,10 @@ fn write_stretch<'a, O: Write>(
 ) -> Result<(), Fault<'a>>
     requires { LOG_ROOM ≤ vec_capacity room.old }
     ensures output { IfErr result (λ fault. fault ≡ Fault.Output) }
-    ensures text { OnOk result
-        (Appends (O.contents out.old) (O.contents out.new) (left_text (Events first last events.now))) }
-    ensures begun { AppendsBeginning (left_text (Events first last events.now)) (O.contents out.old)
-        (O.contents out.new) }
+    ensures text { (offsets : List ℕ) → OnOk result (Appends (O.contents out.old) (O.contents out.new)
+        (left_text summary offsets (Events first last events.now))) }
+    ensures begun { (offsets : List ℕ) → AppendsBeginning (left_text summary offsets (Events first last events.now))
+        (O.contents out.old) (O.contents out.new) }
     ensures room { vec_capacity room.old ≤ vec_capacity room.new }
 {
     let count = events.len();
@@ -132,28 +214,90 @@ fn write_stretch<'a, O: Write>(
         out,
         format_args!("stretch: {count} events, numbers {first} to {last}\n"),
     )?;
+    write_rows(room, summary, events, out)
+}
+
+/// Writes the log of a stretch; in a summary nothing.
+fn write_rows<'a, O: Write>(
+    room: &mut Vec<u8>,
+    summary: bool,
+    events: &[Event],
+    out: &mut O,
+) -> Result<(), Fault<'a>>
+    requires { LOG_ROOM ≤ vec_capacity room.old }
+    ensures output { IfErr result (λ fault. fault ≡ Fault.Output) }
+    ensures text { OnOk result (Appends (O.contents out.old) (O.contents out.new) (rows_text summary events.now)) }
+    ensures begun { AppendsBeginning (rows_text summary events.now) (O.contents out.old) (O.contents out.new) }
+    ensures room { vec_capacity room.old ≤ vec_capacity room.new }
+{
+    if summary {
+        return Ok(());
+    }
     write_log_in(room, out, events)?;
     Ok(())
 }
 
-/// Writes the line of bad numbers, with why they are bad.
-fn write_bad<'a, O: Write>(first: u64, last: u64, why: Reason, out: &mut O) -> Result<(), Fault<'a>>
+/// Writes the line of a bad number, with where its message is and why it is bad.
+fn write_bad<'a, O: Write>(
+    number: u64,
+    offset: u64,
+    why: Reason,
+    out: &mut O,
+) -> Result<(), Fault<'a>>
+    ensures output { IfErr result (λ fault. fault ≡ Fault.Output) }
+    ensures text { OnOk result (Appends (O.contents out.old) (O.contents out.new) (bad_line number offset why)) }
+    ensures begun { AppendsBeginning (bad_line number offset why) (O.contents out.old) (O.contents out.new) }
+{
+    let at = Offset(offset);
+    write_text(out, format_args!("bad: number {number} at {at}: {why}\n"))?;
+    Ok(())
+}
+
+/// Writes the line of a number that stands alone, with where its message is.
+fn write_alone<'a, O: Write>(number: u64, offset: u64, out: &mut O) -> Result<(), Fault<'a>>
+    ensures output { IfErr result (λ fault. fault ≡ Fault.Output) }
+    ensures text { OnOk result (Appends (O.contents out.old) (O.contents out.new) (alone_line number offset)) }
+    ensures begun { AppendsBeginning (alone_line number offset) (O.contents out.old) (O.contents out.new) }
+{
+    let at = Offset(offset);
+    write_text(out, format_args!("alone: number {number} at {at}\n"))?;
+    Ok(())
+}
+
+/// Writes a line for each run of bytes that belong to no frame.
+pub(crate) fn write_runs<'a, O: Write>(spans: Spans<'_>, out: &mut O) -> Result<(), Fault<'a>>
     ensures output { IfErr result (λ fault. fault ≡ Fault.Output) }
     ensures text { OnOk result
-        (Appends (O.contents out.old) (O.contents out.new) (left_text (BadNumbers first last why))) }
-    ensures begun { AppendsBeginning (left_text (BadNumbers first last why)) (O.contents out.old)
-        (O.contents out.new) }
+        (Appends (O.contents out.old) (O.contents out.new) (flat_map run_text spans.entry)) }
+    ensures begun { AppendsBeginning (flat_map run_text spans.entry) (O.contents out.old) (O.contents out.new) }
 {
-    if first == last {
-        write_text(out, format_args!("bad: number {first}: {why}\n"))?;
-    } else {
-        write_text(out, format_args!("bad: numbers {first} to {last}: {why}\n"))?;
+    for span in spans {
+        write_run(&span, out)?;
     }
     Ok(())
 }
 
+/// Writes the line of a run of bytes that belong to no frame; of a frame nothing.
+fn write_run<'a, O: Write>(span: &Span, out: &mut O) -> Result<(), Fault<'a>>
+    ensures output { IfErr result (λ fault. fault ≡ Fault.Output) }
+    ensures text { OnOk result (Appends (O.contents out.old) (O.contents out.new) (run_text span.now)) }
+    ensures begun { AppendsBeginning (run_text span.now) (O.contents out.old) (O.contents out.new) }
+{
+    match span {
+        Span::Frame { .. } => Ok(()),
+        Span::Bytes { offset, count } => {
+            write_bytes_line(out, *offset as u64, *count as u64)?;
+            Ok(())
+        }
+    }
+}
+
 /// Writes the line of a count of messages, where there are any.
-fn write_counted<'a, O: Write>(name: &str, count: usize, out: &mut O) -> Result<(), Fault<'a>>
+pub(crate) fn write_counted<'a, O: Write>(
+    name: &str,
+    count: usize,
+    out: &mut O,
+) -> Result<(), Fault<'a>>
     ensures output { IfErr result (λ fault. fault ≡ Fault.Output) }
     ensures text { OnOk result (Appends (O.contents out.old) (O.contents out.new) (counted_line name.now count)) }
     ensures begun { AppendsBeginning (counted_line name.now count) (O.contents out.old) (O.contents out.new) }

@@ -1,7 +1,9 @@
 //! The subcommand `salvage`.
 
-ghost use Rattle.std.specs.Prelude.{⊤, ◌≡◌, ◌≢◌, Err, IfOk, IfSome};
+ghost use Rattle.std.specs.Prelude.{⊤, ◌≡◌, ◌≢◌, ◌≤◌, Err, IfErr, IfOk, IfSome, OnOk, vec_capacity};
+ghost use Rattle.std.specs.Io.KnownBytes.{Appends};
 ghost use Rattle.std.specs.List.{list_any};
+ghost use Rattle.output.specs.Begun.{AppendsBeginning};
 ghost use Rattle.retire.specs.Number.{number_of};
 ghost use Rattle.salvaging.specs.PartsIn.{parts_in};
 ghost use Rattle.command_inputs.specs.Begun.{IsCutOf};
@@ -9,28 +11,33 @@ ghost use Rattle.command_inputs.specs.Order.{base_fault};
 ghost use Rattle.command_inputs.specs.Printed.{PrintsUnlessDenied};
 ghost use Rattle.capture_commands.specs.Faults.{final_status};
 ghost use Rattle.capture_commands.specs.Decoding.{end_of_harts};
-ghost use Rattle.capture_commands.specs.Salvaging.{CanSalvage, IsSalvagedCapture, Salvages, WritesSalvaged};
+ghost use Rattle.capture_commands.specs.SalvagedText.{rest_text};
+ghost use Rattle.capture_commands.specs.Salvaging.{CanSalvage, Salvages, WritesSalvaged};
 ghost use Rattle.capture_commands.specs.Salvaging.{closed_harts, end_of_salvage, has_loss, is_damaged, is_no_stretch};
+ghost use Rattle.capture_commands.specs.steps.Reading.{IsFound, found_text};
 ghost use Rattle.command_inputs.specs.declared.fault.Fault.TheVariants as Fault;
 
-use crate::lossy_decoding::{harts_counted, mode_of_header};
+use crate::frame_reading::{Frames, frames_of};
+use crate::lossy_decoding::mode_of_header;
 use crate::reason::{CaptureReason, Fault};
-use crate::salvaged_writing::write_salvaged;
+use crate::salvaged_writing::{write_counted, write_harts, write_runs};
 use crate::stopping::capture_fault;
-use captures::{CaptureFault, read_front};
+use captures::CaptureFault;
 use command_inputs::{Files, Status, base_of, content_of, program_of};
-use message::MessageFault;
+use frames::Spans;
+use message::{Header, MessageFault};
 use retire::LOG_ROOM;
 use rvclass::Program;
 use salvaging::{Part, Salvaged, SalvagedHart};
+use searching::{harts_counted, spans_of, start_of};
 use std::alloc::{AllocError, Global};
 use std::io::Write;
 use subcommands::Salvage;
 
-/// Writes what is left of the log of each hart, whatever happened to the messages of a capture, up to the first place
-/// where there is no complete message or no header. Returns that all is done if reading came to the end, each hart is
-/// closed, no number is missing, bad or doubtful, and there is no stranger. Copies and late messages do not change this
-/// status.
+/// Writes what is left of the log of each hart, whatever happened to the bytes of a capture. Its messages are the frames
+/// among its bytes, after a valid header, and without one from the first byte on. Returns that all is done if each hart
+/// is closed, no number is missing, bad, doubtful or alone, there is no stranger, and all bytes belong to frames. Copies,
+/// late messages and a hart's own mode do not change this status.
 ///
 /// Nothing is allocated once something is written.
 pub fn salvage<'a, F: Files, O: Write>(
@@ -50,72 +57,132 @@ pub fn salvage<'a, F: Files, O: Write>(
     let base = base_of(asked.base)?;
     let program = program_of(files, base, asked.image)?;
     let bytes = content_of(files, asked.capture)?;
-    salvage_capture(alloc, &program, asked.harts, bytes.as_slice(), out)
+    salvage_capture(
+        alloc,
+        &program,
+        asked.harts,
+        asked.summary,
+        bytes.as_slice(),
+        out,
+    )
 }
 
 /// Writes what is salvaged of the bytes of a capture.
 fn salvage_capture<'a, O: Write>(
     alloc: Global,
     program: &Program,
-    harts: u16,
+    harts: Option<u16>,
+    summary: bool,
     bytes: &[u8],
     out: &mut O,
 ) -> Result<Status, Fault<'a>>
     ensures never_refused { final_status result ≢ Status.Refused }
     ensures untouched { result ≡ Err Fault.Memory → out.new ≡ out.old }
-    ensures printed { PrintsUnlessDenied (WritesSalvaged harts program.now bytes.now) ⊤ result
+    ensures printed { PrintsUnlessDenied (WritesSalvaged harts summary program.now bytes.now) ⊤ result
         (O.contents out.old) (O.contents out.new) }
-    ensures cut { IsCutOf (WritesSalvaged harts program.now bytes.now) (O.contents out.old) (O.contents out.new) }
+    ensures cut { IsCutOf (WritesSalvaged harts summary program.now bytes.now) (O.contents out.old)
+        (O.contents out.new) }
 {
     let found = find(alloc, program, harts, bytes)?;
     let mut room = Vec::with_capacity(alloc, LOG_ROOM)?;
-    write_salvaged(&mut room, &found.salvaged, out)?;
+    write_found(&mut room, summary, &found, bytes, out)?;
     out.flush()?;
     ended(&found)
 }
 
+/// Writes what was found of the bytes of a capture. It does not allocate, since the buffer `room` is large enough for
+/// the text of a log.
+fn write_found<'a, O: Write>(
+    room: &mut Vec<u8>,
+    summary: bool,
+    found: &Found,
+    bytes: &[u8],
+    out: &mut O,
+) -> Result<(), Fault<'a>>
+    requires { LOG_ROOM ≤ vec_capacity room.old }
+    ensures output { IfErr result (λ fault. fault ≡ Fault.Output) }
+    ensures text { OnOk result
+        (Appends (O.contents out.old) (O.contents out.new) (found_text summary found.now bytes.now)) }
+    ensures begun { AppendsBeginning (found_text summary found.now bytes.now) (O.contents out.old)
+        (O.contents out.new) }
+{
+    write_harts(
+        room,
+        summary,
+        found.header,
+        found.frames.offsets.as_slice(),
+        found.salvaged.harts.as_slice(),
+        out,
+    )?;
+    write_rest(spans_of(bytes, found.header), found.salvaged.strangers, out)
+}
+
+/// Writes what comes after the harts: the lines of bytes that belong to no frame, and the count of strangers.
+fn write_rest<'a, O: Write>(
+    spans: Spans<'_>,
+    strangers: usize,
+    out: &mut O,
+) -> Result<(), Fault<'a>>
+    ensures output { IfErr result (λ fault. fault ≡ Fault.Output) }
+    ensures text { OnOk result
+        (Appends (O.contents out.old) (O.contents out.new) (rest_text spans.entry strangers)) }
+    ensures begun { AppendsBeginning (rest_text spans.entry strangers) (O.contents out.old) (O.contents out.new) }
+{
+    write_runs(spans, out)?;
+    write_counted("strangers", strangers, out)
+}
+
 /// What is found of a capture.
 #[derive(Debug, Drop)]
-struct Found {
-    /// How many messages are before the first place where there is none.
-    count: usize,
-    /// Why there is none, or `None` at the end of the capture.
-    stop: Option<MessageFault>,
+pub(crate) struct Found {
+    /// The header, where a valid one begins the capture.
+    header: Option<Header>,
+    /// Why there is none, where the capture begins as one of version 2 does.
+    fault: Option<MessageFault>,
+    /// The messages of its frames, and where they are.
+    frames: Frames,
     /// What is salvaged of them.
     salvaged: Salvaged,
 }
 
-/// What is salvaged of the messages of a capture, up to the first place where there is none.
-fn find(alloc: Global, program: &Program, harts: u16, bytes: &[u8]) -> Result<Found, AllocError>
-    ensures { IfOk result
-        (λ found. IsSalvagedCapture harts program.now bytes.now found.count found.stop found.salvaged) }
+/// What is salvaged of the messages of a capture's frames.
+fn find(
+    alloc: Global,
+    program: &Program,
+    harts: Option<u16>,
+    bytes: &[u8],
+) -> Result<Found, AllocError>
+    ensures { IfOk result (IsFound harts program.now bytes.now) }
 {
-    let front = read_front(alloc, bytes)?;
+    let start = start_of(bytes);
+    let count = harts_counted(harts, start.header, bytes);
+    let frames = frames_of(alloc, count, spans_of(bytes, start.header))?;
     let salvaged = salvaging::salvage(
         alloc,
         program,
-        harts_counted(harts, front.header),
-        mode_of_header(front.header),
-        front.messages.as_slice(),
+        count,
+        mode_of_header(start.header),
+        frames.messages.as_slice(),
     )?;
     Ok(Found {
-        count: front.messages.len(),
-        stop: front.stop,
+        header: start.header,
+        fault: start.fault,
+        frames,
         salvaged,
     })
 }
 
-/// How salvaging ended: at the place where reading stopped, or else at the first hart that is not closed, or else by
-/// whether there is damage.
+/// How salvaging ended: at a header that is not valid, or else at the first hart that is not closed, or else by whether
+/// there is damage, or bytes that belong to no frame.
 fn ended<'a>(found: &Found) -> Result<Status, Fault<'a>>
-    ensures value { result ≡ end_of_salvage found.now.count found.now.stop found.now.salvaged }
+    ensures value { result ≡ end_of_salvage found.now.fault found.now.frames.runs found.now.salvaged }
     ensures never_refused { final_status result ≢ Status.Refused }
     ensures never_memory { result ≢ Err Fault.Memory }
 {
-    match found.stop {
-        Some(why) => Err(capture_fault(found.count as u64, CaptureFault::Message(why))),
+    match found.fault {
+        Some(why) => Err(capture_fault(0, CaptureFault::Message(why))),
         None => match closed(found.salvaged.harts.as_slice()) {
-            Ok(_) if is_damaged(&found.salvaged) => Ok(Status::NotWhole),
+            Ok(_) if is_damaged(&found.salvaged) || found.frames.runs => Ok(Status::NotWhole),
             ended => ended,
         },
     }
@@ -135,14 +202,14 @@ fn closed<'a>(harts: &[SalvagedHart]) -> Result<Status, Fault<'a>>
     Ok(Status::Whole)
 }
 
-/// Whether some number is missing, bad or doubtful, or there is a stranger.
+/// Whether some number is missing, bad, doubtful or alone, or there is a stranger.
 fn is_damaged(salvaged: &Salvaged) -> bool
     ensures { result ≡ is_damaged salvaged.now }
 {
     have_losses(salvaged.harts.as_slice()) || salvaged.strangers > 0
 }
 
-/// Whether some hart's number is missing, bad or doubtful.
+/// Whether some hart's number is missing, bad, doubtful or alone.
 fn have_losses(harts: &[SalvagedHart]) -> bool
     ensures { result ≡ list_any has_loss harts.now }
 {

@@ -8,5 +8,6 @@ pub mod Decoded
 pub mod Returned
 pub mod FaultText
 pub mod PacketText
+pub mod Offsets
 pub mod Dump
 pub mod steps

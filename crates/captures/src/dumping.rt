@@ -116,8 +116,12 @@ fn dump_messages<W: Write>(
     }
 }
 
-/// Writes the line of a message, its address field named by this mode, and returns whether its payload is no packet.
-fn write_message_line<W: Write>(
+/// Writes the line of a message, as [`dump_capture`] writes it, its address field named by this mode. Returns whether its
+/// payload is no packet.
+///
+/// The only fault is [`WriteFault::Write`], where the writer failed; what was written then is a prefix of the line. No
+/// memory is taken, and the writer is not flushed.
+pub fn write_message_line<W: Write>(
     sink: &mut W,
     mode: Mode,
     message: &Message,

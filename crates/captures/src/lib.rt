@@ -4,7 +4,8 @@
 //! [`write_start`] and [`encode_hart`] write the same hart by hart, in a [`Form`]; [`hex_lines`] writes the messages of
 //! a hart's payloads as lines. [`decode_capture`] returns the events of each hart of a capture, [`read_messages`] its
 //! messages as they are, [`read_front`] those up to the first place where there is none. [`dump_capture`] writes a line
-//! of text for each message.
+//! of text for each message, [`write_message_line`] that line alone, and [`write_bytes_line`] the line of bytes that are
+//! of no message.
 #![tactic(auto)]
 
 mod capture_decoding;
@@ -13,14 +14,16 @@ mod dumping;
 mod encoding;
 mod form;
 mod lines;
+mod offsets;
 mod outcome;
 mod packet_text;
 
 pub use capture_decoding::decode_capture;
 pub use capture_reading::{CaptureFront, ReadFault, WholeCapture, read_front, read_messages};
-pub use dumping::{Dumped, dump_capture, write_header_line};
+pub use dumping::{Dumped, dump_capture, write_header_line, write_message_line};
 pub use encoding::{encode_capture, encode_hart, encode_hex, write_start};
 pub use form::{CaptureBytes, Form, HexLines};
 pub use lines::hex_lines;
+pub use offsets::{Offset, write_bytes_line};
 pub use outcome::{CaptureFault, CaptureOutcome};
 pub use packet_text::ReadingText;

@@ -1,7 +1,7 @@
 -- What arguments ask for, by what clap finds in them.
 use Rattle.std.specs.Prelude.{◌≡◌, ◌≢◌, ◌≤◌, ℕ, codes, Bool, true, false, List, [], Option, map}
 use Rattle.std.specs.Str.Parse.{IsNumeral, digits_value, without_leading_plus}
-use Rattle.std.specs.Prelude.{Some, None, option_map, unwrap_or}
+use Rattle.std.specs.Prelude.{Some, None, IfSome, option_map, unwrap_or}
 use Rattle.clap.specs.Words.{Row, Text, all_of, fault_of, first_of, one_of, subcommand_of}
 use Rattle.cli.specs.Grammar.{program_app}
 use Rattle.message.specs.Capacity.{most_capacity}
@@ -13,8 +13,8 @@ use Rattle.payload.specs.declared.mode.Mode.TheVariants.{Differential, Full}
 use Rattle.subcommands.specs.Kind.{IsCheck}
 use Rattle.subcommands.specs.Limits.{longest_period}
 use Rattle.subcommands.specs.declared.words.Asked.{Asked}
-use Rattle.subcommands.specs.declared.words.Asked.TheVariants.{Audit, Bench, Check, Decode, Dump, Encode, Listing}
-use Rattle.subcommands.specs.declared.words.Asked.TheVariants.{Measure, Replay, Salvage}
+use Rattle.subcommands.specs.declared.words.Asked.TheVariants.{Audit, Bench, Capture, Check, Decode, Dump, Encode}
+use Rattle.subcommands.specs.declared.words.Asked.TheVariants.{Listing, Measure, Replay, Salvage}
 
 -- The first value of an argument, or no text where it has none.
 abbrev pub text_of : Text → List Row → Text
@@ -72,20 +72,30 @@ IsCapacity = IsUpTo most_capacity
 abbrev pub IsHarts : Option Text → ℕ → Type 0
 IsHarts = IsUpTo (most_harts Two)
 
+-- A count of harts is there only where the argument has a value, and is 1 to 1024. Where the argument's text spells
+-- such a number, it is that one.
+abbrev pub IsGivenHarts : Option Text → Option ℕ → Type 0
+IsGivenHarts value given = (value ≡ None → given ≡ None)
+    × IfSome given (λ harts. (1 ≤ harts) × (harts ≤ most_harts Two))
+    × ((text : Text) → value ≡ Some text → IsDecimalUpTo (most_harts Two) text → given ≡ Some (decimal text))
+
 -- What is asked is the subcommand of this name, with the values that these rows have for its arguments.
 abbrev pub Asks : Text → List Row → Asked → Type 0
 Asks name rows (Check asked) = (name ≡ codes "check")
     × (asked.base.now ≡ text_of (codes "base") rows) × IsFlag (one_of (codes "explain") rows) asked.explain
     × IsFlag (one_of (codes "long") rows) asked.long
+    × IsFlag (one_of (codes "progress") rows) asked.progress
     × (asked.image.now ≡ text_of (codes "IMAGE") rows)
     × (map (λ log. log.now) asked.logs.items ≡ texts_of (codes "LOG") rows)
 Asks name rows (Encode asked) = (name ≡ codes "encode")
     × (asked.base.now ≡ text_of (codes "base") rows) × IsPeriod (one_of (codes "period") rows) asked.period
     × IsMode (one_of (codes "full") rows) asked.mode × IsVersion (one_of (codes "v1") rows) asked.version
     × IsFlag (one_of (codes "hex") rows) asked.hex × IsFlag (one_of (codes "long") rows) asked.long
+    × IsFlag (one_of (codes "progress") rows) asked.progress
     × (asked.image.now ≡ text_of (codes "IMAGE") rows)
     × (map (λ log. log.now) asked.logs.items ≡ texts_of (codes "LOG") rows)
-Asks name rows (Dump asked) = (name ≡ codes "dump") × (asked.capture.now ≡ text_of (codes "CAPTURE") rows)
+Asks name rows (Dump asked) = (name ≡ codes "dump") × IsFlag (one_of (codes "search") rows) asked.search
+    × (asked.capture.now ≡ text_of (codes "CAPTURE") rows)
 Asks name rows (Decode asked) = (name ≡ codes "decode")
     × (asked.base.now ≡ text_of (codes "base") rows) × IsHarts (one_of (codes "harts") rows) asked.harts
     × IsFlag (one_of (codes "lossy") rows) asked.lossy × (asked.image.now ≡ text_of (codes "IMAGE") rows)
@@ -94,19 +104,23 @@ Asks name rows (Replay asked) = (name ≡ codes "replay")
     × (asked.base.now ≡ text_of (codes "base") rows) × IsPeriod (one_of (codes "period") rows) asked.period
     × IsMode (one_of (codes "full") rows) asked.mode
     × IsCapacity (one_of (codes "capacity") rows) asked.capacity
+    × IsFlag (one_of (codes "progress") rows) asked.progress
     × (asked.image.now ≡ text_of (codes "IMAGE") rows) × (asked.schedule.now ≡ text_of (codes "SCHEDULE") rows)
     × (map (λ log. log.now) asked.logs.items ≡ texts_of (codes "LOG") rows)
 Asks name rows (Bench asked) = (name ≡ codes "bench")
     × (asked.base.now ≡ text_of (codes "base") rows) × IsPeriod (one_of (codes "period") rows) asked.period
     × IsMode (one_of (codes "full") rows) asked.mode
     × IsCapacity (one_of (codes "capacity") rows) asked.capacity
+    × IsFlag (one_of (codes "progress") rows) asked.progress
     × (asked.image.now ≡ text_of (codes "IMAGE") rows)
     × (map (λ log. log.now) asked.logs.items ≡ texts_of (codes "LOG") rows)
-Asks name rows (Audit asked) = (name ≡ codes "audit") × IsFlag (one_of (codes "summary") rows) asked.summary
+Asks name rows (Audit asked) = (name ≡ codes "audit") × IsFlag (one_of (codes "packets") rows) asked.packets
+    × IsFlag (one_of (codes "summary") rows) asked.summary
     × (asked.sent.now ≡ text_of (codes "SENT") rows) × (asked.received.now ≡ text_of (codes "RECEIVED") rows)
 Asks name rows (Measure asked) = (name ≡ codes "measure")
     × (asked.base.now ≡ text_of (codes "base") rows) × IsPeriod (one_of (codes "period") rows) asked.period
     × IsMode (one_of (codes "full") rows) asked.mode × IsFlag (one_of (codes "long") rows) asked.long
+    × IsFlag (one_of (codes "progress") rows) asked.progress
     × (asked.image.now ≡ text_of (codes "IMAGE") rows)
     × (map (λ log. log.now) asked.logs.items ≡ texts_of (codes "LOG") rows)
 Asks name rows (Listing asked) = (name ≡ codes "list")
@@ -114,8 +128,13 @@ Asks name rows (Listing asked) = (name ≡ codes "list")
     × (option_map (λ path. path.now) asked.symbols ≡ first_of (codes "symbols") rows)
     × (asked.image.now ≡ text_of (codes "IMAGE") rows) × (asked.capture.now ≡ text_of (codes "CAPTURE") rows)
 Asks name rows (Salvage asked) = (name ≡ codes "salvage")
-    × (asked.base.now ≡ text_of (codes "base") rows) × IsHarts (one_of (codes "harts") rows) asked.harts
+    × (asked.base.now ≡ text_of (codes "base") rows) × IsGivenHarts (one_of (codes "harts") rows) asked.harts
+    × IsFlag (one_of (codes "summary") rows) asked.summary
     × (asked.image.now ≡ text_of (codes "IMAGE") rows) × (asked.capture.now ≡ text_of (codes "CAPTURE") rows)
+Asks name rows (Capture asked) = (name ≡ codes "capture")
+    × IsVersion (one_of (codes "v1") rows) asked.version × IsMode (one_of (codes "full") rows) asked.mode
+    × IsPeriod (one_of (codes "period") rows) asked.period
+    × IsGivenHarts (one_of (codes "harts") rows) asked.harts × (asked.lines.now ≡ text_of (codes "LINES") rows)
 
 -- A subcommand with its rows was found, and it is what is asked.
 abbrev pub AsksFound : Option (Text × List Row) → Asked → Type 0

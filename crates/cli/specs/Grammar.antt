@@ -6,62 +6,75 @@ use Rattle.clap.specs.Words.{with_rule, with_subcommand}
 use Rattle.clap.specs.Simple.{on_top}
 use Rattle.clap.specs.declared.builder.command.Command.{Command}
 use Rattle.clap.specs.declared.builder.command.Command.TheViews.{out-Command as fields_of}
-use Rattle.arguments.specs.Rules.{base_rule, capacity_rule, capture_rule, explain_rule, full_rule, harts_rule, hex_rule}
-use Rattle.arguments.specs.Rules.{image_rule, logs_rule, long_rule, lossy_rule, period_rule, received_rule, schedule_rule}
-use Rattle.arguments.specs.Rules.{sent_rule, summary_rule, symbols_rule, version_one_rule}
+use Rattle.arguments.specs.Rules.{base_rule, capacity_rule, capture_rule, explain_rule, full_rule, given_harts_rule}
+use Rattle.arguments.specs.Rules.{harts_rule, hex_rule, image_rule, lines_rule, logs_rule, long_rule, lossy_rule}
+use Rattle.arguments.specs.Rules.{packets_rule}
+use Rattle.arguments.specs.Rules.{period_rule, progress_rule, received_rule, schedule_rule}
+use Rattle.arguments.specs.Rules.{search_rule, sent_rule, summary_rule, symbols_rule, version_one_rule}
 
 -- A subcommand of this name with arguments that are read by these rules.
 abbrev pub with_arguments : Text → List Rule → App
 with_arguments name rules = fold with_rule (new_app name) rules
 
--- `check --base B [--explain] [--long] IMAGE LOG...`.
+-- `check --base B [--explain] [--long] [--progress] IMAGE LOG...`.
 abbrev pub check_app : App
-check_app = with_arguments (codes "check") (base_rule ∷ explain_rule ∷ long_rule ∷ image_rule ∷ logs_rule ∷ [])
+check_app = with_arguments (codes "check") (base_rule ∷ explain_rule ∷ long_rule ∷ progress_rule ∷ image_rule ∷
+    logs_rule ∷ [])
 
--- `encode --base B [--period N] [--full] [--v1] [--hex] [--long] IMAGE LOG...`.
+-- `encode --base B [--period N] [--full] [--v1] [--hex] [--long] [--progress] IMAGE LOG...`.
 abbrev pub encode_app : App
 encode_app = with_arguments (codes "encode") (base_rule ∷ period_rule ∷ full_rule ∷ version_one_rule ∷ hex_rule ∷
-    long_rule ∷ image_rule ∷ logs_rule ∷ [])
+    long_rule ∷ progress_rule ∷ image_rule ∷ logs_rule ∷ [])
 
--- `dump CAPTURE`.
+-- `dump [--search] CAPTURE`.
 abbrev pub dump_app : App
-dump_app = with_arguments (codes "dump") (capture_rule ∷ [])
+dump_app = with_arguments (codes "dump") (search_rule ∷ capture_rule ∷ [])
 
 -- `decode --base B [--harts N] [--lossy] IMAGE CAPTURE`.
 abbrev pub decode_app : App
 decode_app = with_arguments (codes "decode") (base_rule ∷ harts_rule ∷ lossy_rule ∷ image_rule ∷ capture_rule ∷ [])
 
--- `replay --base B [--period N] [--full] [--capacity N] IMAGE SCHEDULE LOG...`.
+-- `replay --base B [--period N] [--full] [--capacity N] [--progress] IMAGE SCHEDULE LOG...`.
 abbrev pub replay_app : App
-replay_app = with_arguments (codes "replay") (base_rule ∷ period_rule ∷ full_rule ∷ capacity_rule ∷ image_rule ∷
+replay_app = with_arguments (codes "replay") (base_rule ∷ period_rule ∷ full_rule ∷ capacity_rule ∷ progress_rule ∷
+    image_rule ∷
     schedule_rule ∷ logs_rule ∷ [])
 
--- `bench --base B [--period N] [--full] [--capacity N] IMAGE LOG...`.
+-- `bench --base B [--period N] [--full] [--capacity N] [--progress] IMAGE LOG...`.
 abbrev pub bench_app : App
-bench_app = with_arguments (codes "bench") (base_rule ∷ period_rule ∷ full_rule ∷ capacity_rule ∷ image_rule ∷
+bench_app = with_arguments (codes "bench") (base_rule ∷ period_rule ∷ full_rule ∷ capacity_rule ∷ progress_rule ∷
+    image_rule ∷
     logs_rule ∷ [])
 
--- `audit [--summary] SENT RECEIVED`.
+-- `audit [--packets] [--summary] SENT RECEIVED`.
 abbrev pub audit_app : App
-audit_app = with_arguments (codes "audit") (summary_rule ∷ sent_rule ∷ received_rule ∷ [])
+audit_app = with_arguments (codes "audit") (packets_rule ∷ summary_rule ∷ sent_rule ∷ received_rule ∷ [])
 
--- `measure --base B [--period N] [--full] [--long] IMAGE LOG...`.
+-- `measure --base B [--period N] [--full] [--long] [--progress] IMAGE LOG...`.
 abbrev pub measure_app : App
-measure_app = with_arguments (codes "measure") (base_rule ∷ period_rule ∷ full_rule ∷ long_rule ∷ image_rule ∷
+measure_app = with_arguments (codes "measure") (base_rule ∷ period_rule ∷ full_rule ∷ long_rule ∷ progress_rule ∷
+    image_rule ∷
     logs_rule ∷ [])
 
 -- `list --base B [--harts N] [--symbols FILE] IMAGE CAPTURE`.
 abbrev pub list_app : App
 list_app = with_arguments (codes "list") (base_rule ∷ harts_rule ∷ symbols_rule ∷ image_rule ∷ capture_rule ∷ [])
 
--- `salvage --base B [--harts N] IMAGE CAPTURE`.
+-- `salvage --base B [--harts N] [--summary] IMAGE CAPTURE`.
 abbrev pub salvage_app : App
-salvage_app = with_arguments (codes "salvage") (base_rule ∷ harts_rule ∷ image_rule ∷ capture_rule ∷ [])
+salvage_app = with_arguments (codes "salvage") (base_rule ∷ given_harts_rule ∷ summary_rule ∷ image_rule ∷
+    capture_rule ∷
+    [])
+
+-- `capture [--v1] [--full] [--period N] [--harts N] LINES`.
+abbrev pub capture_app : App
+capture_app = with_arguments (codes "capture") (version_one_rule ∷ full_rule ∷ period_rule ∷ given_harts_rule ∷
+    lines_rule ∷ [])
 
 -- The program's subcommands, in the order in which help lists them.
 abbrev pub all_apps : List App
 all_apps = check_app ∷ encode_app ∷ dump_app ∷ decode_app ∷ replay_app ∷ bench_app ∷ audit_app ∷ measure_app ∷
-    list_app ∷ salvage_app ∷ []
+    list_app ∷ salvage_app ∷ capture_app ∷ []
 
 -- The program without its subcommands, one of which has to be there. It has a version.
 abbrev pub bare_program : App

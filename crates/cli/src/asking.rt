@@ -3,7 +3,8 @@
 ghost use Rattle.std.specs.Prelude.{◌≡◌, ◌⊎◌, IfErr, IfOk, [], codes, map, string_bytes, unwrap_or};
 ghost use Rattle.clap.specs.Words.{FailsBy, fault_of, first_value, found_of, kind_of, one_of, rows_of};
 ghost use Rattle.clap.specs.declared.error.kind.ErrorKind.TheVariants as kind;
-ghost use Rattle.cli.specs.Asking.{AreRefused, Asks, IsCapacity, IsFlag, IsHarts, IsMode, IsPeriod, IsVersion};
+ghost use Rattle.cli.specs.Asking.{AreRefused, Asks, IsCapacity, IsFlag, IsGivenHarts, IsHarts, IsMode, IsPeriod};
+ghost use Rattle.cli.specs.Asking.{IsVersion};
 ghost use Rattle.cli.specs.Asking.{WordsAsk, text_of, texts_of};
 ghost use Rattle.cli.specs.Grammar.{IsSubcommand, program_app};
 ghost use Rattle.subcommands.specs.Limits.{IsWithinLimits};
@@ -14,8 +15,8 @@ use message::{MOST_CAPACITY, MOST_HARTS, Version};
 use payload::Mode;
 use std::alloc::{AllocError, Global};
 use subcommands::{
-    Asked, Audit, Bench, Check, Decode, Dump, Encode, Listing, Measure, Replay, SHORTEST_PERIOD,
-    SMALLEST_CAPACITY, Salvage,
+    Asked, Audit, Bench, Capture, Check, Decode, Dump, Encode, Listing, Measure, Replay,
+    SHORTEST_PERIOD, SMALLEST_CAPACITY, Salvage,
 };
 
 /// The period where the arguments give none.
@@ -77,6 +78,7 @@ fn check_asked<'a>(alloc: Global, given: &ArgMatches<'a>) -> Result<Asked<'a>, A
         base: text(given, "base"),
         explain: flag(given, "explain"),
         long: flag(given, "long"),
+        progress: flag(given, "progress"),
         image: text(given, "IMAGE"),
         logs: texts(alloc, given, "LOG")?,
     }))
@@ -115,6 +117,7 @@ fn encode_asked<'a>(alloc: Global, given: &ArgMatches<'a>) -> Result<Asked<'a>, 
         version: version(given),
         hex: flag(given, "hex"),
         long: flag(given, "long"),
+        progress: flag(given, "progress"),
         image: text(given, "IMAGE"),
         logs: texts(alloc, given, "LOG")?,
     }))
@@ -125,6 +128,7 @@ fn dump_asked<'a>(given: &ArgMatches<'a>) -> Asked<'a>
     ensures { Asks (codes "dump") (rows_of (found_of given.now)) result }
 {
     Asked::Dump(Dump {
+        search: flag(given, "search"),
         capture: text(given, "CAPTURE"),
     })
 }
@@ -137,6 +141,16 @@ fn harts<'a>(given: &ArgMatches<'a>) -> u16
         .get_one::<u16>("harts")
         .unwrap_or(DEFAULT_HARTS)
         .clamp(1, MOST_HARTS)
+}
+
+/// The count of harts, where it is given, 1 to 1024 by the range that `clap` keeps.
+fn given_harts<'a>(given: &ArgMatches<'a>) -> Option<u16>
+    ensures { IsGivenHarts (one_of (codes "harts") (rows_of (found_of given.now))) result }
+{
+    match given.get_one::<u16>("harts") {
+        Some(harts) => Some(harts.clamp(1, MOST_HARTS)),
+        None => None,
+    }
 }
 
 /// What was asked of `decode`.
@@ -171,6 +185,7 @@ fn replay_asked<'a>(alloc: Global, given: &ArgMatches<'a>) -> Result<Asked<'a>, 
         period: period(given),
         mode: mode(given),
         capacity: capacity(given),
+        progress: flag(given, "progress"),
         image: text(given, "IMAGE"),
         schedule: text(given, "SCHEDULE"),
         logs: texts(alloc, given, "LOG")?,
@@ -186,6 +201,7 @@ fn bench_asked<'a>(alloc: Global, given: &ArgMatches<'a>) -> Result<Asked<'a>, A
         period: period(given),
         mode: mode(given),
         capacity: capacity(given),
+        progress: flag(given, "progress"),
         image: text(given, "IMAGE"),
         logs: texts(alloc, given, "LOG")?,
     }))
@@ -196,6 +212,7 @@ fn audit_asked<'a>(given: &ArgMatches<'a>) -> Asked<'a>
     ensures { Asks (codes "audit") (rows_of (found_of given.now)) result }
 {
     Asked::Audit(Audit {
+        packets: flag(given, "packets"),
         summary: flag(given, "summary"),
         sent: text(given, "SENT"),
         received: text(given, "RECEIVED"),
@@ -211,6 +228,7 @@ fn measure_asked<'a>(alloc: Global, given: &ArgMatches<'a>) -> Result<Asked<'a>,
         period: period(given),
         mode: mode(given),
         long: flag(given, "long"),
+        progress: flag(given, "progress"),
         image: text(given, "IMAGE"),
         logs: texts(alloc, given, "LOG")?,
     }))
@@ -235,9 +253,23 @@ fn salvage_asked<'a>(given: &ArgMatches<'a>) -> Asked<'a>
 {
     Asked::Salvage(Salvage {
         base: text(given, "base"),
-        harts: harts(given),
+        harts: given_harts(given),
+        summary: flag(given, "summary"),
         image: text(given, "IMAGE"),
         capture: text(given, "CAPTURE"),
+    })
+}
+
+/// What was asked of `capture`.
+fn capture_asked<'a>(given: &ArgMatches<'a>) -> Asked<'a>
+    ensures { Asks (codes "capture") (rows_of (found_of given.now)) result }
+{
+    Asked::Capture(Capture {
+        version: version(given),
+        mode: mode(given),
+        period: period(given),
+        harts: given_harts(given),
+        lines: text(given, "LINES"),
     })
 }
 
@@ -257,6 +289,7 @@ fn asked_of<'a>(alloc: Global, name: &str, given: &ArgMatches<'a>) -> Result<Ask
         "measure" => measure_asked(alloc, given),
         "list" => Ok(list_asked(given)),
         "salvage" => Ok(salvage_asked(given)),
+        "capture" => Ok(capture_asked(given)),
         _ => unreachable!("clap knows no other subcommand"),
     }
 }
@@ -266,7 +299,8 @@ fn asked_of<'a>(alloc: Global, name: &str, given: &ArgMatches<'a>) -> Result<Ask
 /// `Ok` comes where `clap` finds no fault in them by the program's grammar. It holds the texts of the subcommand's
 /// arguments as they are given: a base is not yet a number, and no file was looked at. A period is a number from 1 to
 /// 65535, a count of harts one from 1 to 1024, and a capacity one from 1 to 65536. Where no such number is given, it is
-/// 1024, 1 or 16. A capture is of version 1 with `--v1`, and else of version 2.
+/// 1024, 1 or 16, and `salvage` and `capture` have no count of harts then. A capture is of version 1 with
+/// `--v1`, and else of version 2.
 ///
 /// An error is `clap`'s own. A call for help or for the version is one. Its `Display` is the text for the user, and its
 /// kind is `ErrorKind::OutOfMemory` where an allocation failed.

@@ -4,17 +4,20 @@ ghost use Rattle.std.specs.Prelude.{IfOk, List};
 ghost use Rattle.std.specs.List.{AllZip};
 ghost use Rattle.arguments.specs.Rules.{IsReadBy};
 ghost use Rattle.clap.specs.Words.{Rule};
-ghost use Rattle.cli.specs.Grammar.{HasGrammar, all_apps, audit_app, bench_app, check_app, decode_app, dump_app};
-ghost use Rattle.cli.specs.Grammar.{encode_app, list_app, measure_app, program_app, replay_app, salvage_app};
+ghost use Rattle.cli.specs.Grammar.{HasGrammar, all_apps, audit_app, bench_app, capture_app, check_app};
+ghost use Rattle.cli.specs.Grammar.{decode_app, dump_app, encode_app, list_app, measure_app, program_app, replay_app};
+ghost use Rattle.cli.specs.Grammar.{salvage_app};
 ghost use Rattle.cli.specs.Grammar.{with_arguments};
 
 use crate::help::{
-    AUDIT_EXAMPLE, BENCH_EXAMPLE, CHECK_EXAMPLE, DECODE_EXAMPLE, DUMP_EXAMPLE, ENCODE_EXAMPLE,
-    EXIT_STATUSES, LIST_EXAMPLE, MEASURE_EXAMPLE, REPLAY_EXAMPLE, SALVAGE_EXAMPLE, VERSION,
+    AUDIT_EXAMPLE, BENCH_EXAMPLE, CAPTURE_EXAMPLE, CHECK_EXAMPLE, DECODE_EXAMPLE, DUMP_EXAMPLE,
+    ENCODE_EXAMPLE, EXIT_STATUSES, LIST_EXAMPLE, MEASURE_EXAMPLE, REPLAY_EXAMPLE, SALVAGE_EXAMPLE,
+    VERSION,
 };
 use arguments::{
-    base, capacity, capture, explain, full, harts, hex, image, logs, long, lossy, period, received,
-    schedule, sent, summary, symbols, version_one,
+    base, capacity, capture, counted_harts, explain, full, harts, hex, image, lines, logs, long,
+    lossy, packets, period, progress, received, salvaged_harts, schedule, search, sent, summary,
+    symbols, version_one, without_logs,
 };
 use clap::{Arg, Command};
 use std::alloc::{AllocError, Global};
@@ -44,6 +47,7 @@ fn check<'a>(alloc: Global) -> Result<Command<'a>, AllocError>
         base(alloc),
         explain(alloc),
         long(alloc),
+        progress(alloc),
         image(alloc),
         logs(alloc),
     ]?;
@@ -67,6 +71,7 @@ fn encode<'a>(alloc: Global) -> Result<Command<'a>, AllocError>
         version_one(alloc),
         hex(alloc),
         long(alloc),
+        progress(alloc),
         image(alloc),
         logs(alloc),
     ]?;
@@ -83,7 +88,7 @@ fn encode<'a>(alloc: Global) -> Result<Command<'a>, AllocError>
 fn dump<'a>(alloc: Global) -> Result<Command<'a>, AllocError>
     ensures { IfOk result (HasGrammar dump_app) }
 {
-    let args = vec![in alloc; capture(alloc)]?;
+    let args = vec![in alloc; search(alloc), capture(alloc)]?;
     subcommand(
         alloc,
         "dump",
@@ -122,6 +127,7 @@ fn replay<'a>(alloc: Global) -> Result<Command<'a>, AllocError>
         period(alloc),
         full(alloc),
         capacity(alloc),
+        progress(alloc),
         image(alloc),
         schedule(alloc),
         logs(alloc),
@@ -144,6 +150,7 @@ fn bench<'a>(alloc: Global) -> Result<Command<'a>, AllocError>
         period(alloc),
         full(alloc),
         capacity(alloc),
+        progress(alloc),
         image(alloc),
         logs(alloc),
     ]?;
@@ -160,7 +167,12 @@ fn bench<'a>(alloc: Global) -> Result<Command<'a>, AllocError>
 fn audit<'a>(alloc: Global) -> Result<Command<'a>, AllocError>
     ensures { IfOk result (HasGrammar audit_app) }
 {
-    let args = vec![in alloc; summary(alloc), sent(alloc), received(alloc)]?;
+    let args = vec![in alloc;
+        packets(alloc),
+        summary(alloc),
+        sent(alloc),
+        received(alloc),
+    ]?;
     subcommand(
         alloc,
         "audit",
@@ -179,6 +191,7 @@ fn measure<'a>(alloc: Global) -> Result<Command<'a>, AllocError>
         period(alloc),
         full(alloc),
         long(alloc),
+        progress(alloc),
         image(alloc),
         logs(alloc),
     ]?;
@@ -215,12 +228,38 @@ fn list<'a>(alloc: Global) -> Result<Command<'a>, AllocError>
 fn salvage<'a>(alloc: Global) -> Result<Command<'a>, AllocError>
     ensures { IfOk result (HasGrammar salvage_app) }
 {
-    let args = vec![in alloc; base(alloc), harts(alloc), image(alloc), capture(alloc)]?;
+    let args = vec![in alloc;
+        base(alloc),
+        salvaged_harts(alloc),
+        without_logs(alloc),
+        image(alloc),
+        capture(alloc),
+    ]?;
     subcommand(
         alloc,
         "salvage",
         "Write what is left of the log of each hart after any damage to a capture",
         SALVAGE_EXAMPLE,
+        args,
+    )
+}
+
+/// The arguments that the subcommand `capture` takes.
+fn capture_of_lines<'a>(alloc: Global) -> Result<Command<'a>, AllocError>
+    ensures { IfOk result (HasGrammar capture_app) }
+{
+    let args = vec![in alloc;
+        version_one(alloc),
+        full(alloc),
+        period(alloc),
+        counted_harts(alloc),
+        lines(alloc),
+    ]?;
+    subcommand(
+        alloc,
+        "capture",
+        "Write the capture of lines, each of one message, as `encode --hex` prints them",
+        CAPTURE_EXAMPLE,
         args,
     )
 }
@@ -240,6 +279,7 @@ fn all_subcommands<'a>(alloc: Global) -> Result<Vec<Command<'a>>, AllocError>
         measure(alloc)?,
         list(alloc)?,
         salvage(alloc)?,
+        capture_of_lines(alloc)?,
     ]?;
     Ok(subcommands)
 }

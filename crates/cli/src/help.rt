@@ -13,7 +13,7 @@ Exit statuses:
   1  A capture is not good, or a log or a path is not complete
   2  The arguments or an input are refused, or a log is illegal
   3  A file, the output or memory failed, or a run stopped early
-An input is the image, the symbols, a log, the schedule or SENT.";
+An input is the image, the symbols, a log, the schedule, SENT or LINES.";
 
 /// What the help of `check` ends with.
 pub(crate) const CHECK_EXAMPLE: &str = "\
@@ -61,6 +61,11 @@ Example:
 pub(crate) const LIST_EXAMPLE: &str = "\
 Example:
   tracebench list --base 80000000 examples/loop/image.bin examples/loop/log.capture";
+
+/// What the help of `capture` ends with.
+pub(crate) const CAPTURE_EXAMPLE: &str = "\
+Example:
+  tracebench capture examples/first/hex.txt >log.capture";
 
 /// What the help of `salvage` ends with.
 pub(crate) const SALVAGE_EXAMPLE: &str = "\

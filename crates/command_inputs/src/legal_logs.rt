@@ -5,6 +5,7 @@ ghost use Rattle.command_inputs.specs.FoundLogs.{AreLegalLogs};
 
 use crate::fault::Fault;
 use crate::listing::Listing;
+use crate::progress::begin_progress;
 use files::Files;
 use legalpath::LegalLog;
 use log_streams::{LogsFault, MadeLogs, made_of_logs};
@@ -14,13 +15,14 @@ use std::alloc::Global;
 use std::thread::Threads;
 
 /// The logs at these paths, in order, where each is legal for the program. Each is checked as it is read, and as many
-/// are read side by side as the machine has processors.
+/// are read side by side as the machine has processors. It is shown how far they are read, where that is asked for.
 pub fn legal_logs_of<'a, 'p, W, F: Files + Sync, R: Threads + Sync>(
     alloc: Global,
     rt: &R,
     files: &mut F,
     program: &'p Program,
     paths: &[&'a str],
+    progress: bool,
 ) -> Result<Vec<LegalLog<'p>>, Fault<'a, W>>
 where
     F::Reader: Send,
@@ -32,9 +34,11 @@ where
     ensures kept { F.content files.new ≡ F.content files.old }
 {
     let listing = Listing { program, alloc };
+    begin_progress(&*files, progress, paths);
     let MadeLogs { made, end } = made_of_logs(
         alloc, rt, &*files, program, MOST_ROWS, paths, &listing,
     );
+    files.end_progress();
     match end {
         Ok(()) => Ok(made),
         Err(LogsFault { path, why }) => Err(Fault::of_stop(path, why)),

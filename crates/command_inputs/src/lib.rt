@@ -11,6 +11,7 @@ mod fault;
 mod inputs;
 mod legal_logs;
 mod listing;
+mod progress;
 mod reason;
 mod status;
 
@@ -19,5 +20,6 @@ pub use fault::Fault;
 pub use files::{FileFault, FileReader, Files};
 pub use inputs::{asked_program, base_of, content_of, program_of};
 pub use legal_logs::legal_logs_of;
+pub use progress::begin_progress;
 pub use reason::Reason;
 pub use status::Status;

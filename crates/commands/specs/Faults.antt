@@ -9,8 +9,9 @@ use Rattle.command_inputs.specs.declared.status.Status.TheVariants.{Refused}
 use Rattle.log_commands.specs.Faults.{log_reason_status}
 use Rattle.capture_commands.specs.Faults.{capture_reason_status}
 use Rattle.path_commands.specs.Faults.{path_reason_status}
+use Rattle.line_commands.specs.Faults.{line_reason_status}
 use Rattle.commands.specs.declared.reason.CommandReason.{CommandReason}
-use Rattle.commands.specs.declared.reason.CommandReason.TheVariants.{Capture, Log, Path, Words}
+use Rattle.commands.specs.declared.reason.CommandReason.TheVariants.{Capture, Line, Log, Path, Words}
 
 -- A fault of the program.
 abbrev pub Fault : Type 0
@@ -30,6 +31,7 @@ command_reason_status Words = Refused
 command_reason_status (Log why) = log_reason_status why
 command_reason_status (Capture why) = capture_reason_status why
 command_reason_status (Path why) = path_reason_status why
+command_reason_status (Line why) = line_reason_status why
 
 -- The status at a fault.
 abbrev pub status_of : Fault → Status

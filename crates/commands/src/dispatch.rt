@@ -11,6 +11,7 @@ ghost use Rattle.commands.specs.Order.{early_fault};
 ghost use Rattle.commands.specs.steps.Running.{IsRun};
 
 use crate::capture_runs::{run_audit, run_decode, run_dump, run_list, run_salvage};
+use crate::line_runs::run_capture;
 use crate::log_runs::{run_bench, run_check, run_encode, run_measure, run_replay};
 use crate::reason::Fault;
 use command_inputs::{Files, Status};
@@ -21,7 +22,7 @@ use std::thread::Threads;
 use subcommands::Asked;
 
 /// Does what is asked, and returns how that ended: with a status, or at the first fault in the order base, count of
-/// logs, image, symbols, each log in turn, schedule, capture.
+/// logs or harts, image, symbols, each log in turn, schedule, capture or lines.
 ///
 /// Illegal logs are no fault of `check`, which has a line for each log on `out`.
 pub fn carry_out<'a, F: Files + Sync, O: Write, R: Threads + Wait + Sync>(
@@ -73,5 +74,6 @@ where
         Asked::Measure(asked) => run_measure(alloc, rt, files, asked, out),
         Asked::Listing(asked) => run_list(alloc, files, asked, out),
         Asked::Salvage(asked) => run_salvage(alloc, files, asked, out),
+        Asked::Capture(asked) => run_capture(files, asked, out),
     }
 }

@@ -11,6 +11,7 @@ ghost use Rattle.commands.specs.declared.reason.CommandReason.TheVariants as rea
 use crate::reason::{CommandReason, Fault};
 use capture_commands::CaptureReason;
 use command_inputs::{Fault as AnyFault, Reason, Status};
+use line_commands::LineReason;
 use log_commands::LogReason;
 use path_commands::PathReason;
 
@@ -51,6 +52,16 @@ impl<'a> Family<'a> for PathReason<'a> {
 
     fn joined(self) -> CommandReason<'a> {
         CommandReason::Path(self)
+    }
+
+    ghost same = { λ why. refl };
+}
+
+impl<'a> Family<'a> for LineReason<'a> {
+    ghost joined = { λ why. reason.Line why };
+
+    fn joined(self) -> CommandReason<'a> {
+        CommandReason::Line(self)
     }
 
     ghost same = { λ why. refl };

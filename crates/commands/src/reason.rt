@@ -6,6 +6,7 @@ ghost use Rattle.commands.specs.Faults.{command_reason_status};
 
 use capture_commands::CaptureReason;
 use command_inputs::{Reason, Status};
+use line_commands::LineReason;
 use log_commands::LogReason;
 use path_commands::PathReason;
 use std::fmt;
@@ -24,6 +25,8 @@ pub enum CommandReason<'a> {
     Capture(CaptureReason<'a>),
     /// A reason of `audit`.
     Path(PathReason<'a>),
+    /// A reason of `capture`.
+    Line(LineReason<'a>),
 }
 
 impl fmt::Display for CommandReason<'_> {
@@ -35,6 +38,7 @@ impl fmt::Display for CommandReason<'_> {
             CommandReason::Log(why) => write!(f, "{why}"),
             CommandReason::Capture(why) => write!(f, "{why}"),
             CommandReason::Path(why) => write!(f, "{why}"),
+            CommandReason::Line(why) => write!(f, "{why}"),
         }
     }
 }
@@ -50,6 +54,7 @@ impl Reason for CommandReason<'_> {
             CommandReason::Log(why) => why.status(),
             CommandReason::Capture(why) => why.status(),
             CommandReason::Path(why) => why.status(),
+            CommandReason::Line(why) => why.status(),
         }
     }
 

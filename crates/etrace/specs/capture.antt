@@ -25,6 +25,7 @@ pub use Rattle.captures.specs.Decoded
 pub use Rattle.captures.specs.Returned
 pub use Rattle.captures.specs.FaultText as CaptureFaultText
 pub use Rattle.captures.specs.PacketText
+pub use Rattle.captures.specs.Offsets as CaptureOffsets
 pub use Rattle.captures.specs.Dump
 pub use Rattle.capture_lines.specs.Line as CaptureLine
 pub use Rattle.capture_lines.specs.Lines as CaptureLines

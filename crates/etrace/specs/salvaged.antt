@@ -6,6 +6,7 @@ pub use Rattle.salvaging.specs.LeftParts
 pub use Rattle.salvaging.specs.Bad
 pub use Rattle.salvaging.specs.ReasonText
 pub use Rattle.salvaging.specs.Leaving
+pub use Rattle.salvaging.specs.Ends
 pub use Rattle.salvaging.specs.Late
 pub use Rattle.salvaging.specs.PartsIn
 pub use Rattle.salvaging.specs.Salvaged
@@ -17,3 +18,6 @@ pub use Rattle.frames.specs.Frame
 pub use Rattle.frames.specs.Taken as FramesTaken
 pub use Rattle.frames.specs.Spans as FrameSpans
 pub use Rattle.frames.specs.Written as FramesWritten
+pub use Rattle.searching.specs.Start as SearchStart
+pub use Rattle.searching.specs.Harts as SearchHarts
+pub use Rattle.searching.specs.Search

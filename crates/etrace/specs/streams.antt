@@ -2,6 +2,7 @@
 pub use Rattle.retire.specs.Source
 pub use Rattle.retire.specs.ReaderSource
 pub use Rattle.retire.specs.HasRead
+pub use Rattle.files.specs.Gave
 pub use Rattle.files.specs.Known
 pub use Rattle.log_streams.specs.Legal as LegalUpTo
 pub use Rattle.log_streams.specs.Illegal

@@ -3,9 +3,10 @@
 
 pub use capture_lines::{LineFault, LinesFault, Settings, write_capture};
 pub use captures::{
-    CaptureBytes, CaptureFault, CaptureFront, CaptureOutcome, Dumped, Form, HexLines, ReadFault,
-    ReadingText, WholeCapture, decode_capture, dump_capture, encode_capture, encode_hart,
-    encode_hex, hex_lines, read_front, read_messages, write_header_line, write_start,
+    CaptureBytes, CaptureFault, CaptureFront, CaptureOutcome, Dumped, Form, HexLines, Offset,
+    ReadFault, ReadingText, WholeCapture, decode_capture, dump_capture, encode_capture,
+    encode_hart, encode_hex, hex_lines, read_front, read_messages, write_bytes_line,
+    write_header_line, write_message_line, write_start,
 };
 pub use hart_encoding::HartMessages;
 pub use listing::{Listed, list_capture};

@@ -26,3 +26,4 @@ pub use roundtrip::first_packets_settle_the_first_events;
 pub use salvaging::{
     harts_are_salvaged_in_one_way, logs_are_salvaged, what_is_collected_is_salvaged,
 };
+pub use unnumbered::{counts_add_up, whole_is_equal};

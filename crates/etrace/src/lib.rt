@@ -47,7 +47,7 @@
 //! - [`LogMeasures`](packets::LogMeasures) counts events, packets and bytes, as [`measure`](packets::measure) does, and
 //!   [`write_measures_of`](packets::write_measures_of) writes the counts of several harts as a table.
 //! - [`Files`](streams::Files) is a place that files are opened from; an open file is a
-//!   [`FileReader`](streams::FileReader), and [`Watched`](streams::Watched) makes it a source.
+//!   [`FileReader`](streams::FileReader).
 //! - [`made_of_logs`](streams::made_of_logs) reads and checks the logs at several paths side by side, and a
 //!   [`LogTask`](streams::LogTask) makes something of the events of each.
 //!

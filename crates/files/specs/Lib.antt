@@ -1,1 +1,2 @@
+pub mod Gave
 pub mod Known

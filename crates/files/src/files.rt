@@ -1,6 +1,7 @@
 //! Where files come from.
 
-ghost use Rattle.std.specs.Prelude.{◌≡◌, ◌⊎◌, List, ℕ, IfErr, IfOk};
+ghost use Rattle.std.specs.Prelude.{⊤, ◌≡◌, ◌⊎◌, List, ℕ, IfErr, IfOk};
+ghost use Rattle.files.specs.Gave.{Gave, GivesFrom};
 ghost use Rattle.files.specs.Known.{IsOpened, Known, MayHold, MayLack, Unknown};
 
 use crate::fault::FileFault;
@@ -10,6 +11,11 @@ use crate::reader::FileReader;
 pub trait Files {
     /// What is known of the file at each path. Of files in memory the bytes are known, of the machine's files nothing.
     ghost content: { Self → List ℕ → Known } = { λ _ _. Unknown };
+
+    /// What the calls that read the file at each path may give. Code that knows no more of the type than this trait learns
+    /// from those calls alone that something may be given, so that it cannot make up what a file gave, also where nothing
+    /// is known of the file.
+    ghost Gives: { Self → List ℕ → Gave → Type 0 } = { λ _ _ _. ⊤ };
 
     /// A file that is open.
     type Reader: FileReader + Drop;
@@ -24,6 +30,7 @@ pub trait Files {
     fn open_file(&self, path: &str) -> Result<Self::Reader, FileFault>
         ensures opened { IfOk result (λ reader. IsOpened (content self.now path.now)
             (Self.Reader.given reader) (Self.Reader.left reader)) }
+        ensures gives { IfOk result (λ reader. GivesFrom (Self.Reader.MayGive reader) (Gives self.now path.now)) }
         ensures lacked { IfErr result (λ why. (why ≡ FileFault.Memory) ⊎ MayLack (content self.now path.now)) };
 
     /// Whether the file at this path is a regular file, which can be opened at any time, as often as one likes and
@@ -32,4 +39,21 @@ pub trait Files {
         let _ = path;
         true
     }
+
+    /// Begins to show how much of the files at these paths is read, where the files can show that. Files that cannot do
+    /// nothing.
+    fn begin_progress(&self, paths: &[&str]) {
+        let _ = paths;
+    }
+
+    /// Is told that a call on the open file at this path gave so many bytes; 0 says that the file has ended. Files that
+    /// show nothing do nothing.
+    fn note_read(&self, path: &str, count: usize) {
+        let _ = path;
+        let _ = count;
+    }
+
+    /// Ends what [`Files::begin_progress`] began, and takes away what was shown. Nothing reads the files meanwhile.
+    /// Files that show nothing do nothing.
+    fn end_progress(&self) {}
 }

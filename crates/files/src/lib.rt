@@ -4,9 +4,7 @@
 mod fault;
 mod files;
 mod reader;
-mod watched;
 
 pub use fault::FileFault;
 pub use files::Files;
 pub use reader::FileReader;
-pub use watched::Watched;

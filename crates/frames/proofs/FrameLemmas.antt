@@ -1,6 +1,6 @@
 -- The frame that bytes begin with.
-use Rattle.std.proofs.Common.{◌≡◌, ◌↔◌, ◌<◌, ◌≤◌, ◌+◌, ◌==◌, Some, Ok, ◌++◌, ℕ, Bool, true, false, not, nat_lt, List}
-use Rattle.std.proofs.Common.{IsTrue, length, take, drop, refl, sym, ap, subst, ◌∙◌, arith, length-take-le}
+use Rattle.std.proofs.Common.{◌≡◌, ◌↔◌, ◌<◌, ◌≤◌, ◌+◌, ◌==◌, if◌then◌else◌, None, Some, Ok, ◌++◌, ℕ, Bool, true, false, not, nat_lt, List}
+use Rattle.std.proofs.Common.{IsTrue, length, take, drop, refl, sym, ap, ap₂, subst, ◌∙◌, arith, length-take-le}
 use Rattle.std.proofs.lemmas.Bool.{and_parts, and_from, ne_eqb, ltb-true, ltb-false, lt-ltb, le-ltb}
 use Rattle.std.proofs.lemmas.List.{drop-take, length-append, length-drop}
 use lib.Seq.{take-append_seam}
@@ -14,7 +14,7 @@ use Rattle.message.specs.declared.message.Message.{Message}
 use Rattle.message.proofs.Cuts.{message_of-ranges}
 use Rattle.message.proofs.Fronts.{AreBytes-take, Stands, first_message-stands}
 use Rattle.message.proofs.Heads.{AreBytes-drop}
-use Rattle.frames.specs.Frame.{BeginsFrame, IsFrame, frame_in, frame_size, hart_in, is_complete, is_frame, length_in}
+use Rattle.frames.specs.Frame.{BeginsFrame, BeginsMessage, IsFrame, message_in, payload_in, frame_in, frame_size, hart_in, is_complete, is_frame, length_in}
 use Rattle.frames.specs.Frame.{number_in, end_of_frames}
 
 not_false : (b : Bool) → not b ≡ true → b ≡ false
@@ -80,14 +80,15 @@ stands bytes are c =
     rw (begun, whole, none, high, here) refl in
     (subst (Stands bytes) first (first_message-stands bytes are)).0
 
--- The message of a frame is what the bytes begin with.
-pub begins : (known : ℕ) (bytes : List ℕ) → AreBytes bytes → is_frame known bytes ≡ true → BeginsFrame known bytes
-begins known bytes are e =
-    let p = parts known bytes e in
+-- The message of complete bytes is what they begin with.
+pub begins_complete : (bytes : List ℕ) → AreBytes bytes → is_complete bytes ≡ true
+    → BeginsMessage (frame_in bytes) bytes
+begins_complete bytes are e =
+    let c = complete bytes e in
     let count = length_in bytes in
-    let some = p.complete.some in
-    let few = p.complete.few in
-    let fits = p.complete.fits in
+    let some = c.some in
+    let few = c.few in
+    let fits = c.fits in
     let head = take 11 bytes in
     let left = length-drop 11 bytes in
     let long : length (take count (drop 11 bytes)) ≡ count = length-take-le count (drop 11 bytes)
@@ -100,31 +101,41 @@ begins known bytes are e =
     let hart : m.hart ≡ hart_in bytes = little_from-take 0 2 11 bytes (omega arith) in
     let number : m.number ≡ number_in bytes = ap (little_number 8) (drop-take 2 9 bytes)
     ∙ little_from-take 0 8 9 (drop 2 bytes) (omega arith) in
+    let same : m ≡ frame_in bytes =
+    ap₂ (λ (h n : ℕ). record { hart = h; number = n; payload = payload_in bytes }) hart number in
+    subst (λ (message : Message). BeginsMessage message bytes) same
+    (record { rest = drop (11 + length m.payload) bytes; ranges = ranges; whole = stands bytes are c })
+
+-- The message of a frame is what the bytes begin with.
+pub begins : (known : ℕ) (bytes : List ℕ) → AreBytes bytes → is_frame known bytes ≡ true → BeginsFrame known bytes
+begins known bytes are e =
+    let p = parts known bytes e in
+    let both = and_parts (is_complete bytes) _ e in
+    let b = begins_complete bytes are both.0 in
     record {
-      message = m;
-      rest = drop (11 + length m.payload) bytes;
-      frame = record {
-        ranges = ranges;
-        hart = subst (λ (h : ℕ). h < known) (sym hart) p.hart;
-        number = subst (λ (n : ℕ). n < end_of_frames) (sym number) p.number;
-      };
-      whole = stands bytes are p.complete;
+      message = frame_in bytes;
+      rest = b.rest;
+      frame = record { ranges = b.ranges; hart = p.hart; number = p.number };
+      whole = b.whole;
     }
+
+-- Bytes that begin with a message begin with a complete one.
+pub is_complete-message : (m : Message) (rest : List ℕ) → IsMessage m → is_complete (message_bytes m ++ rest) ≡ true
+is_complete-message m rest is =
+    let some = is.some in
+    let few = is.few in
+    let long = length-append m.payload rest in
+    is_complete-from (message_bytes m ++ rest) (record { some = some; few = few; fits = omega (arith, long) })
 
 -- Bytes that begin with a message that is known again begin with a frame.
 pub is_frame-message : (known : ℕ) (m : Message) (rest : List ℕ) → IsFrame known m
     → is_frame known (message_bytes m ++ rest) ≡ true
 is_frame-message known m rest is =
-    let count = length m.payload in
-    let some = is.ranges.some in
-    let few = is.ranges.few in
-    let long = length-append m.payload rest in
     let bytes = message_bytes m ++ rest in
     let hart : hart_in bytes ≡ m.hart = little_number-reads_back 2 m.hart (drop 2 (head_bytes m)) is.ranges.hart in
     let number : number_in bytes ≡ m.number =
     little_number-reads_back 8 m.number (drop 10 (head_bytes m)) is.ranges.number in
-    let whole : Complete bytes = record { some = some; few = few; fits = omega (arith, long) } in
-    and_from (is_complete bytes) _ (is_complete-from bytes whole)
+    and_from (is_complete bytes) _ (is_complete-message m rest is.ranges)
     (and_from _ _ (lt-ltb (hart_in bytes) known (subst (λ (h : ℕ). h < known) (sym hart) is.hart))
     (lt-ltb (number_in bytes) end_of_frames (subst (λ (n : ℕ). n < end_of_frames) (sym number) is.number)))
 
@@ -143,3 +154,24 @@ is_frame-begins known bytes are = (
   begins known bytes are,
   λ b. subst (λ (l : List ℕ). is_frame known l ≡ true) (sym b.whole) (is_frame-message known b.message b.rest b.frame),
 )
+
+-- The message that bytes begin with is one and only one.
+pub message_in-begins : (m : Message) (bytes : List ℕ) → AreBytes bytes
+    → (message_in bytes ≡ Some m) ↔ BeginsMessage m bytes
+message_in-begins m bytes are = (λ e. found (is_complete bytes) refl e, λ b. only b)
+  where
+    some_same : {x y : Message} → Some x ≡ Some y → x ≡ y
+    some_same e = cc
+
+    found : (c : Bool) → is_complete bytes ≡ c → (if c then Some (frame_in bytes) else None) ≡ Some m
+        → BeginsMessage m bytes
+    found true is e =
+        subst (λ (message : Message). BeginsMessage message bytes) (some_same e) (begins_complete bytes are is)
+    found false is e = cc
+
+    only : BeginsMessage m bytes → message_in bytes ≡ Some m
+    only b =
+        let there : is_complete bytes ≡ true =
+        ap is_complete b.whole ∙ is_complete-message m b.rest b.ranges in
+        let is : frame_in bytes ≡ m = ap frame_in b.whole ∙ frame_in-message m b.rest b.ranges in
+        rw there (ap Some is)

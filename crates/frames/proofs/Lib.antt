@@ -1,5 +1,5 @@
-mod FrameLemmas
-mod Places
-mod ScatteredLemmas
+pub mod FrameLemmas
+pub mod Places
+pub mod ScatteredLemmas
 mod SpanLemmas
-mod TakenLemmas
+pub mod TakenLemmas

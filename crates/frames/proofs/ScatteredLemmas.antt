@@ -18,12 +18,12 @@ use Rattle.frames.proofs.FrameLemmas.{frame_in-message, is_frame-message}
 use Rattle.frames.proofs.SpanLemmas.{Ends, spans-frame, spans-run}
 use Rattle.frames.proofs.TakenLemmas.{inside-none, or_at_left, or_at_right}
 
-is_false : (b : Bool) → (b ≡ true → ⊥) → b ≡ false
+pub is_false : (b : Bool) → (b ≡ true → ⊥) → b ≡ false
 is_false false not_true = refl
 is_false true not_true = absurd (not_true refl)
 
 -- What follows the bytes of a message.
-after_message : (m : Message) (rest : List ℕ) → drop (frame_size (message_bytes m ++ rest)) (message_bytes m ++ rest) ≡ rest
+pub after_message : (m : Message) (rest : List ℕ) → drop (frame_size (message_bytes m ++ rest)) (message_bytes m ++ rest) ≡ rest
 after_message m rest =
     let size : length (message_bytes m) ≡ 11 + length m.payload = omega arith in
     drop_at (message_bytes m) rest (11 + length m.payload) size

@@ -1,5 +1,6 @@
 -- Messages that are known again, whatever bytes are around them, this project's own format.
-use Rattle.std.specs.Prelude.{ℕ, ◌≡◌, ◌<◌, ◌+◌, ◌^◌, ◌++◌, ◌&&◌, not, nat_lt, Bool, List, length, take, drop, slice_index}
+use Rattle.std.specs.Prelude.{ℕ, ◌≡◌, ◌<◌, ◌+◌, ◌^◌, ◌++◌, ◌&&◌, not, nat_lt, Bool, if◌then◌else◌, List, Option, Some, None}
+use Rattle.std.specs.Prelude.{length, take, drop, slice_index}
 use Rattle.byteorder.specs.Endian.{little_number}
 use Rattle.payload.specs.Limits.{most_bytes}
 use Rattle.message.specs.Capture.{message_bytes}
@@ -54,3 +55,17 @@ is_complete bytes =
 abbrev pub is_frame : ℕ → List ℕ → Bool
 is_frame known bytes =
     is_complete bytes && (nat_lt (hart_in bytes) known && nat_lt (number_in bytes) end_of_frames)
+
+-- The complete message that bytes begin with, if they begin with one.
+abbrev pub message_in : List ℕ → Option Message
+message_in bytes = if is_complete bytes then Some (frame_in bytes) else None
+
+-- How many bytes it has.
+abbrev pub message_size : List ℕ → Option ℕ
+message_size bytes = if is_complete bytes then Some (frame_size bytes) else None
+
+-- A complete message begins the bytes.
+pub record BeginsMessage (message : Message) (bytes : List ℕ) : Type 0 where
+  pub rest : List ℕ
+  pub ranges : IsMessage message
+  pub whole : bytes ≡ message_bytes message ++ rest

@@ -1,7 +1,9 @@
 //! A message that is known again.
 
-ghost use Rattle.std.specs.Prelude.{◌≡◌, ◌↔◌, ◌≤◌, IsTrue, length};
-ghost use Rattle.frames.specs.Frame.{BeginsFrame, frame_in, frame_size, is_complete, is_frame, length_in};
+ghost use Rattle.std.specs.Prelude.{◌≡◌, ◌↔◌, ◌≤◌, IfSome, IsTrue, Some, length};
+ghost use Rattle.frames.specs.Frame.{BeginsFrame, BeginsMessage, frame_in, frame_size, is_complete, is_frame, length_in};
+ghost use Rattle.frames.specs.Frame.{message_in, message_size};
+ghost use Rattle.message.specs.declared.message.Message.{Message as AnyMessage};
 ghost use Rattle.payload.specs.Limits.{most_bytes};
 ghost use Rattle.message.specs.steps.Filling.{AreBytes};
 
@@ -44,6 +46,42 @@ fn is_complete(bytes: &[u8]) -> bool
     }
     let length = usize::from(bytes[10]);
     length > 0 && length <= MOST_BYTES && bytes.len() >= HEAD + length
+}
+
+/// The complete message that bytes begin with, whatever its hart and its number; `None` where they begin with none. Takes
+/// no memory.
+#[inline(always)]
+pub fn message_in(bytes: &[u8]) -> Option<Message>
+    ensures message { (message : AnyMessage) → (result ≡ Some message) ↔ BeginsMessage message bytes.now }
+    ensures value { result ≡ message_in bytes.now }
+{
+    first_message(bytes)
+}
+
+/// The same, as a function of the bytes.
+#[inline(always)]
+fn first_message(bytes: &[u8]) -> Option<Message>
+    ensures value { result ≡ message_in bytes.now }
+    ensures bytes { AreBytes bytes.now }
+{
+    if is_complete(bytes) {
+        Some(frame_in(bytes))
+    } else {
+        None
+    }
+}
+
+/// How many bytes the complete message has that bytes begin with; `None` where they begin with none. Takes no memory.
+#[inline(always)]
+pub fn message_size(bytes: &[u8]) -> Option<usize>
+    ensures value { result ≡ message_size bytes.now }
+    ensures within { IfSome result (λ size. size ≤ length bytes.now) }
+{
+    if is_complete(bytes) {
+        Some(frame_size(bytes))
+    } else {
+        None
+    }
 }
 
 /// How many bytes the frame has that bytes begin with.

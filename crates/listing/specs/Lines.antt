@@ -1,20 +1,16 @@
 -- The lines of a listing.
 use Rattle.std.specs.Prelude.{ℕ, ◌+◌, ◌++◌, List, [], ◌∷◌, Option, Result, codes, length}
 use Rattle.std.specs.Fmt.{decimal}
-use Rattle.explaining.specs.Digits.{hex_filled}
 use Rattle.payload.specs.Reading.{reading}
 use Rattle.payload.specs.declared.fault.PackFault.{PackFault}
 use Rattle.payload.specs.declared.mode.Mode.{Mode}
 use Rattle.payload.specs.declared.packet.Packet.{Packet}
 use Rattle.message.specs.Capture.{message_bytes}
 use Rattle.message.specs.declared.message.Message.{Message}
+use Rattle.captures.specs.Offsets.{offset_text}
 use Rattle.captures.specs.PacketText.{reading_text}
 use Rattle.listing.specs.Effect.{Effect}
 use Rattle.listing.specs.EffectText.{effect_text}
-
--- The offset of a message in the file, in eight hexadecimal digits at least.
-abbrev pub offset_text : ℕ → List ℕ
-offset_text offset = hex_filled 8 offset
 
 -- The line of an offset alone.
 abbrev pub offset_line : ℕ → List ℕ

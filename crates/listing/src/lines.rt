@@ -5,11 +5,11 @@ ghost use Rattle.std.specs.Io.KnownBytes.{Appends};
 ghost use Rattle.output.specs.Begun.{AppendsBeginning};
 ghost use Rattle.payload.specs.Reading.{reading};
 ghost use Rattle.listing.specs.EffectText.{closes_text, waits_text};
-ghost use Rattle.listing.specs.Lines.{effect_line, offset_line, offset_text, text_with};
+ghost use Rattle.listing.specs.Lines.{effect_line, offset_line, text_with};
 ghost use Rattle.listing.specs.steps.Message.{denies_memory, effect_of, fault_line, read_closes, read_waits};
 
 use crate::places::write_added;
-use captures::ReadingText;
+use captures::{Offset, ReadingText};
 use decoder::DecodeFault;
 use message::Message;
 use output::write_text;
@@ -20,18 +20,6 @@ use std::alloc::Allocator;
 use std::fmt;
 use std::io::Write;
 use symbols::Symbols;
-
-/// An offset in a file, in eight hexadecimal digits at least.
-#[derive(Clone, Copy)]
-struct Offset(u64);
-
-impl fmt::Display for Offset {
-    ghost output = { λ offset. Some (offset_text offset.0) };
-
-    fn fmt<W: fmt::Write>(&self, f: &mut fmt::Formatter<W>) -> fmt::Result {
-        write!(f, "{:08x}", self.0)
-    }
-}
 
 /// The offset of a message, its hart, its number, and what its payload is.
 #[derive(Clone, Copy)]

@@ -55,6 +55,7 @@ where
         base: asked.base,
         image: asked.image,
         paths: &asked.logs,
+        progress: asked.progress,
     };
     over_legal_logs(alloc, rt, files, &logs, &OverThreads { rt, asked }, out)
 }

@@ -19,7 +19,7 @@ ghost use Rattle.command_inputs.specs.declared.fault.Fault.TheVariants as Fault;
 use crate::counting::Counting;
 use crate::most::most_of;
 use crate::reason::Fault;
-use command_inputs::{Status, asked_program};
+use command_inputs::{Status, asked_program, begin_progress};
 use files::Files;
 use log_streams::{IllegalRow, MadeLogs, made_of_logs};
 use message::MOST_HARTS;
@@ -83,10 +83,12 @@ where
         (O.contents out.old) (O.contents out.new) }
 {
     let most = most_of(asked.long);
+    begin_progress(files, asked.progress, paths);
     let MadeLogs {
         made: verdicts,
         end,
     } = made_of_logs(alloc, rt, files, program, most, paths, &Counting);
+    files.end_progress();
     let status = match write_logs(program, paths, verdicts.as_slice(), asked.explain, out) {
         Ok(status) => status,
         Err(why) => return Err(why),

@@ -22,7 +22,7 @@ use crate::made::all_made;
 use crate::most::most_of;
 use crate::reason::Fault;
 use captures::{CaptureBytes, Form, HexLines, write_start};
-use command_inputs::{Status, asked_program};
+use command_inputs::{Status, asked_program, begin_progress};
 use files::Files;
 use hart_encoding::HartMessages;
 use legalpath::PathFault;
@@ -140,6 +140,7 @@ where
     let rows = most_of(asked.long);
     let period = asked.period;
     let mode = asked.mode;
+    begin_progress(files, asked.progress, paths);
     if asked.hex {
         let form = HexLines;
         let encoding = Encoding {
@@ -148,7 +149,9 @@ where
             period,
             mode,
         };
-        all_made(made_of_logs(alloc, rt, files, program, rows, paths, &encoding))
+        let made = made_of_logs(alloc, rt, files, program, rows, paths, &encoding);
+        files.end_progress();
+        all_made(made)
     } else {
         let form = CaptureBytes;
         let encoding = Encoding {
@@ -157,7 +160,9 @@ where
             period,
             mode,
         };
-        all_made(made_of_logs(alloc, rt, files, program, rows, paths, &encoding))
+        let made = made_of_logs(alloc, rt, files, program, rows, paths, &encoding);
+        files.end_progress();
+        all_made(made)
     }
 }
 

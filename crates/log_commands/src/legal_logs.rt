@@ -31,6 +31,8 @@ pub(crate) struct AskedLogs<'a, 'b> {
     pub(crate) image: &'a str,
     /// The paths of the logs.
     pub(crate) paths: &'b Vec<&'a str>,
+    /// Whether it is shown how far the logs are read.
+    pub(crate) progress: bool,
 }
 
 /// What a subcommand does with legal logs.
@@ -89,7 +91,7 @@ where
 {
     let paths = asked.paths.as_slice();
     let program = asked_program(files, asked.most, asked.base, asked.image, paths)?;
-    let logs = legal_logs_of(alloc, rt, files, &program, paths)?;
+    let logs = legal_logs_of(alloc, rt, files, &program, paths, asked.progress)?;
     let ended = task.go_on(alloc, files, logs.as_slice(), out);
     let bytes = bytes_of(logs.as_slice());
     drop_side_by_side(rt, logs, bytes);

@@ -24,7 +24,7 @@ ghost use Rattle.command_inputs.specs.declared.fault.Fault.TheVariants as Fault;
 use crate::made::all_made;
 use crate::most::most_of;
 use crate::reason::Fault;
-use command_inputs::{Status, asked_program};
+use command_inputs::{Status, asked_program, begin_progress};
 use files::Files;
 use legalpath::PathFault;
 use log_streams::{IllegalRow, LogTask, made_of_logs};
@@ -139,7 +139,10 @@ where
         mode: asked.mode,
     };
     let rows = most_of(asked.long);
-    all_made(made_of_logs(alloc, rt, files, program, rows, paths, &measuring))
+    begin_progress(files, asked.progress, paths);
+    let made = made_of_logs(alloc, rt, files, program, rows, paths, &measuring);
+    files.end_progress();
+    all_made(made)
 }
 
 /// Writes the table of these measures, flushes the output, and returns that all is done.

@@ -54,6 +54,7 @@ where
         base: asked.base,
         image: asked.image,
         paths: &asked.logs,
+        progress: asked.progress,
     };
     over_legal_logs(alloc, rt, files, &logs, asked, out)
 }

@@ -4,19 +4,15 @@ use Rattle.std.proofs.Common.{sym, ap, subst, arith, inl, inr, slice_get, slice_
 use Rattle.std.proofs.lemmas.List.{length-map}
 use Rattle.std.proofs.lemmas.Option.{slice_get-get_or}
 use Rattle.std.specs.Borrow.{Bor}
-use Rattle.retire.specs.declared.event.Event.{Event}
 use Rattle.retire.specs.declared.fault.LogFault.TheVariants.{Memory}
-use Rattle.rvclass.specs.Image.{Image}
-use Rattle.files.specs.Known.{Content}
-use Rattle.log_streams.specs.Made.{AreMade, IsMadeOf}
+use Rattle.log_streams.specs.Made.{AreMadeBy}
 use Rattle.log_streams.specs.Refusing.{MayStop}
 use Rattle.log_streams.specs.steps.Allowed.{MayBeMade}
 use Rattle.log_streams.specs.steps.Places.{AreAllowedFrom, EndsAt, IsTakenUpTo, was_made}
-use Rattle.log_streams.specs.declared.illegal_row.IllegalRow.{IllegalRow}
 use Rattle.log_streams.specs.declared.logs_fault.LogsFault.{LogsFault}
 use Rattle.log_streams.specs.declared.stop.Stop.{Stop}
 use Rattle.log_streams.specs.declared.stop.Stop.TheVariants as stop
-use Rattle.log_streams.proofs.MadeLemmas.{denied}
+use Rattle.log_streams.proofs.MadeLemmas.{MayBeDenied}
 use Rattle.log_streams.proofs.PlacesLemmas.{end-at, first-place, made-at}
 
 -- So many logs were taken, and so many are left.
@@ -36,24 +32,20 @@ pub at-index : {A : Type 0} (all : List A) (n i : ℕ) (other : A) → i ≡ n �
 at-index all n i other same few =
     slice_get-get_or all n other few ∙ ap (λ i. Some (slice_index_or all i other)) (sym same)
 
-module _ {X : Type 0} (Makes : ℕ → List Event → X → Type 0) (OfIllegal : List Event → IllegalRow → X → Type 0)
-    (MayRefuse : Type 0) (content : Content) (program : Image) (most : ℕ) (paths : List (Bor (List ℕ)))
-    (all : List (Option (Result X Stop))) (count : length all ≡ length paths)
-    (allowed : AreAllowedFrom (MayBeMade Makes OfIllegal MayRefuse content program most paths) 0 all) where
+module _ {X : Type 0} (IsMade : List ℕ → ℕ → Result X Stop → Type 0) (denied : MayBeDenied IsMade) (MayRefuse : Type 0)
+    (paths : List (Bor (List ℕ))) (all : List (Option (Result X Stop))) (count : length all ≡ length paths)
+    (allowed : AreAllowedFrom (MayBeMade IsMade MayRefuse paths) 0 all) where
   made-of-each : (made : List X) (rest : List (Option (Result X Stop))) → IsTakenUpTo all rest made → (hart : ℕ)
       (path : Bor (List ℕ)) (one : X) → slice_get paths hart ≡ Some path → slice_get made hart ≡ Some one
-      → IsMadeOf Makes OfIllegal (content path.now) program most hart (Ok one)
+      → IsMade path.now hart (Ok one)
   made-of-each made rest whole hart path one path-at one-at =
-      let at = made-at (MayBeMade Makes OfIllegal MayRefuse content program most paths) 0 made rest
-      (subst (AreAllowedFrom (MayBeMade Makes OfIllegal MayRefuse content program most paths) 0) whole allowed) hart one
-      one-at in
-      let here = subst (λ place. MayBeMade Makes OfIllegal MayRefuse content program most paths place (Ok one))
-      (sym (first-place hart)) at in
+      let at = made-at (MayBeMade IsMade MayRefuse paths) 0 made rest
+      (subst (AreAllowedFrom (MayBeMade IsMade MayRefuse paths) 0) whole allowed) hart one one-at in
+      let here = subst (λ place. MayBeMade IsMade MayRefuse paths place (Ok one)) (sym (first-place hart)) at in
       here.0 path path-at
 
   -- Something was made of each log.
-  pub made-of-all : (made : List X) → IsTakenUpTo all [] made
-      → AreMade Makes OfIllegal content program most paths made (Ok tt)
+  pub made-of-all : (made : List X) → IsTakenUpTo all [] made → AreMadeBy IsMade paths made (Ok tt)
   made-of-all made whole = record {
     few = omega (arith, count, taken-length all [] made whole);
     each = made-of-each made [] whole;
@@ -63,22 +55,19 @@ module _ {X : Type 0} (Makes : ℕ → List Event → X → Type 0) (OfIllegal :
 
   -- The reason of a log of which nothing is known to be made is one that it may have.
   reason-of : (made : List X) (why : Stop) (ends : EndsAt all made why) → ends.one ≡ Some (Err why)
-      → MayBeMade Makes OfIllegal MayRefuse content program most paths (length made) (Err why)
+      → MayBeMade IsMade MayRefuse paths (length made) (Err why)
   reason-of made why ends is =
-      subst (λ place. MayBeMade Makes OfIllegal MayRefuse content program most paths place (Err why))
-      (sym (first-place (length made)))
-      (end-at (MayBeMade Makes OfIllegal MayRefuse content program most paths) 0 made why ends.rest
-      (subst (λ one. AreAllowedFrom (MayBeMade Makes OfIllegal MayRefuse content program most paths) 0
-      (map was_made made ++ one ∷ ends.rest)) is
-      (subst (AreAllowedFrom (MayBeMade Makes OfIllegal MayRefuse content program most paths) 0) ends.whole allowed)))
+      subst (λ place. MayBeMade IsMade MayRefuse paths place (Err why)) (sym (first-place (length made)))
+      (end-at (MayBeMade IsMade MayRefuse paths) 0 made why ends.rest
+      (subst (λ one. AreAllowedFrom (MayBeMade IsMade MayRefuse paths) 0 (map was_made made ++ one ∷ ends.rest)) is
+      (subst (AreAllowedFrom (MayBeMade IsMade MayRefuse paths) 0) ends.whole allowed)))
 
   stopped : (made : List X) (why : Stop) (ends : EndsAt all made why) (path : Bor (List ℕ))
-      → slice_get paths (length made) ≡ Some path
-      → IsMadeOf Makes OfIllegal (content path.now) program most (length made) (Err why)
+      → slice_get paths (length made) ≡ Some path → IsMade path.now (length made) (Err why)
   stopped made why ends path at = go ends.reason where
-    go : (why ≡ stop.Unread Memory) ⊎ (ends.one ≡ Some (Err why))
-        → IsMadeOf Makes OfIllegal (content path.now) program most (length made) (Err why)
-    go (inl memory) = denied (content path.now) program most why memory
+    go : (why ≡ stop.Unread Memory) ⊎ (ends.one ≡ Some (Err why)) → IsMade path.now (length made) (Err why)
+    go (inl memory) =
+        subst (λ why. IsMade path.now (length made) (Err why)) (sym memory) (denied path.now (length made))
     go (inr is) = (reason-of made why ends is).0 path at
 
   -- The first log of which nothing was made is illegal only where the task may refuse it.
@@ -90,8 +79,7 @@ module _ {X : Type 0} (Makes : ℕ → List Event → X → Type 0) (OfIllegal :
 
   -- Something was made of each log before one of which nothing was.
   pub made-up-to : (made : List X) (fault : LogsFault) → EndsAt all made fault.why
-      → slice_get paths (length made) ≡ Some fault.path
-      → AreMade Makes OfIllegal content program most paths made (Err fault)
+      → slice_get paths (length made) ≡ Some fault.path → AreMadeBy IsMade paths made (Err fault)
   made-up-to made fault ends at = record {
     few = omega (arith, count, taken-length all (ends.one ∷ ends.rest) made ends.whole);
     each = made-of-each made (ends.one ∷ ends.rest) ends.whole;

@@ -1,19 +1,21 @@
 -- What the bytes that a file gave say of the log in it.
-use Rattle.std.proofs.Common.{◌≡◌, ◌++◌, ◌∙◌, ℕ, List, [], Option, Some, None, Ok, Err, sym, ap, subst}
-use Rattle.std.proofs.Common.{inl, inr, append-nil, false}
+use Rattle.std.proofs.Common.{◌≡◌, ◌++◌, ◌∙◌, ℕ, List, [], Option, Some, None, Result, Ok, Err, sym, ap, subst}
+use Rattle.std.proofs.Common.{inl, inr, append-nil}
 use Rattle.std.specs.Prelude.{⊤}
 use Rattle.std.specs.Io.KnownBytes.{IsAtEnd, Keeps, prepend_known}
 use Rattle.retire.specs.HasRead.{IsFirstFault}
+use Rattle.retire.specs.Log.{log_up_to, records_of}
 use Rattle.retire.specs.declared.event.Event.{Event}
 use Rattle.retire.specs.declared.fault.LogFault.{LogFault}
 use Rattle.retire.specs.declared.fault.LogFault.TheVariants.{Read}
 use Rattle.retire.specs.declared.log_reader.LogReader.{LogReader}
 use Rattle.rvclass.specs.Image.{Image}
+use Rattle.files.specs.Gave.{First, Gave, IsGiven, Whole}
 use Rattle.files.specs.Known.{IsOpened, Known, MayHold, MayLack, Absent, Present, Unknown}
-use Rattle.log_streams.specs.Made.{IsMadeOf, IsStopped}
-use Rattle.log_streams.specs.Read.{IsReadIn}
-use Rattle.log_streams.specs.steps.ReadFault.{is_read_fault}
-use Rattle.log_streams.specs.steps.Reading.{IsMadeOfSource}
+use Rattle.log_streams.specs.Made.{IsMadeOf, IsMadeOfGiven, IsMadeOfRead}
+use Rattle.log_streams.specs.Read.{IsReadFrom, IsReadIn}
+use Rattle.log_streams.specs.steps.Confirmed.{IsConfirmedBy}
+use Rattle.log_streams.specs.steps.Reading.{IsMadeOfSource, IsWholeLog}
 use Rattle.log_streams.specs.declared.illegal_row.IllegalRow.{IllegalRow}
 use Rattle.log_streams.specs.declared.stop.Stop.{Stop}
 use Rattle.log_streams.specs.declared.stop.Stop.TheVariants as stop
@@ -67,53 +69,73 @@ fault-in (Present text) most given (Some rest) why all (inl (end, log)) =
 fault-in (Present text) most given (Some rest) why all (inr log) =
     record { bytes = given ++ rest; held = all; read = log rest }
 
+-- A fault of what a file gave is that of the bytes that it gave.
+pub fault-given : (Gives : Gave → Type 0) (most : ℕ) (given : List ℕ) (left : Option (List ℕ)) (why : LogFault)
+    → IsGiven Gives (First given) → IsFirstFault most given left why → IsReadFrom Gives most (Err why)
+fault-given Gives most given left why gave (inl (end, log)) = record { bytes = given; gave = gave; read = log }
+fault-given Gives most given left why gave (inr log) = record {
+  bytes = given;
+  gave = gave;
+  read = subst (λ bytes. log_up_to most (records_of bytes) ≡ Err why) (append-nil given) (log []);
+}
+
 module _ {X S : Type 0} (Makes : ℕ → List Event → X → Type 0) (OfIllegal : List Event → IllegalRow → X → Type 0)
-    (known : Known) (program : Image) (most hart : ℕ) (reader : LogReader S) (given : S → List ℕ)
-    (left : S → Option (List ℕ)) (all : IsAllOf known (prepend_known (given reader.source) (left reader.source))) where
-  -- What is made of the log that a file gave is made of the log in the file.
-  pub made-in : (made : X) → IsMadeOfSource Makes OfIllegal program most hart given left reader (Ok made)
-      → IsMadeOf Makes OfIllegal known program most hart (Ok made)
-  made-in made (events, whole, inl (legal, makes)) = inl (record {
-    events = events;
-    read = record {
-      bytes = given reader.source;
-      held = all-given known (given reader.source) (left reader.source) all whole.ended;
-      read = whole.log;
-    };
-    legal = legal;
-    makes = makes;
-  })
-  made-in made (events, whole, inr (row, illegal, makes)) = inr (record {
-    events = events;
-    row = row;
-    read = record {
-      bytes = given reader.source;
-      held = all-given known (given reader.source) (left reader.source) all whole.ended;
-      read = whole.log;
-    };
-    illegal = illegal;
-    makes = makes;
-  })
+    (program : Image) (most hart : ℕ) (reader : LogReader S) (given : S → List ℕ) (left : S → Option (List ℕ)) where
+  -- What is made of the log of a source is made of what is read of it.
+  made-of-read : (Reads : Result (List Event) LogFault → Type 0) (Lacks : Type 0)
+      → ((events : List Event) → IsWholeLog given left most reader events → Reads (Ok events)) → (made : X)
+      → IsMadeOfSource Makes OfIllegal program most hart given left reader (Ok made)
+      → IsMadeOfRead Makes OfIllegal Reads Lacks program most hart (Ok made)
+  made-of-read Reads Lacks reads made (events, whole, inl (legal, makes)) =
+      inl (record { events = events; read = reads events whole; legal = legal; makes = makes })
+  made-of-read Reads Lacks reads made (events, whole, inr (row, illegal, makes)) =
+      inr (record { events = events; row = row; read = reads events whole; illegal = illegal; makes = makes })
 
-  -- The fault of the log that a file gave is that of the log in the file, and the file failed only where it may be
-  -- lacking.
-  pub stopped-in : (why : Stop) → IsMadeOfSource Makes OfIllegal program most hart given left reader (Err why)
-      → (why ≡ stop.Unread Read → left reader.source ≡ None) → IsStopped known program most why
-  stopped-in (stop.Unread why) (inl (inl read)) failed =
-      inr (inl (read, may-lack known (given reader.source) (left reader.source) all (failed (ap stop.Unread read))))
-  stopped-in (stop.Unread why) (inl (inr memory)) failed = inl memory
-  stopped-in (stop.Unread why) (inr fault) failed =
-      inr (inr (fault-in known most (given reader.source) (left reader.source) why all fault))
-  stopped-in (stop.Illegal fault) (events, whole, first) failed = (
-    events,
-    record {
+  -- Where a source failed, it is confirmed.
+  failed-of : (Ended Failed : Type 0) (why : LogFault) → IsConfirmedBy {X = X} Ended Failed (Err (stop.Unread why))
+      → why ≡ Read → Failed
+  failed-of Ended Failed why confirmed is =
+      subst (λ why. IsConfirmedBy {X = X} Ended Failed (Err (stop.Unread why))) is confirmed
+
+  module _ (known : Known) (all : IsAllOf known (prepend_known (given reader.source) (left reader.source))) where
+    read-in : (events : List Event) → IsWholeLog given left most reader events → IsReadIn known most (Ok events)
+    read-in events whole = record {
       bytes = given reader.source;
       held = all-given known (given reader.source) (left reader.source) all whole.ended;
       read = whole.log;
-    },
-    first,
-  )
+    }
 
--- A reason that does not say that the source failed is not that one.
-pub not-read : {P : Type 0} (why : Stop) → is_read_fault why ≡ false → why ≡ stop.Unread Read → P
-not-read why other is = cc (sym other ∙ ap is_read_fault is)
+    -- What is made of the log that a file gave is made of the log in the file, where the file says so too.
+    pub made-in : (Ended : Type 0) (found : Result X Stop)
+        → IsMadeOfSource Makes OfIllegal program most hart given left reader found
+        → IsConfirmedBy Ended (left reader.source ≡ None) found
+        → IsMadeOf Makes OfIllegal known program most hart found
+    made-in Ended (Ok made) is confirmed =
+        made-of-read (IsReadIn known most) (MayLack known) read-in made is
+    made-in Ended (Err (stop.Unread why)) (inl (inl read)) confirmed = inr (inl (
+      read,
+      may-lack known (given reader.source) (left reader.source) all
+          (failed-of Ended (left reader.source ≡ None) why confirmed read),
+    ))
+    made-in Ended (Err (stop.Unread why)) (inl (inr memory)) confirmed = inl memory
+    made-in Ended (Err (stop.Unread why)) (inr fault) confirmed =
+        inr (inr (fault-in known most (given reader.source) (left reader.source) why all fault))
+    made-in Ended (Err (stop.Illegal fault)) (events, whole, first) confirmed = (events, read-in events whole, first)
+
+  module _ (Gives : Gave → Type 0) (first : IsGiven Gives (First (given reader.source))) where
+    read-from : IsGiven Gives (Whole (given reader.source)) → (events : List Event)
+        → IsWholeLog given left most reader events → IsReadFrom Gives most (Ok events)
+    read-from ended events whole = record { bytes = given reader.source; gave = ended; read = whole.log }
+
+    -- It is made of what calls gave of the file.
+    pub made-given : (Failed : Type 0) (found : Result X Stop)
+        → IsMadeOfSource Makes OfIllegal program most hart given left reader found
+        → IsConfirmedBy (IsGiven Gives (Whole (given reader.source))) Failed found
+        → IsMadeOfGiven Makes OfIllegal Gives program most hart found
+    made-given Failed (Ok made) is ended = made-of-read (IsReadFrom Gives most) ⊤ (read-from ended) made is
+    made-given Failed (Err (stop.Unread why)) (inl (inl read)) confirmed = inr (inl (read, tt))
+    made-given Failed (Err (stop.Unread why)) (inl (inr memory)) confirmed = inl memory
+    made-given Failed (Err (stop.Unread why)) (inr fault) confirmed =
+        inr (inr (fault-given Gives most (given reader.source) (left reader.source) why first fault))
+    made-given Failed (Err (stop.Illegal fault)) (events, whole, illegal) ended =
+        (events, read-from ended events whole, illegal)

@@ -5,32 +5,32 @@ use Rattle.std.specs.Borrow.{Bor}
 use Rattle.retire.specs.declared.event.Event.{Event}
 use Rattle.retire.specs.declared.fault.LogFault.TheVariants.{Memory}
 use Rattle.rvclass.specs.Image.{Image}
-use Rattle.files.specs.Known.{Content, Known}
-use Rattle.log_streams.specs.Made.{AreMade, IsMadeOf, IsStopped}
+use Rattle.files.specs.Gave.{Gave}
+use Rattle.files.specs.Known.{Content}
+use Rattle.log_streams.specs.Made.{AreMade, AreMadeBy, AreMadeOfGiven, IsMadeOf, IsMadeOfGiven}
 use Rattle.log_streams.specs.declared.illegal_row.IllegalRow.{IllegalRow}
 use Rattle.log_streams.specs.declared.logs_fault.LogsFault.{LogsFault}
 use Rattle.log_streams.specs.declared.stop.Stop.{Stop}
 use Rattle.log_streams.specs.declared.stop.Stop.TheVariants as stop
+use Rattle.log_streams.specs.steps.Allowed.{IsMadeAt}
 
 -- An allocation that failed may always be the reason.
-pub denied : (known : Known) (program : Image) (most : ℕ) (why : Stop) → why ≡ stop.Unread Memory
-    → IsStopped known program most why
-denied known program most why is = subst (λ w. IsStopped known program most w) (sym is) (inl refl)
+abbrev pub MayBeDenied : {X : Type 0} → (List ℕ → ℕ → Result X Stop → Type 0) → Type 0
+MayBeDenied IsMade = (path : List ℕ) (hart : ℕ) → IsMade path hart (Err (stop.Unread Memory))
 
-module _ {X : Type 0} (Makes : ℕ → List Event → X → Type 0) (OfIllegal : List Event → IllegalRow → X → Type 0)
-    (content : Content) (program : Image) (most : ℕ) where
+module _ {X : Type 0} (IsMade : List ℕ → ℕ → Result X Stop → Type 0) (denied : MayBeDenied IsMade) where
   fault-of : (paths : List (Bor (List ℕ))) (end : Result (Unit {0}) LogsFault)
       → IfErr end (λ fault. (slice_get paths 0 ≡ Some fault.path) × (fault.why ≡ stop.Unread Memory))
-      → IfErr end (λ fault. (slice_get paths 0 ≡ Some fault.path)
-      × IsMadeOf Makes OfIllegal (content fault.path.now) program most 0 (Err fault.why))
+      → IfErr end (λ fault. (slice_get paths 0 ≡ Some fault.path) × IsMade fault.path.now 0 (Err fault.why))
   fault-of paths (Ok u) h = tt
-  fault-of paths (Err fault) (at, why) = (at, denied (content fault.path.now) program most fault.why why)
+  fault-of paths (Err fault) (at, why) =
+      (at, subst (λ why. IsMade fault.path.now 0 (Err why)) (sym why) (denied fault.path.now 0))
 
   -- Nothing is made where an allocation fails.
   pub none-made : (paths : List (Bor (List ℕ))) (made : List X) (end : Result (Unit {0}) LogsFault) → made ≡ []
       → (end ≡ Ok tt → length paths ≡ 0)
       → IfErr end (λ fault. (slice_get paths 0 ≡ Some fault.path) × (fault.why ≡ stop.Unread Memory))
-      → AreMade Makes OfIllegal content program most paths made end
+      → AreMadeBy IsMade paths made end
   none-made paths [] end is all fault = record {
     few = zero-le;
     each = λ hart path one at made. cc made;
@@ -38,3 +38,43 @@ module _ {X : Type 0} (Makes : ℕ → List Event → X → Type 0) (OfIllegal :
     fault = fault-of paths end fault;
   }
   none-made paths (one ∷ rest) end is all fault = cc is
+
+module _ {X : Type 0} (P Q : List ℕ → ℕ → Result X Stop → Type 0)
+    (leads : (path : List ℕ) (hart : ℕ) (one : Result X Stop) → P path hart one → Q path hart one) where
+  fault-leads : (paths : List (Bor (List ℕ))) (count : ℕ) (end : Result (Unit {0}) LogsFault)
+      → IfErr end (λ fault. (slice_get paths count ≡ Some fault.path) × P fault.path.now count (Err fault.why))
+      → IfErr end (λ fault. (slice_get paths count ≡ Some fault.path) × Q fault.path.now count (Err fault.why))
+  fault-leads paths count (Ok u) h = tt
+  fault-leads paths count (Err fault) (at, is) = (at, leads fault.path.now count (Err fault.why) is)
+
+  -- What leads on for each log leads on for all.
+  pub all-leads : (paths : List (Bor (List ℕ))) (made : List X) (end : Result (Unit {0}) LogsFault)
+      → AreMadeBy P paths made end → AreMadeBy Q paths made end
+  all-leads paths made end are = record {
+    few = are.few;
+    each = λ hart path one at is. leads path.now hart (Ok one) (are.each hart path one at is);
+    all = are.all;
+    fault = fault-leads paths (length made) end are.fault;
+  }
+
+module _ {X : Type 0} (Makes : ℕ → List Event → X → Type 0) (OfIllegal : List Event → IllegalRow → X → Type 0)
+    (content : Content) (Gives : List ℕ → Gave → Type 0) (program : Image) (most : ℕ) where
+  -- An allocation that failed may be the reason, by what is known of files and by what they gave.
+  pub denied-at : MayBeDenied {X = X} (IsMadeAt Makes OfIllegal content Gives program most)
+  denied-at path hart = (inl refl, inl refl)
+
+  -- What was made of logs by both was made by what is known of their files.
+  pub by-content : (paths : List (Bor (List ℕ))) (made : List X) (end : Result (Unit {0}) LogsFault)
+      → AreMadeBy (IsMadeAt Makes OfIllegal content Gives program most) paths made end
+      → AreMade Makes OfIllegal content program most paths made end
+  by-content =
+      all-leads (IsMadeAt Makes OfIllegal content Gives program most)
+      (λ path. IsMadeOf Makes OfIllegal (content path) program most) (λ path hart one is. is.0)
+
+  -- It was made by what calls gave of them.
+  pub by-given : (paths : List (Bor (List ℕ))) (made : List X) (end : Result (Unit {0}) LogsFault)
+      → AreMadeBy (IsMadeAt Makes OfIllegal content Gives program most) paths made end
+      → AreMadeOfGiven Makes OfIllegal Gives program most paths made end
+  by-given =
+      all-leads (IsMadeAt Makes OfIllegal content Gives program most)
+      (λ path. IsMadeOfGiven Makes OfIllegal (Gives path) program most) (λ path hart one is. is.1)

@@ -4,13 +4,8 @@ use Rattle.std.proofs.Common.{◌<◌, IfErr, slice_get, slice_index_or, length,
 use Rattle.std.proofs.lemmas.List.Elements.{All-push}
 use Rattle.std.proofs.lemmas.Option.{slice_get-get_or}
 use Rattle.std.specs.Borrow.{Bor}
-use Rattle.retire.specs.declared.event.Event.{Event}
-use Rattle.rvclass.specs.Image.{Image}
-use Rattle.files.specs.Known.{Content}
-use Rattle.log_streams.specs.Made.{IsMadeOf}
 use Rattle.log_streams.specs.Refusing.{MayStop}
 use Rattle.log_streams.specs.steps.Allowed.{MayBeMade}
-use Rattle.log_streams.specs.declared.illegal_row.IllegalRow.{IllegalRow}
 use Rattle.log_streams.specs.declared.stop.Stop.{Stop}
 
 same-path : (path other : Bor (List ℕ)) → Some path ≡ Some other → path ≡ other
@@ -22,15 +17,12 @@ pub at-get : {A : Type 0} (all : List A) (place : ℕ) (one : A) → place < len
 at-get all place one few is = slice_get-get_or all place one few ∙ ap Some (sym is)
 
 -- What is made of the log at a path may be made at its place.
-pub at-place : {X : Type 0} (Makes : ℕ → List Event → X → Type 0) (OfIllegal : List Event → IllegalRow → X → Type 0)
-    (MayRefuse : Type 0) (content : Content) (program : Image) (most : ℕ) (paths : List (Bor (List ℕ))) (place : ℕ) (made : Result X Stop)
-    (path : Bor (List ℕ)) → slice_get paths place ≡ Some path
-    → IsMadeOf Makes OfIllegal (content path.now) program most place made
-    → IfErr made (MayStop MayRefuse)
-    → MayBeMade Makes OfIllegal MayRefuse content program most paths place made
-at-place Makes OfIllegal MayRefuse content program most paths place made path at is may = (
-  λ other same. subst (λ path. IsMadeOf Makes OfIllegal (content path.now) program most place made)
-      (same-path path other (sym at ∙ same)) is,
+pub at-place : {X : Type 0} (IsMade : List ℕ → ℕ → Result X Stop → Type 0) (MayRefuse : Type 0)
+    (paths : List (Bor (List ℕ))) (place : ℕ) (made : Result X Stop) (path : Bor (List ℕ))
+    → slice_get paths place ≡ Some path → IsMade path.now place made → IfErr made (MayStop MayRefuse)
+    → MayBeMade IsMade MayRefuse paths place made
+at-place IsMade MayRefuse paths place made path at is may = (
+  λ other same. subst (λ path. IsMade path.now place made) (same-path path other (sym at ∙ same)) is,
   may,
 )
 

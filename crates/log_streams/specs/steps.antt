@@ -1,5 +1,5 @@
 pub mod Allowed
+pub mod Confirmed
 pub mod Judging
 pub mod Places
-pub mod ReadFault
 pub mod Reading

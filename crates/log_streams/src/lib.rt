@@ -5,6 +5,7 @@
 #![tactic(auto)]
 
 mod entry;
+mod file_at;
 mod illegal_row;
 mod in_order;
 mod judging;
@@ -16,6 +17,7 @@ mod reading;
 mod side_by_side_logs;
 mod stop;
 mod task;
+mod watched;
 mod work;
 mod worker;
 

@@ -1,7 +1,7 @@
 //! Logs that are read side by side.
 
 ghost use Rattle.std.specs.Prelude.{◌≡◌, [], Ok, Some, IfErr, length, slice_get};
-ghost use Rattle.log_streams.specs.Made.{AreMade};
+ghost use Rattle.log_streams.specs.Made.{AreMade, AreMadeOfGiven};
 ghost use Rattle.log_streams.specs.Refusing.{MayStop};
 ghost use Rattle.log_streams.specs.declared.stop.Stop.TheVariants as stop;
 
@@ -36,6 +36,9 @@ where
     T::State: Send,
     ensures made { AreMade (T.Makes task.now program.now) (T.MakesOfIllegal task.now program.now) (F.content files.now)
         program.now most paths.now result.made.items result.end }
+    // Also of files of which nothing is known, the logs are those that calls gave.
+    ensures given { AreMadeOfGiven (T.Makes task.now program.now) (T.MakesOfIllegal task.now program.now)
+        (F.Gives files.now) program.now most paths.now result.made.items result.end }
     ensures refused { IfErr result.end (λ fault. MayStop (T.MayRefuse task.now) fault.why) }
 {
     let Ok(places) = places_of(alloc, files, paths) else {

@@ -33,7 +33,8 @@ where
     F::Reader: Send,
     T::State: Send,
 {
-    ghost Allows = { λ work place made. MayBeMadeIn T.Makes T.MakesOfIllegal T.MayRefuse F.content work place made };
+    ghost Allows = { λ work place made.
+        MayBeMadeIn T.Makes T.MakesOfIllegal T.MayRefuse F.content F.Gives work place made };
 
     fn work(&self, is_first: bool) -> Vec<Entry<X>> {
         let mut entries = Vec::new(self.alloc);
@@ -50,8 +51,8 @@ fn read_others<F: Files, X: Drop, T: LogTask<X>>(
     work: &Work<'_, '_, F, T>,
     entries: &mut Vec<Entry<X>>,
 )
-    requires { AreEntries T.Makes T.MakesOfIllegal T.MayRefuse F.content work.now entries.old.items }
-    ensures { AreEntries T.Makes T.MakesOfIllegal T.MayRefuse F.content work.now entries.new.items }
+    requires { AreEntries T.Makes T.MakesOfIllegal T.MayRefuse F.content F.Gives work.now entries.old.items }
+    ensures { AreEntries T.Makes T.MakesOfIllegal T.MayRefuse F.content F.Gives work.now entries.new.items }
 {
     for place in &work.places.others {
         if !read_log(work, *place, entries) {
@@ -65,8 +66,8 @@ fn read_regular<F: Files, X: Drop, T: LogTask<X>>(
     work: &Work<'_, '_, F, T>,
     entries: &mut Vec<Entry<X>>,
 )
-    requires { AreEntries T.Makes T.MakesOfIllegal T.MayRefuse F.content work.now entries.old.items }
-    ensures { AreEntries T.Makes T.MakesOfIllegal T.MayRefuse F.content work.now entries.new.items }
+    requires { AreEntries T.Makes T.MakesOfIllegal T.MayRefuse F.content F.Gives work.now entries.old.items }
+    ensures { AreEntries T.Makes T.MakesOfIllegal T.MayRefuse F.content F.Gives work.now entries.new.items }
 {
     for _ in 0..work.places.regular.len() {
         let next = work.taken.fetch_add(1, Ordering::SeqCst);
@@ -85,8 +86,8 @@ fn read_log<F: Files, X: Drop, T: LogTask<X>>(
     place: usize,
     entries: &mut Vec<Entry<X>>,
 ) -> bool
-    requires { AreEntries T.Makes T.MakesOfIllegal T.MayRefuse F.content work.now entries.old.items }
-    ensures { AreEntries T.Makes T.MakesOfIllegal T.MayRefuse F.content work.now entries.new.items }
+    requires { AreEntries T.Makes T.MakesOfIllegal T.MayRefuse F.content F.Gives work.now entries.old.items }
+    ensures { AreEntries T.Makes T.MakesOfIllegal T.MayRefuse F.content F.Gives work.now entries.new.items }
 {
     if place > work.end.load(Ordering::SeqCst) || entries.reserve(1).is_err() {
         return false;

@@ -43,18 +43,18 @@ module _ (content : Content) (asked : Audit) where
           (Err why) old refl lacked (λ none. (Ok bytes, read, (Ok sent, is, (Err why, none, refl))))
 
       module _ (received : List ℕ) (came : IsRead {W = PathReason} content asked.received (Ok received)) where
-        leads : (printed : Printed) → WritesAudit asked.summary sent received printed → Audits content asked printed
+        leads : (printed : Printed) → WritesAudit asked sent received printed → Audits content asked printed
         leads printed writes = (Ok bytes, read, (Ok sent, is, (Ok received, came, writes)))
 
         -- What is printed of both is what `audit` prints.
         pub both_printed : (ended : Result Status Fault) (old new : Option (List ℕ))
-            → PrintsUnlessDenied (WritesAudit asked.summary sent received) ⊤ ended old new
+            → PrintsUnlessDenied (WritesAudit asked sent received) ⊤ ended old new
             → PrintsUnlessDenied (Audits content asked) (CanAudit content asked) ended old new
         both_printed ended old new printed =
-            leads_on (WritesAudit asked.summary sent received) (Audits content asked) ⊤ (CanAudit content asked) ended old new leads
+            leads_on (WritesAudit asked sent received) (Audits content asked) ⊤ (CanAudit content asked) ended old new leads
             (λ _. (bytes, read, (sent, is, (received, came, tt)))) printed
 
         -- And so is a cut of it.
-        pub both_cut : (old new : Option (List ℕ)) → IsCutOf (WritesAudit asked.summary sent received) old new
+        pub both_cut : (old new : Option (List ℕ)) → IsCutOf (WritesAudit asked sent received) old new
             → IsCutOf (Audits content asked) old new
-        both_cut old new cut = cut_leads (WritesAudit asked.summary sent received) (Audits content asked) old new leads cut
+        both_cut old new cut = cut_leads (WritesAudit asked sent received) (Audits content asked) old new leads cut

@@ -1,8 +1,8 @@
 pub mod Parts
-pub mod FindingLines
+pub mod SpanLines
 pub mod HartLines
 pub mod Sums
 pub mod Rests
 pub mod AuditRuns
+pub mod Came
 pub mod AuditSteps
-pub mod AuditParts

@@ -1,13 +1,19 @@
 -- The text of an audit.
 use Rattle.std.specs.Prelude.{ℕ, ◌+◌, ◌/◌, ◌%◌, ◌==◌, ◌||◌, ◌++◌, nat_lt, not, Bool, true, false, if◌then◌else◌, List, [], ◌∷◌}
-use Rattle.std.specs.Prelude.{Option, Some, None, codes}
+use Rattle.std.specs.Prelude.{Option, Some, None, codes, length}
 use Rattle.std.specs.Fmt.{decimal, digits}
 use Rattle.std.specs.List.{flat_map, list_all, range_with_len, sum_by}
+use Rattle.alike.specs.declared.by.By.{By}
+use Rattle.frames.specs.declared.span.Span.{Span}
+use Rattle.frames.specs.declared.span.Span.TheVariants.{Frame, Bytes}
 use Rattle.message.specs.declared.header.Header.{Header}
 use Rattle.message.specs.declared.message.Message.{Message}
 use Rattle.receiver.specs.Agreeing.{differ}
-use Rattle.auditing.specs.Findings.{Found, is_plain}
+use Rattle.captures.specs.Offsets.{bytes_line}
+use Rattle.resuming.specs.Counted.{messages_in}
+use Rattle.auditing.specs.Findings.{Found, finding_of, is_plain}
 use Rattle.auditing.specs.HartRows.{row_of}
+use Rattle.auditing.specs.Known.{known_all, known_one}
 use Rattle.auditing.specs.Losing.{lost_runs}
 use Rattle.auditing.specs.SentPayload.{payload_sent}
 use Rattle.auditing.specs.Tallies.{tally_of}
@@ -52,11 +58,26 @@ abbrev pub line_or_none : Bool → List Message → ℕ → Found → List ℕ
 line_or_none summary sent place one =
     if summary || is_plain one.finding then [] else finding_line sent place one
 
--- The lines of messages. The first message is at this place.
-abbrev pub finding_lines : Bool → List Message → ℕ → List Found → List ℕ
-finding_lines summary sent place [] = []
-finding_lines summary sent place (one ∷ more) =
-    line_or_none summary sent place one ++ finding_lines summary sent (place + 1) more
+-- Lines that a summary leaves out.
+abbrev pub unless_summary : Bool → List ℕ → List ℕ
+unless_summary true lines = []
+unless_summary false lines = lines
+
+-- The line of a message after these, or of a run of bytes. A message is compared with those that were sent by what their
+-- payloads are known by, and its place counts the messages before it.
+abbrev pub span_line : By → Bool → List Message → List Message → Span → List ℕ
+span_line how summary sent before (Frame offset message) =
+    line_or_none summary sent (length before) (record {
+      message = message;
+      finding = finding_of (known_all how sent) (known_all how before) (known_one how message);
+    })
+span_line how summary sent before (Bytes offset count) = unless_summary summary (bytes_line offset count)
+
+-- The lines of messages and of runs of bytes, after these messages.
+abbrev pub span_lines : By → Bool → List Message → List Message → List Span → List ℕ
+span_lines how summary sent before [] = []
+span_lines how summary sent before (span ∷ more) =
+    span_line how summary sent before span ++ span_lines how summary sent (before ++ messages_in (span ∷ [])) more
 
 -- The numbers of a run of numbers that were lost.
 abbrev pub numbers_text : Lost → List ℕ
@@ -115,6 +136,11 @@ row_text hart row =
 abbrev pub strangers_line : ℕ → List ℕ
 strangers_line count = if count == 0 then [] else codes "strangers: " ++ (decimal count ++ codes " messages\n")
 
+-- The line of the bytes that are of no message, where there are any.
+abbrev pub damage_line : ℕ → ℕ → List ℕ
+damage_line bytes runs =
+    if bytes == 0 then [] else codes "bytes: " ++ (decimal bytes ++ (codes " in " ++ (decimal runs ++ codes " runs\n")))
+
 -- Two headers are not the same.
 abbrev pub are_unlike : Header → Header → Bool
 are_unlike header other =
@@ -147,12 +173,13 @@ first_line (Some place) = codes "first: message " ++ (decimal place ++ codes "\n
 abbrev pub result_line : Bool → List ℕ
 result_line whole = codes "result: " ++ (verdict_text whole ++ codes "\n")
 
--- What follows the lines of the harts: all of them together, how many strangers came, whether headers differ, the first
--- message that is not in order or skips a number, and the result.
-abbrev pub ending_text : ℕ → Total → ℕ → Bool → Option ℕ → Bool → List ℕ
-ending_text harts total strangers unlike first whole =
+-- What follows the lines of the harts: all of them together, how many strangers came, how many bytes of no message,
+-- whether headers differ, the first message that is not in order or skips a number, and the result.
+abbrev pub ending_text : ℕ → Total → ℕ → ℕ → ℕ → Bool → Option ℕ → Bool → List ℕ
+ending_text harts total strangers bytes runs unlike first whole =
     all_line harts total
-    ++ (strangers_line strangers ++ (headers_line unlike ++ (first_line first ++ result_line whole)))
+    ++ (strangers_line strangers
+    ++ (damage_line bytes runs ++ (headers_line unlike ++ (first_line first ++ result_line whole))))
 
 -- The harts of so many, from 0 on.
 abbrev pub harts_below : ℕ → List ℕ
@@ -162,11 +189,6 @@ harts_below count = range_with_len 0 count
 abbrev pub all_lost_lines : List Message → List Message → ℕ → List ℕ
 all_lost_lines sent received harts =
     flat_map (λ hart. lost_lines hart (lost_runs sent received hart)) (harts_below harts)
-
--- Lines that a summary leaves out.
-abbrev pub unless_summary : Bool → List ℕ → List ℕ
-unless_summary true lines = []
-unless_summary false lines = lines
 
 -- The lines of all harts.
 abbrev pub row_lines : List Message → List Message → ℕ → List ℕ

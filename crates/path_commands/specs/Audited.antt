@@ -1,13 +1,20 @@
 -- What `audit` prints, and how it ends.
-use Rattle.std.specs.Prelude.{◌≡◌, ⊤, ℕ, ◌==◌, ◌&&◌, ◌++◌, not, Bool, true, false, is_none, List, Option, Some, None}
-use Rattle.std.specs.Prelude.{Result, Ok, Err}
+use Rattle.std.specs.Prelude.{◌≡◌, ⊤, ℕ, ◌==◌, ◌&&◌, ◌++◌, not, Bool, true, false, is_none, is_some, List, [], Option, Some, None}
+use Rattle.std.specs.Prelude.{Result, Ok, Err, drop}
+use Rattle.alike.specs.declared.by.By.{By}
+use Rattle.alike.specs.declared.by.By.TheVariants as by
+use Rattle.frames.specs.declared.span.Span.{Span}
 use Rattle.message.specs.declared.fault.MessageFault.{MessageFault}
 use Rattle.message.specs.declared.header.Header.{Header}
 use Rattle.message.specs.declared.message.Message.{Message}
-use Rattle.captures.specs.Heard.{IsHeard}
+use Rattle.resuming.specs.Counted.{bytes_in, messages_in, runs_in}
+use Rattle.resuming.specs.Passages.{spans_from}
+use Rattle.searching.specs.Start.{IsStart, first_place}
 use Rattle.subcommands.specs.declared.words.Audit.{Audit}
-use Rattle.auditing.specs.Findings.{findings, first_found}
+use Rattle.auditing.specs.Findings.{first_found}
 use Rattle.auditing.specs.Judged.{strangers_in}
+use Rattle.auditing.specs.Known.{known_all}
+use Rattle.auditing.specs.Seen.{sight_of}
 use Rattle.auditing.specs.Sent.{IsSent, IsSentFault, harts_of}
 use Rattle.auditing.specs.declared.fault.SentFault.{SentFault}
 use Rattle.command_inputs.specs.Faults.{Path}
@@ -15,10 +22,10 @@ use Rattle.command_inputs.specs.Found.{IsRead}
 use Rattle.files.specs.Known.{Content}
 use Rattle.command_inputs.specs.Meaning.{writing_at_once}
 use Rattle.command_inputs.specs.Printed.{First}
-use Rattle.path_commands.specs.Faults.{Fault, Meaning, Once, Printed, received_fault, sent_fault}
+use Rattle.path_commands.specs.Faults.{Fault, Meaning, Once, Printed, damaged_fault, sent_fault}
 use Rattle.command_inputs.specs.declared.status.Status.{Status}
 use Rattle.command_inputs.specs.declared.status.Status.TheVariants.{NotWhole, Whole}
-use Rattle.path_commands.specs.AuditText.{all_lost_lines, are_whole, ending_text, finding_lines, headers_differ, row_lines}
+use Rattle.path_commands.specs.AuditText.{all_lost_lines, are_whole, ending_text, headers_differ, row_lines, span_lines}
 use Rattle.path_commands.specs.AuditText.{total_of, unless_summary}
 
 -- SENT: its header, if it has one, and its messages.
@@ -31,52 +38,82 @@ abbrev pub IsFoundSent : Path → List ℕ → Result Sent Fault → Type 0
 IsFoundSent path bytes (Ok sent) = IsSent bytes sent.header sent.messages
 IsFoundSent path bytes (Err why) = (fault : SentFault) × IsSentFault bytes fault × (why ≡ sent_fault path fault)
 
--- The result is whole: every hart is whole, no stranger came, headers do not differ, and RECEIVED comes to its end.
-abbrev pub is_whole_result : Sent → Option Header → List Message → Option (ℕ × MessageFault) → Bool
-is_whole_result sent header received stop =
-    are_whole sent.messages received (harts_of sent.header sent.messages)
-    && (strangers_in sent.messages received == 0) && not (headers_differ sent.header header) && is_none stop
+-- RECEIVED: its header, if it has a valid one; why it has none, where it begins as a capture of version 2 does; and its
+-- messages and the runs of bytes between them.
+pub record Came : Type 0 where
+  pub header : Option Header
+  pub fault : Option MessageFault
+  pub spans : List Span
 
--- What follows the lines of the messages.
-abbrev pub behind_findings : Bool → Sent → Option Header → List Message → Option (ℕ × MessageFault) → List ℕ
-behind_findings summary sent header received stop =
+-- RECEIVED begins with this header, or with none, and is read after it, or else from its first byte on: its messages
+-- and the bytes between them are found by what was sent.
+pub record IsCame (how : By) (sent : List Message) (bytes : List ℕ) (came : Came) : Type 0 where
+  pub start : IsStart bytes came.header came.fault
+  pub spans : came.spans ≡ spans_from (sight_of how sent) (first_place came.header) (drop (first_place came.header) bytes)
+
+-- Headers differ: both captures have one, and these differ; or SENT has one, and that of RECEIVED is cut or not valid.
+abbrev pub heads_differ : Option Header → Option Header → Option MessageFault → Bool
+heads_differ sent header None = headers_differ sent header
+heads_differ sent header (Some why) = is_some sent
+
+-- RECEIVED is read without damage: its header is valid, if it begins as a capture of version 2 does, and each byte is
+-- one of a message.
+abbrev pub is_undamaged : Came → Bool
+is_undamaged came = is_none came.fault && (bytes_in came.spans == 0)
+
+-- The result is whole: every hart is whole, no stranger came, headers do not differ, and RECEIVED is read without damage.
+abbrev pub is_whole_result : By → Sent → Came → Bool
+is_whole_result how sent came =
+    let known = known_all how sent.messages in
+    let received = known_all how (messages_in came.spans) in
+    are_whole known received (harts_of sent.header sent.messages) && (strangers_in known received == 0)
+    && not (heads_differ sent.header came.header came.fault) && is_undamaged came
+
+-- What follows the lines of the messages. Messages are compared by what their payloads are known by.
+abbrev pub behind_findings : By → Bool → Sent → Came → List ℕ
+behind_findings how summary sent came =
+    let known = known_all how sent.messages in
+    let received = known_all how (messages_in came.spans) in
     let harts = harts_of sent.header sent.messages in
-    unless_summary summary (all_lost_lines sent.messages received harts)
-    ++ (row_lines sent.messages received harts
-    ++ ending_text harts (total_of sent.messages received harts) (strangers_in sent.messages received)
-    (headers_differ sent.header header) (first_found sent.messages received)
-    (is_whole_result sent header received stop))
+    unless_summary summary (all_lost_lines known received harts)
+    ++ (row_lines known received harts
+    ++ ending_text harts (total_of known received harts) (strangers_in known received) (bytes_in came.spans)
+    (runs_in came.spans) (heads_differ sent.header came.header came.fault) (first_found known received)
+    (is_whole_result how sent came))
 
--- The text of an audit: a line for each message of RECEIVED that is not in order or skips a number, one for each longest
--- run of lost numbers of each hart, and the lines of each hart; then all harts together, how many strangers came,
--- whether headers differ, which message is the first that is not in order or skips a number, and the result. A summary
--- has no lines of messages and of runs.
-abbrev pub audit_text : Bool → Sent → Option Header → List Message → Option (ℕ × MessageFault) → List ℕ
-audit_text summary sent header received stop =
-    finding_lines summary sent.messages 0 (findings sent.messages received)
-    ++ behind_findings summary sent header received stop
+-- The text of an audit: a line for each message of RECEIVED that is not in order or skips a number and for each run of
+-- bytes of no message, one for each longest run of lost numbers of each hart, and the lines of each hart; then all harts
+-- together, how many strangers came, how many bytes of no message, whether headers differ, which message is the first
+-- that is not in order or skips a number, and the result. A summary has no lines of messages and of runs.
+abbrev pub audit_text : By → Bool → Sent → Came → List ℕ
+audit_text how summary sent came =
+    span_lines how summary sent.messages [] came.spans ++ behind_findings how summary sent came
 
--- The fault at which RECEIVED stops, if there is one; else the end by whether the result is whole.
-abbrev pub end_of_audit : Option (ℕ × MessageFault) → Bool → Result Status Fault
-end_of_audit (Some stop) whole = Err (received_fault stop.0 stop.1)
-end_of_audit None true = Ok Whole
-end_of_audit None false = Ok NotWhole
+-- A header of RECEIVED that is cut or not valid, if it is so; else the end by whether the result is whole.
+abbrev pub end_of_audit : Path → Option MessageFault → Bool → Result Status Fault
+end_of_audit received (Some why) whole = Err (damaged_fault received)
+end_of_audit received None true = Ok Whole
+end_of_audit received None false = Ok NotWhole
+
+-- What payloads are compared by.
+abbrev pub by_packets : Bool → By
+by_packets true = by.Packets
+by_packets false = by.Bytes
 
 -- What became of the messages of SENT in these bytes of RECEIVED is written.
-pub record WritesAudit (summary : Bool) (sent : Sent) (bytes : List ℕ) (printed : Printed) : Type 0 where
-  pub header : Option Header
-  pub received : List Message
-  pub stop : Option (ℕ × MessageFault)
-  pub heard : IsHeard bytes header received stop
-  pub text : printed.text ≡ audit_text summary sent header received stop
-  pub ended : printed.ended ≡ end_of_audit stop (is_whole_result sent header received stop)
+pub record WritesAudit (asked : Audit) (sent : Sent) (bytes : List ℕ) (printed : Printed) : Type 0 where
+  pub came : Came
+  pub is_came : IsCame (by_packets asked.packets) sent.messages bytes came
+  pub text : printed.text ≡ audit_text (by_packets asked.packets) asked.summary sent came
+  pub ended : printed.ended
+      ≡ end_of_audit asked.received came.fault (is_whole_result (by_packets asked.packets) sent came)
 
 -- SENT is read and checked, and then RECEIVED is read. Where there is no fault, what became of the messages is written.
 abbrev pub Audits : Content → Audit → Printed → Type 0
 Audits content asked =
     First (IsRead content asked.sent) (λ bytes.
     First (IsFoundSent asked.sent bytes) (λ sent.
-    First (IsRead content asked.received) (WritesAudit asked.summary sent)))
+    First (IsRead content asked.received) (WritesAudit asked sent)))
 
 -- `audit` writes once it has SENT, which is whole, and RECEIVED.
 abbrev pub CanAudit : Content → Audit → Type 0

@@ -1,9 +1,7 @@
 -- The fault of `audit` for each fault of what it calls, and how it ends at that.
-use Rattle.std.specs.Prelude.{ℕ, Result}
+use Rattle.std.specs.Prelude.{Result}
 use Rattle.auditing.specs.declared.fault.SentFault.{SentFault}
 use Rattle.auditing.specs.declared.fault.SentFault.TheVariants as sent
-use Rattle.message.specs.declared.fault.MessageFault.{MessageFault}
-use Rattle.message.specs.declared.fault.MessageFault.TheVariants.{BadHeader}
 use Rattle.command_inputs.specs.Faults as inputs
 use Rattle.command_inputs.specs.Faults.{Path}
 use Rattle.command_inputs.specs.Finding as finding
@@ -14,7 +12,7 @@ use Rattle.command_inputs.specs.declared.fault.Fault.TheVariants as fault
 use Rattle.command_inputs.specs.declared.status.Status.{Status}
 use Rattle.command_inputs.specs.declared.status.Status.TheVariants.{NotWhole, Refused}
 use Rattle.path_commands.specs.declared.reason.PathReason.{PathReason}
-use Rattle.path_commands.specs.declared.reason.PathReason.TheVariants.{Header, Message, Sent}
+use Rattle.path_commands.specs.declared.reason.PathReason.TheVariants.{Damaged, Sent}
 
 -- A fault of `audit`.
 abbrev pub Fault : Type 0
@@ -32,11 +30,11 @@ Meaning = meaning.Meaning PathReason
 abbrev pub Once : {A : Type 0} → (Result A Fault → Type 0) → (A → Type 0) → Type 0
 Once Finds Holds = finding.Once Finds Holds
 
--- The status at a reason of `audit`'s own. SENT is refused; at faults of RECEIVED's header and of its messages, that
--- capture is not good.
+-- The status at a reason of `audit`'s own. SENT is refused; where RECEIVED's header is not valid, that capture is not
+-- good.
 abbrev pub path_reason_status : PathReason → Status
 path_reason_status (Sent path why) = Refused
-path_reason_status _ = NotWhole
+path_reason_status (Damaged path) = NotWhole
 
 -- The status at a fault.
 abbrev pub status_of : Fault → Status
@@ -51,7 +49,6 @@ abbrev pub sent_fault : Path → SentFault → Fault
 sent_fault path sent.Memory = fault.Memory
 sent_fault path why = fault.Own (Sent path why)
 
--- The fault of RECEIVED at the message with this number. That of a bad header names no message.
-abbrev pub received_fault : ℕ → MessageFault → Fault
-received_fault number BadHeader = fault.Own Header
-received_fault number why = fault.Own (Message number why)
+-- The fault of RECEIVED where its header is cut or not valid.
+abbrev pub damaged_fault : Path → Fault
+damaged_fault path = fault.Own (Damaged path)

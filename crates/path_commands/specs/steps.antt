@@ -1,2 +1,3 @@
 pub mod Ending
+pub mod Reading
 pub mod Summing

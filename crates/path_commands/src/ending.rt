@@ -1,7 +1,7 @@
 //! What follows the lines of the harts.
 
 ghost use Rattle.std.specs.Prelude.{◌≡◌, ◌++◌, Some};
-ghost use Rattle.path_commands.specs.AuditText.{all_line, ending_text, first_line, headers_line, result_line};
+ghost use Rattle.path_commands.specs.AuditText.{all_line, damage_line, ending_text, first_line, headers_line, result_line};
 ghost use Rattle.path_commands.specs.AuditText.{strangers_line, verdict_text};
 
 use crate::total::Total;
@@ -16,7 +16,11 @@ pub(crate) struct Ending {
     pub(crate) total: Total,
     /// How many strangers came.
     pub(crate) strangers: u64,
-    /// Whether both captures have a header, and these differ.
+    /// How many bytes of RECEIVED are of no message.
+    pub(crate) bytes: u64,
+    /// How many runs they are in.
+    pub(crate) runs: u64,
+    /// Whether headers differ.
     pub(crate) unlike: bool,
     /// The place of the first message that is not in order or skips a number, if there is one.
     pub(crate) first: Option<u64>,
@@ -25,8 +29,8 @@ pub(crate) struct Ending {
 }
 
 impl fmt::Display for Ending {
-    ghost output = { λ ending. Some (ending_text ending.harts ending.total ending.strangers ending.unlike ending.first
-        ending.whole) };
+    ghost output = { λ ending. Some (ending_text ending.harts ending.total ending.strangers ending.bytes ending.runs ending.unlike
+        ending.first ending.whole) };
 
     fn fmt<W: fmt::Write>(&self, f: &mut fmt::Formatter<W>) -> fmt::Result {
         let all = AllLine {
@@ -36,12 +40,16 @@ impl fmt::Display for Ending {
         let others = StrangersLine {
             strangers: self.strangers,
         };
+        let damage = DamageLine {
+            bytes: self.bytes,
+            runs: self.runs,
+        };
         let closing = Closing {
             unlike: self.unlike,
             first: self.first,
             whole: self.whole,
         };
-        write!(f, "{all}{others}{closing}")
+        write!(f, "{all}{others}{damage}{closing}")
     }
 }
 
@@ -95,7 +103,28 @@ impl fmt::Display for StrangersLine {
     }
 }
 
-/// What follows the line of the strangers.
+/// The line of the bytes that are of no message, where there are any.
+#[derive(Clone, Copy)]
+struct DamageLine {
+    bytes: u64,
+    runs: u64,
+}
+
+impl fmt::Display for DamageLine {
+    ghost output = { λ line. Some (damage_line line.bytes line.runs) };
+
+    fn fmt<W: fmt::Write>(&self, f: &mut fmt::Formatter<W>) -> fmt::Result {
+        let bytes = self.bytes;
+        let runs = self.runs;
+        if bytes == 0 {
+            f.write_str("")
+        } else {
+            write!(f, "bytes: {bytes} in {runs} runs\n")
+        }
+    }
+}
+
+/// What follows the line of the bytes.
 #[derive(Clone, Copy)]
 struct Closing {
     unlike: bool,

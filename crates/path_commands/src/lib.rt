@@ -5,6 +5,7 @@ mod comparing;
 mod ending;
 mod lines;
 mod reason;
+mod received;
 mod total;
 
 pub use comparing::audit;

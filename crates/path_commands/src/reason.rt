@@ -2,7 +2,7 @@
 
 ghost use Rattle.std.specs.Prelude.{◌≡◌, ◌≢◌, Some, refl};
 ghost use Rattle.path_commands.specs.FaultText.{path_reason_text};
-ghost use Rattle.path_commands.specs.Faults.{path_reason_status, received_fault, sent_fault, status_of};
+ghost use Rattle.path_commands.specs.Faults.{path_reason_status, damaged_fault, sent_fault, status_of};
 
 use auditing::SentFault;
 use command_inputs::{Reason, Status};
@@ -15,10 +15,8 @@ pub type Fault<'a> = command_inputs::Fault<'a, PathReason<'a>>;
 /// What only `audit` stops at.
 #[derive(Clone, Copy, Debug, PartialEq, Eq)]
 pub enum PathReason<'a> {
-    /// RECEIVED begins as a capture of version 2 does, and its header is not valid.
-    Header,
-    /// Reading RECEIVED stopped at the message with this number, counted from 0 over all harts.
-    Message(u64, MessageFault),
+    /// RECEIVED, at this path, begins as a capture of version 2 does, and its header is cut or not valid.
+    Damaged(&'a str),
     /// The capture at this path does not hold, complete and in order, what was sent.
     Sent(&'a str, SentFault),
 }
@@ -28,8 +26,7 @@ impl fmt::Display for PathReason<'_> {
 
     fn fmt<W: fmt::Write>(&self, f: &mut fmt::Formatter<W>) -> fmt::Result {
         match self {
-            PathReason::Header => write!(f, "{}", MessageFault::BadHeader),
-            PathReason::Message(number, why) => write!(f, "message {number}: {why}"),
+            PathReason::Damaged(path) => write!(f, "{path}: {}", MessageFault::BadHeader),
             PathReason::Sent(path, why) => write!(f, "{path}: {why}"),
         }
     }
@@ -42,7 +39,7 @@ impl Reason for PathReason<'_> {
 
     fn status(&self) -> Status {
         match self {
-            PathReason::Header | PathReason::Message(..) => Status::NotWhole,
+            PathReason::Damaged(_) => Status::NotWhole,
             PathReason::Sent(..) => Status::Refused,
         }
     }
@@ -60,13 +57,10 @@ pub(crate) fn sent_fault<'a>(path: &'a str, why: SentFault) -> Fault<'a>
     }
 }
 
-/// Why reading RECEIVED stopped at this message.
-pub(crate) fn received_fault<'a>(number: u64, why: MessageFault) -> Fault<'a>
-    ensures value { result ≡ received_fault number why }
+/// Why the capture at a path begins with no valid header.
+pub(crate) fn damaged_fault<'a>(path: &'a str) -> Fault<'a>
+    ensures value { result ≡ damaged_fault path.entry }
     ensures never_refused { status_of result ≢ Status.Refused }
 {
-    match why {
-        MessageFault::BadHeader => Fault::Own(PathReason::Header),
-        _ => Fault::Own(PathReason::Message(number, why)),
-    }
+    Fault::Own(PathReason::Damaged(path))
 }

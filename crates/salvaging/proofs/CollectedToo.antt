@@ -31,10 +31,9 @@ use Rattle.losses.specs.WholeStretches.{NumberCame}
 use Rattle.losses.specs.declared.part.HartPieces.{HartPieces}
 use Rattle.losses.specs.steps.Collecting.{closed_by}
 use Rattle.salvaging.specs.Copies.{AreCopies, HasLike}
-use Rattle.salvaging.specs.Entries.{Entry, Used, Doubtful, closed_behind}
+use Rattle.salvaging.specs.Entries.{Entry, Used, Doubtful, closed_behind, is_closed}
 use Rattle.salvaging.specs.Late.{counted, is_late, late}
 use Rattle.salvaging.specs.Leaving.{EntriesLeave, mode_by, own_mode}
-use Rattle.salvaging.specs.LeftParts.{one_by_one}
 use Rattle.salvaging.specs.LossyParts.{AreCollectedToo, IsCollected}
 use Rattle.salvaging.specs.PartsIn.{parts_in}
 use Rattle.salvaging.specs.Salvaged.{IsSalvaged, IsSalvagedHart}
@@ -42,13 +41,14 @@ use Rattle.salvaging.specs.Strangers.{has_number, is_stranger}
 use Rattle.salvaging.specs.declared.salvaged.SalvagedHart.{SalvagedHart}
 use Rattle.salvaging.specs.declared.salvaged.Salvaged.{Salvaged}
 use Rattle.salvaging.proofs.AllLogs.{all_pass}
-use Rattle.salvaging.proofs.EntriesCollected.{entries_collected}
+use Rattle.salvaging.proofs.EntriesCollected.{collected_has_no_end, entries_collected}
 use Rattle.salvaging.proofs.Members.{contains_of_in, in_of_contains}
 use Rattle.salvaging.proofs.NoRepeats.{no_more, rising_no_repeat}
-use Rattle.salvaging.proofs.OneHart.{joined_parts, message_with, number_in}
+use Rattle.salvaging.proofs.OneHart.{message_with, number_in}
 use Rattle.salvaging.proofs.RunsOfLog.{number_of}
 use Rattle.salvaging.proofs.SameMessages.{AreMessages, entries_are_messages}
 use Rattle.salvaging.proofs.TakenInTurn.{AreKnown, AreTakenFrom, known_all, taken_from}
+use Rattle.salvaging.proofs.WholeHarts.{leave_whole, uncut}
 
 -- The numbers of messages that are taken rise.
 taken_rise : (expects : Hart) (messages : List Message) → AreTakenFrom expects messages
@@ -200,13 +200,16 @@ module _ (words : Words) (program : IsProgram words) (mode : Mode) where
       let goods = salvaged.goods in
       let are = entries_are_messages messages rising entries salvaged.are_entries in
       let left = parts_in one.parts.items in
-      let leaves = subst (λ m. EntriesLeave words m first_run 0 entries goods (one_by_one left))
-      (own_mode_is mode entries messages are taken) salvaged.parts in
+      let own = own_mode mode entries in
+      let whole = uncut words own entries salvaged.upto salvaged.beyond salvaged.cut
+      (collected_has_no_end words program mode own entries messages 0 newcomer taken are) in
+      let leaves = subst (λ m. EntriesLeave words m first_run 0 entries goods left)
+      (own_mode_is mode entries messages are taken)
+      (leave_whole words own entries salvaged.upto salvaged.beyond goods left whole.0 whole.1 salvaged.parts) in
       record {
-        parts = joined_parts left (collected_parts pieces.parts.items) salvaged.joined
-            (entries_collected words program (mode_in mode (runs messages)) messages entries goods 0 newcomer taken are
-            first_run 0 (one_by_one left) (collected_parts pieces.parts.items) leaves described);
-        closed = salvaged.closed ∙ closed_same false 0 newcomer entries messages are taken
+        parts = entries_collected words program (mode_in mode (runs messages)) messages entries goods 0 newcomer taken
+            are first_run 0 left (collected_parts pieces.parts.items) leaves described;
+        closed = salvaged.closed ∙ ap is_closed whole.0 ∙ closed_same false 0 newcomer entries messages are taken
             ∙ sym (closes_by None (packets_in messages)) ∙ sym closed;
         copies = none_copied messages one.copies rising salvaged.copies;
         late = salvaged.late ∙ none_late 0 entries messages goods are;

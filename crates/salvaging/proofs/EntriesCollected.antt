@@ -25,6 +25,7 @@ use Rattle.losses.specs.Runs.{Run, from_sync, longer, opened, over_before, run_b
 use Rattle.losses.specs.Runs.{run_of, runs_on, trace_of_run}
 use Rattle.losses.proofs.RunLemmas.{describes_nothing, from_sync-begun}
 use Rattle.salvaging.specs.Bad.{IsBad}
+use Rattle.salvaging.specs.Ends.{IsEnd}
 use Rattle.salvaging.specs.Entries.{Entry, Used, Doubtful, next_used}
 use Rattle.salvaging.specs.Leaving.{EntriesLeave, LeavesBefore, RunLeaves, UsedLeaves}
 use Rattle.salvaging.specs.LeftParts.{LeftPart, Missing, gap}
@@ -34,6 +35,7 @@ use Rattle.salvaging.specs.declared.reason.Reason.TheVariants as reason
 use Rattle.salvaging.proofs.EntriesOfLog.{parts_append, parts_gap, parts_stretch, same_packet}
 use Rattle.salvaging.proofs.SameMessages.{AreMessages}
 use Rattle.salvaging.proofs.TakenInTurn.{AreTakenFrom}
+use Rattle.salvaging.proofs.WholeHarts.{HasNoEnd}
 
 -- The run with a message's packet.
 abbrev run_with : ℕ → Run → Message → Run
@@ -106,7 +108,7 @@ module _ (words : Words) (program : IsProgram words) (mode : Mode) where
       → RunsDescribe words mode (runs_on run next messages) parts → AreLogParts (gap run.missing ++ left) parts
 
   module _ (message : Message) (messages : List Message) (entries : List Entry) (goods : List Bool)
-      (number : ℕ) (payload : List ℕ) (number_is : number ≡ message.number) (payload_is : payload ≡ message.payload)
+      (number place : ℕ) (payload : List ℕ) (number_is : number ≡ message.number) (payload_is : payload ≡ message.payload)
       (packet : Packet) (read : reading message.payload ≡ Ok packet)
       (last : is_closing_packet packet ≡ true → next_used entries ≡ None)
       (later : LeaveCollected entries messages goods) where
@@ -128,7 +130,7 @@ module _ (words : Words) (program : IsProgram words) (mode : Mode) where
 
     -- The message goes on with this run.
     goes_on : (run : Run) (good : Bool) (left : List LeftPart) (parts : List LogPart)
-        → UsedLeaves words mode run number payload (next_used entries) good
+        → UsedLeaves words mode run number place payload (next_used entries) good
         (λ behind. EntriesLeave words mode behind (number + 1) entries goods) left
         → RunsDescribe words mode
         (runs_on (longer run (packet_or_none (reading message.payload))) (message.number + 1) messages) parts
@@ -149,7 +151,7 @@ module _ (words : Words) (program : IsProgram words) (mode : Mode) where
 
     with_message : (run : Run) (next missed : ℕ) (good : Bool) (left before rest : List LeftPart)
         (parts : List LogPart) → LeavesBefore words mode run next missed before → left ≡ before ++ rest
-        → UsedLeaves words mode (run_behind missed run) number payload (next_used entries) good
+        → UsedLeaves words mode (run_behind missed run) number place payload (next_used entries) good
         (λ behind. EntriesLeave words mode behind (number + 1) entries goods) rest
         → RunsDescribe words mode
         (over_before missed run ++ runs_on (run_with missed run message) (message.number + 1) messages) parts
@@ -180,6 +182,38 @@ module _ (words : Words) (program : IsProgram words) (mode : Mode) where
   none_behind place number packet (message ∷ messages) entries closes (taken, later) are =
       let goes = taken.goes in cc
 
+  -- So a hart with these messages has no end before its last one.
+  pub collected_has_no_end : (reads : Mode) (entries : List Entry) (messages : List Message) (place : ℕ)
+      (expects : Hart) → AreTakenFrom expects messages → AreMessages place entries messages
+      → HasNoEnd words reads entries
+  collected_has_no_end reads entries messages place expects taken are front last later is =
+      by_front front messages place expects taken (subst (λ es. AreMessages place es messages) is are)
+    where
+      by_front : (front : List Entry) (messages : List Message) (place : ℕ) (expects : Hart)
+          → AreTakenFrom expects messages → AreMessages place (front ++ last ∷ later) messages
+          → ¬ IsEnd words reads last later
+      by_front [] messages place expects taken are end = by_last last messages taken are end
+        where
+          by_last : (last : Entry) (messages : List Message) → AreTakenFrom expects messages
+              → AreMessages place (last ∷ later) messages → ¬ IsEnd words reads last later
+          by_last (Doubtful number) messages taken are end = end
+          by_last (Used number at payload) [] taken are end = absurd are
+          by_last (Used number at payload) (message ∷ messages) (taken, further)
+              (number_is, payload_is, at_is, are) (closes, some, none) =
+              let closes_packet : is_closing_packet taken.packet ≡ true =
+              sym (ap (λ l. is_closing_reading (reading l)) payload_is ∙ ap is_closing_reading taken.read) ∙ closes in
+              some (none_behind (place + 1) message.number taken.packet messages later closes_packet further are)
+      by_front (Used number at payload ∷ front) [] place expects taken are end = absurd are
+      by_front (Doubtful number ∷ front) messages place expects taken are end = by_messages messages are
+        where
+          by_messages : (messages : List Message)
+              → AreMessages place (Doubtful number ∷ front ++ last ∷ later) messages → ⊥
+          by_messages [] are = are
+          by_messages (message ∷ messages) are = are
+      by_front (Used number at payload ∷ front) (message ∷ messages) place expects (taken, further)
+          (number_is, payload_is, at_is, are) end =
+          by_front front messages (place + 1) (next_of message.number taken.packet) further are end
+
   pub entries_collected : (messages : List Message) (entries : List Entry) (goods : List Bool) (place : ℕ)
       (expects : Hart) → AreTakenFrom expects messages → AreMessages place entries messages
       → LeaveCollected entries messages goods
@@ -204,7 +238,7 @@ module _ (words : Words) (program : IsProgram words) (mode : Mode) where
       λ run next left parts leave describe. absurd leave
   entries_collected (message ∷ messages) (Used number at payload ∷ entries) (good ∷ goods) place expects
       (taken, further) (number_is, payload_is, at_is, are) = λ run next left parts leave describe.
-      with_message message messages entries goods number payload number_is payload_is taken.packet taken.read
+      with_message message messages entries goods number at payload number_is payload_is taken.packet taken.read
       (λ closes. none_behind (place + 1) message.number taken.packet messages entries closes further are)
       (entries_collected messages entries goods (place + 1) (next_of message.number taken.packet) further are)
       run next (number - next) good left leave.0 leave.2 parts leave.1 leave.3 leave.4

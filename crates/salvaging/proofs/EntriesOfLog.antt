@@ -26,7 +26,7 @@ use Rattle.losses.proofs.TraceLemmas.{before_another}
 use Rattle.salvaging.specs.Bad.{IsBad}
 use Rattle.salvaging.specs.Entries.{Entry, Used, Doubtful, entry_number, next_used}
 use Rattle.salvaging.specs.Leaving.{EntriesLeave, LeavesBefore, RunLeaves, UsedLeaves}
-use Rattle.salvaging.specs.LeftParts.{LeftPart, Missing, Events, BadNumbers, DoubtfulNumber, gap, stretch}
+use Rattle.salvaging.specs.LeftParts.{LeftPart, Missing, Events, BadNumber, DoubtfulNumber, AloneNumber, gap, stretch}
 use Rattle.salvaging.specs.LogsSalvaged.{AreLogParts}
 use Rattle.salvaging.specs.declared.reason.Reason.{Reason}
 use Rattle.salvaging.specs.declared.reason.Reason.TheVariants as reason
@@ -60,10 +60,12 @@ parts_append (Events first last events ∷ left) more [] others are further = ab
 parts_append (Events first last events ∷ left) more (LogMissing missing ∷ parts) others are further = absurd are
 parts_append (Events first last events ∷ left) more (LogEvents stretch ∷ parts) others are further =
     (are.0, parts_append left more parts others are.1 further)
-parts_append (BadNumbers first last why ∷ left) more [] others are further = absurd are
-parts_append (BadNumbers first last why ∷ left) more (part ∷ parts) others are further = absurd are
+parts_append (BadNumber first last why ∷ left) more [] others are further = absurd are
+parts_append (BadNumber first last why ∷ left) more (part ∷ parts) others are further = absurd are
 parts_append (DoubtfulNumber number ∷ left) more [] others are further = absurd are
 parts_append (DoubtfulNumber number ∷ left) more (part ∷ parts) others are further = absurd are
+parts_append (AloneNumber number place ∷ left) more [] others are further = absurd are
+parts_append (AloneNumber number place ∷ left) more (part ∷ parts) others are further = absurd are
 
 pub parts_gap : (missing : ℕ) → AreLogParts (gap missing) (log_gap missing)
 parts_gap zero = tt
@@ -86,7 +88,7 @@ at_end (suc count) [] x is = cc
 at_end (suc count) (y ∷ xs) x is = let rest = at_end count xs x is in omega (arith, rest)
 
 -- The next number that is used has a packet too.
-next_within : (packets : List Packet) (from : ℕ) (entries : List Entry) (next : ℕ)
+pub next_within : (packets : List Packet) (from : ℕ) (entries : List Entry) (next : ℕ)
     → AreRising from (map entry_number entries) → AreOfPackets packets entries → next_used entries ≡ Some next
     → from < length packets
 next_within packets from [] next rising are is = cc
@@ -167,7 +169,7 @@ module _ (words : Words) (program : IsProgram words) (period : ℕ) (mode : Mode
     -- It goes on with the block under way.
     used_on : (missing first count : ℕ) → (missing ≡ 0 → first ≡ 0) → (first ≡ 0 → missing ≡ 0)
         → number ≡ first + count → (good : Bool) (left : List LeftPart)
-        → UsedLeaves words mode (run_under_way missing first count) number payload (next_used entries) good
+        → UsedLeaves words mode (run_under_way missing first count) number place payload (next_used entries) good
         (λ behind. EntriesLeave words mode behind (number + 1) entries goods) left
         → AreLogParts (gap missing ++ left)
         (parts_on words program period mode log legal (block_of missing first (count + 1)) (number + 1) numbers)
@@ -185,7 +187,7 @@ module _ (words : Words) (program : IsProgram words) (period : ℕ) (mode : Mode
         → next ≡ first + count → next ≤ number → (missed : ℕ) → number - next ≡ missed → (good : Bool)
         → (left before rest : List LeftPart)
         → LeavesBefore words mode (run_under_way missing first count) next missed before → left ≡ before ++ rest
-        → UsedLeaves words mode (run_behind missed (run_under_way missing first count)) number payload
+        → UsedLeaves words mode (run_behind missed (run_under_way missing first count)) number place payload
         (next_used entries) good (λ behind. EntriesLeave words mode behind (number + 1) entries goods) rest
         → AreLogParts (gap missing ++ left)
         (parts_on words program period mode log legal (block_of missing first count) next (number ∷ numbers))

@@ -6,7 +6,7 @@ use Rattle.std.proofs.lemmas.Bool.{eq-eqb, eqb-true, ne_eqb}
 use Rattle.salvaging.specs.Entries.{Entry, Used, Doubtful, entry_number}
 use Rattle.salvaging.specs.steps.Arrivals.{Arrival}
 use Rattle.salvaging.specs.steps.Grouping.{entries_by, entries_on, entry_before, entry_by, entry_with, join_or_begin}
-use Rattle.salvaging.specs.steps.Grouping.{kept_or_doubtful}
+use Rattle.salvaging.specs.steps.Grouping.{HaveOne, kept_or_doubtful}
 use Rattle.salvaging.proofs.Alike.{same_bytes}
 use Rattle.salvaging.proofs.GroupedEntries.{number_kept}
 
@@ -58,11 +58,6 @@ pub parted : (front : List Arrival) (before next : Arrival) (arrivals : List Arr
     ≡ entries_by (front ++ before ∷ []) ++ entries_by (next ∷ arrivals)
 parted [] before next arrivals apart = begins (entry_by before) next arrivals apart
 parted (first ∷ front) before next arrivals apart = on_parted (entry_by first) front before next arrivals apart
-
--- All of the messages have this number.
-abbrev pub HaveOne : ℕ → List Arrival → Type 0
-HaveOne number [] = Unit {0}
-HaveOne number (one ∷ arrivals) = (one.message.number ≡ number) × HaveOne number arrivals
 
 -- All of the messages have these bytes.
 abbrev all_same : List ℕ → List Arrival → Bool

@@ -18,8 +18,8 @@ use Rattle.losses.specs.Apart.{AreRising}
 use Rattle.losses.specs.Runs.{Run, first_run, longer, mode_or, run_behind, run_of}
 use Rattle.salvaging.specs.Bad.{IsBad, IsGood}
 use Rattle.salvaging.specs.Entries.{Entry, Used, Doubtful, entry_number, next_used}
-use Rattle.salvaging.specs.LeftParts.{LeftPart, AreJoined, BadNumbers, DoubtfulNumber, gap, one_by_one}
-use Rattle.salvaging.specs.Leaving.{EntriesLeave, HartLeaves, LeavesBefore, RunLeaves, mode_by, own_mode}
+use Rattle.salvaging.specs.LeftParts.{LeftPart, BadNumber, DoubtfulNumber, gap}
+use Rattle.salvaging.specs.Leaving.{EntriesLeave, LeavesBefore, RunLeaves, mode_by, own_mode}
 use Rattle.salvaging.specs.PartsIn.{parts_in}
 use Rattle.salvaging.specs.declared.reason.Reason.{Reason}
 use Rattle.salvaging.specs.declared.reason.Reason.TheVariants as reason
@@ -181,21 +181,21 @@ module _ {A : Type 0} (words : Words) (mode : Mode) (all done rest : List Entry)
       → new.goods.items ≡ old.goods.items ++ good ∷ []
       → EntriesLeave words (own_mode mode all) t.run old.next (entry ∷ rest) (good ∷ goods) (before ++ (added ++ parts))
       → EntriesLeave words (own_mode mode all) first_run 0 all (new.goods.items ++ goods)
-      (one_by_one (parts_in new.parts.items) ++ parts)
+      (parts_in new.parts.items ++ parts)
   all_leave entry t good before added goods parts adds judged leaves =
       subst (λ gs. EntriesLeave words (own_mode mode all) first_run 0 all gs
-      (one_by_one (parts_in new.parts.items) ++ parts))
+      (parts_in new.parts.items ++ parts))
       (goods_behind old.goods.items new.goods.items goods good judged)
       (subst (EntriesLeave words (own_mode mode all) first_run 0 all (old.goods.items ++ good ∷ goods))
-      (parts_behind (one_by_one (parts_in old.parts.items)) (one_by_one (parts_in new.parts.items)) before added parts
-      (adds t.joined).0)
+      (parts_behind (parts_in old.parts.items) (parts_in new.parts.items) before added parts
+      adds)
       (t.leaves (good ∷ goods) (before ++ (added ++ parts)) leaves))
 
   module _ (number place : ℕ) (payload : List ℕ) where
     by_good : (t : TakesEntries words mode all done (Used number place payload ∷ rest) old)
         → (good : Bool) (before added : List LeftPart)
         → LeavesBefore words (own_mode mode done) t.run old.next (number - old.next) before
-        → Took words mode (own_mode mode done) (run_behind (number - old.next) t.run) number payload (next_used rest)
+        → Took words mode (own_mode mode done) (run_behind (number - old.next) t.run) number place payload (next_used rest)
         good
         added new
         → AddsParts (before ++ added) old.parts.items new.parts.items
@@ -222,7 +222,6 @@ module _ {A : Type 0} (words : Words) (mode : Mode) (all done rest : List Entry)
           begun = λ is are. absurd (packets_behind run.packets packet are);
           over = good.not_early;
           rising = subst (λ n. AreRising n (map entry_number rest)) (sym u.next_is) t.rising.1;
-          joined = (adds t.joined).1;
           leaves = λ goods parts further. all_leave one t true before added goods parts adds judged (
             before,
             subst (λ m. LeavesBefore words m t.run old.next (number - old.next) before)
@@ -261,7 +260,6 @@ module _ {A : Type 0} (words : Words) (mode : Mode) (all done rest : List Entry)
           begun = λ none are. cc;
           over = λ closed. cc;
           rising = subst (λ n. AreRising n (map entry_number rest)) (sym u.next_is) t.rising.1;
-          joined = (adds t.joined).1;
           leaves = λ goods parts further. all_leave one t false before added goods parts adds judged (
             before,
             subst (λ m. LeavesBefore words m t.run old.next (number - old.next) before) own leaves,
@@ -273,7 +271,7 @@ module _ {A : Type 0} (words : Words) (mode : Mode) (all done rest : List Entry)
               left,
               subst (λ m. RunLeaves words m run number left) own over,
               parts,
-              ap (λ l. l ++ parts) is ∙ append_assoc left (BadNumbers number number why ∷ []) parts,
+              ap (λ l. l ++ parts) is ∙ append_assoc left (BadNumber number place why ∷ []) parts,
               subst (λ n. EntriesLeave words (own_mode mode all) (run_of 1 []) n rest goods parts) u.next_is further,
             ),
           );
@@ -281,7 +279,7 @@ module _ {A : Type 0} (words : Words) (mode : Mode) (all done rest : List Entry)
 
     used_taken_then : TakesEntries words mode all done (Used number place payload ∷ rest) old
         → ((run : Run) → IsUnderWay words mode (own_mode mode done) run old.next false old
-        → TakesUsed words mode (own_mode mode done) run old.next number payload (next_used rest) old new)
+        → TakesUsed words mode (own_mode mode done) run old.next number place payload (next_used rest) old new)
         → TakesEntries words mode all (done ++ Used number place payload ∷ []) rest new
     used_taken_then t takes = by_closed t.closed refl
       where
@@ -297,7 +295,7 @@ module _ {A : Type 0} (words : Words) (mode : Mode) (all done rest : List Entry)
     pub used_taken : (result : Result ⊤ AllocError)
         → TakesEntries words mode all done (Used number place payload ∷ rest) old
         → ((run : Run) → IsUnderWay words mode (own_mode mode done) run old.next false old
-        → OnOk result (TakesUsed words mode (own_mode mode done) run old.next number payload (next_used rest) old new))
+        → OnOk result (TakesUsed words mode (own_mode mode done) run old.next number place payload (next_used rest) old new))
         → OnOk result (TakesEntries words mode all (done ++ Used number place payload ∷ []) rest new)
     used_taken (Ok fine) t takes = used_taken_then t takes
     used_taken (Err refused) t takes = tt
@@ -325,7 +323,6 @@ module _ {A : Type 0} (words : Words) (mode : Mode) (all done rest : List Entry)
         over = t.over;
         rising = subst (λ n. AreRising n (map entry_number rest)) (sym u.next_is)
             (rising_sooner number (map entry_number rest) t.rising.1);
-        joined = (k.parts t.joined).1;
         leaves = λ goods parts further. all_leave one t false k.left (lost ++ DoubtfulNumber number ∷ []) goods parts
             k.parts
             k.goods (
@@ -355,10 +352,9 @@ none_taken words mode all trail u at parts goods rising = record {
   begun = λ none are. refl;
   over = λ closed. cc;
   rising = subst (λ n. AreRising n (map entry_number all)) (sym at) rising;
-  joined = subst (λ l. AreJoined (parts_in l)) (sym parts) tt;
   leaves = λ further more leaves. subst (λ gs. EntriesLeave words (own_mode mode all) first_run 0 all (gs ++ further)
-      (one_by_one (parts_in trail.parts.items) ++ more)) (sym goods)
-      (subst (λ l. EntriesLeave words (own_mode mode all) first_run 0 all further (one_by_one (parts_in l) ++ more))
+      (parts_in trail.parts.items ++ more)) (sym goods)
+      (subst (λ l. EntriesLeave words (own_mode mode all) first_run 0 all further (parts_in l ++ more))
       (sym parts) (subst (λ n. EntriesLeave words (own_mode mode all) first_run n all further more) at leaves));
 }
 
@@ -366,13 +362,9 @@ none_taken words mode all trail u at parts goods rising = record {
 pub all_taken : {A : Type 0} (words : Words) (mode : Mode) (all : List Entry) (old new : Trail A)
     → (t : TakesEntries words mode all all [] old)
     → EndsRun words mode (own_mode mode all) t.run old.next t.closed old new → new.goods.items ≡ old.goods.items
-    → HartLeaves words mode all new.goods.items (one_by_one (parts_in new.parts.items))
-    × AreJoined (parts_in new.parts.items)
+    → EntriesLeave words (own_mode mode all) first_run 0 all new.goods.items (parts_in new.parts.items)
 all_taken words mode all old new t ends goods =
-    let added = ends.added t.joined in
-    let leaves = t.leaves [] ends.left ends.leaves in (
-      subst (λ gs. HartLeaves words mode all gs (one_by_one (parts_in new.parts.items)))
-          (append-nil old.goods.items ∙ sym goods)
-          (subst (HartLeaves words mode all (old.goods.items ++ [])) (sym added.0) leaves),
-      added.1,
-    )
+    let leaves = t.leaves [] ends.left ends.leaves in
+    subst (λ gs. EntriesLeave words (own_mode mode all) first_run 0 all gs (parts_in new.parts.items))
+    (append-nil old.goods.items ∙ sym goods)
+    (subst (EntriesLeave words (own_mode mode all) first_run 0 all (old.goods.items ++ [])) (sym ends.added) leaves)

@@ -1,12 +1,13 @@
 -- How far the messages of the last number are read, from one message to the one before.
-use Rattle.std.proofs.Common.{◌≡◌, ◌≢◌, ℕ, ◌+◌, ◌-◌, ◌≤◌, ◌<◌, ◌++◌, List, [], ◌∷◌, get_or, length, take}
+use Rattle.std.proofs.Common.{◌≡◌, ◌≢◌, ℕ, ◌+◌, ◌-◌, ◌≤◌, ◌<◌, ◌++◌, List, [], ◌∷◌, drop, get_or, length, take}
 use Rattle.std.proofs.Common.{refl, sym, ap, subst, ◌∙◌, arith, append_assoc}
-use Rattle.std.proofs.lemmas.List.{map-append, take_all, take_more}
+use Rattle.std.proofs.lemmas.List.{map-append, take-append-drop, take_all, take_more}
 use Rattle.salvaging.specs.declared.came.Came.{Came}
 use Rattle.salvaging.specs.declared.entry.Entry.{Entry as Held}
 use Rattle.salvaging.specs.steps.Arrivals.{Arrival, arrival_of, arrivals_in}
-use Rattle.salvaging.specs.steps.Grouping.{entries_by, entry_before, entry_by, entry_of}
-use Rattle.salvaging.proofs.EntriesParted.{HaveOne, one_before, parted}
+use Rattle.salvaging.specs.steps.Grouping.{AreOfOne, HaveOne, entries_by, entry_before, entry_by, entry_of}
+use Rattle.salvaging.proofs.EntriesParted.{one_before, parted}
+use Rattle.salvaging.proofs.GroupParted.{number_of_first}
 
 -- The messages up to a place.
 up_to_place : (came : List Came) (at : ℕ) (one : Came) → at < length came → one ≡ get_or came at one
@@ -70,3 +71,22 @@ module _ (came : List Came) (number : ℕ) (entry : Held) (at : ℕ) (r : ReadsL
       by_group (next ∷ group) (here, numbers) one =
           parted (arrivals_in (take (at - 1) came)) (arrival_of before) next group (λ same. apart (same ∙ here))
           ∙ ap (λ l. entries_by (arrivals_in (take (at - 1) came) ++ arrival_of before ∷ []) ++ l) one
+
+-- What follows the same is the same.
+rest_same : {X : Type 0} (xs ys zs : List X) → xs ++ ys ≡ xs ++ zs → ys ≡ zs
+rest_same [] ys zs is = is
+rest_same (x ∷ xs) ys zs is = let rest : xs ++ ys ≡ xs ++ zs = cc in rest_same xs ys zs rest
+
+-- The messages that are read are those of the last number.
+pub last_group : (came : List Came) (number : ℕ) (entry : Held) (at : ℕ) → ReadsLast came number entry at
+    → AreOfOne (arrivals_in (drop at came)) (entry_of entry)
+last_group came number entry at r =
+    let parted = sym (map-append arrival_of (take at came) (drop at came))
+    ∙ ap arrivals_in (take-append-drop at came) in
+    let same = rest_same (arrivals_in (take at came)) (arrivals_in (drop at came)) r.group (parted ∙ r.whole) in
+    subst (λ l. AreOfOne l (entry_of entry)) (sym same)
+    (record {
+      numbers = subst (λ n. HaveOne n r.group) (sym (number_of_first r.group (entry_of entry) number r.numbers r.one))
+          r.numbers;
+      one = r.one;
+    })

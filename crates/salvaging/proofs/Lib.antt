@@ -8,6 +8,7 @@ pub mod SentMessages
 pub mod EntriesOfLog
 pub mod NoRepeats
 pub mod ClosedLogs
+pub mod WholeHarts
 pub mod OneHart
 pub mod AllLogs
 pub mod Rising
@@ -19,6 +20,7 @@ pub mod GroupedMessages
 pub mod Sorted
 pub mod SmallEntries
 pub mod EntriesParted
+pub mod GroupParted
 pub mod LastRead
 pub mod CountedCopies
 pub mod ClosedLast
@@ -28,14 +30,18 @@ pub mod TakenInTurn
 pub mod SameMessages
 pub mod EntriesCollected
 pub mod CollectedToo
-pub mod PartLemmas
 pub mod PushedParts
 pub mod RunsEnded
 pub mod TrailSteps
 pub mod EntriesTaken
 pub mod TakenSoFar
 pub mod Distributed
+pub mod JudgedApart
+pub mod EndLemmas
+pub mod BeyondLemmas
 pub mod HartSalvaged
+pub mod CutLemmas
 pub mod SalvagedEach
 pub mod DistributedAll
+pub mod CutOnce
 pub mod OneWay

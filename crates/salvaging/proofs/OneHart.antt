@@ -1,5 +1,5 @@
 -- What is salvaged of one hart, whose messages are of a legal log.
-use Rattle.std.proofs.Common.{◌≡◌, ◌⊎◌, inl, inr, ℕ, zero, suc, ◌+◌, ◌-◌, ◌++◌, All, Bool, true, false}
+use Rattle.std.proofs.Common.{◌≡◌, ◌⊎◌, inl, inr, ℕ, zero, suc, ◌+◌, All, Bool, true, false}
 use Rattle.std.proofs.Common.{Contains}
 use Rattle.std.proofs.Common.{List, [], ◌∷◌, drop, map, length, Some, slice_get, refl, sym, ap, subst, ◌∙◌, arith}
 use Rattle.std.proofs.lemmas.List.{length-map}
@@ -18,20 +18,17 @@ use Rattle.encoder.specs.Packets.{packets}
 use Rattle.message.specs.declared.message.Message.{Message}
 use Rattle.roundtrip.specs.Reach.{stretches}
 use Rattle.losses.specs.Apart.{AreRising}
-use Rattle.losses.specs.Parts.{LogPart, parts}
-use Rattle.losses.specs.Parts.{Missing as LogMissing, Events as LogEvents}
+use Rattle.losses.specs.Parts.{parts}
 use Rattle.losses.specs.Runs.{first_run, mode_or}
 use Rattle.losses.specs.WholeStretches.{NumberCame}
 use Rattle.losses.proofs.BlockLemmas.{blocks_at_first}
 use Rattle.salvaging.specs.Copies.{AllDiffer, AreCopies, HasLike}
-use Rattle.salvaging.specs.Entries.{Entry, Used, Doubtful, AreEntries, IsEntryOf, entry_number}
-use Rattle.salvaging.specs.Leaving.{EntriesLeave, HartLeaves, mode_by, own_mode}
-use Rattle.salvaging.specs.LeftParts.{LeftPart, Missing, Events, BadNumbers, DoubtfulNumber, AreJoined, each_bad}
-use Rattle.salvaging.specs.LeftParts.{one_by_one}
+use Rattle.salvaging.specs.Entries.{Entry, Used, Doubtful, AreEntries, IsEntryOf, entry_number, is_closed}
+use Rattle.salvaging.specs.Leaving.{EntriesLeave, mode_by, own_mode}
+use Rattle.salvaging.specs.LeftParts.{LeftPart}
 use Rattle.salvaging.specs.LogsSalvaged.{AreInOrder, AreLogParts, IsLogSalvaged, closing_number}
 use Rattle.salvaging.specs.PartsIn.{parts_in}
 use Rattle.salvaging.specs.Salvaged.{IsSalvagedHart}
-use Rattle.salvaging.specs.declared.reason.Reason.{Reason}
 use Rattle.salvaging.specs.declared.salvaged.SalvagedHart.{SalvagedHart}
 use Rattle.salvaging.proofs.ClosedLogs.{came_closed, closed_came}
 use Rattle.salvaging.proofs.EntriesOfLog.{AreOfPackets, HasPacketOf, entries_left}
@@ -40,6 +37,7 @@ use Rattle.salvaging.proofs.NoRepeats.{NoRepeat, no_more, rising_no_repeat}
 use Rattle.salvaging.proofs.RisingNumbers.{not_below}
 use Rattle.salvaging.proofs.RunsOfLog.{number_of}
 use Rattle.salvaging.proofs.SentMessages.{IsOfLog, same_number}
+use Rattle.salvaging.proofs.WholeHarts.{leave_whole, log_has_no_end, uncut}
 
 heads_same : (p q : Packet) (ps qs : List Packet) → p ∷ ps ≡ q ∷ qs → p ≡ q
 heads_same p q ps qs is = cc
@@ -68,31 +66,6 @@ message_with [] number came = absurd came
 message_with (first ∷ messages) number (inl is) = (first, inl refl, is)
 message_with (first ∷ messages) number (inr came) =
     let found = message_with messages number came in (found.0, inr found.1, found.2)
-
--- Where the parts of each bad number are those of a log, none is bad.
-bad_parts : (first count : ℕ) (why : Reason) (left : List LeftPart) (parts : List LogPart)
-    → ¬ AreLogParts (each_bad first (suc count) why ++ left) parts
-bad_parts first count why left [] are = are
-bad_parts first count why left (part ∷ parts) are = are
-
-pub joined_parts : (left : List LeftPart) (parts : List LogPart) → AreJoined left → AreLogParts (one_by_one left) parts
-    → AreLogParts left parts
-joined_parts [] parts joined are = are
-joined_parts (Missing count ∷ left) [] joined are = are
-joined_parts (Missing count ∷ left) (LogMissing missing ∷ parts) joined are =
-    (are.0, joined_parts left parts joined are.1)
-joined_parts (Missing count ∷ left) (LogEvents events ∷ parts) joined are = are
-joined_parts (Events first last events ∷ left) [] joined are = are
-joined_parts (Events first last events ∷ left) (LogMissing missing ∷ parts) joined are = are
-joined_parts (Events first last events ∷ left) (LogEvents stretch ∷ parts) joined are =
-    (are.0, joined_parts left parts joined are.1)
-joined_parts (BadNumbers first last why ∷ left) parts joined are =
-    let some = joined.0 in
-    let count : last + 1 - first ≡ suc (last - first) = omega (arith, some) in
-    absurd (bad_parts first (last - first) why (one_by_one left) parts
-    (subst (λ n. AreLogParts (each_bad first n why ++ one_by_one left) parts) count are))
-joined_parts (DoubtfulNumber number ∷ left) [] joined are = are
-joined_parts (DoubtfulNumber number ∷ left) (part ∷ parts) joined are = absurd are
 
 module _ (hart period : ℕ) (handed mode : Mode) (log : ProgramLog) (legal : IsLegalLog log)
     (messages : List Message) where
@@ -187,7 +160,8 @@ module _ (hart period : ℕ) (handed mode : Mode) (log : ProgramLog) (legal : Is
       own_mode_is (Doubtful number ∷ entries) rising are known = absurd are
 
       leaves_by_mode : (goods : List Bool) (left : List LeftPart)
-          → (handed ≡ mode) ⊎ (NumberCame 0 came ⊎ (messages ≡ [])) → HartLeaves words handed entries goods left
+          → (handed ≡ mode) ⊎ (NumberCame 0 came ⊎ (messages ≡ []))
+          → EntriesLeave words (own_mode handed entries) first_run 0 entries goods left
           → EntriesLeave words mode first_run 0 entries goods left
       leaves_by_mode goods left (inl is) leaves =
           subst (λ m. EntriesLeave words m first_run 0 entries goods left)
@@ -199,7 +173,8 @@ module _ (hart period : ℕ) (handed mode : Mode) (log : ProgramLog) (legal : Is
       leaves_by_mode goods left (inr (inr none)) leaves = by_entries entries are.each goods leaves
         where
           by_entries : (entries : List Entry) → All (IsEntryOf messages) entries → (goods : List Bool)
-              → HartLeaves words handed entries goods left → EntriesLeave words mode first_run 0 entries goods left
+              → EntriesLeave words (own_mode handed entries) first_run 0 entries goods left
+              → EntriesLeave words mode first_run 0 entries goods left
           by_entries [] each [] leaves = leaves
           by_entries [] each (good ∷ goods) leaves = absurd leaves
           by_entries (entry ∷ entries) each goods leaves =
@@ -209,15 +184,13 @@ module _ (hart period : ℕ) (handed mode : Mode) (log : ProgramLog) (legal : Is
 
       -- The parts are those of the log.
       parts_of_log : (goods : List Bool) (left : List LeftPart)
-          → (handed ≡ mode) ⊎ (NumberCame 0 came ⊎ (messages ≡ [])) → AreJoined left
-          → HartLeaves words handed entries goods (one_by_one left)
+          → (handed ≡ mode) ⊎ (NumberCame 0 came ⊎ (messages ≡ []))
+          → EntriesLeave words (own_mode handed entries) first_run 0 entries goods left
           → AreLogParts left (parts words period mode log.events numbers)
-      parts_of_log goods left known joined leaves =
-          joined_parts left (parts words period mode log.events numbers) joined
-          (subst (AreLogParts (one_by_one left)) (blocks_at_first all (stretches words period log.events) numbers)
+      parts_of_log goods left known leaves =
+          subst (AreLogParts left) (blocks_at_first all (stretches words period log.events) numbers)
           (entries_left words is_program period mode log.events legal.legal entries goods of_log 0 0 0 0 (λ is. refl)
-          (λ is. refl) refl are.rising (one_by_one left)
-          (leaves_by_mode goods (one_by_one left) known leaves)))
+          (λ is. refl) refl are.rising left (leaves_by_mode goods left known leaves))
 
       -- Of the distinct messages there is one for each number.
       like_came : (distinct : List Message) (message like : Message) → IsIn message messages → IsIn like messages
@@ -280,16 +253,22 @@ module _ (hart period : ℕ) (handed mode : Mode) (log : ProgramLog) (legal : Is
       let order = in_order each entries are in
       let of = of_log each entries are in
       let last = closing_number words period mode log.events in
+      let own = own_mode handed entries in
+      let whole = uncut words own entries salvaged.upto salvaged.beyond salvaged.cut
+      (log_has_no_end words is_program period mode log.events legal.legal own entries are.rising of) in
+      let left = parts_in one.parts.items in
+      let leaves = leave_whole words own entries salvaged.upto salvaged.beyond salvaged.goods left whole.0 whole.1
+      salvaged.parts in
+      let is_closed_as = salvaged.closed ∙ ap is_closed whole.0 in
       record {
         numbers = map entry_number entries;
         in_order = order;
-        parts = parts_of_log each entries are salvaged.goods (parts_in one.parts.items) known salvaged.joined
-            salvaged.parts;
+        parts = parts_of_log each entries are salvaged.goods left known leaves;
         copies = copies_counted each entries are one.copies salvaged.copies;
         closed = (
           λ closed. by_came entries order (closed_came words is_program period mode log.events legal.legal false entries
-              of (sym salvaged.closed ∙ closed)),
-          λ contained. salvaged.closed ∙ came_closed words is_program period mode log.events legal.legal false 0 entries
+              of (sym is_closed_as ∙ closed)),
+          λ contained. is_closed_as ∙ came_closed words is_program period mode log.events legal.legal false 0 entries
               are.rising of (came_of_contains (map entry_number entries) last
               (All-contains (Contains (map entry_number entries)) came last order.all contained)),
         );

@@ -1,6 +1,6 @@
 -- The same messages leave the same, but for which fault of a decoder a bad number has.
 use Rattle.std.proofs.Common.{◌≡◌, ◌⊎◌, inl, inr, ℕ, zero, suc, ◌+◌, ◌-◌, ◌≤◌, ◌<◌, ◌++◌, All, Bool, true}
-use Rattle.std.proofs.Common.{false, Contains, List, [], ◌∷◌, map, Option, Some, None, length, slice_get, refl, sym, ap}
+use Rattle.std.proofs.Common.{false, Contains, List, [], ◌∷◌, map, Option, Some, None, length, refl, sym, ap}
 use Rattle.std.proofs.Common.{subst, ◌∙◌, arith}
 use Rattle.std.specs.Prelude.{Ok, Err}
 use Rattle.std.proofs.lemmas.Bool.{cases_lt}
@@ -16,20 +16,22 @@ use Rattle.decoder.proofs.UniqueLemmas.{one_log}
 use Rattle.decoder.specs.Describes.{Describes}
 use Rattle.decoder.specs.Order.{IsOpen}
 use Rattle.message.specs.declared.message.Message.{Message}
-use Rattle.losses.specs.Runs.{Run, longer, run_behind, run_of, trace_of_run}
+use Rattle.losses.specs.Runs.{Run, first_run, longer, run_behind, run_of, trace_of_run}
 use Rattle.losses.specs.WholeStretches.{NumberCame}
 use Rattle.salvaging.specs.AlikeParts.{AreAlikeHarts, AreAlikeParts, AreAlikeReasons}
 use Rattle.salvaging.specs.Bad.{IsBad, IsGood}
 use Rattle.salvaging.specs.Copies.{AllDiffer, AreAlike, AreCopies, HasLike}
+use Rattle.salvaging.specs.Ends.{AllLeaveBeyond, AreCutAtEnd, HartLeaves, LeavesBeyond, none_good}
 use Rattle.salvaging.specs.Entries.{Entry, Used, Doubtful, AreEntries, IsEntryOf, entry_number, is_closed, next_used}
 use Rattle.salvaging.specs.Late.{late}
 use Rattle.salvaging.specs.Leaving.{EntriesLeave, LeavesBefore, RunLeaves, UsedLeaves, kept, own_mode}
-use Rattle.salvaging.specs.LeftParts.{LeftPart, Missing, Events, BadNumbers, DoubtfulNumber, gap, one_by_one, stretch}
+use Rattle.salvaging.specs.LeftParts.{LeftPart, Missing, Events, BadNumber, DoubtfulNumber, AloneNumber, gap, stretch}
 use Rattle.salvaging.specs.PartsIn.{parts_in}
 use Rattle.salvaging.specs.Salvaged.{IsSalvagedHart}
 use Rattle.salvaging.specs.declared.reason.Reason.{Reason}
 use Rattle.salvaging.specs.declared.reason.Reason.TheVariants as reason
 use Rattle.salvaging.specs.declared.salvaged.SalvagedHart.{SalvagedHart}
+use Rattle.salvaging.proofs.CutOnce.{cut_once}
 use Rattle.salvaging.proofs.EntriesOfLog.{same_packet}
 use Rattle.salvaging.proofs.Members.{IsIn, came_of_contains, contains_of_in, in_of_contains}
 use Rattle.salvaging.proofs.OneHart.{all_at, in_at, message_with, number_in}
@@ -182,34 +184,46 @@ copies_once messages count other copies too =
 alike_append : (left more others further : List LeftPart) → AreAlikeParts left others → AreAlikeParts more further
     → AreAlikeParts (left ++ more) (others ++ further)
 alike_append [] more [] further are too = too
-alike_append [] more (Missing n ∷ others) further are too = absurd are
-alike_append [] more (Events f l e ∷ others) further are too = absurd are
-alike_append [] more (BadNumbers f l w ∷ others) further are too = absurd are
-alike_append [] more (DoubtfulNumber n ∷ others) further are too = absurd are
+alike_append [] more (Missing m ∷ others) further are too = absurd are
+alike_append [] more (Events b d s ∷ others) further are too = absurd are
+alike_append [] more (BadNumber b d v ∷ others) further are too = absurd are
+alike_append [] more (DoubtfulNumber m ∷ others) further are too = absurd are
+alike_append [] more (AloneNumber m q ∷ others) further are too = absurd are
+alike_append (Missing n ∷ left) more [] further are too = absurd are
 alike_append (Missing n ∷ left) more (Missing m ∷ others) further are too =
     (are.0, alike_append left more others further are.1 too)
-alike_append (Events f l e ∷ left) more (Events b d s ∷ others) further are too =
-    (are.0, are.1, are.2, alike_append left more others further are.3 too)
-alike_append (BadNumbers f l w ∷ left) more (BadNumbers b d v ∷ others) further are too =
-    (are.0, are.1, are.2, alike_append left more others further are.3 too)
-alike_append (DoubtfulNumber n ∷ left) more (DoubtfulNumber m ∷ others) further are too =
-    (are.0, alike_append left more others further are.1 too)
-alike_append (Missing n ∷ left) more [] further are too = absurd are
 alike_append (Missing n ∷ left) more (Events b d s ∷ others) further are too = absurd are
-alike_append (Missing n ∷ left) more (BadNumbers b d v ∷ others) further are too = absurd are
+alike_append (Missing n ∷ left) more (BadNumber b d v ∷ others) further are too = absurd are
 alike_append (Missing n ∷ left) more (DoubtfulNumber m ∷ others) further are too = absurd are
+alike_append (Missing n ∷ left) more (AloneNumber m q ∷ others) further are too = absurd are
 alike_append (Events f l e ∷ left) more [] further are too = absurd are
 alike_append (Events f l e ∷ left) more (Missing m ∷ others) further are too = absurd are
-alike_append (Events f l e ∷ left) more (BadNumbers b d v ∷ others) further are too = absurd are
+alike_append (Events f l e ∷ left) more (Events b d s ∷ others) further are too =
+    (are.0, are.1, are.2, alike_append left more others further are.3 too)
+alike_append (Events f l e ∷ left) more (BadNumber b d v ∷ others) further are too = absurd are
 alike_append (Events f l e ∷ left) more (DoubtfulNumber m ∷ others) further are too = absurd are
-alike_append (BadNumbers f l w ∷ left) more [] further are too = absurd are
-alike_append (BadNumbers f l w ∷ left) more (Missing m ∷ others) further are too = absurd are
-alike_append (BadNumbers f l w ∷ left) more (Events b d s ∷ others) further are too = absurd are
-alike_append (BadNumbers f l w ∷ left) more (DoubtfulNumber m ∷ others) further are too = absurd are
+alike_append (Events f l e ∷ left) more (AloneNumber m q ∷ others) further are too = absurd are
+alike_append (BadNumber f l w ∷ left) more [] further are too = absurd are
+alike_append (BadNumber f l w ∷ left) more (Missing m ∷ others) further are too = absurd are
+alike_append (BadNumber f l w ∷ left) more (Events b d s ∷ others) further are too = absurd are
+alike_append (BadNumber f l w ∷ left) more (BadNumber b d v ∷ others) further are too =
+    (are.0, are.1, are.2, alike_append left more others further are.3 too)
+alike_append (BadNumber f l w ∷ left) more (DoubtfulNumber m ∷ others) further are too = absurd are
+alike_append (BadNumber f l w ∷ left) more (AloneNumber m q ∷ others) further are too = absurd are
 alike_append (DoubtfulNumber n ∷ left) more [] further are too = absurd are
 alike_append (DoubtfulNumber n ∷ left) more (Missing m ∷ others) further are too = absurd are
 alike_append (DoubtfulNumber n ∷ left) more (Events b d s ∷ others) further are too = absurd are
-alike_append (DoubtfulNumber n ∷ left) more (BadNumbers b d v ∷ others) further are too = absurd are
+alike_append (DoubtfulNumber n ∷ left) more (BadNumber b d v ∷ others) further are too = absurd are
+alike_append (DoubtfulNumber n ∷ left) more (DoubtfulNumber m ∷ others) further are too =
+    (are.0, alike_append left more others further are.1 too)
+alike_append (DoubtfulNumber n ∷ left) more (AloneNumber m q ∷ others) further are too = absurd are
+alike_append (AloneNumber n p ∷ left) more [] further are too = absurd are
+alike_append (AloneNumber n p ∷ left) more (Missing m ∷ others) further are too = absurd are
+alike_append (AloneNumber n p ∷ left) more (Events b d s ∷ others) further are too = absurd are
+alike_append (AloneNumber n p ∷ left) more (BadNumber b d v ∷ others) further are too = absurd are
+alike_append (AloneNumber n p ∷ left) more (DoubtfulNumber m ∷ others) further are too = absurd are
+alike_append (AloneNumber n p ∷ left) more (AloneNumber m q ∷ others) further are too =
+    (are.0, are.1, alike_append left more others further are.2 too)
 
 gap_alike : (missing : ℕ) → AreAlikeParts (gap missing) (gap missing)
 gap_alike zero = tt
@@ -304,13 +318,13 @@ module _ (words : Words) (program : IsProgram words) (mode : Mode) where
   reasons_alike run payload following (reason.Closing next) (reason.Closing other) (closes, follows) (close, behind) =
       let both : Some next ≡ Some other = sym follows ∙ behind in cc
 
-  module _ (run : Run) (number : ℕ) (payload : List ℕ) (following : Option ℕ) (goods others : List Bool)
+  module _ (run : Run) (number place : ℕ) (payload : List ℕ) (following : Option ℕ) (goods others : List Bool)
       (Leaves LeavesToo : Run → List LeftPart → Type 0)
       (later : (behind : Run) (left parts : List LeftPart) → Leaves behind left → LeavesToo behind parts
       → (goods ≡ others) × AreAlikeParts left parts) where
     used_once : (good other : Bool) (left parts : List LeftPart)
-        → UsedLeaves words mode run number payload following good Leaves left
-        → UsedLeaves words mode run number payload following other LeavesToo parts
+        → UsedLeaves words mode run number place payload following good Leaves left
+        → UsedLeaves words mode run number place payload following other LeavesToo parts
         → (good ∷ goods ≡ other ∷ others) × AreAlikeParts left parts
     used_once true true left parts (packet, is_good, leave) (again, good_too, leave_too) =
         let same = same_packet payload packet again is_good.read good_too.read in
@@ -325,10 +339,10 @@ module _ (words : Words) (program : IsProgram words) (mode : Mode) where
         (fault, bad_too, begun, leaves_too, further, whole_too, behind_too) =
         let below = later (run_of 1 []) rest further behind behind_too in (
           ap (λ l. false ∷ l) below.0,
-          by_both left parts (before ++ BadNumbers number number why ∷ rest)
-              (begun ++ BadNumbers number number fault ∷ further) whole whole_too
-              (alike_append before (BadNumbers number number why ∷ rest) begun
-              (BadNumbers number number fault ∷ further) (run_once run number before begun leaves leaves_too)
+          by_both left parts (before ++ BadNumber number place why ∷ rest)
+              (begun ++ BadNumber number place fault ∷ further) whole whole_too
+              (alike_append before (BadNumber number place why ∷ rest) begun
+              (BadNumber number place fault ∷ further) (run_once run number before begun leaves leaves_too)
               (refl, refl, reasons_alike run payload following why fault bad bad_too, below.1)),
         )
 
@@ -342,7 +356,7 @@ module _ (words : Words) (program : IsProgram words) (mode : Mode) where
   leaves_once (Used number place payload ∷ entries) run next [] others left parts leave too = absurd leave
   leaves_once (Used number place payload ∷ entries) run next (good ∷ goods) [] left parts leave too = absurd too
   leaves_once (Used number place payload ∷ entries) run next (good ∷ goods) (other ∷ others) left parts leave too =
-      let used = used_once (run_behind (number - next) run) number payload (next_used entries) goods others
+      let used = used_once (run_behind (number - next) run) number place payload (next_used entries) goods others
       (λ behind. EntriesLeave words mode behind (number + 1) entries goods)
       (λ behind. EntriesLeave words mode behind (number + 1) entries others)
       (λ behind left parts. leaves_once entries behind (number + 1) goods others left parts) good other leave.2 too.2
@@ -366,24 +380,90 @@ module _ (words : Words) (program : IsProgram words) (mode : Mode) where
       )
 
 module _ (words : Words) (program : IsProgram words) (mode : Mode) where
+  -- What is beyond the end leaves the same.
+  one_beyond : (entry : Entry) (following : Option ℕ) (left other : LeftPart)
+      → LeavesBeyond words mode entry following left → LeavesBeyond words mode entry following other
+      → AreAlikeParts (left ∷ []) (other ∷ [])
+  one_beyond (Used number place payload) following (BadNumber n p why) (BadNumber m q fault) (is, at, bad)
+      (too, there, bad_too) = (
+        is ∙ sym too,
+        at ∙ sym there,
+        reasons_alike words program mode (run_of 1 []) payload following why fault bad bad_too,
+        tt,
+      )
+  one_beyond (Used number place payload) following (BadNumber n p why) (AloneNumber m q) (is, at, bad)
+      (too, there, packet, good) =
+      absurd (good_not_bad words program mode (run_of 1 []) payload following packet why good bad)
+  one_beyond (Used number place payload) following (AloneNumber n p) (BadNumber m q why) (is, at, packet, good)
+      (too, there, bad) =
+      absurd (good_not_bad words program mode (run_of 1 []) payload following packet why good bad)
+  one_beyond (Used number place payload) following (AloneNumber n p) (AloneNumber m q) (is, at, packet, good)
+      (too, there, again, good_too) = (is ∙ sym too, at ∙ sym there, tt)
+  one_beyond (Used number place payload) following (Missing n) other leaves too = absurd leaves
+  one_beyond (Used number place payload) following (Events f l e) other leaves too = absurd leaves
+  one_beyond (Used number place payload) following (DoubtfulNumber n) other leaves too = absurd leaves
+  one_beyond (Used number place payload) following (BadNumber n p why) (Missing m) leaves too = absurd too
+  one_beyond (Used number place payload) following (BadNumber n p why) (Events b d s) leaves too = absurd too
+  one_beyond (Used number place payload) following (BadNumber n p why) (DoubtfulNumber m) leaves too = absurd too
+  one_beyond (Used number place payload) following (AloneNumber n p) (Missing m) leaves too = absurd too
+  one_beyond (Used number place payload) following (AloneNumber n p) (Events b d s) leaves too = absurd too
+  one_beyond (Used number place payload) following (AloneNumber n p) (DoubtfulNumber m) leaves too = absurd too
+  one_beyond (Doubtful number) following (DoubtfulNumber n) (DoubtfulNumber m) is too = (is ∙ sym too, tt)
+  one_beyond (Doubtful number) following (Missing n) other leaves too = absurd leaves
+  one_beyond (Doubtful number) following (Events f l e) other leaves too = absurd leaves
+  one_beyond (Doubtful number) following (BadNumber n p why) other leaves too = absurd leaves
+  one_beyond (Doubtful number) following (AloneNumber n p) other leaves too = absurd leaves
+  one_beyond (Doubtful number) following (DoubtfulNumber n) (Missing m) leaves too = absurd too
+  one_beyond (Doubtful number) following (DoubtfulNumber n) (Events b d s) leaves too = absurd too
+  one_beyond (Doubtful number) following (DoubtfulNumber n) (BadNumber m q why) leaves too = absurd too
+  one_beyond (Doubtful number) following (DoubtfulNumber n) (AloneNumber m q) leaves too = absurd too
+
+  all_beyond : (entries : List Entry) (left others : List LeftPart) → AllLeaveBeyond words mode entries left
+      → AllLeaveBeyond words mode entries others → AreAlikeParts left others
+  all_beyond [] [] [] leave too = tt
+  all_beyond [] [] (other ∷ others) leave too = absurd too
+  all_beyond [] (part ∷ left) others leave too = absurd leave
+  all_beyond (entry ∷ entries) [] others leave too = absurd leave
+  all_beyond (entry ∷ entries) (part ∷ left) [] leave too = absurd too
+  all_beyond (entry ∷ entries) (part ∷ left) (other ∷ others) leave too =
+      alike_append (part ∷ []) left (other ∷ []) others (one_beyond entry (next_used entries) part other leave.0 too.0)
+      (all_beyond entries left others leave.1 too.1)
+
+  -- What a hart leaves is the same, and the same of it is good.
+  hart_once : (upto beyond : List Entry) (goods others : List Bool) (left parts : List LeftPart)
+      → HartLeaves words mode upto beyond goods left → HartLeaves words mode upto beyond others parts
+      → (goods ≡ others) × AreAlikeParts left parts
+  hart_once upto beyond goods others left parts leave too =
+      let once = leaves_once words program mode upto first_run 0 leave.good_first too.good_first leave.first too.first
+      leave.leaves too.leaves in (
+        leave.goods_are ∙ ap (λ gs. gs ++ none_good beyond) once.0 ∙ sym too.goods_are,
+        by_both left parts (leave.first ++ leave.after) (too.first ++ too.after) leave.parts_are too.parts_are
+            (alike_append leave.first leave.after too.first too.after once.1
+            (all_beyond beyond leave.after too.after leave.beyond_leaves too.beyond_leaves)),
+      )
+
+module _ (words : Words) (program : IsProgram words) (mode : Mode) where
   -- A hart with these messages is salvaged in one way.
   pub salvaged_once : {A B : Type 0} (messages : List Message) (one : SalvagedHart A) (other : SalvagedHart B)
       → IsSalvagedHart words mode messages one → IsSalvagedHart words mode messages other → AreAlikeHarts one other
   salvaged_once messages one other salvaged too =
       let same = entries_once messages salvaged.entries too.entries salvaged.are_entries too.are_entries in
-      by_entries same too.parts
-    where
-      by_entries : salvaged.entries ≡ too.entries
-          → EntriesLeave words (own_mode mode too.entries) (run_of 0 []) 0 too.entries too.goods
-          (one_by_one (parts_in other.parts.items)) → AreAlikeHarts one other
-      by_entries same leave =
-          let moved = subst (λ es. EntriesLeave words (own_mode mode es) (run_of 0 []) 0 es too.goods
-          (one_by_one (parts_in other.parts.items))) (sym same) leave in
-          let once = leaves_once words program (own_mode mode salvaged.entries) salvaged.entries (run_of 0 []) 0 salvaged.goods too.goods
-          (one_by_one (parts_in one.parts.items)) (one_by_one (parts_in other.parts.items)) salvaged.parts moved in
-          record {
-            parts = once.1;
-            copies = copies_once messages one.copies other.copies salvaged.copies too.copies;
-            late = salvaged.late ∙ ap (late salvaged.entries) once.0 ∙ ap (λ es. late es too.goods) same ∙ sym too.late;
-            closed = salvaged.closed ∙ ap is_closed same ∙ sym too.closed;
-          }
+      let own : own_mode mode too.entries ≡ own_mode mode salvaged.entries = sym (ap (own_mode mode) same) in
+      let cut = subst (λ m. AreCutAtEnd words m salvaged.entries too.upto too.beyond) own
+      (subst (λ es. AreCutAtEnd words (own_mode mode too.entries) es too.upto too.beyond) (sym same) too.cut) in
+      let once = cut_once words (own_mode mode salvaged.entries) salvaged.entries salvaged.upto too.upto salvaged.beyond
+      too.beyond salvaged.cut cut in
+      let leave = subst (λ es. HartLeaves words (own_mode mode salvaged.entries) salvaged.upto es too.goods
+      (parts_in other.parts.items)) (sym once.1)
+      (subst (λ es. HartLeaves words (own_mode mode salvaged.entries) es too.beyond too.goods
+      (parts_in other.parts.items)) (sym once.0)
+      (subst (λ m. HartLeaves words m too.upto too.beyond too.goods (parts_in other.parts.items)) own too.parts)) in
+      let left = hart_once words program (own_mode mode salvaged.entries) salvaged.upto salvaged.beyond salvaged.goods
+      too.goods (parts_in one.parts.items) (parts_in other.parts.items) salvaged.parts leave in
+      record {
+        parts = left.1;
+        copies = copies_once messages one.copies other.copies salvaged.copies too.copies;
+        late = salvaged.late ∙ ap (late salvaged.entries) left.0 ∙ ap (λ es. late es too.goods) same ∙ sym too.late;
+        closed = salvaged.closed ∙ ap is_closed once.0 ∙ sym too.closed;
+        mode = salvaged.reads ∙ sym own ∙ sym too.reads;
+      }

@@ -24,7 +24,7 @@ entries_in came = entries_by (arrivals_in came)
 abbrev pub behind : List Came → ℕ → List Came
 behind rest count = take (length rest - count) (drop count rest)
 
-behind-is : (rest : List Came) (count : ℕ) → behind rest count ≡ drop count rest
+pub behind-is : (rest : List Came) (count : ℕ) → behind rest count ≡ drop count rest
 behind-is rest count =
     let long = length-drop count rest in take_all (length rest - count) (drop count rest) (omega (arith, long))
 

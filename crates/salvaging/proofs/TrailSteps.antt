@@ -23,7 +23,7 @@ use Rattle.losses.specs.steps.FollowingRuns.{FollowsRun, IsNotDecodedInRun, Refu
 use Rattle.losses.proofs.RunFeeding.{FedRun, feeds_first, feeds_later}
 use Rattle.losses.proofs.RunLemmas.{from_sync-begun, from_sync-none}
 use Rattle.salvaging.specs.Bad.{IsBad, IsUndecoded}
-use Rattle.salvaging.specs.LeftParts.{LeftPart, BadNumbers, gap}
+use Rattle.salvaging.specs.LeftParts.{LeftPart, BadNumber, gap}
 use Rattle.salvaging.proofs.PushedParts.{adds_both}
 use Rattle.salvaging.specs.Leaving.{LeavesBefore, RunLeaves, kept}
 use Rattle.salvaging.specs.steps.UnderWay.{AddsParts, BeginsWith, GoesOn, IsUnderWay, Judged, TakesBad, TakesUsed}
@@ -237,14 +237,14 @@ module _ {A : Type 0} (words : Words) (mode reads : Mode) where
   }
 
   -- A used message is taken that is good.
-  pub takes_good : (run : Run) (next number : ℕ) (payload : List ℕ) (following : Option ℕ)
+  pub takes_good : (run : Run) (next number place : ℕ) (payload : List ℕ) (following : Option ℕ)
       (old gone judged new : Trail A) → GoesOn words mode reads run next number old gone → judged.parts ≡ gone.parts
       → Judged words mode reads (run_behind (number - next) run) number payload following None judged
       → new.decoder ≡ judged.decoder → new.events.items ≡ judged.events.items → new.looking ≡ judged.looking
       → new.begun ≡ judged.begun → new.next ≡ judged.next → new.parts ≡ judged.parts
       → new.goods.items ≡ old.goods.items ++ true ∷ []
-      → TakesUsed words mode reads run next number payload following old new
-  takes_good run next number payload following old gone judged new went same (packet, good, u) decoder events looking
+      → TakesUsed words mode reads run next number place payload following old new
+  takes_good run next number place payload following old gone judged new went same (packet, good, u) decoder events looking
       begun at parts goods =
       let behind = run_behind (number - next) run in
       let same_parts : new.parts.items ≡ gone.parts.items = ap (λ (v : _). v.items) (parts ∙ same) in
@@ -274,14 +274,14 @@ module _ {A : Type 0} (words : Words) (mode reads : Mode) where
       }
 
   -- A used message is taken that is bad.
-  pub takes_bad : (run : Run) (next number : ℕ) (payload : List ℕ) (following : Option ℕ) (why : Reason)
+  pub takes_bad : (run : Run) (next number place : ℕ) (payload : List ℕ) (following : Option ℕ) (why : Reason)
       (old gone judged new : Trail A) → GoesOn words mode reads run next number old gone → judged.parts ≡ gone.parts
       → IsBad words reads (run_behind (number - next) run) payload following why
-      → TakesBad words mode reads (run_behind (number - next) run) number why judged new
+      → TakesBad words mode reads (run_behind (number - next) run) number place why judged new
       → judged.goods.items ≡ old.goods.items
-      → TakesUsed words mode reads run next number payload following old new
-  takes_bad run next number payload following why old gone judged new went same bad k goods =
-      let added = k.left ++ BadNumbers number number why ∷ [] in
+      → TakesUsed words mode reads run next number place payload following old new
+  takes_bad run next number place payload following why old gone judged new went same bad k goods =
+      let added = k.left ++ BadNumber number place why ∷ [] in
       let same_parts : judged.parts.items ≡ gone.parts.items = ap (λ (v : _). v.items) same in
       record {
         good = false;

@@ -23,7 +23,7 @@ use Rattle.salvaging.specs.Bad.{IsGood}
 use Rattle.salvaging.specs.Entries.{Entry, Used, Doubtful, is_closed}
 use Rattle.salvaging.specs.Late.{late}
 use Rattle.salvaging.specs.Leaving.{EntriesLeave, mode_by, own_mode}
-use Rattle.salvaging.specs.LeftParts.{LeftPart, Missing, Events, BadNumbers, DoubtfulNumber, AreJoined, one_by_one}
+use Rattle.salvaging.specs.LeftParts.{LeftPart, Missing, Events, BadNumber, DoubtfulNumber}
 use Rattle.salvaging.specs.declared.reason.Reason.TheVariants as reason
 use Rattle.salvaging.proofs.BlockTraces.{block_trace, events_of_block}
 
@@ -204,7 +204,7 @@ module _ (p0 p1 p2 p3 p4 bad : List ℕ) (r0 : reading p0 ≡ Ok opens) (r1 : re
   -- It is a closing packet.
   closing_in_the_middle : leave (Used 0 0 p0 ∷ Used 1 1 p1 ∷ Used 2 2 p4 ∷ Used 3 3 p3 ∷ Used 4 4 p4 ∷ [])
       (true ∷ true ∷ false ∷ true ∷ true ∷ [])
-      (Events 0 1 (at 0 ∷ []) ∷ BadNumbers 2 2 (reason.Closing 3) ∷ last_stretch)
+      (Events 0 1 (at 0 ∷ []) ∷ BadNumber 2 2 (reason.Closing 3) ∷ last_stretch)
   closing_in_the_middle = (
     [],
     refl,
@@ -261,9 +261,9 @@ module _ (p0 p1 p2 p3 p4 bad : List ℕ) (r0 : reading p0 ≡ Ok opens) (r1 : re
     ),
   )
 
-  -- Neither number 1, a synchronisation, nor number 2 unpacks. Their two parts are one of the code's.
+  -- Neither number 1, a synchronisation, nor number 2 unpacks.
   two_unread : leave (Used 0 0 p0 ∷ Used 1 1 bad ∷ Used 2 2 bad ∷ Used 3 3 p3 ∷ Used 4 4 p4 ∷ [])
-      (true ∷ false ∷ false ∷ true ∷ true ∷ []) (one_by_one (BadNumbers 1 2 (reason.Packet why) ∷ last_stretch))
+      (true ∷ false ∷ false ∷ true ∷ true ∷ []) (BadNumber 1 1 (reason.Packet why) ∷ BadNumber 2 2 (reason.Packet why) ∷ last_stretch)
   two_unread = (
     [],
     refl,
@@ -282,7 +282,7 @@ module _ (p0 p1 p2 p3 p4 bad : List ℕ) (r0 : reading p0 ≡ Ok opens) (r1 : re
           unread,
           [],
           ([], from_open 1, refl),
-          BadNumbers 2 2 (reason.Packet why) ∷ last_stretch,
+          BadNumber 2 2 (reason.Packet why) ∷ last_stretch,
           refl,
           (
             [],
@@ -370,11 +370,3 @@ module _ (p0 p1 p2 p3 p4 bad : List ℕ) (r0 : reading p0 ≡ Ok opens) (r1 : re
 
   not_closed_in_the_middle : is_closed (Used 3 0 p4 ∷ Used 4 1 p3 ∷ []) ≡ false
   not_closed_in_the_middle = ap is_closing_reading r3
-
-  -- Neighbouring numbers that are bad for one reason are one part, and no others.
-  joined : AreJoined (BadNumbers 1 2 (reason.Packet why) ∷ BadNumbers 4 4 (reason.Packet why)
-      ∷ BadNumbers 5 5 (reason.Closing 6) ∷ [])
-  joined = (omega arith, (λ is same. omega (arith, is)), (omega arith, (λ is same. cc), (omega arith, tt, tt)))
-
-  not_joined : ¬ AreJoined (BadNumbers 1 1 (reason.Packet why) ∷ BadNumbers 2 2 (reason.Packet why) ∷ [])
-  not_joined joined = joined.1 refl refl

@@ -1,7 +1,7 @@
 -- What two that are salvaged of the same messages have in common.
-use Rattle.std.specs.Prelude.{ℕ, ◌≡◌, ◌↔◌, List, [], ◌∷◌}
+use Rattle.std.specs.Prelude.{◌≡◌, ◌↔◌, List, [], ◌∷◌}
 use Rattle.decoder.specs.declared.fault.DecodeFault.TheVariants.{NotOpened}
-use Rattle.salvaging.specs.LeftParts.{LeftPart, Missing, Events, BadNumbers, DoubtfulNumber, one_by_one}
+use Rattle.salvaging.specs.LeftParts.{LeftPart, Missing, Events, BadNumber, DoubtfulNumber, AloneNumber}
 use Rattle.salvaging.specs.PartsIn.{parts_in}
 use Rattle.salvaging.specs.declared.reason.Reason.{Reason}
 use Rattle.salvaging.specs.declared.reason.Reason.TheVariants as reason
@@ -14,22 +14,24 @@ AreAlikeReasons (reason.Decode one) (reason.Decode other) = (one ≡ NotOpened) 
 AreAlikeReasons (reason.Closing one) (reason.Closing other) = one ≡ other
 AreAlikeReasons one other = ⊥
 
--- The parts are the same but for which fault of a decoder a part of bad numbers has.
+-- The parts are the same but for which fault of a decoder a bad number has.
 abbrev pub AreAlikeParts : List LeftPart → List LeftPart → Type 0
 AreAlikeParts [] [] = Unit {0}
 AreAlikeParts (Missing one ∷ left) (Missing other ∷ others) = (one ≡ other) × AreAlikeParts left others
 AreAlikeParts (Events first last events ∷ left) (Events begun ended stretch ∷ others) =
     (first ≡ begun) × (last ≡ ended) × (events ≡ stretch) × AreAlikeParts left others
-AreAlikeParts (BadNumbers first last why ∷ left) (BadNumbers begun ended fault ∷ others) =
-    (first ≡ begun) × (last ≡ ended) × AreAlikeReasons why fault × AreAlikeParts left others
+AreAlikeParts (BadNumber one place why ∷ left) (BadNumber other at fault ∷ others) =
+    (one ≡ other) × (place ≡ at) × AreAlikeReasons why fault × AreAlikeParts left others
 AreAlikeParts (DoubtfulNumber one ∷ left) (DoubtfulNumber other ∷ others) =
     (one ≡ other) × AreAlikeParts left others
+AreAlikeParts (AloneNumber one place ∷ left) (AloneNumber other at ∷ others) =
+    (one ≡ other) × (place ≡ at) × AreAlikeParts left others
 AreAlikeParts left others = ⊥
 
--- The same is salvaged of a hart, but for which fault of a decoder a bad number has. Each bad number is looked at by
--- itself.
+-- The same is salvaged of a hart, but for which fault of a decoder a bad number has.
 pub record AreAlikeHarts {A B : Type 0} (one : SalvagedHart A) (other : SalvagedHart B) : Type 0 where
-  pub parts : AreAlikeParts (one_by_one (parts_in one.parts.items)) (one_by_one (parts_in other.parts.items))
+  pub parts : AreAlikeParts (parts_in one.parts.items) (parts_in other.parts.items)
   pub copies : one.copies ≡ other.copies
   pub late : one.late ≡ other.late
   pub closed : one.closed ≡ other.closed
+  pub mode : one.mode ≡ other.mode

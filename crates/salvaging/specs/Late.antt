@@ -3,7 +3,7 @@ use Rattle.std.specs.Prelude.{ℕ, suc, Bool, true, false, ◌||◌, nat_lt, Lis
 use Rattle.salvaging.specs.Entries.{Entry, Used, Doubtful}
 
 -- A message at this place is late: of these entries, whose numbers are greater, one is good and its message came before
--- that place. An entry is good where it is used and not bad.
+-- that place. An entry is good where it is used, and neither bad nor alone.
 abbrev pub is_late : ℕ → List Entry → List Bool → Bool
 is_late place [] goods = false
 is_late place (entry ∷ entries) [] = false

@@ -8,10 +8,10 @@ use Rattle.payload.specs.declared.fault.PackFault.{PackFault}
 use Rattle.payload.specs.declared.mode.Mode.{Mode}
 use Rattle.payload.specs.declared.packet.Packet.{Packet}
 use Rattle.decoder.specs.Describes.{Describes}
-use Rattle.losses.specs.Runs.{Run, first_run, from_sync, longer, mode_or, run_behind, run_of, trace_of_run}
+use Rattle.losses.specs.Runs.{Run, from_sync, longer, mode_or, run_behind, run_of, trace_of_run}
 use Rattle.salvaging.specs.Bad.{IsBad, IsGood}
 use Rattle.salvaging.specs.Entries.{Entry, Used, Doubtful, next_used}
-use Rattle.salvaging.specs.LeftParts.{LeftPart, Missing, BadNumbers, DoubtfulNumber, gap, stretch}
+use Rattle.salvaging.specs.LeftParts.{LeftPart, Missing, BadNumber, DoubtfulNumber, gap, stretch}
 use Rattle.salvaging.specs.declared.reason.Reason.{Reason}
 
 -- The packets of a run that give its stretch, where so many numbers were lost before it: all of them in the run from
@@ -34,22 +34,22 @@ LeavesBefore words mode run next zero parts = parts ≡ []
 LeavesBefore words mode run next (suc lost) parts =
     (before : List LeftPart) × RunLeaves words mode run next before × (parts ≡ before ++ Missing (suc lost) ∷ [])
 
--- The used message with this number is good or bad, as this says. A good one goes on with the run under way. A bad one
+-- The used message with this number and at this place is good or bad, as this says. A good one goes on with the run under way. A bad one
 -- ends it, and a new run begins after it, before which numbers are lost: its stretch begins at a synchronisation. What
 -- follows leaves the further parts.
-abbrev pub UsedLeaves : Words → Mode → Run → ℕ → List ℕ → Option ℕ → Bool → (Run → List LeftPart → Type 0)
+abbrev pub UsedLeaves : Words → Mode → Run → ℕ → ℕ → List ℕ → Option ℕ → Bool → (Run → List LeftPart → Type 0)
     → List LeftPart → Type 0
-UsedLeaves words mode run number payload following true FollowingLeaves parts =
+UsedLeaves words mode run number place payload following true FollowingLeaves parts =
     (packet : Packet) × IsGood words mode run payload following packet
     × FollowingLeaves (longer run (packet ∷ [])) parts
-UsedLeaves words mode run number payload following false FollowingLeaves parts =
+UsedLeaves words mode run number place payload following false FollowingLeaves parts =
     (why : Reason) × IsBad words mode run payload following why
     × (before : List LeftPart) × RunLeaves words mode run number before
-    × (rest : List LeftPart) × (parts ≡ before ++ BadNumbers number number why ∷ rest)
+    × (rest : List LeftPart) × (parts ≡ before ++ BadNumber number place why ∷ rest)
     × FollowingLeaves (run_of 1 []) rest
 
 -- The entries still to come leave these parts, where a run is under way and `next` is the number after its last one. Of
--- each entry `goods` says whether it is used and not bad. Each bad number is a part of its own.
+-- each entry `goods` says whether it is used and not bad.
 --
 -- A doubtful number ends the run under way. It is lost itself, and is counted by the gap after the run.
 abbrev pub EntriesLeave : Words → Mode → Run → ℕ → List Entry → List Bool → List LeftPart → Type 0
@@ -59,7 +59,7 @@ EntriesLeave words mode run next (entry ∷ entries) [] parts = ⊥
 EntriesLeave words mode run next (Used number place payload ∷ entries) (good ∷ goods) parts =
     (before : List LeftPart) × LeavesBefore words mode run next (number - next) before
     × (rest : List LeftPart) × (parts ≡ before ++ rest)
-    × UsedLeaves words mode (run_behind (number - next) run) number payload (next_used entries) good
+    × UsedLeaves words mode (run_behind (number - next) run) number place payload (next_used entries) good
     (λ behind. EntriesLeave words mode behind (number + 1) entries goods) rest
 EntriesLeave words mode run next (Doubtful number ∷ entries) (good ∷ goods) parts =
     (good ≡ false) × (before : List LeftPart) × RunLeaves words mode run next before
@@ -77,9 +77,3 @@ abbrev pub own_mode : Mode → List Entry → Mode
 own_mode mode [] = mode
 own_mode mode (Used number place payload ∷ entries) = mode_by number mode (reading payload)
 own_mode mode (Doubtful number ∷ entries) = mode
-
--- What the entries of a hart leave, where this mode is handed in. Before the first entry the run from number 0 on is
--- under way, without a packet.
-abbrev pub HartLeaves : Words → Mode → List Entry → List Bool → List LeftPart → Type 0
-HartLeaves words mode entries goods parts =
-    EntriesLeave words (own_mode mode entries) first_run 0 entries goods parts

@@ -5,6 +5,7 @@ pub mod LeftParts
 pub mod ReasonText
 pub mod Bad
 pub mod Leaving
+pub mod Ends
 pub mod Late
 pub mod PartsIn
 pub mod Salvaged

@@ -5,25 +5,29 @@ use Rattle.payload.specs.declared.mode.Mode.{Mode}
 use Rattle.message.specs.declared.message.Message.{Message}
 use Rattle.salvaging.specs.Copies.{AreCopies}
 use Rattle.salvaging.specs.Entries.{Entry, AreEntries, is_closed}
+use Rattle.salvaging.specs.Ends.{AreCutAtEnd, HartLeaves}
 use Rattle.salvaging.specs.Late.{late}
-use Rattle.salvaging.specs.Leaving.{HartLeaves}
-use Rattle.salvaging.specs.LeftParts.{AreJoined, one_by_one}
+use Rattle.salvaging.specs.Leaving.{own_mode}
 use Rattle.salvaging.specs.PartsIn.{parts_in}
 use Rattle.salvaging.specs.Strangers.{is_stranger, own_messages}
 use Rattle.salvaging.specs.declared.salvaged.SalvagedHart.{SalvagedHart}
 use Rattle.salvaging.specs.declared.salvaged.Salvaged.{Salvaged}
 
--- This is salvaged of a hart with these messages, where this mode is handed in.
+-- This is salvaged of a hart with these messages, where this mode is handed in: its own mode, the parts of its log, and
+-- whether it is closed, by the entries up to its end; how many of its messages are copies, and how many are late.
 pub record IsSalvagedHart {A : Type 0} (words : Words) (mode : Mode) (messages : List Message)
     (hart : SalvagedHart A) : Type 0 where
   pub entries : List Entry
+  pub upto : List Entry
+  pub beyond : List Entry
   pub goods : List Bool
   pub are_entries : AreEntries messages entries
-  pub parts : HartLeaves words mode entries goods (one_by_one (parts_in hart.parts.items))
-  pub joined : AreJoined (parts_in hart.parts.items)
+  pub reads : hart.mode ≡ own_mode mode entries
+  pub cut : AreCutAtEnd words (own_mode mode entries) entries upto beyond
+  pub parts : HartLeaves words (own_mode mode entries) upto beyond goods (parts_in hart.parts.items)
   pub copies : AreCopies messages hart.copies
   pub late : hart.late ≡ late entries goods
-  pub closed : hart.closed ≡ is_closed entries
+  pub closed : hart.closed ≡ is_closed upto
 
 -- This is salvaged of messages of so many harts: of each hart by its own messages and the mode handed in alone, and all
 -- strangers are counted.

@@ -2,7 +2,7 @@
 
 ghost use Rattle.std.specs.Prelude.{◌≡◌, ◌<◌, ◌≤◌, ◌++◌, [], ◌∷◌, IfNone, IfSome, drop, length, take};
 ghost use Rattle.salvaging.specs.steps.Arrivals.{arrivals_in};
-ghost use Rattle.salvaging.specs.steps.Grouping.{entries_by, entry_of};
+ghost use Rattle.salvaging.specs.steps.Grouping.{AreOfOne, entries_by, entry_of};
 
 use crate::came::Came;
 use crate::entry::{Entry, entry_before, entry_by, entry_with};
@@ -37,6 +37,7 @@ pub(crate) fn last_entry<'a>(came: &[Came<'a>]) -> Option<(Entry<'a>, usize)>
     ensures last { IfSome result (λ found. entries_by (arrivals_in came.now)
         ≡ entries_by (arrivals_in (take found.1 came.now)) ++ entry_of found.0 ∷ []) }
     ensures shorter { IfSome result (λ found. found.1 < length came.now) }
+    ensures group { IfSome result (λ found. AreOfOne (arrivals_in (drop found.1 came.now)) (entry_of found.0)) }
     ensures none { IfNone result (entries_by (arrivals_in came.now) ≡ []) }
 {
     if came.is_empty() {

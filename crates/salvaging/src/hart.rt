@@ -6,9 +6,12 @@ ghost use Rattle.message.specs.declared.message.Message.{Message as AnyMessage};
 ghost use Rattle.salvaging.specs.Salvaged.{IsSalvagedHart};
 ghost use Rattle.salvaging.specs.steps.Arrivals.{HaveNumbers, arrivals_in, placed_from};
 
+use crate::beyond::take_beyond;
 use crate::came::{Came, put_in_order};
 use crate::copies::copies;
+use crate::ending::count_to_end;
 use crate::late::late;
+use crate::own_mode::own_mode;
 use crate::salvaged::SalvagedHart;
 use crate::trail::take_all;
 use crate::used::is_closed;
@@ -31,13 +34,18 @@ pub(crate) fn salvage_hart<A: Allocator + Copy>(
     put_in_order(came.as_mut_slice());
     let ordered = came.as_slice();
     let copies = copies(ordered);
-    let mut trail = take_all(alloc, program, mode, ordered)?;
+    let own = own_mode(mode, ordered);
+    let end = count_to_end(alloc, program, own, ordered)?;
+    let upto = &ordered[..end];
+    let mut trail = take_all(alloc, program, mode, upto)?;
     trail.end_run(alloc, mode)?;
+    take_beyond(alloc, program, own, &ordered[end..], &mut trail)?;
     let late = late(ordered, &trail.goods);
     Ok(SalvagedHart {
         parts: trail.parts,
         copies,
         late,
-        closed: is_closed(ordered),
+        closed: is_closed(upto),
+        mode: own,
     })
 }

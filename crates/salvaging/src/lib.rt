@@ -1,22 +1,25 @@
 //! What is left of harts' logs after any damage to their messages.
 //!
 //! [`salvage`] takes any messages of several harts: messages may be lost, repeated, out of order, damaged, or of no
-//! hart. For each hart it returns a [`SalvagedHart`]: the parts of its log that its messages still settle, what is bad
-//! or doubtful, how many messages are copies or late, and whether the hart is closed. Numbers give the order of a
+//! hart. For each hart it returns a [`SalvagedHart`]: the parts of its log that its messages still settle, what is bad,
+//! doubtful or alone, how many messages are copies or late, and whether the hart is closed. Numbers give the order of a
 //! hart's messages, so each message may have come at any place and any number of times.
 //!
 //! Of messages of legal logs the parts are those of the logs by the numbers that came ([`logs_are_salvaged`]). Where
 //! messages are collected without a fault, the same is salvaged of them ([`what_is_collected_is_salvaged`]).
 #![tactic(auto)]
 
+mod beyond;
 mod came;
 mod copies;
 mod distributing;
+mod ending;
 mod entry;
 mod grouping;
 mod hart;
 mod late;
 mod laws;
+mod own_mode;
 mod part;
 mod reason;
 mod salvaged;

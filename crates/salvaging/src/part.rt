@@ -1,9 +1,8 @@
 //! A part of what is left of a hart's log.
 
 ghost use Rattle.std.specs.Prelude.{[], ◌∷◌, OnOk};
-ghost use Rattle.salvaging.specs.LeftParts.{BadNumbers, gap};
+ghost use Rattle.salvaging.specs.LeftParts.{gap};
 ghost use Rattle.salvaging.specs.PartsIn.{part_of};
-ghost use Rattle.salvaging.specs.steps.Joining.{Extends};
 ghost use Rattle.salvaging.specs.steps.UnderWay.{AddsParts};
 
 use crate::reason::Reason;
@@ -24,59 +23,36 @@ pub enum Part<A: Allocator = Global> {
         /// Its events, one at least.
         events: Vec<Event, A>,
     },
-    /// Consecutive numbers whose messages are bad for one reason, one at least.
+    /// A number whose message is bad.
     Bad {
-        /// The first number.
-        first: u64,
-        /// The last number.
-        last: u64,
-        /// Why each of them is bad.
+        /// The number.
+        number: u64,
+        /// The place of its first message among the messages of the hart, from 0 and in the order in which they came. A
+        /// stranger has no place.
+        place: usize,
+        /// Why it is bad.
         why: Reason,
     },
     /// A doubtful number: it came with two payloads, and none of them is used.
     Doubtful(u64),
+    /// A number that stands alone: it is greater than that of the packet at which the hart ends.
+    Alone {
+        /// The number.
+        number: u64,
+        /// The place of its first message, as of a bad one.
+        place: usize,
+    },
 }
 
-/// Adds a number that is bad for this reason to a part, where it goes on with the bad numbers of that. Whether it does
-/// is returned.
-fn extend<A: Allocator>(part: &mut Part<A>, number: u64, why: Reason) -> bool
-    ensures { Extends (part_of part.old) number why result (part_of part.new) }
-{
-    match part {
-        Part::Bad {
-            last,
-            why: before,
-            ..
-        } => {
-            let goes_on = number.checked_sub(1) == Some(*last) && *before == why;
-            if goes_on {
-                *last = number;
-            }
-            goes_on
-        }
-        _ => false,
-    }
-}
-
-/// Adds a number that is bad for this reason after the parts.
-pub(crate) fn push_bad<A: Allocator>(
+/// Adds a part after the parts.
+pub(crate) fn push_part<A: Allocator>(
     parts: &mut Vec<Part<A>, A>,
-    number: u64,
-    why: Reason,
+    part: Part<A>,
 ) -> Result<(), AllocError>
-    ensures { OnOk result (AddsParts (BadNumbers number number why ∷ []) parts.old.items parts.new.items) }
+    ensures { OnOk result (AddsParts (part_of part ∷ []) parts.old.items parts.new.items) }
 {
-    if let Some(part) = parts.last_mut() {
-        if extend(part, number, why) {
-            return Ok(());
-        }
-    }
     parts.reserve(1)?;
-    parts.push_reserved(Part::Bad {
-        first: number,
-        last: number,
-        why,
-    });
+    parts.push_reserved(part);
     Ok(())
 }
 

@@ -1,6 +1,7 @@
 //! What is salvaged of messages.
 
 use crate::part::Part;
+use payload::Mode;
 use std::alloc::{Allocator, Global};
 
 /// What is salvaged of one hart's messages.
@@ -10,10 +11,14 @@ pub struct SalvagedHart<A: Allocator = Global> {
     pub parts: Vec<Part<A>, A>,
     /// How many messages are copies: an earlier message of the hart has the same number and the same payload.
     pub copies: usize,
-    /// How many messages are late: they are used, and an earlier used message that is not bad has a greater number.
+    /// How many messages are late: they are used, and an earlier used message that is neither bad nor alone has a greater
+    /// number.
     pub late: usize,
-    /// Whether the hart is closed: the last number that is used has a packet that closes the trace.
+    /// Whether the hart is closed: the last number that is used, up to the hart's end, has a packet that closes the
+    /// trace.
     pub closed: bool,
+    /// The mode in which its trace is read: the one that its message with number 0 announces, or else the one handed in.
+    pub mode: Mode,
 }
 
 /// What is salvaged of messages of several harts.

@@ -50,10 +50,12 @@ fn salvage_each<A: Allocator + Copy>(
 /// returns.
 ///
 /// A stretch without an event is left out. A gap says how many numbers did not come or are doubtful; after the last
-/// number that came there is no gap. Neighbouring numbers that are bad for the same reason are one part.
+/// number that came there is no gap. Where a packet that closes the trace has used numbers above it, and no stretch
+/// begins there, the hart ends at the lowest such packet, and what is above it stands alone or is bad.
 ///
-/// An error is returned only where an allocation fails, and then nothing is kept. The time grows with the messages and
-/// their events. Where messages did not come in the order of their numbers, it also grows with the logarithm of how
+/// An error is returned only where an allocation fails, and then nothing is kept. The time grows with the messages,
+/// their events, and the steps of walks that come to nothing: a bad message may ask for as many as 32 times half of the
+/// image's bytes. Where messages did not come in the order of their numbers, it also grows with the logarithm of how
 /// many a hart has.
 pub fn salvage<A: Allocator + Copy>(
     alloc: A,

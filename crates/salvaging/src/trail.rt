@@ -21,10 +21,11 @@ ghost use Rattle.salvaging.specs.steps.UnderWay.{TakesBad, TakesDoubtful, TakesU
 use crate::came::Came;
 use crate::entry::Entry;
 use crate::grouping::first_entry;
-use crate::part::{Part, push_bad, push_gap};
+use crate::part::{Part, push_gap, push_part};
 use crate::reason::Reason;
 use crate::used::next_used;
 use decoder::{DecodeFault, Decoder};
+use message::Message;
 use payload::{Mode, Packet, Payload, unpack};
 use retire::Event;
 use rvclass::Program;
@@ -50,7 +51,7 @@ pub(crate) struct Trail<A: Allocator> {
 }
 
 /// Whether a packet is a synchronisation.
-fn is_sync(packet: &Packet) -> bool
+pub(crate) fn is_sync(packet: &Packet) -> bool
     ensures { result ≡ is_sync packet.now }
 {
     matches!(packet, Packet::Sync { .. })
@@ -175,7 +176,7 @@ impl<A: Allocator + Copy> Trail<A> {
 
     /// Takes the message of the number that comes next, or finds why it is bad. A bad one changes nothing. `behind` are
     /// the messages with greater numbers.
-    fn judge(
+    pub(crate) fn judge(
         &mut self,
         program: &Program,
         payload: &Payload,
@@ -212,36 +213,43 @@ impl<A: Allocator + Copy> Trail<A> {
         alloc: A,
         program: &Program,
         mode: Mode,
-        number: u64,
-        payload: &Payload,
+        place: usize,
+        message: &Message,
         behind: &[Came<'_>],
     ) -> Result<(), AllocError>
-        requires next { self.old.next ≤ number }
-        requires small { number < end_of_numbers }
+        requires next { self.old.next ≤ message.now.number }
+        requires small { message.now.number < end_of_numbers }
         ensures { (reads : AnyMode) (run : Run) (next : ℕ)
             → IsUnderWay (words_of program.now) mode reads run next false self.old
-            → OnOk result (TakesUsed (words_of program.now) mode reads run next number payload.now
-            (next_used (entries_by (arrivals_in behind.now))) self.old self.new) }
+            → OnOk result (TakesUsed (words_of program.now) mode reads run next message.now.number place
+            message.now.payload (next_used (entries_by (arrivals_in behind.now))) self.old self.new) }
     {
-        self.go_on(alloc, mode, number)?;
-        match self.judge(program, payload, behind)? {
+        self.go_on(alloc, mode, message.number)?;
+        match self.judge(program, &message.payload, behind)? {
             None => {
                 self.goods.reserve(1)?;
                 self.goods.push_reserved(true);
                 Ok(())
             }
-            Some(why) => self.take_bad(alloc, mode, number, why),
+            Some(why) => self.take_bad(alloc, mode, message.number, place, why),
         }
     }
 
     /// Takes the message of the number that comes next, which is bad for this reason: the run under way is over.
-    fn take_bad(&mut self, alloc: A, mode: Mode, number: u64, why: Reason) -> Result<(), AllocError>
+    fn take_bad(
+        &mut self,
+        alloc: A,
+        mode: Mode,
+        number: u64,
+        place: usize,
+        why: Reason,
+    ) -> Result<(), AllocError>
         requires { number < end_of_numbers }
         ensures { (words : Words) (reads : AnyMode) (run : Run) → IsUnderWay words mode reads run number false self.old
-            → OnOk result (TakesBad words mode reads run number why self.old self.new) }
+            → OnOk result (TakesBad words mode reads run number place why self.old self.new) }
     {
         self.end_run(alloc, mode)?;
-        push_bad(&mut self.parts, number, why)?;
+        push_part(&mut self.parts, Part::Bad { number, place, why })?;
         self.next = number + 1;
         self.goods.reserve(1)?;
         self.goods.push_reserved(false);
@@ -262,8 +270,7 @@ impl<A: Allocator + Copy> Trail<A> {
     {
         self.end_run(alloc, mode)?;
         push_gap(&mut self.parts, number - self.next)?;
-        self.parts.reserve(1)?;
-        self.parts.push_reserved(Part::Doubtful(number));
+        push_part(&mut self.parts, Part::Doubtful(number))?;
         self.next = number;
         self.goods.reserve(1)?;
         self.goods.push_reserved(false);
@@ -287,14 +294,9 @@ impl<A: Allocator + Copy> Trail<A> {
             (entries_by (arrivals_in behind.now)) self.new) }
     {
         match entry {
-            Entry::Used { message, .. } => self.take_used(
-                alloc,
-                program,
-                mode,
-                message.number,
-                &message.payload,
-                behind,
-            ),
+            Entry::Used { place, message } => {
+                self.take_used(alloc, program, mode, place, message, behind)
+            }
             Entry::Doubtful { number } => self.take_doubtful(alloc, mode, number),
         }
     }

@@ -1,15 +1,19 @@
 -- Which numbers arguments may ask for.
-use Rattle.std.specs.Prelude.{ℕ, ◌≤◌}
+use Rattle.std.specs.Prelude.{ℕ, ◌≤◌, Option, IfSome}
 use Rattle.message.specs.Capacity.{most_capacity}
 use Rattle.message.specs.Version.{most_harts}
 use Rattle.message.specs.declared.header.Version.TheVariants.{Two}
 use Rattle.subcommands.specs.declared.words.Asked.{Asked}
-use Rattle.subcommands.specs.declared.words.Asked.TheVariants.{Bench, Decode, Encode, Listing, Measure, Replay}
-use Rattle.subcommands.specs.declared.words.Asked.TheVariants.{Salvage}
+use Rattle.subcommands.specs.declared.words.Asked.TheVariants.{Bench, Capture, Decode, Encode, Listing}
+use Rattle.subcommands.specs.declared.words.Asked.TheVariants.{Measure, Replay, Salvage}
 
 -- The most retirements from one periodic synchronisation to the next.
 abbrev pub longest_period : ℕ
 longest_period = 65535
+
+-- A count of harts that is given is 1 to 1024.
+abbrev pub IsCountIfGiven : Option ℕ → Type 0
+IsCountIfGiven given = IfSome given (λ harts. (1 ≤ harts) × (harts ≤ most_harts Two))
 
 -- A period is 1 to 65535 retirements, a count of harts 1 to 1024, and a capacity 1 to 65536 messages.
 abbrev pub IsWithinLimits : Asked → Type 0
@@ -21,5 +25,7 @@ IsWithinLimits (Bench asked) =
     (1 ≤ asked.period) × (asked.period ≤ longest_period) × (1 ≤ asked.capacity) × (asked.capacity ≤ most_capacity)
 IsWithinLimits (Measure asked) = (1 ≤ asked.period) × (asked.period ≤ longest_period)
 IsWithinLimits (Listing asked) = (1 ≤ asked.harts) × (asked.harts ≤ most_harts Two)
-IsWithinLimits (Salvage asked) = (1 ≤ asked.harts) × (asked.harts ≤ most_harts Two)
+IsWithinLimits (Salvage asked) = IsCountIfGiven asked.harts
+IsWithinLimits (Capture asked) =
+    (1 ≤ asked.period) × (asked.period ≤ longest_period) × IsCountIfGiven asked.harts
 IsWithinLimits _ = Unit {0}

@@ -7,5 +7,5 @@ mod words;
 
 pub use limits::{LONGEST_PERIOD, SHORTEST_PERIOD, SMALLEST_CAPACITY};
 pub use words::{
-    Asked, Audit, Bench, Check, Decode, Dump, Encode, Listing, Measure, Replay, Salvage,
+    Asked, Audit, Bench, Capture, Check, Decode, Dump, Encode, Listing, Measure, Replay, Salvage,
 };

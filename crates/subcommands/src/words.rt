@@ -3,7 +3,7 @@
 use message::Version;
 use payload::Mode;
 
-/// `check --base B [--explain] [--long] IMAGE LOG...`: whether the log of each hart is legal.
+/// `check --base B [--explain] [--long] [--progress] IMAGE LOG...`: whether the log of each hart is legal.
 #[derive(Debug, Drop)]
 pub struct Check<'a> {
     /// The address of the image's first byte, not yet read as a number.
@@ -12,13 +12,16 @@ pub struct Check<'a> {
     pub explain: bool,
     /// Whether a log may have up to 4,294,967,295 rows. Where this is false, it may have up to 16,777,216.
     pub long: bool,
+    /// Whether a terminal is shown how far the logs are read.
+    pub progress: bool,
     /// The path of the image.
     pub image: &'a str,
     /// The paths of the logs, at least one, in the order of the arguments.
     pub logs: Vec<&'a str>,
 }
 
-/// `encode --base B [--period N] [--full] [--v1] [--hex] [--long] IMAGE LOG...`: the messages of the log of each hart.
+/// `encode --base B [--period N] [--full] [--v1] [--hex] [--long] [--progress] IMAGE LOG...`: the messages of the log
+/// of each hart.
 #[derive(Debug, Drop)]
 pub struct Encode<'a> {
     /// The address of the image's first byte, not yet read as a number.
@@ -33,15 +36,19 @@ pub struct Encode<'a> {
     pub hex: bool,
     /// Whether a log may have up to 4,294,967,295 rows. Where this is false, it may have up to 16,777,216.
     pub long: bool,
+    /// Whether a terminal is shown how far the logs are read.
+    pub progress: bool,
     /// The path of the image.
     pub image: &'a str,
     /// The paths of the logs, at least one, in the order of the arguments.
     pub logs: Vec<&'a str>,
 }
 
-/// `dump CAPTURE`: the messages of a capture, as text.
+/// `dump [--search] CAPTURE`: the messages of a capture, as text.
 #[derive(Debug, Drop)]
 pub struct Dump<'a> {
+    /// Whether messages are looked for where bytes are none.
+    pub search: bool,
     /// The path of the capture.
     pub capture: &'a str,
 }
@@ -61,8 +68,8 @@ pub struct Decode<'a> {
     pub capture: &'a str,
 }
 
-/// `replay --base B [--period N] [--full] [--capacity N] IMAGE SCHEDULE LOG...`: what is decoded of the log of each
-/// hart that is sent through the funnel.
+/// `replay --base B [--period N] [--full] [--capacity N] [--progress] IMAGE SCHEDULE LOG...`: what is decoded of the
+/// log of each hart that is sent through the funnel.
 #[derive(Debug, Drop)]
 pub struct Replay<'a> {
     /// The address of the image's first byte, not yet read as a number.
@@ -73,6 +80,8 @@ pub struct Replay<'a> {
     pub mode: Mode,
     /// How many messages the funnel holds, 1 to 65536.
     pub capacity: u32,
+    /// Whether a terminal is shown how far the logs are read.
+    pub progress: bool,
     /// The path of the image.
     pub image: &'a str,
     /// The path of the schedule.
@@ -81,8 +90,8 @@ pub struct Replay<'a> {
     pub logs: Vec<&'a str>,
 }
 
-/// `bench --base B [--period N] [--full] [--capacity N] IMAGE LOG...`: what is decoded of the log of each hart that is
-/// sent through the funnel from a thread of its own.
+/// `bench --base B [--period N] [--full] [--capacity N] [--progress] IMAGE LOG...`: what is decoded of the log of each
+/// hart that is sent through the funnel from a thread of its own.
 #[derive(Debug, Drop)]
 pub struct Bench<'a> {
     /// The address of the image's first byte, not yet read as a number.
@@ -93,15 +102,20 @@ pub struct Bench<'a> {
     pub mode: Mode,
     /// How many messages the funnel holds, 1 to 65536.
     pub capacity: u32,
+    /// Whether a terminal is shown how far the logs are read.
+    pub progress: bool,
     /// The path of the image.
     pub image: &'a str,
     /// The paths of the logs, at least one, in the order of the arguments.
     pub logs: Vec<&'a str>,
 }
 
-/// `audit [--summary] SENT RECEIVED`: what became of the messages of one capture, by another capture of what arrived.
+/// `audit [--packets] [--summary] SENT RECEIVED`: what became of the messages of one capture, by another
+/// capture of what arrived.
 #[derive(Debug, Drop)]
 pub struct Audit<'a> {
+    /// Whether a message is compared by the packet that its payload unpacks to, and not by its bytes.
+    pub packets: bool,
     /// Whether the lines of single messages and of lost numbers are left out.
     pub summary: bool,
     /// The path of the capture that was sent.
@@ -110,8 +124,8 @@ pub struct Audit<'a> {
     pub received: &'a str,
 }
 
-/// `measure --base B [--period N] [--full] [--long] IMAGE LOG...`: how many packets and bytes the log of each hart
-/// takes.
+/// `measure --base B [--period N] [--full] [--long] [--progress] IMAGE LOG...`: how many packets and bytes the log of
+/// each hart takes.
 #[derive(Debug, Drop)]
 pub struct Measure<'a> {
     /// The address of the image's first byte, not yet read as a number.
@@ -122,6 +136,8 @@ pub struct Measure<'a> {
     pub mode: Mode,
     /// Whether a log may have up to 4,294,967,295 rows. Where this is false, it may have up to 16,777,216.
     pub long: bool,
+    /// Whether a terminal is shown how far the logs are read.
+    pub progress: bool,
     /// The path of the image.
     pub image: &'a str,
     /// The paths of the logs, at least one, in the order of the arguments.
@@ -143,17 +159,36 @@ pub struct Listing<'a> {
     pub capture: &'a str,
 }
 
-/// `salvage --base B [--harts N] IMAGE CAPTURE`: what is left of the log of each hart after any damage to a capture.
+/// `salvage --base B [--harts N] [--summary] IMAGE CAPTURE`: what is left of the log of each hart after any damage to a
+/// capture.
 #[derive(Debug, Drop)]
 pub struct Salvage<'a> {
     /// The address of the image's first byte, not yet read as a number.
     pub base: &'a str,
-    /// The count of harts of a capture with no header, 1 to 1024.
-    pub harts: u16,
+    /// The count of harts of a capture with no valid header, 1 to 1024, where it is given.
+    pub harts: Option<u16>,
+    /// Whether the texts of the logs are left out.
+    pub summary: bool,
     /// The path of the image.
     pub image: &'a str,
     /// The path of the capture.
     pub capture: &'a str,
+}
+
+/// `capture [--v1] [--full] [--period N] [--harts N] LINES`: the capture of a text of lines, each of one message.
+#[derive(Debug, Drop)]
+pub struct Capture<'a> {
+    /// The version of the capture. It limits the count of harts.
+    pub version: Version,
+    /// The mode that the capture's header has.
+    pub mode: Mode,
+    /// The period that the capture's header has, 1 to 65535.
+    pub period: u16,
+    /// The count of harts that the capture's header has, 1 to 1024, where it is given. Else they are those up to the
+    /// highest of a line.
+    pub harts: Option<u16>,
+    /// The path of the lines.
+    pub lines: &'a str,
 }
 
 /// A subcommand with its files and options, as texts of the arguments.
@@ -179,4 +214,6 @@ pub enum Asked<'a> {
     Listing(Listing<'a>),
     /// A run of `salvage`.
     Salvage(Salvage<'a>),
+    /// A run of `capture`.
+    Capture(Capture<'a>),
 }

@@ -4,7 +4,7 @@
 mod faults;
 mod longest_walk;
 mod order;
-mod resuming;
+mod resumed;
 mod rows;
 mod traces;
 mod walks;

@@ -1,5 +1,6 @@
 //! What is left of logs whatever befell their messages (`salvaging`).
 
+mod ends;
 mod orders;
 mod random;
 mod rows;

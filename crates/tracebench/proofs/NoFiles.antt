@@ -3,6 +3,7 @@ use Rattle.std.proofs.Common.{◌≡◌, ◌≢◌, ◌∙◌, ◌⊎◌, ℕ, L
 use Rattle.std.proofs.Common.{subst, sym}
 use Rattle.subcommands.specs.declared.words.Asked.{Asked}
 use Rattle.subcommands.specs.declared.words.Asked.TheVariants.{Audit, Bench, Check, Decode, Dump, Encode, Listing}
+use Rattle.subcommands.specs.declared.words.Asked.TheVariants as asked_for
 use Rattle.subcommands.specs.declared.words.Asked.TheVariants.{Measure, Replay, Salvage}
 use Rattle.log_commands.specs.Benching.{BenchesLogs}
 use Rattle.commands.specs.CarriedOut.{IsCarriedOut}
@@ -15,10 +16,11 @@ use Rattle.capture_commands.specs.Symbols.{AreSymbols}
 use Rattle.capture_commands.specs.declared.reason.CaptureReason.TheVariants as capture
 use Rattle.log_commands.specs.declared.reason.LogReason.TheVariants as log
 use Rattle.path_commands.specs.declared.reason.PathReason.TheVariants as audit
+use Rattle.line_commands.specs.Capturing.{AreSettings, WritesCapture}
 use Rattle.commands.specs.Faults.{Fault, Printed, command_reason_status, final_status, status_of}
 use Rattle.commands.specs.Joined.{joined_end, joined_printed}
 use Rattle.commands.specs.declared.reason.CommandReason.{CommandReason}
-use Rattle.commands.specs.declared.reason.CommandReason.TheVariants.{Capture, Log, Path, Words}
+use Rattle.commands.specs.declared.reason.CommandReason.TheVariants.{Capture, Line, Log, Path, Words}
 use Rattle.log_commands.specs.Encoding.{WritesMessages}
 use Rattle.command_inputs.specs.Faults.{Path as FilePath}
 use Rattle.command_inputs.specs.Finding.{After, IsFoundFrom}
@@ -133,7 +135,7 @@ not_ended (Encode asked) status old new done =
 not_ended (Dump asked) status old new done =
     let own = done.prints.own in
     let ends = ends_so Capture done.text status own done.prints.is in
-    not_first (IsRead none asked.capture) WritesDump own status ends
+    not_first (IsRead none asked.capture) (WritesDump asked.search) own status ends
     (λ bytes read dump. no_bytes asked.capture bytes read) done.prints.prints
 not_ended (Decode asked) status old new done =
     let own = done.prints.own in
@@ -159,7 +161,7 @@ not_ended (Audit asked) status old new done =
     let own = done.prints.own in
     let ends = ends_so Path done.text status own done.prints.is in
     not_first (IsRead none asked.sent) (λ bytes. First (IsFoundSent asked.sent bytes) (λ sent.
-    First (IsRead none asked.received) (WritesAudit asked.summary sent))) own status ends
+    First (IsRead none asked.received) (WritesAudit asked sent))) own status ends
     (λ bytes read prints. no_bytes asked.sent bytes read) done.prints.prints
 not_ended (Measure asked) status old new done =
     let own = done.prints.own in
@@ -182,10 +184,17 @@ not_ended (Salvage asked) status old new done =
     let own = done.prints.own in
     let ends = ends_so Capture done.text status own done.prints.is in
     not_first (IsBase asked.base.now) (λ base. First (IsProgramAt none base asked.image) (λ program.
-    First (IsRead none asked.capture) (WritesSalvaged asked.harts program))) own status ends
+    First (IsRead none asked.capture) (WritesSalvaged asked.harts asked.summary program))) own status ends
     (λ base is prints. not_first (IsProgramAt none base asked.image) (λ program.
-    First (IsRead none asked.capture) (WritesSalvaged asked.harts program)) own status ends
+    First (IsRead none asked.capture) (WritesSalvaged asked.harts asked.summary program)) own status ends
     (λ program made left. no_program base asked.image program made) prints) done.prints.prints
+not_ended (asked_for.Capture asked) status old new done =
+    let own = done.prints.own in
+    let ends = ends_so Line done.text status own done.prints.is in
+    not_first (AreSettings asked) (λ settings. First (IsRead none asked.lines) (WritesCapture asked.lines settings))
+    own status ends
+    (λ settings are prints. not_first (IsRead none asked.lines) (WritesCapture asked.lines settings) own status ends
+    (λ text read written. no_bytes asked.lines text read) prints) done.prints.prints
 
 -- No reason ends with status 0.
 reason_faulty : (why : CommandReason) → code_of (command_reason_status why) ≢ 0
@@ -196,9 +205,9 @@ reason_faulty (Capture capture.Header) = λ is. omega arith
 reason_faulty (Capture (capture.Message number why)) = λ is. omega arith
 reason_faulty (Capture (capture.Unclosed hart)) = λ is. omega arith
 reason_faulty (Capture (capture.Symbols path why)) = λ is. omega arith
-reason_faulty (Path audit.Header) = λ is. omega arith
-reason_faulty (Path (audit.Message number why)) = λ is. omega arith
+reason_faulty (Path (audit.Damaged path)) = λ is. omega arith
 reason_faulty (Path (audit.Sent sent why)) = λ is. omega arith
+reason_faulty (Line why) = λ is. omega arith
 
 -- No fault ends with status 0.
 faulty : (why : Fault) → code_of (status_of why) ≢ 0

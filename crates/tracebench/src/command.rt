@@ -18,14 +18,15 @@ use subcommands::Asked;
 
 /// Does what the arguments ask for, and returns the exit status. The first argument is the program's name. The status
 /// is 0 where all is done; 1 where a capture is not good or a log does not come back complete; 2 where the arguments,
-/// the base, the count of logs, the image, the symbols, a log or the schedule is refused or a log is illegal; and 3
-/// where a file is not read, the output is not written, allocation fails or there is a stop of `replay` or `bench`.
+/// the base, the count of logs or harts, the image, the symbols, a log, the schedule or a line is refused or a log is
+/// illegal; and 3 where a file is not read, the output is not written, allocation fails or there is a stop of `replay`
+/// or `bench`.
 ///
-/// The first fault is reported on `err`, in the order arguments, base, count of logs, image, symbols, each log in turn,
-/// schedule, capture. It has one line there, or `clap`'s own text where the arguments are at fault. Where a write to
-/// `err` fails, the status stays the same. Illegal logs are no fault of `check`, which has a line for each log on
-/// `out`. A subcommand that reads several logs checks them in threads. `bench` sends each log from a thread. Both wait
-/// for their threads.
+/// The first fault is reported on `err`, in the order arguments, base, count of logs or harts, image, symbols, each log
+/// in turn, schedule, capture or lines. It has one line there, or `clap`'s own text where the arguments are at fault.
+/// Where a write to `err` fails, the status stays the same. Illegal logs are no fault of `check`, which has a line for
+/// each log on `out`. A subcommand that reads several logs checks them in threads. `bench` sends each log from a
+/// thread. Both wait for their threads.
 pub fn command<F: Files + Sync, O: Write, E: Write, R: Threads + Wait + Sync>(
     alloc: Global,
     rt: &R,

@@ -129,6 +129,7 @@ fn take_capture(path: &mut Audit<'_>, received: &[u8]) -> Option<(u64, MessageFa
     ensures heard { (sent : List AnyMessage) → Audits sent [] path.old
         → HasTakenCapture sent received.now result path.new }
     ensures harts { length path.new.harts ≡ length path.old.harts }
+    ensures by { path.new.by ≡ path.old.by }
 {
     let mut left = Messages::new(received);
     match left.header() {
@@ -142,6 +143,7 @@ fn take_messages(path: &mut Audit<'_>, messages: Messages<'_>) -> Option<(u64, M
     ensures heard { (sent : List AnyMessage) → Audits sent [] path.old
         → HasHeard sent messages.entry result path.new }
     ensures harts { length path.new.harts ≡ length path.old.harts }
+    ensures by { path.new.by ≡ path.old.by }
 {
     let mut left = messages;
     let mut place = 0;

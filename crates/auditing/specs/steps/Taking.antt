@@ -2,7 +2,8 @@
 use Rattle.std.specs.Prelude.{ℕ, ◌+◌, ◌-◌, ◌^◌, ◌==◌, ◌&&◌, not, nat_lt, Bool, true, false, if◌then◌else◌, List, Option, Some, None}
 use Rattle.std.specs.Prelude.{length, max, min, slice_get, slice_index_or, slice_set}
 use Rattle.std.specs.List.{count_by}
-use Rattle.std.specs.Str.{bytes_eq}
+use Rattle.alike.specs.Same.{same}
+use Rattle.alike.specs.declared.by.By.{By}
 use Rattle.message.specs.declared.message.Message.{Message}
 use Rattle.auditing.specs.Findings.{is_plain}
 use Rattle.auditing.specs.HartRows.{longest_of}
@@ -18,17 +19,17 @@ use Rattle.auditing.specs.declared.tally.Tally.{Tally}
 use Rattle.auditing.specs.steps.Scanning.{lost_in}
 
 -- The fate of a message of a hart, by the payload that SENT has with its number, if it has one.
-abbrev pub fate_by : HartLedger → ℕ → List ℕ → Option (List ℕ) → Fate
-fate_by own number payload None = fate.Stranger
-fate_by own number payload (Some sent) =
-    if not (bytes_eq payload sent) then fate.Changed else
+abbrev pub fate_by : By → HartLedger → ℕ → List ℕ → Option (List ℕ) → Fate
+fate_by how own number payload None = fate.Stranger
+fate_by how own number payload (Some sent) =
+    if not (same how sent payload) then fate.Changed else
     if slice_index_or own.came number false then fate.Repeat else
     if nat_lt (number + 1) own.past then fate.Late else
     fate.InOrder
 
 -- The fate of a message of a hart with this number and this payload.
-abbrev pub fate_in : HartLedger → ℕ → List ℕ → Fate
-fate_in own number payload = fate_by own number payload (slice_get own.payloads number)
+abbrev pub fate_in : By → HartLedger → ℕ → List ℕ → Fate
+fate_in how own number payload = fate_by how own number payload (slice_get own.payloads number)
 
 -- One more, where 2^64 - 1 stays.
 abbrev pub one_more : ℕ → ℕ
@@ -42,11 +43,16 @@ counted counts fate.Repeat = record counts { came = one_more counts.came; repeat
 counted counts fate.Late = record counts { came = one_more counts.came; late = one_more counts.late }
 counted counts fate.InOrder = record counts { came = one_more counts.came }
 
+-- By how much a message with this number is late, where this is the number after the greatest true one of its hart before
+-- it.
+abbrev pub lateness_at : ℕ → ℕ → ℕ
+lateness_at past number = past - 1 - number
+
 -- What is kept of the hart after its message with this number and this fate.
 abbrev pub hart_after : HartLedger → ℕ → Fate → HartLedger
 hart_after own number fate.Late = record own {
   came = slice_set own.came number true;
-  latest = max own.latest (own.past - 1 - number);
+  latest = max own.latest (lateness_at own.past number);
   counts = counted own.counts fate.Late;
 }
 hart_after own number fate.InOrder = record own {
@@ -62,30 +68,30 @@ abbrev pub finding_at : Fate → ℕ → ℕ → Finding
 finding_at fate.Stranger past number = finding.Stranger
 finding_at fate.Changed past number = finding.Changed
 finding_at fate.Repeat past number = finding.Repeat
-finding_at fate.Late past number = finding.Late (past - 1 - number)
+finding_at fate.Late past number = finding.Late (lateness_at past number)
 finding_at fate.InOrder past number = finding.InOrder (number - past)
 
 -- What is found of a message of a hart with this number and this payload.
-abbrev pub finding_in : HartLedger → ℕ → List ℕ → Finding
-finding_in own number payload = finding_at (fate_in own number payload) own.past number
+abbrev pub finding_in : By → HartLedger → ℕ → List ℕ → Finding
+finding_in how own number payload = finding_at (fate_in how own number payload) own.past number
 
 -- The fate of a message, by what is kept of its hart, if the hart is one of SENT's.
-abbrev pub fate_found : Option HartLedger → Message → Fate
-fate_found None message = fate.Stranger
-fate_found (Some own) message = fate_in own message.number message.payload
+abbrev pub fate_found : By → Option HartLedger → Message → Fate
+fate_found how None message = fate.Stranger
+fate_found how (Some own) message = fate_in how own message.number message.payload
 
 -- The fate of a message, by what is kept.
-abbrev pub fate_from : Ledger → Message → Fate
-fate_from ledger message = fate_found (slice_get ledger.harts message.hart) message
+abbrev pub fate_from : By → Ledger → Message → Fate
+fate_from how ledger message = fate_found how (slice_get ledger.harts message.hart) message
 
 -- What is found of a message, by what is kept of its hart, if the hart is one of SENT's.
-abbrev pub finding_found : Option HartLedger → Message → Finding
-finding_found None message = finding.Stranger
-finding_found (Some own) message = finding_in own message.number message.payload
+abbrev pub finding_found : By → Option HartLedger → Message → Finding
+finding_found how None message = finding.Stranger
+finding_found how (Some own) message = finding_in how own message.number message.payload
 
 -- What is found of a message, by what is kept.
-abbrev pub finding_from : Ledger → Message → Finding
-finding_from ledger message = finding_found (slice_get ledger.harts message.hart) message
+abbrev pub finding_from : By → Ledger → Message → Finding
+finding_from how ledger message = finding_found how (slice_get ledger.harts message.hart) message
 
 -- The place of the first message that is not in order or skips a number, after one more with this finding at this place.
 abbrev pub first_after : Option ℕ → ℕ → Finding → Option ℕ
@@ -93,10 +99,10 @@ first_after (Some first) place its = Some first
 first_after None place its = if is_plain its then None else Some place
 
 -- What is kept of all harts after a message, by what is kept of its hart, if the hart is one of SENT's.
-abbrev pub harts_found : List HartLedger → Message → Option HartLedger → List HartLedger
-harts_found harts message None = harts
-harts_found harts message (Some own) =
-    slice_set harts message.hart (hart_after own message.number (fate_in own message.number message.payload))
+abbrev pub harts_found : By → List HartLedger → Message → Option HartLedger → List HartLedger
+harts_found how harts message None = harts
+harts_found how harts message (Some own) =
+    slice_set harts message.hart (hart_after own message.number (fate_in how own message.number message.payload))
 
 -- How many strangers came after a message of this fate.
 abbrev pub strangers_after : ℕ → Fate → ℕ
@@ -104,13 +110,14 @@ strangers_after strangers fate.Stranger = one_more strangers
 strangers_after strangers other = strangers
 
 -- What is kept after a message.
-abbrev pub ledger_after : Ledger → Message → Ledger
-ledger_after ledger message = record {
+abbrev pub ledger_after : By → Ledger → Message → Ledger
+ledger_after how ledger message = record {
+  by = ledger.by;
   header = ledger.header;
-  harts = harts_found ledger.harts message (slice_get ledger.harts message.hart);
-  strangers = strangers_after ledger.strangers (fate_from ledger message);
+  harts = harts_found how ledger.harts message (slice_get ledger.harts message.hart);
+  strangers = strangers_after ledger.strangers (fate_from how ledger message);
   taken = one_more ledger.taken;
-  first = first_after ledger.first ledger.taken (finding_from ledger message);
+  first = first_after ledger.first ledger.taken (finding_from how ledger message);
 }
 
 -- A hart is whole, by its counts and how many of its numbers are lost: none is lost, and none of its messages has

@@ -1,5 +1,5 @@
 -- From a hart's messages, in the order of their numbers, to the entries.
-use Rattle.std.specs.Prelude.{ℕ, suc, ◌<◌, ◌==◌, ◌&&◌, All, Bool, true, false, List, [], ◌∷◌}
+use Rattle.std.specs.Prelude.{ℕ, suc, ◌≡◌, ◌<◌, ◌==◌, ◌&&◌, All, Bool, true, false, List, [], ◌∷◌}
 use Rattle.std.specs.Str.{bytes_eq}
 use Rattle.message.specs.Harts.{end_of_numbers}
 use Rattle.salvaging.specs.Entries.{Entry, Used, Doubtful, entry_number}
@@ -71,3 +71,13 @@ copies_on before (next ∷ arrivals) = one_more (are_alike before next) (copies_
 abbrev pub copies_by : List Arrival → ℕ
 copies_by [] = 0
 copies_by (first ∷ arrivals) = copies_on first arrivals
+
+-- All of the messages have this number.
+abbrev pub HaveOne : ℕ → List Arrival → Type 0
+HaveOne number [] = Unit {0}
+HaveOne number (one ∷ arrivals) = (one.message.number ≡ number) × HaveOne number arrivals
+
+-- The messages are those of one number, and this is its entry.
+pub record AreOfOne (group : List Arrival) (entry : Entry) : Type 0 where
+  pub numbers : HaveOne (entry_number entry) group
+  pub one : entries_by group ≡ entry ∷ []

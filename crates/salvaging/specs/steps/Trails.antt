@@ -5,7 +5,7 @@ use Rattle.payload.specs.declared.mode.Mode.{Mode}
 use Rattle.losses.specs.Apart.{AreRising}
 use Rattle.losses.specs.Runs.{Run, first_run}
 use Rattle.salvaging.specs.Entries.{Entry, entry_number, next_used}
-use Rattle.salvaging.specs.LeftParts.{LeftPart, AreJoined, one_by_one}
+use Rattle.salvaging.specs.LeftParts.{LeftPart}
 use Rattle.salvaging.specs.Leaving.{EntriesLeave, own_mode}
 use Rattle.salvaging.specs.PartsIn.{parts_in}
 use Rattle.salvaging.specs.steps.UnderWay.{IsUnderWay}
@@ -23,8 +23,7 @@ pub record TakesEntries {A : Type 0} (words : Words) (mode : Mode) (all done res
   pub begun : run.missing ≡ 0 → run.packets ≡ [] → done ≡ []
   pub over : closed ≡ true → next_used rest ≡ None
   pub rising : AreRising trail.next (map entry_number rest)
-  pub joined : AreJoined (parts_in trail.parts.items)
   pub leaves : (goods : List Bool) (parts : List LeftPart)
       → EntriesLeave words (own_mode mode all) run trail.next rest goods parts
       → EntriesLeave words (own_mode mode all) first_run 0 all (trail.goods.items ++ goods)
-      (one_by_one (parts_in trail.parts.items) ++ parts)
+      (parts_in trail.parts.items ++ parts)

@@ -10,7 +10,7 @@ use Rattle.payload.specs.declared.packet.Packet.TheVariants as packet
 use Rattle.losses.specs.Runs.{Run, longer, mode_of_first, mode_or, run_behind, run_of}
 use Rattle.losses.specs.steps.FollowingRuns.{FollowsRun}
 use Rattle.salvaging.specs.Bad.{IsBad, IsGood}
-use Rattle.salvaging.specs.LeftParts.{LeftPart, AreJoined, BadNumbers, DoubtfulNumber, gap, one_by_one, stretch}
+use Rattle.salvaging.specs.LeftParts.{LeftPart, BadNumber, DoubtfulNumber, gap, stretch}
 use Rattle.salvaging.specs.Leaving.{LeavesBefore, RunLeaves, kept}
 use Rattle.salvaging.specs.PartsIn.{parts_in}
 use Rattle.salvaging.specs.declared.part.Part.{Part}
@@ -56,12 +56,9 @@ pub record IsUnderWay {A : Type 0} (words : Words) (mode reads : Mode) (run : Ru
   pub looking : trail.looking ≡ are_lost run.missing
   pub begins : BeginsWith trail.begun next (kept run.missing run.packets)
 
--- Parts were added after those that were there, each bad number as a part of its own. Neighbouring bad numbers are
--- still joined.
+-- Parts were added after those that were there.
 abbrev pub AddsParts : {A : Type 0} → List LeftPart → List (Part A) → List (Part A) → Type 0
-AddsParts added old new =
-    AreJoined (parts_in old)
-    → (one_by_one (parts_in new) ≡ one_by_one (parts_in old) ++ added) × AreJoined (parts_in new)
+AddsParts added old new = parts_in new ≡ parts_in old ++ added
 
 -- The stretch under way became the last part, where it has an event. These packets give it.
 pub record EndsStretch {A : Type 0} (next : ℕ) (packets : List Packet) (old new : Trail A) : Type 0 where
@@ -104,33 +101,33 @@ Judged words mode reads run number payload following (Some why) new =
     IsBad words reads run payload following why × IsUnderWay words mode reads run number false new
 
 -- A bad message with this number was taken: the run under way was ended.
-pub record TakesBad {A : Type 0} (words : Words) (mode reads : Mode) (run : Run) (number : ℕ) (why : Reason)
+pub record TakesBad {A : Type 0} (words : Words) (mode reads : Mode) (run : Run) (number place : ℕ) (why : Reason)
     (old new : Trail A) : Type 0 where
   pub left : List LeftPart
   pub leaves : RunLeaves words reads run number left
-  pub parts : AddsParts (left ++ BadNumbers number number why ∷ []) old.parts.items new.parts.items
+  pub parts : AddsParts (left ++ BadNumber number place why ∷ []) old.parts.items new.parts.items
   pub under_way : IsUnderWay words mode reads (run_of 1 []) (number + 1) false new
   pub goods : new.goods.items ≡ old.goods.items ++ false ∷ []
 
 -- A used message was taken after the run under way, good or bad, and these parts were added.
-abbrev pub Took : {A : Type 0} → Words → Mode → Mode → Run → ℕ → List ℕ → Option ℕ → Bool → List LeftPart → Trail A
-    → Type 0
-Took words mode reads run number payload following true added new =
+abbrev pub Took : {A : Type 0} → Words → Mode → Mode → Run → ℕ → ℕ → List ℕ → Option ℕ → Bool → List LeftPart
+    → Trail A → Type 0
+Took words mode reads run number place payload following true added new =
     (added ≡ []) × Judged words mode reads run number payload following None new
-Took words mode reads run number payload following false added new =
+Took words mode reads run number place payload following false added new =
     (why : Reason) × IsBad words reads run payload following why
     × (left : List LeftPart) × RunLeaves words reads run number left
-    × (added ≡ left ++ BadNumbers number number why ∷ [])
+    × (added ≡ left ++ BadNumber number place why ∷ [])
     × IsUnderWay words mode reads (run_of 1 []) (number + 1) false new
 
 -- A used message with this number was taken.
-pub record TakesUsed {A : Type 0} (words : Words) (mode reads : Mode) (run : Run) (next number : ℕ)
+pub record TakesUsed {A : Type 0} (words : Words) (mode reads : Mode) (run : Run) (next number place : ℕ)
     (payload : List ℕ) (following : Option ℕ) (old new : Trail A) : Type 0 where
   pub good : Bool
   pub before : List LeftPart
   pub leaves : LeavesBefore words reads run next (number - next) before
   pub added : List LeftPart
-  pub took : Took words mode reads (run_behind (number - next) run) number payload following good added new
+  pub took : Took words mode reads (run_behind (number - next) run) number place payload following good added new
   pub parts : AddsParts (before ++ added) old.parts.items new.parts.items
   pub goods : new.goods.items ≡ old.goods.items ++ good ∷ []
 

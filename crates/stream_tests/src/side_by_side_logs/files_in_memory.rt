@@ -5,7 +5,7 @@ use retire::Given;
 use std::alloc::Global;
 use std::io::{Cursor, Read};
 use std::process::Abort;
-use std::sync::atomic::{AtomicU64, Ordering};
+use std::sync::atomic::{AtomicBool, AtomicU64, Ordering};
 
 /// What a file is.
 #[derive(Clone, Copy, Debug, PartialEq, Eq)]
@@ -41,6 +41,10 @@ struct File {
 pub(super) struct Table {
     alloc: Global,
     files: Vec<File>,
+    /// Whether a pipe is open that was not read to its end.
+    is_pipe_open: AtomicBool,
+    /// How often a pipe was opened meanwhile.
+    early: AtomicU64,
     /// How many files were opened.
     opened: AtomicU64,
 }
@@ -52,6 +56,8 @@ impl Table {
         Table {
             alloc,
             files: Vec::new(alloc),
+            is_pipe_open: AtomicBool::new(false),
+            early: AtomicU64::new(0),
             opened: AtomicU64::new(0),
         }
     }
@@ -93,6 +99,18 @@ impl Table {
             None => 0,
         }
     }
+
+    /// How often a pipe was opened before the one that was opened last was read to its end.
+    pub(super) fn early_pipes(&self) -> u64 {
+        self.early.load(Ordering::SeqCst)
+    }
+
+    /// Notes that a pipe is opened.
+    fn open_pipe(&self) {
+        if self.is_pipe_open.swap(true, Ordering::SeqCst) {
+            self.early.fetch_add(1, Ordering::SeqCst);
+        }
+    }
 }
 
 /// A file that is open.
@@ -100,7 +118,7 @@ impl Table {
 pub(super) struct Opened {
     rest: Cursor<Vec<u8>>,
     given: Given,
-    /// Whether the device fails behind the bytes.
+    /// Whether the device fails after the bytes.
     fails: bool,
 }
 
@@ -137,7 +155,8 @@ impl Files for Table {
         match file.kind {
             Kind::Refused => return Err(FileFault::Memory),
             Kind::Locked | Kind::Lacking => return Err(FileFault::CannotRead),
-            Kind::Regular | Kind::Pipe | Kind::Failing => {}
+            Kind::Pipe => self.open_pipe(),
+            Kind::Regular | Kind::Failing => {}
         }
         let Ok(bytes) = Vec::from_slice(self.alloc, file.bytes.as_slice()) else {
             return Err(FileFault::Memory);
@@ -147,6 +166,15 @@ impl Files for Table {
             given: Given::new(),
             fails: file.kind == Kind::Failing,
         })
+    }
+
+    fn note_read(&self, path: &str, count: usize) {
+        let Some(file) = self.file(path) else {
+            return;
+        };
+        if count == 0 && file.kind == Kind::Pipe {
+            self.is_pipe_open.store(false, Ordering::SeqCst);
+        }
     }
 
     fn is_regular(&self, path: &str) -> bool {

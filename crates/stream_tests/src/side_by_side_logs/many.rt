@@ -3,6 +3,7 @@
 use super::files_in_memory::{Kind, Table};
 use super::{collected, counted, event_at, legal, text_of};
 use crate::same::same_at;
+use files::Files;
 use std::process::Abort;
 use std::thread::Threads;
 
@@ -37,7 +38,8 @@ fn table_of<R: Abort + AllocGlobal>(rt: &R) -> Table {
     table
 }
 
-/// Ends the test unless each of the first logs was opened once, the pipes in order, and no other log was.
+/// Ends the test unless each of the first logs was opened once, the pipes in order and each after the one before was
+/// read to its end, and no other log was.
 fn are_opened_once(rt: &impl Abort, table: &Table, count: usize) {
     let mut after = 0u64;
     for (hart, path) in PATHS.iter().enumerate() {
@@ -49,6 +51,7 @@ fn are_opened_once(rt: &impl Abort, table: &Table, count: usize) {
             after = place;
         }
     }
+    same_at(rt, ("early", count), table.early_pipes(), 0);
 }
 
 /// So many logs are counted and collected.
@@ -105,4 +108,21 @@ fn most_rows_and_logs(rt: HostRuntime) {
         same_at(&rt, "short", *rows, 2);
     }
     same_at(&rt, "short", table.opens("short"), 1024);
+}
+
+/// A pipe that is opened before the one before is read to its end is counted, and one that is opened after it is not.
+#[test]
+fn pipes_that_are_opened_early(rt: HostRuntime) {
+    let mut table = Table::new(&rt);
+    for name in ["one", "two", "three"] {
+        table.put(&rt, name, Kind::Pipe, text_of(&rt, legal(1)));
+    }
+    let _one = table.open_file("one").ok().expect(&rt, "one");
+    table.note_read("one", 42);
+    let _two = table.open_file("two").ok().expect(&rt, "two");
+    same_at(&rt, "early", table.early_pipes(), 1);
+    table.note_read("two", 42);
+    table.note_read("two", 0);
+    let _three = table.open_file("three").ok().expect(&rt, "three");
+    same_at(&rt, "in time", table.early_pipes(), 1);
 }

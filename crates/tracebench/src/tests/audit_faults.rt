@@ -1,6 +1,6 @@
-//! Captures that are not audited to their ends, and why.
+//! Captures that are refused as SENT, and RECEIVED that ends in bytes of no message.
 
-/// Refusals of SENT, faults of RECEIVED, allocations that fail, and files that are not there.
+/// Refusals of SENT, damage to RECEIVED, allocations that fail, and files that are not there.
 pub(crate) const TEXT: &str = r"
 file sent.capture
 |~ 0 0 1f
@@ -73,12 +73,13 @@ file bad.capture
 $ tracebench audit bad.capture nothing.capture
 ! tracebench: bad.capture: message 0: stranger
 ? 2
-# RECEIVED ends in a fault of its own: all before that place is audited.
+# RECEIVED ends inside a message, with a bad length, and begins with a header that is not valid or cut.
 file received.capture
 |~ 0 0 1f
 |~ 1 0 1f
 |= 0000 0100000000000000 05 7300
 $ tracebench audit sent.capture received.capture
+> bytes: 13 at 00000018
 > hart 0: numbers 1 to 2 lost
 > hart 1: number 1 lost
 > hart 0: 3 sent, 1 came, 2 lost, 0 repeated, 0 late, 0 changed, 0 strange, not whole
@@ -86,18 +87,19 @@ $ tracebench audit sent.capture received.capture
 > hart 1: 2 sent, 1 came, 1 lost, 0 repeated, 0 late, 0 changed, 0 strange, not whole
 > hart 1: lost in 1 runs, the longest of 1
 > all: 5 sent, 2 came, 3 lost, 0 repeated, 0 late, 0 changed, 0 strange, not whole
+> bytes: 13 in 1 runs
 > result: not whole
-! tracebench: message 2: the capture ends inside a message
 ? 1
 file received.capture
 |< sent.capture
 |= 0000 0300000000000000 00
 $ tracebench audit sent.capture received.capture
+> bytes: 11 at 00000041
 > hart 0: 3 sent, 3 came, 0 lost, 0 repeated, 0 late, 0 changed, 0 strange, whole
 > hart 1: 2 sent, 2 came, 0 lost, 0 repeated, 0 late, 0 changed, 0 strange, whole
 > all: 5 sent, 5 came, 0 lost, 0 repeated, 0 late, 0 changed, 0 strange, whole
+> bytes: 11 in 1 runs
 > result: not whole
-! tracebench: message 5: payload length is not 1 to 18
 ? 1
 file gap.capture
 |~ 2 0 4f
@@ -105,26 +107,30 @@ file received.capture
 |= ffff727674726163653200 00 0000 0100
 |< sent.capture
 $ tracebench audit gap.capture received.capture
+> bytes: 81 at 00000000
 > hart 2: number 0 lost
 > hart 0: 0 sent, 0 came, 0 lost, 0 repeated, 0 late, 0 changed, 0 strange, whole
 > hart 1: 0 sent, 0 came, 0 lost, 0 repeated, 0 late, 0 changed, 0 strange, whole
 > hart 2: 1 sent, 0 came, 1 lost, 0 repeated, 0 late, 0 changed, 0 strange, not whole
 > hart 2: lost in 1 runs, the longest of 1
 > all: 1 sent, 0 came, 1 lost, 0 repeated, 0 late, 0 changed, 0 strange, not whole
+> bytes: 81 in 1 runs
 > result: not whole
-! tracebench: capture header is not valid
+! tracebench: received.capture: capture header is not valid
 ? 1
 file received.capture
 |= ffff727674726163653200 00
 $ tracebench audit gap.capture received.capture
+> bytes: 12 at 00000000
 > hart 2: number 0 lost
 > hart 0: 0 sent, 0 came, 0 lost, 0 repeated, 0 late, 0 changed, 0 strange, whole
 > hart 1: 0 sent, 0 came, 0 lost, 0 repeated, 0 late, 0 changed, 0 strange, whole
 > hart 2: 1 sent, 0 came, 1 lost, 0 repeated, 0 late, 0 changed, 0 strange, not whole
 > hart 2: lost in 1 runs, the longest of 1
 > all: 1 sent, 0 came, 1 lost, 0 repeated, 0 late, 0 changed, 0 strange, not whole
+> bytes: 12 in 1 runs
 > result: not whole
-! tracebench: message 0: the capture ends inside a message
+! tracebench: received.capture: capture header is not valid
 ? 1
 # An allocation for a file fails: nothing is printed.
 $ tracebench audit full sent.capture

@@ -27,7 +27,7 @@ file log.capture
 |~ 0 4 cf00
 $ tracebench salvage --base 80000000 image.bin log.capture
 > hart 0
-> bad: number 0: bad packet: Unsupported
+> bad: number 0 at 00000000: bad packet: Unsupported
 > stretch: 3 events, numbers 1 to 4
 > addr,itype,priv,cause,tval
 > 80000000,0,3,,
@@ -42,7 +42,7 @@ file log.capture
 |~ 0 4 cf00
 $ tracebench salvage --base 80000000 image.bin log.capture
 > hart 0
-> bad: number 1: bad packet: Unsupported
+> bad: number 1 at 0000000c: bad packet: Unsupported
 > stretch: 1 events, numbers 3 to 4
 > addr,itype,priv,cause,tval
 > 80000008,0,3,,
@@ -58,7 +58,7 @@ $ tracebench salvage --base 80000000 image.bin log.capture
 > stretch: 1 events, numbers 0 to 1
 > addr,itype,priv,cause,tval
 > 80000000,0,3,,
-> bad: number 2: bad packet: Unsupported
+> bad: number 2 at 0000001c: bad packet: Unsupported
 > stretch: 1 events, numbers 3 to 4
 > addr,itype,priv,cause,tval
 > 80000008,0,3,,
@@ -74,7 +74,7 @@ $ tracebench salvage --base 80000000 image.bin log.capture
 > stretch: 1 events, numbers 0 to 2
 > addr,itype,priv,cause,tval
 > 80000000,0,3,,
-> bad: number 3: bad packet: Unsupported
+> bad: number 3 at 00000028: bad packet: Unsupported
 ? 1
 file log.capture
 |~ 0 0 1f
@@ -89,7 +89,7 @@ $ tracebench salvage --base 80000000 image.bin log.capture
 > 80000000,0,3,,
 > 80000004,0,3,,
 > 80000008,0,3,,
-> bad: number 4: bad packet: Unsupported
+> bad: number 4 at 00000038: bad packet: Unsupported
 ! tracebench: hart 0: no closing packet
 ? 1
 
@@ -102,7 +102,8 @@ file log.capture
 |~ 0 4 cf00
 $ tracebench salvage --base 80000000 image.bin log.capture
 > hart 0
-> bad: numbers 1 to 2: bad packet: Unsupported
+> bad: number 1 at 0000000c: bad packet: Unsupported
+> bad: number 2 at 00000018: bad packet: Unsupported
 > stretch: 1 events, numbers 3 to 4
 > addr,itype,priv,cause,tval
 > 80000008,0,3,,
@@ -115,8 +116,8 @@ file log.capture
 |~ 0 4 cf00
 $ tracebench salvage --base 80000000 image.bin log.capture
 > hart 0
-> bad: number 1: bad packet: Unsupported
-> bad: number 2: bad packet: BadPrivilege
+> bad: number 1 at 0000000c: bad packet: Unsupported
+> bad: number 2 at 00000018: bad packet: BadPrivilege
 > stretch: 1 events, numbers 3 to 4
 > addr,itype,priv,cause,tval
 > 80000008,0,3,,
@@ -129,8 +130,8 @@ file log.capture
 |~ 0 4 cf00
 $ tracebench salvage --base 80000000 image.bin log.capture
 > hart 0
-> bad: number 1: bad packet: Unsupported
-> bad: number 3: bad packet: Unsupported
+> bad: number 1 at 0000000c: bad packet: Unsupported
+> bad: number 3 at 00000024: bad packet: Unsupported
 ? 1
 file log.capture
 |~ 0 0 00
@@ -140,7 +141,11 @@ file log.capture
 |~ 0 4 00
 $ tracebench salvage --base 80000000 image.bin log.capture
 > hart 0
-> bad: numbers 0 to 4: bad packet: Unsupported
+> bad: number 0 at 00000000: bad packet: Unsupported
+> bad: number 1 at 0000000c: bad packet: Unsupported
+> bad: number 2 at 00000018: bad packet: Unsupported
+> bad: number 3 at 00000024: bad packet: Unsupported
+> bad: number 4 at 00000030: bad packet: Unsupported
 ! tracebench: hart 0: no closing packet
 ? 1
 
@@ -153,7 +158,7 @@ file log.capture
 $ tracebench salvage --base 80000000 image.bin log.capture
 > hart 0
 > gap: 1 messages
-> bad: number 2: bad packet: Unsupported
+> bad: number 2 at 0000000c: bad packet: Unsupported
 > stretch: 1 events, numbers 3 to 4
 > addr,itype,priv,cause,tval
 > 80000008,0,3,,
@@ -168,7 +173,7 @@ $ tracebench salvage --base 80000000 image.bin log.capture
 > stretch: 1 events, numbers 0 to 1
 > addr,itype,priv,cause,tval
 > 80000000,0,3,,
-> bad: number 2: bad packet: Unsupported
+> bad: number 2 at 0000001c: bad packet: Unsupported
 > gap: 1 messages
 ? 1
 
@@ -184,7 +189,7 @@ $ tracebench salvage --base 80000000 image.bin log.capture
 > stretch: 1 events, numbers 0 to 1
 > addr,itype,priv,cause,tval
 > 80000000,0,3,,
-> bad: number 2: bad packet: Unsupported
+> bad: number 2 at 00000000: bad packet: Unsupported
 > stretch: 1 events, numbers 3 to 4
 > addr,itype,priv,cause,tval
 > 80000008,0,3,,
@@ -200,7 +205,7 @@ $ tracebench salvage --base 80000000 image.bin log.capture
 > stretch: 1 events, numbers 0 to 1
 > addr,itype,priv,cause,tval
 > 80000000,0,3,,
-> bad: number 2: bad packet: Unsupported
+> bad: number 2 at 0000002c: bad packet: Unsupported
 > stretch: 1 events, numbers 3 to 4
 > addr,itype,priv,cause,tval
 > 80000008,0,3,,
@@ -220,7 +225,7 @@ $ tracebench salvage --base 80000000 image.bin log.capture
 > stretch: 1 events, numbers 0 to 1
 > addr,itype,priv,cause,tval
 > 80000000,0,3,,
-> bad: number 2: closing, but number 3 came
+> bad: number 2 at 0000001c: closing, but number 3 came
 > stretch: 1 events, numbers 3 to 4
 > addr,itype,priv,cause,tval
 > 80000008,0,3,,
@@ -233,7 +238,7 @@ file log.capture
 $ tracebench salvage --base 80000000 image.bin log.capture
 > hart 0
 > gap: 1 messages
-> bad: number 2: closing, but number 3 came
+> bad: number 2 at 0000000c: closing, but number 3 came
 > stretch: 1 events, numbers 3 to 4
 > addr,itype,priv,cause,tval
 > 80000008,0,3,,
@@ -245,11 +250,10 @@ file log.capture
 |~ 0 4 cf00
 $ tracebench salvage --base 80000000 image.bin log.capture
 > hart 0
-> stretch: 1 events, numbers 0 to 1
+> stretch: 1 events, numbers 0 to 2
 > addr,itype,priv,cause,tval
 > 80000000,0,3,,
-> bad: number 2: closing, but number 4 came
-> gap: 1 messages
+> alone: number 4 at 00000029
 ? 1
 file log.capture
 |~ 0 0 cf00
@@ -259,7 +263,7 @@ file log.capture
 |~ 0 4 cf00
 $ tracebench salvage --base 80000000 image.bin log.capture
 > hart 0
-> bad: number 0: closing, but number 1 came
+> bad: number 0 at 00000000: closing, but number 1 came
 > stretch: 3 events, numbers 1 to 4
 > addr,itype,priv,cause,tval
 > 80000000,0,3,,
@@ -279,7 +283,8 @@ $ tracebench salvage --base 80000000 image.bin log.capture
 > stretch: 1 events, numbers 0 to 2
 > addr,itype,priv,cause,tval
 > 80000000,0,3,,
-> bad: number 3: closing, but number 4 came
+> bad: number 3 at 00000028: not decoded: OffProgram
+> alone: number 4 at 00000035
 ? 1
 
 # Number 0 opens no trace: it is another packet, or it closes. Then a packet that opens a trace stands
@@ -292,7 +297,7 @@ file log.capture
 |~ 0 4 cf00
 $ tracebench salvage --base 80000000 image.bin log.capture
 > hart 0
-> bad: number 0: not decoded: NotOpened
+> bad: number 0 at 00000000: not decoded: NotOpened
 > stretch: 3 events, numbers 1 to 4
 > addr,itype,priv,cause,tval
 > 80000000,0,3,,
@@ -303,7 +308,7 @@ file log.capture
 |~ 0 0 cf00
 $ tracebench salvage --base 80000000 image.bin log.capture
 > hart 0
-> bad: number 0: not decoded: NotOpened
+> bad: number 0 at 00000000: not decoded: NotOpened
 ? 1
 file log.capture
 |~ 0 0 1f
@@ -316,7 +321,7 @@ $ tracebench salvage --base 80000000 image.bin log.capture
 > stretch: 1 events, numbers 0 to 1
 > addr,itype,priv,cause,tval
 > 80000000,0,3,,
-> bad: number 2: not decoded: WrongPlace
+> bad: number 2 at 0000001c: not decoded: WrongPlace
 > stretch: 1 events, numbers 3 to 4
 > addr,itype,priv,cause,tval
 > 80000008,0,3,,
@@ -348,7 +353,7 @@ $ tracebench salvage --base 80000000 image.bin log.capture
 > 80000000,0,3,,
 > 80000004,0,3,,
 > 80000008,0,3,,
-> bad: number 4: not decoded: WrongPlace
+> bad: number 4 at 00000038: not decoded: WrongPlace
 ? 1
 
 # A synchronisation is off the program: decoding goes on at the next one, not at it.
@@ -360,7 +365,7 @@ file log.capture
 |~ 0 4 cf00
 $ tracebench salvage --base 80000000 image.bin log.capture
 > hart 0
-> bad: number 1: not decoded: OffProgram
+> bad: number 1 at 0000000c: not decoded: OffProgram
 > stretch: 1 events, numbers 3 to 4
 > addr,itype,priv,cause,tval
 > 80000008,0,3,,
@@ -376,6 +381,6 @@ $ tracebench salvage --base 80000000 image.bin log.capture
 > stretch: 1 events, numbers 0 to 2
 > addr,itype,priv,cause,tval
 > 80000000,0,3,,
-> bad: number 3: not decoded: OffProgram
+> bad: number 3 at 00000028: not decoded: OffProgram
 ? 1
 ";

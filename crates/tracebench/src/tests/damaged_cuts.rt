@@ -1,6 +1,6 @@
-//! Damaged captures that end anywhere, to what is left of the logs.
+//! Damaged captures that are cut, to what is left of the logs.
 
-/// What is left of captures cut to each length.
+/// What is left of captures cut at each message, and one byte before.
 pub(crate) const TEXT: &str = r"
 # The log of three words, where every second retirement is a synchronisation, has five messages.
 file image.bin
@@ -17,7 +17,7 @@ $ tracebench encode --base 80000000 --period 2 --hex image.bin log.csv
 > 0 3 7302000020
 > 0 4 cf00
 
-# The capture cut to each length.
+# The capture cut at each message, and one byte before.
 file log.capture
 |~ 0 0 1f
 |~ 0 1 7300000020
@@ -28,17 +28,24 @@ $ tracebench salvage --base 80000000 image.bin log.capture:0
 > hart 0
 ! tracebench: hart 0: no closing packet
 ? 1
-$ tracebench salvage --base 80000000 image.bin log.capture:{1..11}
+$ tracebench salvage --base 80000000 image.bin log.capture:1
 > hart 0
-! tracebench: message 0: the capture ends inside a message
+> bytes: 1 at 00000000
+! tracebench: hart 0: no closing packet
+? 1
+$ tracebench salvage --base 80000000 image.bin log.capture:11
+> hart 0
+> bytes: 11 at 00000000
+! tracebench: hart 0: no closing packet
 ? 1
 $ tracebench salvage --base 80000000 image.bin log.capture:12
 > hart 0
 ! tracebench: hart 0: no closing packet
 ? 1
-$ tracebench salvage --base 80000000 image.bin log.capture:{13..27}
+$ tracebench salvage --base 80000000 image.bin log.capture:27
 > hart 0
-! tracebench: message 1: the capture ends inside a message
+> bytes: 15 at 0000000c
+! tracebench: hart 0: no closing packet
 ? 1
 $ tracebench salvage --base 80000000 image.bin log.capture:28
 > hart 0
@@ -47,12 +54,13 @@ $ tracebench salvage --base 80000000 image.bin log.capture:28
 > 80000000,0,3,,
 ! tracebench: hart 0: no closing packet
 ? 1
-$ tracebench salvage --base 80000000 image.bin log.capture:{29..39}
+$ tracebench salvage --base 80000000 image.bin log.capture:39
 > hart 0
 > stretch: 1 events, numbers 0 to 1
 > addr,itype,priv,cause,tval
 > 80000000,0,3,,
-! tracebench: message 2: the capture ends inside a message
+> bytes: 11 at 0000001c
+! tracebench: hart 0: no closing packet
 ? 1
 $ tracebench salvage --base 80000000 image.bin log.capture:40
 > hart 0
@@ -61,12 +69,13 @@ $ tracebench salvage --base 80000000 image.bin log.capture:40
 > 80000000,0,3,,
 ! tracebench: hart 0: no closing packet
 ? 1
-$ tracebench salvage --base 80000000 image.bin log.capture:{41..55}
+$ tracebench salvage --base 80000000 image.bin log.capture:55
 > hart 0
 > stretch: 1 events, numbers 0 to 2
 > addr,itype,priv,cause,tval
 > 80000000,0,3,,
-! tracebench: message 3: the capture ends inside a message
+> bytes: 15 at 00000028
+! tracebench: hart 0: no closing packet
 ? 1
 $ tracebench salvage --base 80000000 image.bin log.capture:56
 > hart 0
@@ -77,14 +86,15 @@ $ tracebench salvage --base 80000000 image.bin log.capture:56
 > 80000008,0,3,,
 ! tracebench: hart 0: no closing packet
 ? 1
-$ tracebench salvage --base 80000000 image.bin log.capture:{57..68}
+$ tracebench salvage --base 80000000 image.bin log.capture:68
 > hart 0
 > stretch: 3 events, numbers 0 to 3
 > addr,itype,priv,cause,tval
 > 80000000,0,3,,
 > 80000004,0,3,,
 > 80000008,0,3,,
-! tracebench: message 4: the capture ends inside a message
+> bytes: 12 at 00000038
+! tracebench: hart 0: no closing packet
 ? 1
 $ tracebench salvage --base 80000000 image.bin log.capture:69
 > hart 0
@@ -94,7 +104,7 @@ $ tracebench salvage --base 80000000 image.bin log.capture:69
 > 80000004,0,3,,
 > 80000008,0,3,,
 
-# A capture of two harts with a header, whose messages came mixed, cut to each length.
+# A capture of two harts with a header, whose messages came mixed, cut in the same way.
 file log.capture
 |= ffff7276747261636532000002000200
 |~ 0 0 1f
@@ -110,8 +120,14 @@ $ tracebench salvage --base 80000000 image.bin log.capture:0
 > hart 0
 ! tracebench: hart 0: no closing packet
 ? 1
-$ tracebench salvage --base 80000000 image.bin log.capture:{1..15}
+$ tracebench salvage --base 80000000 image.bin log.capture:1
 > hart 0
+> bytes: 1 at 00000000
+! tracebench: hart 0: no closing packet
+? 1
+$ tracebench salvage --base 80000000 image.bin log.capture:15
+> hart 0
+> bytes: 15 at 00000000
 ! tracebench: message 0: the capture ends inside a message
 ? 1
 $ tracebench salvage --base 80000000 image.bin log.capture:16
@@ -119,20 +135,22 @@ $ tracebench salvage --base 80000000 image.bin log.capture:16
 > hart 1
 ! tracebench: hart 0: no closing packet
 ? 1
-$ tracebench salvage --base 80000000 image.bin log.capture:{17..27}
+$ tracebench salvage --base 80000000 image.bin log.capture:27
 > hart 0
 > hart 1
-! tracebench: message 0: the capture ends inside a message
+> bytes: 11 at 00000010
+! tracebench: hart 0: no closing packet
 ? 1
 $ tracebench salvage --base 80000000 image.bin log.capture:28
 > hart 0
 > hart 1
 ! tracebench: hart 0: no closing packet
 ? 1
-$ tracebench salvage --base 80000000 image.bin log.capture:{29..43}
+$ tracebench salvage --base 80000000 image.bin log.capture:43
 > hart 0
 > hart 1
-! tracebench: message 1: the capture ends inside a message
+> bytes: 15 at 0000001c
+! tracebench: hart 0: no closing packet
 ? 1
 $ tracebench salvage --base 80000000 image.bin log.capture:44
 > hart 0
@@ -143,14 +161,15 @@ $ tracebench salvage --base 80000000 image.bin log.capture:44
 > 80000000,0,3,,
 ! tracebench: hart 0: no closing packet
 ? 1
-$ tracebench salvage --base 80000000 image.bin log.capture:{45..55}
+$ tracebench salvage --base 80000000 image.bin log.capture:55
 > hart 0
 > hart 1
 > gap: 1 messages
 > stretch: 1 events, numbers 1 to 1
 > addr,itype,priv,cause,tval
 > 80000000,0,3,,
-! tracebench: message 2: the capture ends inside a message
+> bytes: 11 at 0000002c
+! tracebench: hart 0: no closing packet
 ? 1
 $ tracebench salvage --base 80000000 image.bin log.capture:56
 > hart 0
@@ -161,14 +180,15 @@ $ tracebench salvage --base 80000000 image.bin log.capture:56
 > late: 1 messages
 ! tracebench: hart 0: no closing packet
 ? 1
-$ tracebench salvage --base 80000000 image.bin log.capture:{57..71}
+$ tracebench salvage --base 80000000 image.bin log.capture:71
 > hart 0
 > hart 1
 > stretch: 1 events, numbers 0 to 1
 > addr,itype,priv,cause,tval
 > 80000000,0,3,,
 > late: 1 messages
-! tracebench: message 3: the capture ends inside a message
+> bytes: 15 at 00000038
+! tracebench: hart 0: no closing packet
 ? 1
 $ tracebench salvage --base 80000000 image.bin log.capture:72
 > hart 0
@@ -182,7 +202,7 @@ $ tracebench salvage --base 80000000 image.bin log.capture:72
 > late: 1 messages
 ! tracebench: hart 0: no closing packet
 ? 1
-$ tracebench salvage --base 80000000 image.bin log.capture:{73..87}
+$ tracebench salvage --base 80000000 image.bin log.capture:87
 > hart 0
 > stretch: 1 events, numbers 0 to 1
 > addr,itype,priv,cause,tval
@@ -192,7 +212,8 @@ $ tracebench salvage --base 80000000 image.bin log.capture:{73..87}
 > addr,itype,priv,cause,tval
 > 80000000,0,3,,
 > late: 1 messages
-! tracebench: message 4: the capture ends inside a message
+> bytes: 15 at 00000048
+! tracebench: hart 0: no closing packet
 ? 1
 $ tracebench salvage --base 80000000 image.bin log.capture:88
 > hart 0
@@ -210,7 +231,7 @@ $ tracebench salvage --base 80000000 image.bin log.capture:88
 > late: 1 messages
 ! tracebench: hart 0: no closing packet
 ? 1
-$ tracebench salvage --base 80000000 image.bin log.capture:{89..99}
+$ tracebench salvage --base 80000000 image.bin log.capture:99
 > hart 0
 > stretch: 1 events, numbers 0 to 1
 > addr,itype,priv,cause,tval
@@ -224,7 +245,8 @@ $ tracebench salvage --base 80000000 image.bin log.capture:{89..99}
 > addr,itype,priv,cause,tval
 > 80000000,0,3,,
 > late: 1 messages
-! tracebench: message 5: the capture ends inside a message
+> bytes: 11 at 00000058
+! tracebench: hart 0: no closing packet
 ? 1
 $ tracebench salvage --base 80000000 image.bin log.capture:100
 > hart 0
@@ -242,7 +264,7 @@ $ tracebench salvage --base 80000000 image.bin log.capture:100
 > late: 1 messages
 ! tracebench: hart 0: no closing packet
 ? 1
-$ tracebench salvage --base 80000000 image.bin log.capture:{101..111}
+$ tracebench salvage --base 80000000 image.bin log.capture:111
 > hart 0
 > stretch: 1 events, numbers 0 to 1
 > addr,itype,priv,cause,tval
@@ -256,7 +278,8 @@ $ tracebench salvage --base 80000000 image.bin log.capture:{101..111}
 > addr,itype,priv,cause,tval
 > 80000000,0,3,,
 > late: 1 messages
-! tracebench: message 6: the capture ends inside a message
+> bytes: 11 at 00000064
+! tracebench: hart 0: no closing packet
 ? 1
 $ tracebench salvage --base 80000000 image.bin log.capture:112
 > hart 0
@@ -275,7 +298,7 @@ $ tracebench salvage --base 80000000 image.bin log.capture:112
 > late: 1 messages
 ! tracebench: hart 0: no closing packet
 ? 1
-$ tracebench salvage --base 80000000 image.bin log.capture:{113..124}
+$ tracebench salvage --base 80000000 image.bin log.capture:124
 > hart 0
 > stretch: 1 events, numbers 0 to 1
 > addr,itype,priv,cause,tval
@@ -290,7 +313,8 @@ $ tracebench salvage --base 80000000 image.bin log.capture:{113..124}
 > 80000000,0,3,,
 > copies: 1 messages
 > late: 1 messages
-! tracebench: message 7: the capture ends inside a message
+> bytes: 12 at 00000070
+! tracebench: hart 0: no closing packet
 ? 1
 $ tracebench salvage --base 80000000 image.bin log.capture:125
 > hart 0
@@ -309,7 +333,7 @@ $ tracebench salvage --base 80000000 image.bin log.capture:125
 > late: 1 messages
 ! tracebench: hart 1: no closing packet
 ? 1
-$ tracebench salvage --base 80000000 image.bin log.capture:{126..137}
+$ tracebench salvage --base 80000000 image.bin log.capture:137
 > hart 0
 > stretch: 1 events, numbers 0 to 1
 > addr,itype,priv,cause,tval
@@ -324,7 +348,8 @@ $ tracebench salvage --base 80000000 image.bin log.capture:{126..137}
 > 80000000,0,3,,
 > copies: 1 messages
 > late: 1 messages
-! tracebench: message 8: the capture ends inside a message
+> bytes: 12 at 0000007d
+! tracebench: hart 1: no closing packet
 ? 1
 $ tracebench salvage --base 80000000 image.bin log.capture:138
 > hart 0

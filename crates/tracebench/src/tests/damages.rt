@@ -117,7 +117,8 @@ $ tracebench salvage --base 80000000 image.bin log.capture
 > 80000000,0,3,,
 > 80000004,0,3,,
 > 80000008,0,3,,
-! tracebench: message 4: the capture ends inside a message
+> bytes: 12 at 00000038
+! tracebench: hart 0: no closing packet
 ? 1
 file log.capture
 |~ 0 0 1f
@@ -132,7 +133,8 @@ $ tracebench salvage --base 80000000 image.bin log.capture
 > 80000000,0,3,,
 > 80000004,0,3,,
 > 80000008,0,3,,
-! tracebench: message 4: the capture ends inside a message
+> bytes: 3 at 00000038
+! tracebench: hart 0: no closing packet
 ? 1
 
 # Zeros stand at the end: a head with a payload of no byte, or a part of one.
@@ -150,7 +152,7 @@ $ tracebench salvage --base 80000000 image.bin log.capture
 > 80000000,0,3,,
 > 80000004,0,3,,
 > 80000008,0,3,,
-! tracebench: message 5: payload length is not 1 to 18
+> bytes: 12 at 00000045
 ? 1
 file log.capture
 |~ 0 0 1f
@@ -166,7 +168,7 @@ $ tracebench salvage --base 80000000 image.bin log.capture
 > 80000000,0,3,,
 > 80000004,0,3,,
 > 80000008,0,3,,
-! tracebench: message 5: the capture ends inside a message
+> bytes: 4 at 00000045
 ? 1
 
 # A bit of a payload is flipped: it is no packet; it is another packet, which is not decoded there; it is
@@ -182,7 +184,7 @@ $ tracebench salvage --base 80000000 image.bin log.capture
 > stretch: 1 events, numbers 0 to 1
 > addr,itype,priv,cause,tval
 > 80000000,0,3,,
-> bad: number 2: bad packet: Unsupported
+> bad: number 2 at 0000001c: bad packet: Unsupported
 > stretch: 1 events, numbers 3 to 4
 > addr,itype,priv,cause,tval
 > 80000008,0,3,,
@@ -198,7 +200,7 @@ $ tracebench salvage --base 80000000 image.bin log.capture
 > stretch: 1 events, numbers 0 to 2
 > addr,itype,priv,cause,tval
 > 80000000,0,3,,
-> bad: number 3: not decoded: OffProgram
+> bad: number 3 at 00000028: not decoded: OffProgram
 ? 1
 file log.capture
 |~ 0 0 1f
@@ -229,13 +231,10 @@ $ tracebench salvage --base 80000000 image.bin log.capture
 > addr,itype,priv,cause,tval
 > 80000000,0,3,,
 > gap: 1 messages
-> stretch: 1 events, numbers 3 to 3
+> stretch: 1 events, numbers 3 to 4
 > addr,itype,priv,cause,tval
 > 80000008,0,3,,
-> bad: number 4: closing, but number 6 came
-> gap: 1 messages
-> late: 2 messages
-! tracebench: hart 0: no closing packet
+> alone: number 6 at 0000001c
 ? 1
 file log.capture
 |~ 0 0 1f
@@ -268,7 +267,9 @@ $ tracebench salvage --base 80000000 image.bin log.capture
 > stretch: 1 events, numbers 3 to 4
 > addr,itype,priv,cause,tval
 > 80000008,0,3,,
-> strangers: 1 messages
+> hart 1
+> gap: 2 messages
+! tracebench: hart 1: no closing packet
 ? 1
 
 # A bit of a length is flipped: what follows is cut anew.
@@ -278,11 +279,14 @@ file log.capture
 |= 00000200000000000000030a000003000000000000000573020000200000040000000000000002cf00
 $ tracebench salvage --base 80000000 image.bin log.capture
 > hart 0
-> stretch: 1 events, numbers 0 to 2
+> stretch: 1 events, numbers 0 to 1
 > addr,itype,priv,cause,tval
 > 80000000,0,3,,
-> strangers: 1 messages
-! tracebench: message 4: payload length is not 1 to 18
+> gap: 1 messages
+> stretch: 1 events, numbers 3 to 4
+> addr,itype,priv,cause,tval
+> 80000008,0,3,,
+> bytes: 12 at 0000001c
 ? 1
 
 # No message came; then only the first, and only the last.

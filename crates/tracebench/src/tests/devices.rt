@@ -24,6 +24,9 @@ file names.txt
 | 80000000 T main
 file unopened.capture
 |~ 0 1 7300000020
+file lines.txt
+| 0 1f
+| 1 cf00
 
 # Runs of each subcommand, with and without a fault.
 $ tracebench check --base 80000000 image.bin log.csv
@@ -55,6 +58,10 @@ $ tracebench dump gap.capture
 > 0 0 open
 > 0 1 sync addr=80000000 priv=3 branch=1
 > 0 3 close ended_rep
+$ tracebench capture lines.txt
+>= ffff727674726163653200 00 0004 0200
+>~ 0 0 1f
+>~ 1 0 cf00
 $ tracebench audit open.capture gap.capture
 > message 1: hart 0 number 1: stranger
 > message 2: hart 0 number 3: stranger

@@ -19,6 +19,7 @@ $ tracebench --help
 !   measure  Count the packets and bytes that logs take, as CSV
 !   list     List what each message of a capture says and settles
 !   salvage  Write what is left of the log of each hart after any damage to a capture
+!   capture  Write the capture of lines, each of one message, as `encode --hex` prints them
 !   help     Print this message or the help of the given subcommand(s)
 !
 ! Options:
@@ -32,7 +33,7 @@ $ tracebench --help
 !   1  A capture is not good, or a log or a path is not complete
 !   2  The arguments or an input are refused, or a log is illegal
 !   3  A file, the output or memory failed, or a run stopped early
-! An input is the image, the symbols, a log, the schedule or SENT.
+! An input is the image, the symbols, a log, the schedule, SENT or LINES.
 ? 2
 
 # The version has the toolchain's line. A subcommand has none.
@@ -49,7 +50,7 @@ $ tracebench dump --version
 !
 !   tip: to pass '--version' as a value, use '-- --version'
 !
-! Usage: tracebench dump <CAPTURE>
+! Usage: tracebench dump [OPTIONS] <CAPTURE>
 !
 ! For more information, try '--help'.
 ? 2
@@ -68,6 +69,7 @@ $ tracebench check --help
 !       --base <B>  Address of the image's first byte, in hexadecimal
 !       --explain   Print below an illegal row what is there and what may follow
 !       --long      Take logs of up to 4294967295 rows, not 16777216
+!       --progress  Show how far the logs are read, where standard error is a terminal
 !   -h, --help      Print help
 !
 ! Example:
@@ -89,6 +91,7 @@ $ tracebench encode --help
 !       --v1          Write a capture of version 1, which has no header, of at most 64 logs
 !       --hex         Write a line of hexadecimal for each message
 !       --long        Take logs of up to 4294967295 rows, not 16777216
+!       --progress    Show how far the logs are read, where standard error is a terminal
 !   -h, --help        Print help
 !
 ! Example:
@@ -97,13 +100,14 @@ $ tracebench encode --help
 $ tracebench help dump
 ! Write the messages of a capture as text
 !
-! Usage: tracebench dump <CAPTURE>
+! Usage: tracebench dump [OPTIONS] <CAPTURE>
 !
 ! Arguments:
 !   <CAPTURE>  File of trace messages
 !
 ! Options:
-!   -h, --help  Print help
+!       --search  Go on where bytes are no message, and print how many are passed over
+!   -h, --help    Print help
 !
 ! Example:
 !   tracebench dump examples/loop/log.capture
@@ -141,6 +145,7 @@ $ tracebench replay --help
 !       --period <N>    Retirements from one periodic synchronisation to the next, 1 to 65535 [default: 1024]
 !       --full          Report addresses in full, not as differences
 !       --capacity <N>  How many messages the funnel holds, 1 to 65536 [default: 16]
+!       --progress      Show how far the logs are read, where standard error is a terminal
 !   -h, --help          Print help
 !
 ! Example:
@@ -161,6 +166,7 @@ $ tracebench bench --help
 !       --period <N>    Retirements from one periodic synchronisation to the next, 1 to 65535 [default: 1024]
 !       --full          Report addresses in full, not as differences
 !       --capacity <N>  How many messages the funnel holds, 1 to 65536 [default: 16]
+!       --progress      Show how far the logs are read, where standard error is a terminal
 !   -h, --help          Print help
 !
 ! Example:
@@ -177,6 +183,7 @@ $ tracebench audit --help
 !   <RECEIVED>  File of the trace messages that came
 !
 ! Options:
+!       --packets  Compare messages by the packets that they unpack to, not by their bytes
 !       --summary  Leave out the lines of single messages and of lost numbers
 !   -h, --help     Print help
 !
@@ -197,6 +204,7 @@ $ tracebench measure --help
 !       --period <N>  Retirements from one periodic synchronisation to the next, 1 to 65535 [default: 1024]
 !       --full        Report addresses in full, not as differences
 !       --long        Take logs of up to 4294967295 rows, not 16777216
+!       --progress    Show how far the logs are read, where standard error is a terminal
 !   -h, --help        Print help
 !
 ! Example:
@@ -231,10 +239,29 @@ $ tracebench salvage --help
 !
 ! Options:
 !       --base <B>   Address of the image's first byte, in hexadecimal
-!       --harts <N>  How many harts a capture of version 1 may have, 1 to 1024 [default: 1]
+!       --harts <N>  How many harts a capture with no valid header has, 1 to 1024; without it, those of its messages
+!       --summary    Leave out the texts of the logs
 !   -h, --help       Print help
 !
 ! Example:
 !   tracebench salvage --base 80000000 examples/loop/image.bin examples/loop/log.capture
+? 2
+$ tracebench capture --help
+! Write the capture of lines, each of one message, as `encode --hex` prints them
+!
+! Usage: tracebench capture [OPTIONS] <LINES>
+!
+! Arguments:
+!   <LINES>  File of lines, each of one message: HART NUMBER BYTES, or HART BYTES
+!
+! Options:
+!       --v1          Write a capture of version 1, which has no header, of at most 64 logs
+!       --full        Report addresses in full, not as differences
+!       --period <N>  Retirements from one periodic synchronisation to the next, 1 to 65535 [default: 1024]
+!       --harts <N>   How many harts the header counts, 1 to 1024, with --v1 to 64; without it, those up to the highest
+!   -h, --help        Print help
+!
+! Example:
+!   tracebench capture examples/first/hex.txt >log.capture
 ? 2
 "#;

@@ -178,7 +178,10 @@ $ tracebench salvage --base 80000000 image.bin log.capture
 > 80000000,0,3,,
 > 80000004,0,3,,
 > 80000008,0,3,,
-> strangers: 4 messages
+> hart 1
+> copies: 1 messages
+> bytes: 25 at 0000005d
+! tracebench: hart 1: no closing packet
 ? 1
 
 # The greatest number that a hart has.
@@ -191,14 +194,12 @@ file log.capture
 |~ 0 9223372036854775807 0a
 $ tracebench salvage --base 80000000 image.bin log.capture
 > hart 0
-> stretch: 3 events, numbers 0 to 3
+> stretch: 3 events, numbers 0 to 4
 > addr,itype,priv,cause,tval
 > 80000000,0,3,,
 > 80000004,0,3,,
 > 80000008,0,3,,
-> bad: number 4: closing, but number 9223372036854775807 came
-> gap: 9223372036854775802 messages
-! tracebench: hart 0: no closing packet
+> bytes: 12 at 00000045
 ? 1
 
 # The messages of two harts, one's in front of the other's, and each the other way around.
@@ -304,7 +305,7 @@ $ tracebench salvage --base 80000000 image.bin log.capture
 > 80000000,0,3,,
 > 80000004,0,3,,
 > 80000008,0,3,,
-> strangers: 1 messages
+> bytes: 12 at 00000055
 ? 1
 
 # A header that is not valid; one that is cut.
@@ -313,6 +314,7 @@ file log.capture
 $ tracebench salvage --base 80000000 --harts 2 image.bin log.capture
 > hart 0
 > hart 1
+> bytes: 16 at 00000000
 ! tracebench: capture header is not valid
 ? 1
 file log.capture
@@ -321,6 +323,7 @@ $ tracebench salvage --base 80000000 --harts 3 image.bin log.capture
 > hart 0
 > hart 1
 > hart 2
+> bytes: 13 at 00000000
 ! tracebench: message 0: the capture ends inside a message
 ? 1
 ";

@@ -5,7 +5,7 @@ pub(crate) const TEXT: &str = r#"
 # No subcommand, and one that does not exist.
 % tracebench
 ! error: 'tracebench' requires a subcommand but one was not provided
-!   [subcommands: check, encode, dump, decode, replay, bench, audit, measure, list, salvage, help]
+!   [subcommands: check, encode, dump, decode, replay, bench, audit, measure, list, salvage, capture, help]
 !
 ! Usage: tracebench <COMMAND>
 !
@@ -17,11 +17,11 @@ pub(crate) const TEXT: &str = r#"
 !
 ! For more information, try '--help'.
 
-# `check`: its explanations, and long logs.
+# `check`: its explanations, long logs, and its progress.
 % tracebench check --base 80000000 image.bin a.csv b.csv
-> Check(Check { base: "80000000", explain: false, long: false, image: "image.bin", logs: ["a.csv", "b.csv"] })
+> Check(Check { base: "80000000", explain: false, long: false, progress: false, image: "image.bin", logs: ["a.csv", "b.csv"] })
 % tracebench check image.bin --explain log.csv --base 0
-> Check(Check { base: "0", explain: true, long: false, image: "image.bin", logs: ["log.csv"] })
+> Check(Check { base: "0", explain: true, long: false, progress: false, image: "image.bin", logs: ["log.csv"] })
 % tracebench check --explain --base 0 --explain image.bin log.csv
 ! error: the argument '--explain' cannot be used multiple times
 !
@@ -29,9 +29,11 @@ pub(crate) const TEXT: &str = r#"
 !
 ! For more information, try '--help'.
 % tracebench check --long --base 0 image.bin log.csv
-> Check(Check { base: "0", explain: false, long: true, image: "image.bin", logs: ["log.csv"] })
+> Check(Check { base: "0", explain: false, long: true, progress: false, image: "image.bin", logs: ["log.csv"] })
 % tracebench check --base 0 image.bin log.csv --explain --long
-> Check(Check { base: "0", explain: true, long: true, image: "image.bin", logs: ["log.csv"] })
+> Check(Check { base: "0", explain: true, long: true, progress: false, image: "image.bin", logs: ["log.csv"] })
+% tracebench check --base 0 image.bin log.csv --progress
+> Check(Check { base: "0", explain: false, long: false, progress: true, image: "image.bin", logs: ["log.csv"] })
 % tracebench check --long --base 0 --long image.bin log.csv
 ! error: the argument '--long' cannot be used multiple times
 !
@@ -54,13 +56,13 @@ pub(crate) const TEXT: &str = r#"
 !
 ! For more information, try '--help'.
 
-# `encode`: its period, mode, version and lines, and long logs.
+# `encode`: its period, mode, version and lines, long logs, and its progress.
 % tracebench encode --base 80000000 --hex image.bin log.csv
-> Encode(Encode { base: "80000000", period: 1024, mode: Differential, version: Two, hex: true, long: false, image: "image.bin", logs: ["log.csv"] })
+> Encode(Encode { base: "80000000", period: 1024, mode: Differential, version: Two, hex: true, long: false, progress: false, image: "image.bin", logs: ["log.csv"] })
 % tracebench encode --v1 --base 0 image.bin a.csv b.csv
-> Encode(Encode { base: "0", period: 1024, mode: Differential, version: One, hex: false, long: false, image: "image.bin", logs: ["a.csv", "b.csv"] })
+> Encode(Encode { base: "0", period: 1024, mode: Differential, version: One, hex: false, long: false, progress: false, image: "image.bin", logs: ["a.csv", "b.csv"] })
 % tracebench encode --base 0 --hex --full image.bin log.csv --v1
-> Encode(Encode { base: "0", period: 1024, mode: Full, version: One, hex: true, long: false, image: "image.bin", logs: ["log.csv"] })
+> Encode(Encode { base: "0", period: 1024, mode: Full, version: One, hex: true, long: false, progress: false, image: "image.bin", logs: ["log.csv"] })
 % tracebench encode --v1 --base 0 --v1 image.bin log.csv
 ! error: the argument '--v1' cannot be used multiple times
 !
@@ -68,13 +70,13 @@ pub(crate) const TEXT: &str = r#"
 !
 ! For more information, try '--help'.
 % tracebench encode image.bin --base=-1 --period 65535 a.csv b.csv
-> Encode(Encode { base: "-1", period: 65535, mode: Differential, version: Two, hex: false, long: false, image: "image.bin", logs: ["a.csv", "b.csv"] })
+> Encode(Encode { base: "-1", period: 65535, mode: Differential, version: Two, hex: false, long: false, progress: false, image: "image.bin", logs: ["a.csv", "b.csv"] })
 % tracebench encode --base 0 --period 1 image.bin log.csv
-> Encode(Encode { base: "0", period: 1, mode: Differential, version: Two, hex: false, long: false, image: "image.bin", logs: ["log.csv"] })
+> Encode(Encode { base: "0", period: 1, mode: Differential, version: Two, hex: false, long: false, progress: false, image: "image.bin", logs: ["log.csv"] })
 % tracebench encode --base 0 --full image.bin log.csv
-> Encode(Encode { base: "0", period: 1024, mode: Full, version: Two, hex: false, long: false, image: "image.bin", logs: ["log.csv"] })
+> Encode(Encode { base: "0", period: 1024, mode: Full, version: Two, hex: false, long: false, progress: false, image: "image.bin", logs: ["log.csv"] })
 % tracebench encode --hex --full image.bin --base 0 log.csv
-> Encode(Encode { base: "0", period: 1024, mode: Full, version: Two, hex: true, long: false, image: "image.bin", logs: ["log.csv"] })
+> Encode(Encode { base: "0", period: 1024, mode: Full, version: Two, hex: true, long: false, progress: false, image: "image.bin", logs: ["log.csv"] })
 % tracebench encode --full --base 0 --full image.bin log.csv
 ! error: the argument '--full' cannot be used multiple times
 !
@@ -82,9 +84,11 @@ pub(crate) const TEXT: &str = r#"
 !
 ! For more information, try '--help'.
 % tracebench encode --base 0 --long image.bin log.csv
-> Encode(Encode { base: "0", period: 1024, mode: Differential, version: Two, hex: false, long: true, image: "image.bin", logs: ["log.csv"] })
+> Encode(Encode { base: "0", period: 1024, mode: Differential, version: Two, hex: false, long: true, progress: false, image: "image.bin", logs: ["log.csv"] })
 % tracebench encode --hex --long --full image.bin --base 0 --v1 log.csv
-> Encode(Encode { base: "0", period: 1024, mode: Full, version: One, hex: true, long: true, image: "image.bin", logs: ["log.csv"] })
+> Encode(Encode { base: "0", period: 1024, mode: Full, version: One, hex: true, long: true, progress: false, image: "image.bin", logs: ["log.csv"] })
+% tracebench encode --progress --base 0 image.bin log.csv
+> Encode(Encode { base: "0", period: 1024, mode: Differential, version: Two, hex: false, long: false, progress: true, image: "image.bin", logs: ["log.csv"] })
 % tracebench encode --base 0 image.bin --long log.csv --long
 ! error: the argument '--long' cannot be used multiple times
 !
@@ -107,15 +111,17 @@ pub(crate) const TEXT: &str = r#"
 !
 ! For more information, try '--help'.
 
-# `dump`.
+# `dump`, and its search.
 % tracebench dump run.capture
-> Dump(Dump { capture: "run.capture" })
+> Dump(Dump { search: false, capture: "run.capture" })
+% tracebench dump run.capture --search
+> Dump(Dump { search: true, capture: "run.capture" })
 % tracebench dump --full run.capture
 ! error: unexpected argument '--full' found
 !
 !   tip: to pass '--full' as a value, use '-- --full'
 !
-! Usage: tracebench dump <CAPTURE>
+! Usage: tracebench dump [OPTIONS] <CAPTURE>
 !
 ! For more information, try '--help'.
 % tracebench dump
@@ -128,7 +134,7 @@ pub(crate) const TEXT: &str = r#"
 % tracebench dump a.capture b.capture
 ! error: unexpected argument 'b.capture' found
 !
-! Usage: tracebench dump <CAPTURE>
+! Usage: tracebench dump [OPTIONS] <CAPTURE>
 !
 ! For more information, try '--help'.
 
@@ -171,7 +177,7 @@ pub(crate) const TEXT: &str = r#"
 !
 ! For more information, try '--help'.
 
-# `replay`: its capacity. It takes no long logs.
+# `replay`: its capacity, and its progress. It takes no long logs.
 % tracebench replay --base 0 --v1 image.bin turns.txt log.csv
 ! error: unexpected argument '--v1' found
 !
@@ -189,9 +195,11 @@ pub(crate) const TEXT: &str = r#"
 !
 ! For more information, try '--help'.
 % tracebench replay --base 80000000 image.bin turns.txt a.csv b.csv
-> Replay(Replay { base: "80000000", period: 1024, mode: Differential, capacity: 16, image: "image.bin", schedule: "turns.txt", logs: ["a.csv", "b.csv"] })
+> Replay(Replay { base: "80000000", period: 1024, mode: Differential, capacity: 16, progress: false, image: "image.bin", schedule: "turns.txt", logs: ["a.csv", "b.csv"] })
 % tracebench replay --capacity 65536 --base 0 --full --period 7 image.bin turns.txt log.csv
-> Replay(Replay { base: "0", period: 7, mode: Full, capacity: 65536, image: "image.bin", schedule: "turns.txt", logs: ["log.csv"] })
+> Replay(Replay { base: "0", period: 7, mode: Full, capacity: 65536, progress: false, image: "image.bin", schedule: "turns.txt", logs: ["log.csv"] })
+% tracebench replay --base 0 image.bin --progress turns.txt log.csv
+> Replay(Replay { base: "0", period: 1024, mode: Differential, capacity: 16, progress: true, image: "image.bin", schedule: "turns.txt", logs: ["log.csv"] })
 % tracebench replay --base 0 --capacity 0 image.bin turns.txt log.csv
 ! error: invalid value '0' for '--capacity <N>': 0 is not in 1..=65536
 !
@@ -208,11 +216,13 @@ pub(crate) const TEXT: &str = r#"
 !
 ! For more information, try '--help'.
 
-# `bench`: its capacity. It takes no long logs.
+# `bench`: its capacity, and its progress. It takes no long logs.
 % tracebench bench --base 80000000 image.bin a.csv b.csv
-> Bench(Bench { base: "80000000", period: 1024, mode: Differential, capacity: 16, image: "image.bin", logs: ["a.csv", "b.csv"] })
+> Bench(Bench { base: "80000000", period: 1024, mode: Differential, capacity: 16, progress: false, image: "image.bin", logs: ["a.csv", "b.csv"] })
 % tracebench bench --base 0 --capacity 1 --period 65535 image.bin log.csv --full
-> Bench(Bench { base: "0", period: 65535, mode: Full, capacity: 1, image: "image.bin", logs: ["log.csv"] })
+> Bench(Bench { base: "0", period: 65535, mode: Full, capacity: 1, progress: false, image: "image.bin", logs: ["log.csv"] })
+% tracebench bench --base 0 --progress image.bin log.csv
+> Bench(Bench { base: "0", period: 1024, mode: Differential, capacity: 16, progress: true, image: "image.bin", logs: ["log.csv"] })
 % tracebench bench --base 0 --long image.bin log.csv
 ! error: unexpected argument '--long' found
 !
@@ -233,11 +243,15 @@ pub(crate) const TEXT: &str = r#"
 !
 ! For more information, try '--help'.
 
-# `audit`, and its summary.
+# `audit`: its packets and its summary.
 % tracebench audit sent.capture received.capture
-> Audit(Audit { summary: false, sent: "sent.capture", received: "received.capture" })
+> Audit(Audit { packets: false, summary: false, sent: "sent.capture", received: "received.capture" })
 % tracebench audit sent.capture --summary received.capture
-> Audit(Audit { summary: true, sent: "sent.capture", received: "received.capture" })
+> Audit(Audit { packets: false, summary: true, sent: "sent.capture", received: "received.capture" })
+% tracebench audit --packets sent.capture received.capture
+> Audit(Audit { packets: true, summary: false, sent: "sent.capture", received: "received.capture" })
+% tracebench audit sent.capture received.capture --summary --packets
+> Audit(Audit { packets: true, summary: true, sent: "sent.capture", received: "received.capture" })
 % tracebench audit --summary sent.capture received.capture --summary
 ! error: the argument '--summary' cannot be used multiple times
 !
@@ -266,15 +280,17 @@ pub(crate) const TEXT: &str = r#"
 !
 ! For more information, try '--help'.
 
-# `measure`: its period and mode, and long logs.
+# `measure`: its period and mode, long logs, and its progress.
 % tracebench measure --base 80000000 image.bin a.csv b.csv
-> Measure(Measure { base: "80000000", period: 1024, mode: Differential, long: false, image: "image.bin", logs: ["a.csv", "b.csv"] })
+> Measure(Measure { base: "80000000", period: 1024, mode: Differential, long: false, progress: false, image: "image.bin", logs: ["a.csv", "b.csv"] })
 % tracebench measure image.bin log.csv --full --period 1 --base 0
-> Measure(Measure { base: "0", period: 1, mode: Full, long: false, image: "image.bin", logs: ["log.csv"] })
+> Measure(Measure { base: "0", period: 1, mode: Full, long: false, progress: false, image: "image.bin", logs: ["log.csv"] })
 % tracebench measure --base 0 --period 65535 image.bin log.csv
-> Measure(Measure { base: "0", period: 65535, mode: Differential, long: false, image: "image.bin", logs: ["log.csv"] })
+> Measure(Measure { base: "0", period: 65535, mode: Differential, long: false, progress: false, image: "image.bin", logs: ["log.csv"] })
 % tracebench measure image.bin --long log.csv --base 0
-> Measure(Measure { base: "0", period: 1024, mode: Differential, long: true, image: "image.bin", logs: ["log.csv"] })
+> Measure(Measure { base: "0", period: 1024, mode: Differential, long: true, progress: false, image: "image.bin", logs: ["log.csv"] })
+% tracebench measure --base 0 image.bin log.csv --progress
+> Measure(Measure { base: "0", period: 1024, mode: Differential, long: false, progress: true, image: "image.bin", logs: ["log.csv"] })
 % tracebench measure --long --full --base 0 image.bin --long log.csv
 ! error: the argument '--long' cannot be used multiple times
 !
@@ -322,11 +338,13 @@ pub(crate) const TEXT: &str = r#"
 !
 ! For more information, try '--help'.
 
-# `salvage`: its count of harts, and what it does not take.
+# `salvage`: its count of harts, its summary, and what it does not take.
 % tracebench salvage --base 80000000 image.bin run.capture
-> Salvage(Salvage { base: "80000000", harts: 1, image: "image.bin", capture: "run.capture" })
+> Salvage(Salvage { base: "80000000", harts: None, summary: false, image: "image.bin", capture: "run.capture" })
 % tracebench salvage --harts 1024 --base 0 image.bin run.capture
-> Salvage(Salvage { base: "0", harts: 1024, image: "image.bin", capture: "run.capture" })
+> Salvage(Salvage { base: "0", harts: Some(1024), summary: false, image: "image.bin", capture: "run.capture" })
+% tracebench salvage --base 0 image.bin --summary run.capture
+> Salvage(Salvage { base: "0", harts: None, summary: true, image: "image.bin", capture: "run.capture" })
 % tracebench salvage --base 0 --harts 1025 image.bin run.capture
 ! error: invalid value '1025' for '--harts <N>': 1025 is not in 1..=1024
 !
@@ -344,6 +362,41 @@ pub(crate) const TEXT: &str = r#"
 !   <CAPTURE>
 !
 ! Usage: tracebench salvage --base <B> <IMAGE> <CAPTURE>
+!
+! For more information, try '--help'.
+
+# `capture`: its version, mode, period and count of harts, and what it does not take.
+% tracebench capture lines.txt
+> Capture(Capture { version: Two, mode: Differential, period: 1024, harts: None, lines: "lines.txt" })
+% tracebench capture --v1 --full --period 7 --harts 64 lines.txt
+> Capture(Capture { version: One, mode: Full, period: 7, harts: Some(64), lines: "lines.txt" })
+% tracebench capture lines.txt --harts=1024 --period 65535
+> Capture(Capture { version: Two, mode: Differential, period: 65535, harts: Some(1024), lines: "lines.txt" })
+% tracebench capture --harts 0 lines.txt
+! error: invalid value '0' for '--harts <N>': 0 is not in 1..=1024
+!
+! For more information, try '--help'.
+% tracebench capture --harts 1025 lines.txt
+! error: invalid value '1025' for '--harts <N>': 1025 is not in 1..=1024
+!
+! For more information, try '--help'.
+% tracebench capture --period 0 lines.txt
+! error: invalid value '0' for '--period <N>': 0 is not in 1..=65535
+!
+! For more information, try '--help'.
+% tracebench capture --base 0 lines.txt
+! error: unexpected argument '--base' found
+!
+!   tip: to pass '--base' as a value, use '-- --base'
+!
+! Usage: tracebench capture [OPTIONS] <LINES>
+!
+! For more information, try '--help'.
+% tracebench capture
+! error: the following required arguments were not provided:
+!   <LINES>
+!
+! Usage: tracebench capture <LINES>
 !
 ! For more information, try '--help'.
 "#;

@@ -3,7 +3,7 @@ use Rattle.std.proofs.Common.{◌≡◌, refl, subst, arith, inr, ℕ, Bool, Lis
 use Rattle.std.proofs.lemmas.Grind.{common_steps}
 use Rattle.output.specs.Begun.{AppendsBeginning}
 use Rattle.output.proofs.Beginnings.{begun_kept, whole_begun}
-use Rattle.captures.specs.Dump.{AppendsDump, BeginsDump, IsDump}
+use Rattle.captures.specs.Dump.{AppendsDump, BeginsDump}
 use Rattle.message.specs.declared.fault.MessageFault.{MessageFault}
 use Rattle.subcommands.specs.declared.words.Dump.{Dump}
 use Rattle.command_inputs.specs.Begun.{IsCutOf}
@@ -11,7 +11,7 @@ use Rattle.command_inputs.specs.Found.{IsRead}
 use Rattle.files.specs.Known.{Content}
 use Rattle.command_inputs.specs.declared.fault.Fault.TheVariants as fault
 use Rattle.command_inputs.proofs.Runs.{appends-keeps, ends_silently, output_failed, prints}
-use Rattle.capture_commands.specs.Dumping.{CanDump, Dumps, end_of_dump}
+use Rattle.capture_commands.specs.Dumping.{CanDump, Dumps, IsDumpAsked, end_of_dump}
 use Rattle.capture_commands.specs.declared.reason.CaptureReason.{CaptureReason}
 use Rattle.capture_commands.proofs.dumping.dump.Goals.{After-flush}
 use Rattle.capture_commands.proofs.dumping.dump.Goals as goal
@@ -32,7 +32,7 @@ returns-in_err-bytes-clause-printed g c =
 dump_cut : (content : Content) (asked : Dump) (bytes : List ℕ) (bad : Bool) (stop : Option (ℕ × MessageFault))
     (text : List ℕ)
     (old new : Option (List ℕ)) → IsRead {W = CaptureReason} content asked.capture (Ok bytes)
-    → IsDump bytes bad stop text
+    → IsDumpAsked asked.search bytes bad stop text
     → AppendsBeginning text old new → IsCutOf (Dumps content asked) old new
 dump_cut content asked bytes bad stop text old new read dumped begun = inr (record {
   printed = record { text = text; ended = end_of_dump bad stop };
@@ -42,19 +42,19 @@ dump_cut content asked bytes bad stop text old new read dumped begun = inr (reco
 
 module _ (g : _) (c : After-flush g) where
   -- What was dumped.
-  dumped : AppendsDump (IsDump c.in_ok-bytes.bytes.items) c.in_ok-dumped.dumped.bad c.in_ok-dumped.dumped.fault
-      (g.O.Write.contents c.args.out.now) (g.O.Write.contents c.dump_capture.new.sink)
+  dumped : AppendsDump (IsDumpAsked c.args.asked.now.search c.in_ok-bytes.bytes.items) c.in_ok-dumped.dumped.bad c.in_ok-dumped.dumped.fault
+      (g.O.Write.contents c.args.out.now) (g.O.Write.contents c.write_dump.new.out)
   dumped =
       let dumped = c.in_ok-dumped.dumped in
-      subst (λ bytes. AppendsDump (IsDump bytes) dumped.bad dumped.fault (g.O.Write.contents c.args.out.now)
-      (g.O.Write.contents c.dump_capture.new.sink)) c.as_slice.ensures.value c.in_ok-dumped.ensures.dumped
+      subst (λ bytes. AppendsDump (IsDumpAsked c.args.asked.now.search bytes) dumped.bad dumped.fault (g.O.Write.contents c.args.out.now)
+      (g.O.Write.contents c.write_dump.new.out)) c.as_slice.ensures.value c.in_ok-dumped.ensures.dumped
 
   -- Whatever the flush answers, the whole dump was written.
   cut : IsCutOf (Dumps (g.F.Files.content c.args.files.now) c.args.asked.now) (g.O.Write.contents c.args.out.now)
       (g.O.Write.contents c.flush.new.self)
   cut =
       let old = g.O.Write.contents c.args.out.now in
-      let mid = g.O.Write.contents c.dump_capture.new.sink in
+      let mid = g.O.Write.contents c.write_dump.new.out in
       let new = g.O.Write.contents c.flush.new.self in
       dump_cut (g.F.Files.content c.args.files.now) c.args.asked.now c.in_ok-bytes.bytes.items
       c.in_ok-dumped.dumped.bad c.in_ok-dumped.dumped.fault dumped.text old new c.in_ok-bytes.ensures.held dumped.dumped
@@ -80,16 +80,17 @@ returns-clause-printed g c =
           ended = c.ended.ensures.value;
         },
       );
-      appended = appends-keeps old (contents c.dump_capture.new.sink) new is.text is.appended c.flush.ensures.bytes;
+      appended = appends-keeps old (contents c.write_dump.new.out) new is.text is.appended c.flush.ensures.bytes;
     })
 
 pub returns-in_err-dumped-clause-cut : goal.returns-in_err-dumped-clause-cut
 returns-in_err-dumped-clause-cut g c =
     let old = g.O.Write.contents c.args.out.now in
-    let new = g.O.Write.contents c.dump_capture.new.sink in
+    let new = g.O.Write.contents c.write_dump.new.out in
     let bytes = c.in_ok-bytes.bytes.items in
-    let is : BeginsDump (IsDump bytes) old new =
-    subst (λ bytes. BeginsDump (IsDump bytes) old new) c.as_slice.ensures.value c.in_err-dumped.ensures.begun in
+    let search = c.args.asked.now.search in
+    let is : BeginsDump (IsDumpAsked search bytes) old new =
+    subst (λ bytes. BeginsDump (IsDumpAsked search bytes) old new) c.as_slice.ensures.value c.in_err-dumped.ensures.begun in
     dump_cut (g.F.Files.content c.args.files.now) c.args.asked.now bytes is.bad is.fault is.text old new
     c.in_ok-bytes.ensures.held is.dumped is.begun
 

@@ -1,13 +1,15 @@
 -- The texts of the harts so far are written, and there is still room.
 use Rattle.std.proofs.Common.{◌≤◌, take, vec_capacity}
 use Rattle.std.specs.Io.KnownBytes.{Appends}
-use Rattle.capture_commands.specs.EachHart.{each_hart}
+use Rattle.capture_commands.specs.EachHart.{numbered_harts}
+use Rattle.capture_commands.specs.Frames.{own_offsets}
 use Rattle.capture_commands.specs.SalvagedText.{hart_text}
 use Rattle.capture_commands.proofs.salvaged_writing.write_harts.Given as goal
 
 abbrev pub invariant-loop-hart : goal.invariant-loop-hart
 invariant-loop-hart g l = record {
   text : Appends (g.O.Write.contents l.fn.out) (g.O.Write.contents l.out)
-      (each_hart hart_text 0 (take l.hart-counter l.harts));
+      (numbered_harts (λ hart. hart_text l.summary l.header (own_offsets l.offsets hart)) 0
+      (take l.hart-counter l.harts));
   room : 65536 ≤ vec_capacity l.room;
 }

@@ -9,6 +9,6 @@ use Rattle.capture_commands.proofs.salvaged_writing.write_parts.Given as goal
 abbrev pub invariant-loop-part : goal.invariant-loop-part
 invariant-loop-part g l = record {
   text : Appends (g.O.Write.contents l.fn.out) (g.O.Write.contents l.out)
-      (flat_map left_text (parts_in (take l.part-index l.parts)));
+      (flat_map (left_text l.summary l.offsets) (parts_in (take l.part-index l.parts)));
   room : vec_capacity l.fn.room ≤ vec_capacity l.room;
 }

@@ -1,5 +1,5 @@
 -- The prover tries no chain of steps by itself: what each step found is handed to it, in order.
-use Rattle.std.proofs.Common.{Err, List, Ok, ap, arith, inr, refl, subst, sym, ℕ, ◌≡◌, ◌∙◌, ◌⊎◌}
+use Rattle.std.proofs.Common.{Err, Ok, ap, arith, inr, refl, subst, sym, ◌≡◌, ◌∙◌, ◌⊎◌}
 use Rattle.std.proofs.lemmas.Grind.{common_steps}
 use Rattle.std.specs.Prelude.{⊤, IfSome}
 use Rattle.command_inputs.specs.Begun.{IsCutOf}
@@ -72,8 +72,8 @@ returns-clause-printed g c =
     c.in_ok-bytes.ensures.held in
     capture_printed content asked c.in_ok-base.base program c.in_ok-bytes.bytes.items c.in_ok-base.ensures.found
     c.in_ok-program.ensures.program read c.salvage_capture.result old new
-    (subst (λ bytes. PrintsUnlessDenied (WritesSalvaged asked.harts program bytes) ⊤ c.salvage_capture.result old new)
-    c.as_slice.ensures.value c.salvage_capture.ensures.printed)
+    (subst (λ bytes. PrintsUnlessDenied (WritesSalvaged asked.harts asked.summary program bytes) ⊤
+    c.salvage_capture.result old new) c.as_slice.ensures.value c.salvage_capture.ensures.printed)
 
 pub returns-clause-cut : goal.returns-clause-cut
 returns-clause-cut g c =
@@ -87,5 +87,5 @@ returns-clause-cut g c =
     c.in_ok-bytes.ensures.held in
     capture_cut content asked c.in_ok-base.base program c.in_ok-bytes.bytes.items c.in_ok-base.ensures.found
     c.in_ok-program.ensures.program read old new
-    (subst (λ bytes. IsCutOf (WritesSalvaged asked.harts program bytes) old new) c.as_slice.ensures.value
-    c.salvage_capture.ensures.cut)
+    (subst (λ bytes. IsCutOf (WritesSalvaged asked.harts asked.summary program bytes) old new)
+    c.as_slice.ensures.value c.salvage_capture.ensures.cut)

@@ -20,7 +20,16 @@ returns c =
                 c.in_ok-bench.ensures,
                 (
                   c.in_ok-audit.ensures,
-                  (c.in_ok-measure.ensures, (c.in_ok-list.ensures, (c.in_ok-salvage.ensures, tt))),
+                  (
+                    c.in_ok-measure.ensures,
+                    (
+                      c.in_ok-list.ensures,
+                      (
+                        c.in_ok-salvage.ensures,
+                        (c.in_ok-capture_of_lines.ensures, tt),
+                      ),
+                    ),
+                  ),
                 ),
               ),
             ),

@@ -2,6 +2,7 @@
 use Rattle.std.proofs.Common.{codes, [], ◌∷◌}
 use Rattle.clap.specs.Words.{new_app}
 use Rattle.arguments.specs.Rules.{base_rule, capacity_rule, full_rule, image_rule, logs_rule, period_rule}
+use Rattle.arguments.specs.Rules.{progress_rule}
 use Rattle.arguments.specs.Rules.{schedule_rule}
 use Rattle.cli.proofs.GrammarLemmas.{with_these}
 use Rattle.cli.proofs.grammar.replay.Goals as goal
@@ -9,11 +10,26 @@ use Rattle.cli.proofs.grammar.replay.Goals as goal
 pub returns : goal.returns
 returns c =
     with_these c.subcommand.result (new_app (codes "replay")) (base_rule ∷ period_rule ∷ full_rule ∷ capacity_rule ∷
-    image_rule ∷ schedule_rule ∷ logs_rule ∷ []) _ c.in_ok-args.args.items
+    progress_rule ∷ image_rule ∷ schedule_rule ∷ logs_rule ∷ []) _ c.in_ok-args.args.items
     c.in_ok-args.ensures.items c.subcommand.ensures (
       c.base.ensures,
       (
         c.period.ensures,
-        (c.full.ensures, (c.capacity.ensures, (c.image.ensures, (c.schedule.ensures, (c.logs.ensures, tt))))),
+        (
+          c.full.ensures,
+          (
+            c.capacity.ensures,
+            (
+              c.progress.ensures,
+              (
+                c.image.ensures,
+                (
+                  c.schedule.ensures,
+                  (c.logs.ensures, tt),
+                ),
+              ),
+            ),
+          ),
+        ),
       ),
     )

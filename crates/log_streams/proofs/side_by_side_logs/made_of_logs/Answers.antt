@@ -1,29 +1,45 @@
 -- What was made of each log gives what was made of all.
 use Rattle.std.proofs.Common.{rules, length}
+use Rattle.log_streams.specs.steps.Allowed.{IsMadeAt}
 use Rattle.log_streams.proofs.AllMadeLemmas.{at-index, has-next, made-of-all, made-up-to, may-stop}
+use Rattle.log_streams.proofs.MadeLemmas.{by-content, by-given, denied-at}
 use Rattle.log_streams.proofs.side_by_side_logs.made_of_logs.Goals as goal
 
 pub returns-in-Ok-take_made : goal.returns-in-Ok-take_made
-returns-in-Ok-take_made g c = record {
-  made = made-of-all (g.T.LogTask.Makes c.args.task.now c.args.program.now)
-      (g.T.LogTask.MakesOfIllegal c.args.task.now c.args.program.now) (g.T.LogTask.MayRefuse c.args.task.now)
-      (g.F.Files.content c.args.files.now) c.args.program.now c.args.most c.args.paths.now c.in-Ok-by_place.all.items
-      (search rules) c.in-Ok-by_place.ensures.allowed c.take_made.new.made.items c.in-Ok-take_made.ensures;
-  refused = tt;
-}
+returns-in-Ok-take_made g c =
+    let makes = g.T.LogTask.Makes c.args.task.now c.args.program.now in
+    let illegal = g.T.LogTask.MakesOfIllegal c.args.task.now c.args.program.now in
+    let content = g.F.Files.content c.args.files.now in
+    let gives = g.F.Files.Gives c.args.files.now in
+    let program = c.args.program.now in
+    let paths = c.args.paths.now in
+    let made = c.take_made.new.made.items in
+    let all = made-of-all (IsMadeAt makes illegal content gives program c.args.most)
+    (denied-at makes illegal content gives program c.args.most) (g.T.LogTask.MayRefuse c.args.task.now) paths
+    c.in-Ok-by_place.all.items (search rules) c.in-Ok-by_place.ensures.allowed made c.in-Ok-take_made.ensures in record {
+      made = by-content makes illegal content gives program c.args.most paths made _ all;
+      given = by-given makes illegal content gives program c.args.most paths made _ all;
+      refused = tt;
+    }
 
 pub returns : goal.returns
-returns g c = record {
-  made = made-up-to (g.T.LogTask.Makes c.args.task.now c.args.program.now)
-      (g.T.LogTask.MakesOfIllegal c.args.task.now c.args.program.now) (g.T.LogTask.MayRefuse c.args.task.now)
-      (g.F.Files.content c.args.files.now) c.args.program.now c.args.most c.args.paths.now c.in-Ok-by_place.all.items
-      (search rules) c.in-Ok-by_place.ensures.allowed c.take_made.new.made.items _ c.in-Err.ensures
-      (at-index c.args.paths.now (length c.take_made.new.made.items) c.len-in-Err.result _ (search rules)
-      (has-next c.in-Ok-by_place.all.items c.take_made.new.made.items c.in-Err.why (length c.args.paths.now)
-      (search rules)
-      c.in-Err.ensures));
-  refused = may-stop (g.T.LogTask.Makes c.args.task.now c.args.program.now)
-      (g.T.LogTask.MakesOfIllegal c.args.task.now c.args.program.now) (g.T.LogTask.MayRefuse c.args.task.now)
-      (g.F.Files.content c.args.files.now) c.args.program.now c.args.most c.args.paths.now c.in-Ok-by_place.all.items
-      (search rules) c.in-Ok-by_place.ensures.allowed c.take_made.new.made.items c.in-Err.why c.in-Err.ensures;
-}
+returns g c =
+    let makes = g.T.LogTask.Makes c.args.task.now c.args.program.now in
+    let illegal = g.T.LogTask.MakesOfIllegal c.args.task.now c.args.program.now in
+    let content = g.F.Files.content c.args.files.now in
+    let gives = g.F.Files.Gives c.args.files.now in
+    let program = c.args.program.now in
+    let paths = c.args.paths.now in
+    let made = c.take_made.new.made.items in
+    let there = c.in-Ok-by_place.all.items in
+    let front = made-up-to (IsMadeAt makes illegal content gives program c.args.most)
+    (denied-at makes illegal content gives program c.args.most) (g.T.LogTask.MayRefuse c.args.task.now) paths there
+    (search rules) c.in-Ok-by_place.ensures.allowed made _ c.in-Err.ensures
+    (at-index paths (length made) c.len-in-Err.result _ (search rules)
+    (has-next there made c.in-Err.why (length paths) (search rules) c.in-Err.ensures)) in record {
+      made = by-content makes illegal content gives program c.args.most paths made _ front;
+      given = by-given makes illegal content gives program c.args.most paths made _ front;
+      refused = may-stop (IsMadeAt makes illegal content gives program c.args.most)
+          (denied-at makes illegal content gives program c.args.most) (g.T.LogTask.MayRefuse c.args.task.now) paths there
+          (search rules) c.in-Ok-by_place.ensures.allowed made c.in-Err.why c.in-Err.ensures;
+    }

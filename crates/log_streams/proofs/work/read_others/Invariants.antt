@@ -4,5 +4,5 @@ use Rattle.log_streams.proofs.work.read_others.Given as goal
 -- What was made of logs so far may be made of them.
 abbrev pub invariant-loop-place : goal.invariant-loop-place
 invariant-loop-place g l =
-    AreEntries g.T.LogTask.Makes g.T.LogTask.MakesOfIllegal g.T.LogTask.MayRefuse g.F.Files.content l.work
-    l.entries.items
+    AreEntries g.T.LogTask.Makes g.T.LogTask.MakesOfIllegal g.T.LogTask.MayRefuse g.F.Files.content
+    g.F.Files.Gives l.work l.entries.items

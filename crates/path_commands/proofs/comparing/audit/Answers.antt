@@ -1,5 +1,5 @@
 -- The steps of `audit` follow one another: by lemmas on what each found, which no tactic finds.
-use Rattle.std.proofs.Common.{◌≡◌, ◌⊎◌, Err, Ok, subst, sym, arith}
+use Rattle.std.proofs.Common.{◌≡◌, ◌⊎◌, ◌∙◌, Err, Ok, subst, sym, arith}
 use Rattle.std.proofs.lemmas.Grind.{common_steps}
 use Rattle.auditing.specs.Sent.{IsSent, IsSentFault}
 use Rattle.command_inputs.specs.Begun.{IsCutOf}
@@ -55,12 +55,13 @@ returns-clause-printed g c =
     let received = c.in_ok-received.received.items in
     let old = g.O.Write.contents c.args.out.now in
     let new = g.O.Write.contents c.write_audit.new.out in
+    let by = c.in-Ok.ensures.by ∙ c.by_packets.ensures in
     both_printed (g.F.Files.content c.args.files.now) asked c.in_ok-sent.sent.items c.in_ok-sent.ensures.held sent
     (subst (λ bytes. IsSent bytes header started.0) c.as_slice.ensures.value started.1) received
     (subst (λ known. IsRead {W = PathReason} known asked.received (Ok received)) c.in_ok-sent.ensures.kept c.in_ok-received.ensures.held)
     c.write_audit.result old new
-    (subst (λ bytes. PrintsUnlessDenied (WritesAudit asked.summary sent bytes) ⊤ c.write_audit.result old new)
-    c.as_slice-2.ensures.value (c.write_audit.ensures.printed started.0 started.2))
+    (subst (λ bytes. PrintsUnlessDenied (WritesAudit asked sent bytes) ⊤ c.write_audit.result old new)
+    c.as_slice-2.ensures.value (c.write_audit.ensures.printed started.0 started.2 by))
 
 pub returns-clause-cut : goal.returns-clause-cut
 returns-clause-cut g c =
@@ -71,10 +72,11 @@ returns-clause-cut g c =
     let received = c.in_ok-received.received.items in
     let old = g.O.Write.contents c.args.out.now in
     let new = g.O.Write.contents c.write_audit.new.out in
+    let by = c.in-Ok.ensures.by ∙ c.by_packets.ensures in
     both_cut (g.F.Files.content c.args.files.now) asked c.in_ok-sent.sent.items c.in_ok-sent.ensures.held sent
     (subst (λ bytes. IsSent bytes header started.0) c.as_slice.ensures.value started.1) received
     (subst (λ known. IsRead {W = PathReason} known asked.received (Ok received)) c.in_ok-sent.ensures.kept
     c.in_ok-received.ensures.held) old
     new
-    (subst (λ bytes. IsCutOf (WritesAudit asked.summary sent bytes) old new) c.as_slice-2.ensures.value
-    (c.write_audit.ensures.cut started.0 started.2))
+    (subst (λ bytes. IsCutOf (WritesAudit asked sent bytes) old new) c.as_slice-2.ensures.value
+    (c.write_audit.ensures.cut started.0 started.2 by))

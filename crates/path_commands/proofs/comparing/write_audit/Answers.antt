@@ -1,92 +1,132 @@
--- The bytes of RECEIVED are read by their header, and then message by message: by lemmas on what was found.
-use Rattle.std.proofs.Common.{◌<◌, ◌^◌, [], Ok, Err, ap, arith, length, subst}
+-- RECEIVED is read by its header, and then span by span: by lemmas on what was found.
+use Rattle.std.proofs.Common.{◌≡◌, ◌∙◌, ◌<◌, ◌≤◌, ◌^◌, List, [], length, refl, ap, arith, subst}
+use Rattle.std.specs.Io.KnownBytes.{Appends}
 use Rattle.output.specs.Begun.{AppendsBeginning}
 use Rattle.message.specs.declared.message.Message.{Message}
-use Rattle.message.specs.steps.Filling.{AreBytes}
-use Rattle.captures.specs.NoMessage.{BeginsNoHeader}
-use Rattle.captures.specs.Whole.{BeginsWith}
-use Rattle.captures.proofs.HeaderFaults.{no_header}
-use Rattle.captures.proofs.WholeCaptures.{begins_with}
-use Rattle.path_commands.specs.Audited.{behind_findings}
+use Rattle.resuming.specs.Counted.{bytes_in, messages_in, runs_in}
+use Rattle.resuming.specs.Passages.{spans_left}
+use Rattle.auditing.specs.Audits.{Audits}
+use Rattle.auditing.specs.Seen.{sight_of}
+use Rattle.path_commands.specs.AuditText.{span_lines}
+use Rattle.path_commands.specs.Audited.{Came, behind_findings, by_packets}
 use Rattle.path_commands.specs.steps.Ending.{EndsRest}
-use Rattle.path_commands.proofs.AuditParts.{bare_cut, bare_printed, fates_cut, headed_cut, headed_printed}
-use Rattle.path_commands.proofs.comparing.write_audit.Goals.{After-write_findings}
+use Rattle.path_commands.specs.steps.Reading.{HasArrived}
+use Rattle.path_commands.proofs.AuditRuns.{audit_printed, cut_in_lines, cut_in_rest}
+use Rattle.path_commands.proofs.Came.{came_of, is_came_of, lines_are, spans_are}
+use Rattle.path_commands.proofs.comparing.write_audit.Goals.{After-write_rest}
 use Rattle.path_commands.proofs.comparing.write_audit.Goals as goal
 
-module _ (g : _) (c : After-write_findings g) where
-  -- What is left begins behind the header, or without one.
-  begins : BeginsWith c.in-Ok.header c.args.bytes.now c.header.new.self
-  begins =
-      subst (λ bytes. BeginsWith c.in-Ok.header bytes c.header.new.self) c.new-left.ensures
-      (begins_with c.new-left.result c.header.new.self c.in-Ok.header c.in-Ok.ensures.header
-      (λ none. c.in-Ok.ensures.none.0 (ap Ok none)) (λ none. c.in-Ok.ensures.stays (ap Ok none)))
+module _ (g : _) (c : After-write_rest g) (sent : List Message) (audits : Audits sent [] c.args.path.now)
+    (by_is : c.args.path.now.by ≡ by_packets c.args.asked.now.packets) where
+  abbrev its : Came
+  its =
+      came_of (by_packets c.args.asked.now.packets) sent c.args.bytes.now c.start_of-start.result.header
+      c.start_of-start.result.fault
 
-  are : AreBytes c.args.bytes.now
-  are k = let fits = c.type_inv.bytes k in omega (arith, fits)
+  its_spans : spans_left (sight_of c.args.path.now.by sent) c.new.result ≡ its.spans
+  its_spans =
+      spans_are c.args.path.now.by (by_packets c.args.asked.now.packets) sent c.args.bytes.now
+      c.start_of-start.result.header c.start_of-start.result.fault c.new.result c.first_place-from.result by_is
+      c.first_place-from.ensures (c.new.ensures.spans (sight_of c.args.path.now.by sent))
 
-  short : length c.args.bytes.now < 2 ^ 64
-  short = omega arith
+  short : length c.new.result.bytes < 2 ^ 64
+  short = let few = c.new.ensures.few in omega (arith, few)
 
-pub returns-in_err-stop-in-Ok-clause-cut : goal.returns-in_err-stop-in-Ok-clause-cut
-returns-in_err-stop-in-Ok-clause-cut g c = λ sent audits.
-    let at = (goal.at.returns-in_err-stop-in-Ok-clause-cut g c).After-write_findings in
-    fates_cut c.args.summary (record { header = c.args.path.now.header; messages = sent }) c.args.bytes.now c.header.new.self
-    c.in-Ok.header (begins g at) (are g at) (short g at) (g.O.Write.contents c.args.out.now)
-    (g.O.Write.contents c.write_findings.new.out)
-    (λ received stop heard. c.write_findings.ensures.begun sent received stop audits heard)
+  taken : Audits sent (messages_in (spans_left (sight_of c.args.path.now.by sent) c.new.result)) c.write_spans.new.path
+      × (c.in_ok-read.read.bytes ≡ bytes_in (spans_left (sight_of c.args.path.now.by sent) c.new.result))
+      × (c.in_ok-read.read.runs ≡ runs_in (spans_left (sight_of c.args.path.now.by sent) c.new.result))
+      × (length (messages_in (spans_left (sight_of c.args.path.now.by sent) c.new.result)) ≤ length c.new.result.bytes)
+  taken = c.in_ok-read.ensures.audits sent audits short
 
-pub returns-in_ok-stop-in-Ok-clause-printed : goal.returns-in_ok-stop-in-Ok-clause-printed
-returns-in_ok-stop-in-Ok-clause-printed g c = λ sent audits.
-    let at = (goal.at.returns-in_ok-stop-in-Ok-clause-printed g c).After-write_findings in
-    let mid = g.O.Write.contents c.write_findings.new.out in
+  its_audits : Audits sent (messages_in its.spans) c.write_spans.new.path
+  its_audits = subst (λ s. Audits sent (messages_in s) c.write_spans.new.path) its_spans taken.0
+
+  few : length (messages_in its.spans) < 2 ^ 64
+  few =
+      let most = taken.3 in
+      let low = short in
+      let same = ap (λ s. length (messages_in s)) its_spans in
+      omega (arith, most, low, same)
+
+  has : HasArrived (record {
+    header = c.start_of-start.result.header;
+    fault = c.start_of-start.result.fault;
+    bytes = c.in_ok-read.read.bytes;
+    runs = c.in_ok-read.read.runs;
+  }) its
+  has = record {
+    header = refl;
+    fault = refl;
+    bytes = taken.1 ∙ ap bytes_in its_spans;
+    runs = taken.2 ∙ ap runs_in its_spans;
+  }
+
+  text : Appends (g.O.Write.contents c.args.out.now) (g.O.Write.contents c.write_spans.new.out)
+      (span_lines (by_packets c.args.asked.now.packets) c.args.asked.now.summary sent [] its.spans)
+  text =
+      subst (Appends (g.O.Write.contents c.args.out.now) (g.O.Write.contents c.write_spans.new.out))
+      (lines_are c.args.path.now.by (by_packets c.args.asked.now.packets) sent c.args.bytes.now
+      c.start_of-start.result.header c.start_of-start.result.fault c.new.result c.first_place-from.result by_is
+      c.first_place-from.ensures (c.new.ensures.spans (sight_of c.args.path.now.by sent)) c.args.asked.now.summary)
+      (c.in_ok-read.ensures.text sent audits short)
+
+  how_is : c.write_spans.new.path.by ≡ by_packets c.args.asked.now.packets
+  how_is = c.write_spans.ensures.by ∙ by_is
+
+pub returns-in_err-read-clause-cut : goal.returns-in_err-read-clause-cut
+returns-in_err-read-clause-cut g c = λ sent audits by_is.
+    let how = by_packets c.args.asked.now.packets in
+    let few = c.new.ensures.few in
+    let short : length c.new.result.bytes < 2 ^ 64 = omega (arith, few) in
+    cut_in_lines c.args.asked.now (record { header = c.args.path.now.header; messages = sent }) c.args.bytes.now
+    (came_of how sent c.args.bytes.now c.start_of-start.result.header c.start_of-start.result.fault)
+    (is_came_of how sent c.args.bytes.now c.start_of-start.result.header c.start_of-start.result.fault
+    c.start_of-start.ensures) (g.O.Write.contents c.args.out.now) (g.O.Write.contents c.write_spans.new.out)
+    (subst
+    (λ text. AppendsBeginning text (g.O.Write.contents c.args.out.now) (g.O.Write.contents c.write_spans.new.out))
+    (lines_are c.args.path.now.by how sent c.args.bytes.now c.start_of-start.result.header c.start_of-start.result.fault
+    c.new.result c.first_place-from.result by_is c.first_place-from.ensures
+    (c.new.ensures.spans (sight_of c.args.path.now.by sent)) c.args.asked.now.summary)
+    (c.write_spans.ensures.begun sent audits short))
+
+pub returns-clause-printed : goal.returns-clause-printed
+returns-clause-printed g c = λ sent audits by_is.
+    let at = (goal.at.returns-clause-printed g c).After-write_rest in
+    let mid = g.O.Write.contents c.write_spans.new.out in
     let new = g.O.Write.contents c.write_rest.new.out in
-    let stop = c.in_ok-stop-in-Ok.stop in
-    headed_printed c.args.summary (record { header = c.args.path.now.header; messages = sent }) c.args.bytes.now c.header.new.self
-    c.in-Ok.header (begins g at) (are g at) (short g at) (g.O.Write.contents c.args.out.now) mid stop
-    c.write_findings.new.path new (λ received stop heard. c.in_ok-stop-in-Ok.ensures.heard sent received stop audits heard)
-    (λ received stop heard. c.in_ok-stop-in-Ok.ensures.text sent received stop audits heard) c.write_rest.result
-    (λ received is few.
-    subst
-    (λ header. EndsRest c.args.summary (record { header = header; messages = sent }) c.in-Ok.header received stop c.write_rest.result
-    mid
-    new) c.write_findings.ensures.header (c.write_rest.ensures.written sent received is few))
+    let asked = c.args.asked.now in
+    let how = by_packets asked.packets in
+    let came = came_of how sent c.args.bytes.now c.start_of-start.result.header c.start_of-start.result.fault in
+    audit_printed asked (record { header = c.args.path.now.header; messages = sent }) c.args.bytes.now came
+    (is_came_of how sent c.args.bytes.now c.start_of-start.result.header c.start_of-start.result.fault
+    c.start_of-start.ensures) c.write_rest.result
+    (g.O.Write.contents c.args.out.now) mid new (text g at sent audits by_is)
+    (subst
+    (λ header. EndsRest how asked.received asked.summary (record { header = header; messages = sent }) came
+    c.write_rest.result mid new) c.write_spans.ensures.header
+    (subst
+    (λ h. EndsRest h asked.received asked.summary (record { header = c.write_spans.new.path.header; messages = sent })
+    came c.write_rest.result mid new) (how_is g at sent audits by_is)
+    (c.write_rest.ensures.written sent came (its_audits g at sent audits by_is) (few g at sent audits by_is)
+    (has g at sent audits by_is))))
 
-pub returns-in_ok-stop-in-Ok-clause-cut : goal.returns-in_ok-stop-in-Ok-clause-cut
-returns-in_ok-stop-in-Ok-clause-cut g c = λ sent audits.
-    let at = (goal.at.returns-in_ok-stop-in-Ok-clause-cut g c).After-write_findings in
-    let mid = g.O.Write.contents c.write_findings.new.out in
+pub returns-clause-cut : goal.returns-clause-cut
+returns-clause-cut g c = λ sent audits by_is.
+    let at = (goal.at.returns-clause-cut g c).After-write_rest in
+    let mid = g.O.Write.contents c.write_spans.new.out in
     let new = g.O.Write.contents c.write_rest.new.out in
-    let stop = c.in_ok-stop-in-Ok.stop in
-    headed_cut c.args.summary (record { header = c.args.path.now.header; messages = sent }) c.args.bytes.now c.header.new.self
-    c.in-Ok.header (begins g at) (are g at) (short g at) (g.O.Write.contents c.args.out.now) mid stop
-    c.write_findings.new.path new (λ received stop heard. c.in_ok-stop-in-Ok.ensures.heard sent received stop audits heard)
-    (λ received stop heard. c.in_ok-stop-in-Ok.ensures.text sent received stop audits heard)
-    (λ received is few.
-    subst
-    (λ header. AppendsBeginning (behind_findings c.args.summary (record { header = header; messages = sent }) c.in-Ok.header received
-    stop)
-    mid new) c.write_findings.ensures.header (c.write_rest.ensures.begun sent received is few))
-
-pub returns-in-Err-clause-printed : goal.returns-in-Err-clause-printed
-returns-in-Err-clause-printed g c = λ sent audits.
-    let says = c.in-Err.ensures in
-    let none =
-    subst (λ bytes. BeginsNoHeader bytes c.in-Err.why) c.new-left.ensures
-    (no_header c.new-left.result c.in-Err.why says.fault (λ is. says.short.0 (ap Err is))
-    (λ is. says.bad_header.0 (ap Err is))) in
-    let few : length {A = Message} [] < 2 ^ 64 = omega arith in
-    bare_printed c.args.summary (record { header = c.args.path.now.header; messages = sent }) c.args.bytes.now c.in-Err.why none
-    (g.O.Write.contents c.args.out.now) (g.O.Write.contents c.write_rest-in-Err.new.out) c.write_rest-in-Err.result
-    (c.write_rest-in-Err.ensures.written sent [] audits few)
-
-pub returns-in-Err-clause-cut : goal.returns-in-Err-clause-cut
-returns-in-Err-clause-cut g c = λ sent audits.
-    let says = c.in-Err.ensures in
-    let none =
-    subst (λ bytes. BeginsNoHeader bytes c.in-Err.why) c.new-left.ensures
-    (no_header c.new-left.result c.in-Err.why says.fault (λ is. says.short.0 (ap Err is))
-    (λ is. says.bad_header.0 (ap Err is))) in
-    let few : length {A = Message} [] < 2 ^ 64 = omega arith in
-    bare_cut c.args.summary (record { header = c.args.path.now.header; messages = sent }) c.args.bytes.now c.in-Err.why none
-    (g.O.Write.contents c.args.out.now) (g.O.Write.contents c.write_rest-in-Err.new.out)
-    (c.write_rest-in-Err.ensures.begun sent [] audits few)
+    let asked = c.args.asked.now in
+    let how = by_packets asked.packets in
+    let came = came_of how sent c.args.bytes.now c.start_of-start.result.header c.start_of-start.result.fault in
+    cut_in_rest asked (record { header = c.args.path.now.header; messages = sent }) c.args.bytes.now came
+    (is_came_of how sent c.args.bytes.now c.start_of-start.result.header c.start_of-start.result.fault
+    c.start_of-start.ensures)
+    (g.O.Write.contents c.args.out.now) mid new (text g at sent audits by_is)
+    (subst
+    (λ header. AppendsBeginning (behind_findings how asked.summary (record { header = header; messages = sent }) came)
+    mid new) c.write_spans.ensures.header
+    (subst
+    (λ h. AppendsBeginning (behind_findings h asked.summary
+    (record { header = c.write_spans.new.path.header; messages = sent }) came) mid new) (how_is g at sent audits by_is)
+    (c.write_rest.ensures.begun sent came (its_audits g at sent audits by_is) (few g at sent audits by_is)
+    (has g at sent audits by_is))))

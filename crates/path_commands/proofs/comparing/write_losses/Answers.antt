@@ -2,6 +2,7 @@
 use Rattle.std.proofs.Common.{◌≡◌, ◌-◌, ◌<◌, ◌≤◌, length, subst, arith}
 use Rattle.std.specs.List.{flat_map, range_with_len}
 use Rattle.output.proofs.Beginnings.{whole_begun}
+use Rattle.auditing.specs.Known.{known_all}
 use Rattle.auditing.specs.Losing.{lost_runs}
 use Rattle.path_commands.proofs.HartLines.{hart_begun, hart_more, harts_all}
 use Rattle.path_commands.proofs.Parts.{HasWritten, part_none}
@@ -9,7 +10,9 @@ use Rattle.path_commands.specs.AuditText.{all_lost_lines, lost_lines}
 use Rattle.path_commands.proofs.comparing.write_losses.Goals as goal
 
 pub loop-hart-init : goal.loop-hart-init
-loop-hart-init g c = λ sent received audits.
+loop-hart-init g c = λ own came audits.
+    let sent = known_all c.args.path.now.by own in
+    let received = known_all c.args.path.now.by came in
     let count = length c.args.path.now.harts in
     let whole = all_lost_lines sent received count in
     let out = g.O.Write.contents c.args.out.now in
@@ -19,32 +22,40 @@ loop-hart-init g c = λ sent received audits.
     out out) all (part_none whole out)
 
 pub loop-hart-preserved : goal.loop-hart-preserved
-loop-hart-preserved g c = λ sent received audits.
+loop-hart-preserved g c = λ own came audits.
+    let sent = known_all c.args.path.now.by own in
+    let received = known_all c.args.path.now.by came in
     let count = length c.args.path.now.harts in
     let within : c.loop-hart.hart < count = omega arith in
     hart_more (λ hart. lost_lines hart (lost_runs sent received hart)) (all_lost_lines sent received count) count
     (g.O.Write.contents c.args.out.now) (g.O.Write.contents c.loop-hart.out) c.loop-hart.hart
-    (g.O.Write.contents c.write_lost.new.out) within (c.loop-hart.invariant sent received audits)
-    (c.in_ok-write_lost.ensures.text sent received audits)
+    (g.O.Write.contents c.write_lost.new.out) within (c.loop-hart.invariant own came audits)
+    (c.in_ok-write_lost.ensures.text own came audits)
 
 pub returns-in_err-write_lost-clause-begun : goal.returns-in_err-write_lost-clause-begun
-returns-in_err-write_lost-clause-begun g c = λ sent received audits.
+returns-in_err-write_lost-clause-begun g c = λ own came audits.
+    let sent = known_all c.args.path.now.by own in
+    let received = known_all c.args.path.now.by came in
     let count = length c.args.path.now.harts in
     let within : c.loop-hart.hart < count = omega arith in
     hart_begun (λ hart. lost_lines hart (lost_runs sent received hart)) (all_lost_lines sent received count) count
     (g.O.Write.contents c.args.out.now) (g.O.Write.contents c.loop-hart.out) c.loop-hart.hart
-    (g.O.Write.contents c.write_lost.new.out) within (c.loop-hart.invariant sent received audits)
-    (c.write_lost.ensures.begun sent received audits)
+    (g.O.Write.contents c.write_lost.new.out) within (c.loop-hart.invariant own came audits)
+    (c.write_lost.ensures.begun own came audits)
 
 pub returns-clause-text : goal.returns-clause-text
-returns-clause-text g c = λ sent received audits.
+returns-clause-text g c = λ own came audits.
+    let sent = known_all c.args.path.now.by own in
+    let received = known_all c.args.path.now.by came in
     let count = length c.args.path.now.harts in
     let past : count ≤ c.loop-hart.hart = omega arith in
     harts_all (λ hart. lost_lines hart (lost_runs sent received hart)) (all_lost_lines sent received count) count
     (g.O.Write.contents c.args.out.now) (g.O.Write.contents c.loop-hart.out) c.loop-hart.hart past
-    (c.loop-hart.invariant sent received audits)
+    (c.loop-hart.invariant own came audits)
 
 pub returns-clause-begun : goal.returns-clause-begun
-returns-clause-begun g c = λ sent received audits.
+returns-clause-begun g c = λ own came audits.
+    let sent = known_all c.args.path.now.by own in
+    let received = known_all c.args.path.now.by came in
     whole_begun (all_lost_lines sent received (length c.args.path.now.harts)) (g.O.Write.contents c.args.out.now)
-    (g.O.Write.contents c.loop-hart.out) (returns-clause-text g c sent received audits)
+    (g.O.Write.contents c.loop-hart.out) (returns-clause-text g c own came audits)

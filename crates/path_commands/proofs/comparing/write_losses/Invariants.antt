@@ -2,6 +2,7 @@
 use Rattle.std.proofs.Common.{List, length, ◌-◌}
 use Rattle.std.specs.List.{flat_map, range_with_len}
 use Rattle.message.specs.declared.message.Message.{Message}
+use Rattle.auditing.specs.Known.{known_all}
 use Rattle.auditing.specs.Audits.{Audits}
 use Rattle.auditing.specs.Losing.{lost_runs}
 use Rattle.path_commands.proofs.Parts.{HasWritten}
@@ -10,8 +11,8 @@ use Rattle.path_commands.proofs.comparing.write_losses.Given as goal
 
 abbrev pub invariant-loop-hart : goal.invariant-loop-hart
 invariant-loop-hart g l =
-    (sent received : List Message) → Audits sent received l.path
-    → HasWritten (all_lost_lines sent received (length l.path.harts))
-    (flat_map (λ hart. lost_lines hart (lost_runs sent received hart))
+    (own came : List Message) → Audits own came l.path
+    → HasWritten (all_lost_lines (known_all l.path.by own) (known_all l.path.by came) (length l.path.harts))
+    (flat_map (λ hart. lost_lines hart (lost_runs (known_all l.path.by own) (known_all l.path.by came) hart))
     (range_with_len l.hart (length l.path.harts - l.hart)))
     (g.O.Write.contents l.fn.out) (g.O.Write.contents l.out)

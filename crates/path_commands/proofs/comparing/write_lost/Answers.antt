@@ -1,20 +1,25 @@
 -- The lines are written one after the other: by lemmas on parts of a text, which no tactic finds.
 use Rattle.std.proofs.Common.{refl, subst, sym}
 use Rattle.output.proofs.Beginnings.{whole_begun}
+use Rattle.auditing.specs.Known.{known_all}
 use Rattle.auditing.specs.Losing.{lost_runs}
 use Rattle.path_commands.proofs.Parts.{HasWritten, part_all, part_begun, part_more, part_none}
 use Rattle.path_commands.specs.AuditText.{lost_line, lost_lines}
 use Rattle.path_commands.proofs.comparing.write_lost.Goals as goal
 
 pub loop-run-init : goal.loop-run-init
-loop-run-init g c = λ sent received audits.
+loop-run-init g c = λ own came audits.
+    let sent = known_all c.args.path.now.by own in
+    let received = known_all c.args.path.now.by came in
     let out = g.O.Write.contents c.args.out.now in
     let whole = lost_lines c.args.hart (lost_runs sent received c.args.hart) in
     subst (λ runs. HasWritten whole (lost_lines c.args.hart runs) out out)
-    (sym (c.lost-runs.ensures sent received audits)) (part_none whole out)
+    (sym (c.lost-runs.ensures own came audits)) (part_none whole out)
 
 pub loop-run-preserved : goal.loop-run-preserved
-loop-run-preserved g c = λ sent received audits.
+loop-run-preserved g c = λ own came audits.
+    let sent = known_all c.args.path.now.by own in
+    let received = known_all c.args.path.now.by came in
     let hart = c.args.hart in
     let old = g.O.Write.contents c.args.out.now in
     let mid = g.O.Write.contents c.loop-run.out in
@@ -22,10 +27,12 @@ loop-run-preserved g c = λ sent received audits.
     let whole = lost_lines hart (lost_runs sent received hart) in
     part_more whole (lost_line hart c.in-Some.run') (lost_lines hart c.next.new.self) old mid new
     (subst (λ runs. HasWritten whole (lost_lines hart runs) old mid) c.in-Some.ensures.next
-    (c.loop-run.invariant sent received audits)) c.in_ok-write_text.ensures.whole
+    (c.loop-run.invariant own came audits)) c.in_ok-write_text.ensures.whole
 
 pub returns-in_err-write_text-clause-begun : goal.returns-in_err-write_text-clause-begun
-returns-in_err-write_text-clause-begun g c = λ sent received audits.
+returns-in_err-write_text-clause-begun g c = λ own came audits.
+    let sent = known_all c.args.path.now.by own in
+    let received = known_all c.args.path.now.by came in
     let hart = c.args.hart in
     let old = g.O.Write.contents c.args.out.now in
     let mid = g.O.Write.contents c.loop-run.out in
@@ -33,19 +40,23 @@ returns-in_err-write_text-clause-begun g c = λ sent received audits.
     let whole = lost_lines hart (lost_runs sent received hart) in
     part_begun whole (lost_line hart c.in-Some.run') (lost_lines hart c.next.new.self) old mid new
     (subst (λ runs. HasWritten whole (lost_lines hart runs) old mid) c.in-Some.ensures.next
-    (c.loop-run.invariant sent received audits)) c.write_text.ensures.begun
+    (c.loop-run.invariant own came audits)) c.write_text.ensures.begun
 
 pub returns-clause-text : goal.returns-clause-text
-returns-clause-text g c = λ sent received audits.
+returns-clause-text g c = λ own came audits.
+    let sent = known_all c.args.path.now.by own in
+    let received = known_all c.args.path.now.by came in
     let hart = c.args.hart in
     let old = g.O.Write.contents c.args.out.now in
     let mid = g.O.Write.contents c.loop-run.out in
     let whole = lost_lines hart (lost_runs sent received hart) in
     part_all whole old mid
     (subst (λ runs. HasWritten whole (lost_lines hart runs) old mid) (c.in_default.ensures.end refl)
-    (c.loop-run.invariant sent received audits))
+    (c.loop-run.invariant own came audits))
 
 pub returns-clause-begun : goal.returns-clause-begun
-returns-clause-begun g c = λ sent received audits.
+returns-clause-begun g c = λ own came audits.
+    let sent = known_all c.args.path.now.by own in
+    let received = known_all c.args.path.now.by came in
     whole_begun (lost_lines c.args.hart (lost_runs sent received c.args.hart)) (g.O.Write.contents c.args.out.now)
-    (g.O.Write.contents c.loop-run.out) (returns-clause-text g c sent received audits)
+    (g.O.Write.contents c.loop-run.out) (returns-clause-text g c own came audits)

@@ -4,36 +4,50 @@ use Rattle.std.specs.Prelude.{◌&&◌, ◌==◌, is_none, not}
 use Rattle.std.specs.Io.KnownBytes.{Appends}
 use Rattle.output.specs.Begun.{AppendsBeginning}
 use Rattle.output.proofs.Beginnings.{begun_kept}
+use Rattle.alike.specs.declared.by.By.{By}
 use Rattle.message.specs.declared.message.Message.{Message}
+use Rattle.resuming.specs.Counted.{messages_in}
 use Rattle.auditing.specs.Audits.{Audits}
-use Rattle.command_inputs.proofs.Runs.{appends-keeps}
-use Rattle.path_commands.specs.AuditText.{ending_text, headers_differ}
-use Rattle.path_commands.specs.Audited.{Sent, behind_findings, end_of_audit, is_whole_result}
-use Rattle.path_commands.proofs.Rests.{all_written, begun_ending, begun_lost, begun_rows, turned, whole_is}
 use Rattle.auditing.specs.Findings.{first_found}
 use Rattle.auditing.specs.Judged.{strangers_in}
-use Rattle.path_commands.specs.AuditText.{total_of}
+use Rattle.auditing.specs.Known.{known_all}
+use Rattle.command_inputs.proofs.Runs.{appends-keeps}
+use Rattle.path_commands.specs.AuditText.{ending_text, total_of}
+use Rattle.path_commands.specs.Audited.{Came, Sent, behind_findings, end_of_audit, heads_differ, is_whole_result}
+use Rattle.path_commands.specs.steps.Reading.{HasArrived}
+use Rattle.path_commands.proofs.Rests.{all_written, begun_ending, begun_lost, begun_rows, whole_is}
 use Rattle.path_commands.proofs.comparing.write_rest.Goals.{After-write_text}
 use Rattle.path_commands.proofs.comparing.write_rest.Goals as goal
 
 pub returns-in_err-write_runs-clause-begun : goal.returns-in_err-write_runs-clause-begun
-returns-in_err-write_runs-clause-begun g c = λ sent received audits few.
-    begun_lost c.args.summary (record { header = c.args.path.now.header; messages = sent }) c.args.header received
-    c.args.stop (length c.args.path.now.harts) audits.count (g.O.Write.contents c.args.out.now)
-    (g.O.Write.contents c.write_runs.new.out) (c.write_runs.ensures.begun sent received audits)
+returns-in_err-write_runs-clause-begun g c = λ sent came audits few has.
+    begun_lost c.args.path.now.by c.args.summary (record { header = c.args.path.now.header; messages = sent }) came
+    (length c.args.path.now.harts) audits.count (g.O.Write.contents c.args.out.now)
+    (g.O.Write.contents c.write_runs.new.out) (c.write_runs.ensures.begun sent (messages_in came.spans) audits)
 
 pub returns-in_err-total-clause-begun : goal.returns-in_err-total-clause-begun
-returns-in_err-total-clause-begun g c = λ sent received audits few.
-    begun_rows c.args.summary (record { header = c.args.path.now.header; messages = sent }) c.args.header received
-    c.args.stop (length c.args.path.now.harts) audits.count (g.O.Write.contents c.args.out.now)
+returns-in_err-total-clause-begun g c = λ sent came audits few has.
+    begun_rows c.args.path.now.by c.args.summary (record { header = c.args.path.now.header; messages = sent }) came
+    (length c.args.path.now.harts) audits.count (g.O.Write.contents c.args.out.now)
     (g.O.Write.contents c.write_runs.new.out) (g.O.Write.contents c.write_rows.new.out)
-    (c.in_ok-write_runs.ensures.text sent received audits) (c.write_rows.ensures.begun sent received audits few)
+    (c.in_ok-write_runs.ensures.text sent (messages_in came.spans) audits)
+    (c.write_rows.ensures.begun sent (messages_in came.spans) audits few)
 
-module _ (g : _) (c : After-write_text g) (sent received : List Message)
-    (audits : Audits sent received c.args.path.now) (few : length received < 2 ^ 64) where
+module _ (g : _) (c : After-write_text g) (sent : List Message) (came : Came)
+    (audits : Audits sent (messages_in came.spans) c.args.path.now) (few : length (messages_in came.spans) < 2 ^ 64)
+    (has : HasArrived c.args.arrived came) where
   -- What is behind the lines of the harts is by what was counted.
   abbrev both : Sent
   both = record { header = c.args.path.now.header; messages = sent }
+
+  abbrev how : By
+  how = c.args.path.now.by
+
+  abbrev own : List Message
+  own = known_all how sent
+
+  abbrev received : List Message
+  received = known_all how (messages_in came.spans)
 
   abbrev begins : Option (List ℕ)
   begins = g.O.Write.contents c.args.out.now
@@ -47,88 +61,86 @@ module _ (g : _) (c : After-write_text g) (sent received : List Message)
   abbrev count : ℕ
   count = length c.args.path.now.harts
 
-  all_is : c.in_ok-total.total ≡ total_of sent received count
-  all_is = c.in_ok-total.ensures.total sent received audits few
+  all_is : c.in_ok-total.total ≡ total_of own received count
+  all_is = c.in_ok-total.ensures.total sent (messages_in came.spans) audits few
 
-  strangers_is : c.strangers-count.result ≡ strangers_in sent received
-  strangers_is = c.strangers-count.ensures sent received audits few
+  strangers_is : c.strangers-count.result ≡ strangers_in own received
+  strangers_is = c.strangers-count.ensures sent (messages_in came.spans) audits few
 
-  unlike_is : c.are_unlike-unlike.result ≡ headers_differ c.args.path.now.header c.args.header
-  unlike_is = c.are_unlike-unlike.ensures ∙ ap (λ own. headers_differ own c.args.header) c.header.ensures
+  unlike_is : c.are_unlike-unlike.result ≡ heads_differ c.args.path.now.header c.args.arrived.header c.args.arrived.fault
+  unlike_is =
+      c.are_unlike-unlike.ensures
+      ∙ ap (λ own. heads_differ own c.args.arrived.header c.args.arrived.fault) c.header.ensures
 
-  first_is : c.first.result ≡ first_found sent received
-  first_is = c.first.ensures sent received audits few
-
-  is : c.is_whole-whole.result
-      ≡ (c.in_ok-total.total.whole && (c.strangers-count.result == 0) && not c.are_unlike-unlike.result
-      && is_none c.args.stop)
-  is =
-      c.is_whole-whole.ensures
-      ∙ ap (λ ends. c.in_ok-total.total.whole && (c.strangers-count.result == 0) && not c.are_unlike-unlike.result
-      && ends) (turned _ c.is_none.result c.is_none.ensures)
+  first_is : c.first.result ≡ first_found own received
+  first_is = c.first.ensures sent (messages_in came.spans) audits few
 
   abbrev written : ℕ → List ℕ
   written harts =
-      ending_text harts c.in_ok-total.total c.strangers-count.result c.are_unlike-unlike.result c.first.result
-      c.is_whole-whole.result
+      ending_text harts c.in_ok-total.total c.strangers-count.result c.args.arrived.bytes c.args.arrived.runs
+      c.are_unlike-unlike.result c.first.result c.is_whole-whole.result
 
   ending_begun : (new : Option (List ℕ)) → AppendsBeginning (written c.harts.result) second new
-      → AppendsBeginning (behind_findings c.args.summary both c.args.header received c.args.stop) begins new
+      → AppendsBeginning (behind_findings how c.args.summary both came) begins new
   ending_begun new begun =
-      begun_ending c.args.summary both c.args.header received c.args.stop count audits.count c.in_ok-total.total
-      c.are_unlike-unlike.result c.is_whole-whole.result c.strangers-count.result c.first.result all_is strangers_is
-      unlike_is first_is is begins first second new (c.in_ok-write_runs.ensures.text sent received audits)
-      (c.in_ok-total.ensures.text sent received audits few)
+      begun_ending how c.args.summary both came count audits.count c.args.arrived has c.in_ok-total.total
+      c.are_unlike-unlike.result c.is_undamaged.result c.is_whole-whole.result c.strangers-count.result c.first.result
+      all_is strangers_is unlike_is c.is_undamaged.ensures first_is c.is_whole-whole.ensures begins first second new
+      (c.in_ok-write_runs.ensures.text sent (messages_in came.spans) audits)
+      (c.in_ok-total.ensures.text sent (messages_in came.spans) audits few)
       (subst (λ harts. AppendsBeginning (written harts) second new) c.harts.ensures begun)
 
   ending_all : (new : Option (List ℕ)) → Appends second new (written c.harts.result)
-      → Appends begins new (behind_findings c.args.summary both c.args.header received c.args.stop)
+      → Appends begins new (behind_findings how c.args.summary both came)
   ending_all new text =
-      all_written c.args.summary both c.args.header received c.args.stop count audits.count c.in_ok-total.total
-      c.are_unlike-unlike.result c.is_whole-whole.result c.strangers-count.result c.first.result all_is strangers_is
-      unlike_is first_is is begins first second new (c.in_ok-write_runs.ensures.text sent received audits)
-      (c.in_ok-total.ensures.text sent received audits few)
+      all_written how c.args.summary both came count audits.count c.args.arrived has c.in_ok-total.total
+      c.are_unlike-unlike.result c.is_undamaged.result c.is_whole-whole.result c.strangers-count.result c.first.result
+      all_is strangers_is unlike_is c.is_undamaged.ensures first_is c.is_whole-whole.ensures begins first second new
+      (c.in_ok-write_runs.ensures.text sent (messages_in came.spans) audits)
+      (c.in_ok-total.ensures.text sent (messages_in came.spans) audits few)
       (subst (λ harts. Appends second new (written harts)) c.harts.ensures text)
 
-  whole : c.is_whole-whole.result ≡ is_whole_result both c.args.header received c.args.stop
+  whole : c.is_whole-whole.result ≡ is_whole_result how both came
   whole =
-      whole_is c.args.summary both c.args.header received c.args.stop count audits.count c.in_ok-total.total
-      c.are_unlike-unlike.result c.is_whole-whole.result c.strangers-count.result all_is strangers_is unlike_is is
+      whole_is how c.args.summary both came count audits.count c.args.arrived has c.in_ok-total.total
+      c.are_unlike-unlike.result c.is_undamaged.result c.is_whole-whole.result c.strangers-count.result c.first.result
+      all_is strangers_is unlike_is c.is_undamaged.ensures first_is c.is_whole-whole.ensures
 
 pub returns-in_err-write_text-clause-begun : goal.returns-in_err-write_text-clause-begun
-returns-in_err-write_text-clause-begun g c = λ sent received audits few.
-    ending_begun g (goal.at.returns-in_err-write_text-clause-begun g c).After-write_text sent received audits few
+returns-in_err-write_text-clause-begun g c = λ sent came audits few has.
+    ending_begun g (goal.at.returns-in_err-write_text-clause-begun g c).After-write_text sent came audits few has
     (g.O.Write.contents c.write_text.new.out) c.write_text.ensures.begun
 
 pub returns-in_err-flush-clause-begun : goal.returns-in_err-flush-clause-begun
-returns-in_err-flush-clause-begun g c = λ sent received audits few.
+returns-in_err-flush-clause-begun g c = λ sent came audits few has.
     let mid = g.O.Write.contents c.write_text.new.out in
     let new = g.O.Write.contents c.flush.new.self in
     let at = (goal.at.returns-in_err-flush-clause-begun g c).After-write_text in
-    let text = behind_findings c.args.summary (record { header = c.args.path.now.header; messages = sent })
-    c.args.header received c.args.stop in
+    let text = behind_findings c.args.path.now.by c.args.summary
+    (record { header = c.args.path.now.header; messages = sent }) came in
     begun_kept text (g.O.Write.contents c.args.out.now) mid new
-    (ending_begun g at sent received audits few mid c.write_text.ensures.begun) c.flush.ensures.bytes
+    (ending_begun g at sent came audits few has mid c.write_text.ensures.begun) c.flush.ensures.bytes
 
 pub returns-clause-begun : goal.returns-clause-begun
-returns-clause-begun g c = λ sent received audits few.
+returns-clause-begun g c = λ sent came audits few has.
     let mid = g.O.Write.contents c.write_text.new.out in
     let new = g.O.Write.contents c.flush.new.self in
     let at = (goal.at.returns-clause-begun g c).After-write_text in
-    let text = behind_findings c.args.summary (record { header = c.args.path.now.header; messages = sent })
-    c.args.header received c.args.stop in
+    let text = behind_findings c.args.path.now.by c.args.summary
+    (record { header = c.args.path.now.header; messages = sent }) came in
     begun_kept text (g.O.Write.contents c.args.out.now) mid new
-    (ending_begun g at sent received audits few mid c.write_text.ensures.begun) c.flush.ensures.bytes
+    (ending_begun g at sent came audits few has mid c.write_text.ensures.begun) c.flush.ensures.bytes
 
 pub returns-clause-written : goal.returns-clause-written
-returns-clause-written g c = λ sent received audits few.
+returns-clause-written g c = λ sent came audits few has.
     let mid = g.O.Write.contents c.write_text.new.out in
     let new = g.O.Write.contents c.flush.new.self in
     let at = (goal.at.returns-clause-written g c).After-write_text in
-    let text = behind_findings c.args.summary (record { header = c.args.path.now.header; messages = sent })
-    c.args.header received c.args.stop in
+    let text = behind_findings c.args.path.now.by c.args.summary
+    (record { header = c.args.path.now.header; messages = sent }) came in
     inr (
       appends-keeps (g.O.Write.contents c.args.out.now) mid new text
-          (ending_all g at sent received audits few mid c.in_ok-write_text.ensures.whole) c.flush.ensures.bytes,
-      c.ended.ensures.value ∙ ap (end_of_audit c.args.stop) (whole g at sent received audits few),
+          (ending_all g at sent came audits few has mid c.in_ok-write_text.ensures.whole) c.flush.ensures.bytes,
+      c.ended.ensures.value
+          ∙ (λ i. end_of_audit c.args.received (has.fault i) (whole g at sent came audits few has i)),
     )

@@ -4,6 +4,7 @@ use Rattle.std.specs.Io.KnownBytes.{Appends}
 use Rattle.std.specs.List.{flat_map, range_with_len}
 use Rattle.output.specs.Begun.{AppendsBeginning}
 use Rattle.output.proofs.Beginnings.{whole_begun}
+use Rattle.auditing.specs.Known.{known_all}
 use Rattle.auditing.specs.HartRows.{row_of}
 use Rattle.path_commands.proofs.HartLines.{hart_begun, hart_more, harts_all}
 use Rattle.path_commands.proofs.Parts.{HasWritten, part_none}
@@ -13,7 +14,9 @@ use Rattle.path_commands.specs.steps.Summing.{added}
 use Rattle.path_commands.proofs.comparing.write_rows.Goals as goal
 
 pub loop-hart-init : goal.loop-hart-init
-loop-hart-init g c = λ sent received audits few.
+loop-hart-init g c = λ own came audits few.
+    let sent = known_all c.args.path.now.by own in
+    let received = known_all c.args.path.now.by came in
     let count = length c.args.path.now.harts in
     let whole = row_lines sent received count in
     let out = g.O.Write.contents c.args.out.now in
@@ -24,19 +27,21 @@ loop-hart-init g c = λ sent received audits few.
     )
 
 pub loop-hart-preserved : goal.loop-hart-preserved
-loop-hart-preserved g c = λ sent received audits few.
+loop-hart-preserved g c = λ own came audits few.
+    let sent = known_all c.args.path.now.by own in
+    let received = known_all c.args.path.now.by came in
     let count = length c.args.path.now.harts in
     let hart = c.loop-hart.hart in
     let row = c.row-row.result in
     let within : hart < count = omega arith in
     let most : count < 2 ^ 64 = omega arith in
-    let is = c.row-row.ensures sent received audits few in
+    let is = c.row-row.ensures own came audits few in
     let mid = g.O.Write.contents c.loop-hart.out in
     let new = g.O.Write.contents c.write_text.new.out in
     let line = subst (λ row. Appends mid new (row_text hart row)) is c.in_ok-write_text.ensures.whole in
     let rows : AreFew row =
     few_by row (omega arith) (omega arith) (omega arith) (omega arith) (omega arith) (omega arith) (omega arith) in
-    let has = c.loop-hart.invariant sent received audits few in (
+    let has = c.loop-hart.invariant own came audits few in (
       hart_more (λ hart. row_text hart (row_of sent received hart)) (row_lines sent received count) count
           (g.O.Write.contents c.args.out.now) mid hart new within has.0 line,
       subst (λ total. IsTotal sent received total (hart + 1) count)
@@ -45,34 +50,42 @@ loop-hart-preserved g c = λ sent received audits few.
     )
 
 pub returns-in_err-write_text-clause-begun : goal.returns-in_err-write_text-clause-begun
-returns-in_err-write_text-clause-begun g c = λ sent received audits few.
+returns-in_err-write_text-clause-begun g c = λ own came audits few.
+    let sent = known_all c.args.path.now.by own in
+    let received = known_all c.args.path.now.by came in
     let count = length c.args.path.now.harts in
     let hart = c.loop-hart.hart in
     let within : hart < count = omega arith in
-    let is = c.row-row.ensures sent received audits few in
+    let is = c.row-row.ensures own came audits few in
     let mid = g.O.Write.contents c.loop-hart.out in
     let new = g.O.Write.contents c.write_text.new.out in
     let line = subst (λ row. AppendsBeginning (row_text hart row) mid new) is c.write_text.ensures.begun in
-    let has = c.loop-hart.invariant sent received audits few in
+    let has = c.loop-hart.invariant own came audits few in
     hart_begun (λ hart. row_text hart (row_of sent received hart)) (row_lines sent received count) count
     (g.O.Write.contents c.args.out.now) mid hart new within has.0 line
 
 pub returns-clause-text : goal.returns-clause-text
-returns-clause-text g c = λ sent received audits few.
+returns-clause-text g c = λ own came audits few.
+    let sent = known_all c.args.path.now.by own in
+    let received = known_all c.args.path.now.by came in
     let count = length c.args.path.now.harts in
     let past : count ≤ c.loop-hart.hart = omega arith in
-    let has = c.loop-hart.invariant sent received audits few in
+    let has = c.loop-hart.invariant own came audits few in
     harts_all (λ hart. row_text hart (row_of sent received hart)) (row_lines sent received count) count
     (g.O.Write.contents c.args.out.now) (g.O.Write.contents c.loop-hart.out) c.loop-hart.hart past has.0
 
 pub returns-clause-total : goal.returns-clause-total
-returns-clause-total g c = λ sent received audits few.
+returns-clause-total g c = λ own came audits few.
+    let sent = known_all c.args.path.now.by own in
+    let received = known_all c.args.path.now.by came in
     let count = length c.args.path.now.harts in
     let past : count ≤ c.loop-hart.hart = omega arith in
-    let has = c.loop-hart.invariant sent received audits few in
+    let has = c.loop-hart.invariant own came audits few in
     total_all sent received c.loop-hart.total c.loop-hart.hart count past has.1
 
 pub returns-clause-begun : goal.returns-clause-begun
-returns-clause-begun g c = λ sent received audits few.
+returns-clause-begun g c = λ own came audits few.
+    let sent = known_all c.args.path.now.by own in
+    let received = known_all c.args.path.now.by came in
     whole_begun (row_lines sent received (length c.args.path.now.harts)) (g.O.Write.contents c.args.out.now)
-    (g.O.Write.contents c.loop-hart.out) (returns-clause-text g c sent received audits few)
+    (g.O.Write.contents c.loop-hart.out) (returns-clause-text g c own came audits few)

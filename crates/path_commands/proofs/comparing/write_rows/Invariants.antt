@@ -2,6 +2,7 @@
 use Rattle.std.proofs.Common.{◌<◌, ◌^◌, List, length, ◌-◌}
 use Rattle.std.specs.List.{flat_map, range_with_len}
 use Rattle.message.specs.declared.message.Message.{Message}
+use Rattle.auditing.specs.Known.{known_all}
 use Rattle.auditing.specs.Audits.{Audits}
 use Rattle.auditing.specs.HartRows.{row_of}
 use Rattle.path_commands.proofs.Parts.{HasWritten}
@@ -11,9 +12,9 @@ use Rattle.path_commands.proofs.comparing.write_rows.Given as goal
 
 abbrev pub invariant-loop-hart : goal.invariant-loop-hart
 invariant-loop-hart g l =
-    (sent received : List Message) → Audits sent received l.path → length received < 2 ^ 64
-    → HasWritten (row_lines sent received (length l.path.harts))
-    (flat_map (λ hart. row_text hart (row_of sent received hart))
+    (own came : List Message) → Audits own came l.path → length came < 2 ^ 64
+    → HasWritten (row_lines (known_all l.path.by own) (known_all l.path.by came) (length l.path.harts))
+    (flat_map (λ hart. row_text hart (row_of (known_all l.path.by own) (known_all l.path.by came) hart))
     (range_with_len l.hart (length l.path.harts - l.hart)))
     (g.O.Write.contents l.fn.out) (g.O.Write.contents l.out)
-    × IsTotal sent received l.total l.hart (length l.path.harts)
+    × IsTotal (known_all l.path.by own) (known_all l.path.by came) l.total l.hart (length l.path.harts)

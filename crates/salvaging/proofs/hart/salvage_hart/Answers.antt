@@ -1,22 +1,27 @@
 -- What is salvaged is put together from the steps, by lemmas.
-use Rattle.std.proofs.Common.{◌≡◌, ◌<◌, ◌++◌, drop, length, take, sym, ap, subst, ◌∙◌, arith}
+use Rattle.std.proofs.Common.{◌≡◌, ◌<◌, ◌++◌, drop, length, map, take, sym, ap, subst, ◌∙◌, arith}
 use Rattle.std.proofs.Math.Seq.{take-append_seam}
 use Rattle.std.proofs.lemmas.Grind.{common_steps}
 use Rattle.std.proofs.lemmas.List.Sorted.{All-permutation}
 use Rattle.std.specs.List.Sorted.{IsPermutation}
 use Rattle.rvclass.specs.Fetch.{words_of}
-use Rattle.losses.specs.Runs.{first_run}
+use Rattle.losses.specs.Apart.{AreRising}
 use Rattle.message.specs.Harts.{end_of_numbers}
 use Rattle.salvaging.specs.Copies.{AreCopies}
+use Rattle.salvaging.specs.Ends.{AreCutAtEnd, HartLeaves}
+use Rattle.salvaging.specs.Entries.{entry_number}
 use Rattle.salvaging.specs.Late.{late}
 use Rattle.salvaging.specs.Leaving.{own_mode}
+use Rattle.salvaging.specs.PartsIn.{parts_in}
+use Rattle.salvaging.specs.steps.Ending.{TakesBeyond}
 use Rattle.salvaging.specs.steps.Arrivals.{Arrival, AreOrdered, HaveNumbers, arrivals_in}
-use Rattle.salvaging.specs.steps.Grouping.{entries_by}
+use Rattle.salvaging.specs.steps.Grouping.{AreSmall, entries_by}
+use Rattle.salvaging.proofs.CutLemmas.{goods_count, hart_left, rising_front, small_front}
 use Rattle.salvaging.proofs.EntriesTaken.{all_taken}
 use Rattle.salvaging.proofs.GroupedEntries.{entries_are}
 use Rattle.salvaging.proofs.GroupedMessages.{copies_of_messages, entries_of_messages}
-use Rattle.salvaging.proofs.HartSalvaged.{leaves_count}
 use Rattle.salvaging.proofs.SmallEntries.{entries_small}
+use Rattle.salvaging.proofs.TakenSoFar.{behind-is}
 use Rattle.salvaging.proofs.hart.salvage_hart.Goals.{After-as_slice-ordered}
 use Rattle.salvaging.proofs.hart.salvage_hart.Goals as goal
 
@@ -40,51 +45,84 @@ module _ (g : _) (c : After-as_slice-ordered g) where
   ordered : AreOrdered (arrivals_in c.as_slice-ordered.result.now)
   ordered = subst (λ l. AreOrdered (arrivals_in l)) (sym in_order) c.put_in_order.ensures.ordered
 
+  -- The entries rise, and their numbers are those that a hart may have.
+  rises : AreRising 0 (map entry_number (entries_by (arrivals_in c.as_slice-ordered.result.now)))
+  rises = (entries_are (arrivals_in c.as_slice-ordered.result.now) ordered).rising
+
+  small : AreSmall (entries_by (arrivals_in c.as_slice-ordered.result.now))
+  small =
+      let have : HaveNumbers (arrivals_in c.as_slice-ordered.result.now) =
+      All-permutation (λ (one : Arrival). one.message.number < end_of_numbers) (arrivals_in c.args.came.items)
+      (arrivals_in c.as_slice-ordered.result.now) moved c.requires in
+      entries_small (arrivals_in c.as_slice-ordered.result.now) have
+
+pub count_to_end-requires : goal.count_to_end-requires
+count_to_end-requires g c =
+    let at = goal.at.count_to_end-requires g c in rises g at.After-as_slice-ordered
+
 pub take_all-requires-clause-rising : goal.take_all-requires-clause-rising
 take_all-requires-clause-rising g c =
     let at = goal.at.take_all-requires-clause-rising g c in
-    (entries_are (arrivals_in c.as_slice-ordered.result.now) (ordered g at.After-as_slice-ordered)).rising
+    let cut = c.in_ok-end.ensures.cut in
+    rising_front 0 _ _ (subst (λ es. AreRising 0 (map entry_number es)) cut.whole (rises g at.After-as_slice-ordered))
 
 pub take_all-requires-clause-small : goal.take_all-requires-clause-small
 take_all-requires-clause-small g c =
     let at = goal.at.take_all-requires-clause-small g c in
-    let have : HaveNumbers (arrivals_in c.as_slice-ordered.result.now) =
-    All-permutation (λ (one : Arrival). one.message.number < end_of_numbers) (arrivals_in c.args.came.items)
-    (arrivals_in c.as_slice-ordered.result.now) (moved g at.After-as_slice-ordered) c.requires in
-    entries_small (arrivals_in c.as_slice-ordered.result.now) have
+    let cut = c.in_ok-end.ensures.cut in
+    small_front _ _ (subst AreSmall cut.whole (small g at.After-as_slice-ordered))
 
 pub late-late-requires : goal.late-late-requires
 late-late-requires g c =
     let words = words_of c.args.program.now in
     let mode = c.args.mode in
-    let all = entries_by (arrivals_in c.as_slice-ordered.result.now) in
+    let ordered = c.as_slice-ordered.result.now in
+    let end = c.in_ok-end.end in
+    let upto = entries_by (arrivals_in (take end ordered)) in
     let old = c.in_ok-trail.trail in
-    let new = c.end_run.new.self in
+    let gone = c.end_run.new.self in
     let t = c.in_ok-trail.ensures in
-    let ends = c.in_ok-end_run.ensures.ends words (own_mode mode all) t.run old.next t.closed t.under_way in
-    let left = all_taken words mode all old new t ends (ap (λ (v : _). v.items) c.in_ok-end_run.ensures.goods) in
-    ap length c.deref.ensures.value ∙ leaves_count words (own_mode mode all) all new.goods.items first_run 0 _ left.0
+    let ends = c.in_ok-end_run.ensures.ends words (own_mode mode upto) t.run old.next t.closed t.under_way in
+    let left = all_taken words mode upto old gone t ends (ap (λ (v : _). v.items) c.in_ok-end_run.ensures.goods) in
+    ap length c.deref.ensures.value
+    ∙ goods_count words c.own_mode-own.result mode (entries_by (arrivals_in ordered)) upto
+    (entries_by (arrivals_in (drop end ordered))) gone c.take_beyond.new.trail c.in_ok-end.ensures.cut
+    c.own_mode-own.ensures left
+    (subst (λ l. TakesBeyond words c.own_mode-own.result (entries_by (arrivals_in l)) gone c.take_beyond.new.trail)
+    (behind-is ordered end) c.in_ok-take_beyond.ensures)
 
 pub returns : goal.returns
 returns g c = λ messages placed.
     let words = words_of c.args.program.now in
     let mode = c.args.mode in
-    let came = arrivals_in c.as_slice-ordered.result.now in
+    let ordered_list = c.as_slice-ordered.result.now in
+    let came = arrivals_in ordered_list in
     let all = entries_by came in
+    let end = c.in_ok-end.end in
+    let upto = entries_by (arrivals_in (take end ordered_list)) in
+    let beyond = entries_by (arrivals_in (drop end ordered_list)) in
     let old = c.in_ok-trail.trail in
-    let new = c.end_run.new.self in
+    let gone = c.end_run.new.self in
+    let new = c.take_beyond.new.trail in
     let t = c.in_ok-trail.ensures in
-    let ends = c.in_ok-end_run.ensures.ends words (own_mode mode all) t.run old.next t.closed t.under_way in
-    let left = all_taken words mode all old new t ends (ap (λ (v : _). v.items) c.in_ok-end_run.ensures.goods) in
+    let ends = c.in_ok-end_run.ensures.ends words (own_mode mode upto) t.run old.next t.closed t.under_way in
+    let left = all_taken words mode upto old gone t ends (ap (λ (v : _). v.items) c.in_ok-end_run.ensures.goods) in
+    let own = c.own_mode-own.ensures in
     let at = (goal.at.returns g c).After-as_slice-ordered in
     let in_order = ordered g at in
     let permuted = subst (λ l. IsPermutation l came) placed (moved g at) in
     record {
       entries = all;
+      upto = upto;
+      beyond = beyond;
       goods = new.goods.items;
       are_entries = entries_of_messages messages came permuted in_order;
-      parts = left.0;
-      joined = left.1;
+      reads = own;
+      cut = subst (λ m. AreCutAtEnd words m all upto beyond) own c.in_ok-end.ensures.cut;
+      parts = subst (λ m. HartLeaves words m upto beyond new.goods.items (parts_in new.parts.items)) own
+          (hart_left words c.own_mode-own.result mode all upto beyond gone new c.in_ok-end.ensures.cut own left
+          (subst (λ l. TakesBeyond words c.own_mode-own.result (entries_by (arrivals_in l)) gone new)
+          (behind-is ordered_list end) c.in_ok-take_beyond.ensures));
       copies = subst (AreCopies messages) (sym c.copies-copies.ensures)
           (copies_of_messages messages came permuted in_order);
       late = c.late-late.ensures ∙ ap (late all) c.deref.ensures.value;

@@ -9,7 +9,7 @@ use Rattle.tracebench_c.proofs.Hearing.{heard_all, heard_stop, taken_more, taken
 use Rattle.tracebench_c.proofs.path_audit.take_messages.Goals as goal
 
 pub loop-message-init : goal.loop-message-init
-loop-message-init c = (λ sent audits. taken_none sent c.args.messages c.args.path.now audits, refl, omega arith)
+loop-message-init c = (λ sent audits. taken_none sent c.args.messages c.args.path.now audits, refl, omega arith, refl)
 
 pub loop-message-preserved : goal.loop-message-preserved
 loop-message-preserved c =
@@ -27,6 +27,7 @@ loop-message-preserved c =
           c.take.new.self (c.loop-message.invariant.0 sent audits) is begins (c.take.ensures.taken sent),
       c.take.ensures.harts ∙ c.loop-message.invariant.1,
       omega (arith, most, shorter),
+      c.take.ensures.by ∙ c.loop-message.invariant.3,
     )
 
 pub returns-in-Ok-None-clause-heard : goal.returns-in-Ok-None-clause-heard

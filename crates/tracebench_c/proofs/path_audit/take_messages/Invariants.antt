@@ -10,6 +10,7 @@ invariant-loop-message l =
     ((sent : List Message) → Audits sent [] l.fn.path → HasTaken sent l.fn.messages l.left l.path l.place)
     × (length l.path.harts ≡ length l.fn.path.harts)
     × (l.place + length l.left ≤ length l.fn.messages)
+    × (l.path.by ≡ l.fn.path.by)
 
 abbrev pub decreases-loop-message : goal.decreases-loop-message
 decreases-loop-message l = length l.left

@@ -1,14 +1,14 @@
 -- What is kept and what is found are those of the definitions, by the laws on one more message.
 use Rattle.std.proofs.Common.{◌∙◌, subst, sym}
-use Rattle.auditing.proofs.Taken.{finding_is_from, takes_all}
+use Rattle.auditing.proofs.TakenKnown.{finding_known, takes_known}
 use Rattle.auditing.specs.Audits.{Audits}
 use Rattle.auditing.proofs.audit.Audit.examine.Goals as goal
 
 pub returns-clause-finding : goal.returns-clause-finding
 returns-clause-finding g c = λ sent received audits.
-    c.take_by_hart.ensures.finding ∙ finding_is_from sent received c.args.self.now audits c.args.message.now
+    c.take_by_hart.ensures.finding ∙ finding_known sent received c.args.self.now audits c.args.message.now
 
 pub returns-clause-taken : goal.returns-clause-taken
 returns-clause-taken g c = λ sent received audits.
     subst (Audits sent _) (sym c.take_by_hart.ensures.after)
-    (takes_all sent received c.args.self.now audits c.args.message.now)
+    (takes_known sent received c.args.self.now audits c.args.message.now)

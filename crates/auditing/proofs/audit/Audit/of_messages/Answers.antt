@@ -10,7 +10,7 @@ returns-clause-audits g c =
     let counts = c.in_ok-counted.counted.counts.items in
     let highest = c.in_ok-counted.counted.highest in (
       refl,
-      started c.args.header c.args.harts c.count_of_harts-count.result highest counted.0 c.args.bytes.now counts
+      started c.args.by c.args.header c.args.harts c.count_of_harts-count.result highest counted.0 c.args.bytes.now counts
           c.in_ok-index.index.items c.requires
           (subst (λ bytes. HasCounted c.args.harts bytes [] counts highest counted.0) c.new.ensures counted.1)
           c.count_of_harts-count.ensures c.in_ok-index.ensures,

@@ -17,7 +17,7 @@ returns-in-Some g c = λ sent received audits.
     ap (λ (l : Ledger). slice_get l.harts hart) (sym c.self.view_is)
     ∙ (λ i. slice_get (sym c.deref.ensures.value i) (sym c.from.ensures i))
     ∙ slice_get-get_or harts c.from.result own within ∙ ap Some (sym found.1) in
-    c.payload.ensures ∙ payload_kept sent received hart c.args.number own (audits.each hart own at)
+    c.payload.ensures ∙ payload_kept sent hart c.args.number own.payloads (audits.payloads hart own at)
 
 pub returns-in-None : goal.returns-in-None
 returns-in-None g c = λ sent received audits.
@@ -26,4 +26,4 @@ returns-in-None g c = λ sent received audits.
     let count = ap (λ (l : Ledger). length l.harts) c.self.view_is in
     let value = ap length c.deref.ensures.value in
     let from = c.from.ensures in
-    payload_none sent received hart c.args.number c.args.self.now audits (omega (arith, past, count, value, from))
+    payload_none sent hart c.args.number (audits.others hart (omega (arith, past, count, value, from)))

@@ -1,6 +1,6 @@
 -- What was added is put together from the steps, by lemmas on parts.
 use Rattle.std.proofs.Common.{◌<◌, ◌+◌, ◌++◌, false, [], ◌∷◌, refl, ap, ◌∙◌, arith}
-use Rattle.salvaging.specs.LeftParts.{BadNumbers}
+use Rattle.salvaging.specs.LeftParts.{BadNumber}
 use Rattle.salvaging.proofs.PushedParts.{adds_both}
 use Rattle.salvaging.proofs.TrailSteps.{moved_on}
 use Rattle.salvaging.proofs.trail.Trail.take_bad.Goals as goal
@@ -16,8 +16,8 @@ returns g c = λ words reads run u.
     record {
       left = ends.left;
       leaves = ends.leaves;
-      parts = adds_both ends.left (BadNumbers number number c.args.why ∷ []) old.parts.items gone.parts.items
-          c.push_bad.new.parts.items ends.added c.in_ok-push_bad.ensures;
+      parts = adds_both ends.left (BadNumber number c.args.place c.args.why ∷ []) old.parts.items gone.parts.items
+          c.push_part.new.parts.items ends.added c.in_ok-push_part.ensures;
       under_way = moved_on words mode reads run false number (number + 1) 1 gone _ one ends.under_way refl refl refl
           refl
           refl;

@@ -1,9 +1,8 @@
 -- What was added is put together from the steps, by lemmas on parts.
 use Rattle.std.proofs.Common.{◌≡◌, ◌<◌, ◌-◌, ◌++◌, false, [], ◌∷◌, refl, ap, subst, ◌∙◌, arith}
 use Rattle.salvaging.specs.LeftParts.{DoubtfulNumber, gap}
-use Rattle.salvaging.specs.declared.part.Part.TheVariants as part
 use Rattle.salvaging.specs.steps.UnderWay.{AddsParts}
-use Rattle.salvaging.proofs.PushedParts.{adds_both, adds_doubtful}
+use Rattle.salvaging.proofs.PushedParts.{adds_both}
 use Rattle.salvaging.proofs.TrailSteps.{moved_on}
 use Rattle.salvaging.proofs.trail.Trail.take_doubtful.Goals as goal
 
@@ -14,7 +13,7 @@ returns g c = λ words reads run next closed u.
     let old = c.args.self.now in
     let gone = c.end_run.new.self in
     let gapped = c.push_gap.new.parts.items in
-    let new = c.push_reserved.new.self.items in
+    let new = c.push_part.new.parts.items in
     let ends = c.in_ok-end_run.ensures.ends words reads run next closed u in
     let at : gone.next ≡ next = c.in_ok-end_run.ensures.next ∙ u.next_is in
     let lost = gap (number - next) in
@@ -25,10 +24,8 @@ returns g c = λ words reads run next closed u.
       parts = adds_both ends.left (lost ++ DoubtfulNumber number ∷ []) old.parts.items gone.parts.items new ends.added
           (adds_both lost (DoubtfulNumber number ∷ []) gone.parts.items gapped new
           (subst (λ n. AddsParts (gap (number - n)) gone.parts.items gapped) at c.in_ok-push_gap.ensures)
-          (adds_doubtful gapped new number
-          (c.push_reserved.ensures.items
-          ∙ ap (λ l. l ++ part.Doubtful number ∷ []) c.in_ok-reserve.ensures.items)));
+          c.in_ok-push_part.ensures);
       under_way = moved_on words mode reads run closed next number 1 gone _ one ends.under_way refl refl refl refl refl;
-      goods = c.push_reserved-2.ensures.items ∙ ap (λ l. l ++ false ∷ []) (c.in_ok-reserve-2.ensures.items
+      goods = c.push_reserved.ensures.items ∙ ap (λ l. l ++ false ∷ []) (c.in_ok-reserve.ensures.items
           ∙ ap (λ (goods : _). goods.items) c.in_ok-end_run.ensures.goods);
     }

@@ -17,15 +17,16 @@ pub returns-in_ok-reserve-in-None : goal.returns-in_ok-reserve-in-None
 returns-in_ok-reserve-in-None g c = λ reads run next u.
     let words = words_of c.args.program.now in
     let mode = c.args.mode in
-    let number = c.args.number in
-    let payload = c.args.payload.now in
+    let number = c.args.message.now.number in
+    let place = c.args.place in
+    let payload = c.args.message.now.payload in
     let following = next_used (entries_by (arrivals_in c.args.behind.now)) in
     let old = c.args.self.now in
     let gone = c.go_on.new.self in
     let behind = run_behind (number - next) run in
     let judged = c.judge.new.self in
     let went = c.in_ok-go_on.ensures.goes_on words reads run next u in
-    takes_good words mode reads run next number payload following old gone judged _ went c.in_ok-judge.ensures.parts
+    takes_good words mode reads run next number place payload following old gone judged _ went c.in_ok-judge.ensures.parts
     (subst (λ found. Judged words mode reads behind number payload following found judged) c.in-None.is
     (c.in_ok-judge.ensures.judged mode reads behind number went.under_way)) refl refl refl refl refl refl
     (c.push_reserved.ensures.items ∙ ap (λ l. l ++ true ∷ []) (c.in_ok-reserve-in-None.ensures.items
@@ -35,8 +36,9 @@ pub returns-in-Some : goal.returns-in-Some
 returns-in-Some g c = λ reads run next u.
     let words = words_of c.args.program.now in
     let mode = c.args.mode in
-    let number = c.args.number in
-    let payload = c.args.payload.now in
+    let number = c.args.message.now.number in
+    let place = c.args.place in
+    let payload = c.args.message.now.payload in
     let following = next_used (entries_by (arrivals_in c.args.behind.now)) in
     let old = c.args.self.now in
     let gone = c.go_on.new.self in
@@ -47,9 +49,9 @@ returns-in-Some g c = λ reads run next u.
     let went = c.in_ok-go_on.ensures.goes_on words reads run next u in
     let bad = subst (λ found. Judged words mode reads behind number payload following found judged) c.in-Some.is
     (c.in_ok-judge.ensures.judged mode reads behind number went.under_way) in
-    on_ok c.take_bad.result (TakesBad words mode reads behind number why judged new)
-    (TakesUsed words mode reads run next number payload following old new)
-    (λ k. takes_bad words mode reads run next number payload following why old gone judged new went
+    on_ok c.take_bad.result (TakesBad words mode reads behind number place why judged new)
+    (TakesUsed words mode reads run next number place payload following old new)
+    (λ k. takes_bad words mode reads run next number place payload following why old gone judged new went
     c.in_ok-judge.ensures.parts bad.0 k
     (ap (λ (goods : _). goods.items) (c.in_ok-judge.ensures.goods ∙ c.in_ok-go_on.ensures.goods)))
     (c.take_bad.ensures words reads behind bad.1)

@@ -1,0 +1,19 @@
+-- Without a search it is the dump: the flag's value goes into the clauses, where no tactic puts it.
+use Rattle.std.proofs.Common.{IfOk, OnErr, subst, sym}
+use Rattle.captures.specs.Dump.{AppendsDump, BeginsDump}
+use Rattle.capture_commands.specs.Dumping.{IsDumpAsked}
+use Rattle.capture_commands.proofs.dumping.write_dump.Goals as goal
+
+pub returns-else-asked-clause-dumped : goal.returns-else-asked-clause-dumped
+returns-else-asked-clause-dumped g c =
+    subst
+    (λ search. IfOk c.dump_capture.result (λ dumped. AppendsDump (IsDumpAsked search c.args.bytes.now) dumped.bad
+    dumped.fault (g.O.Write.contents c.args.out.now) (g.O.Write.contents c.dump_capture.new.sink)))
+    (sym c.if-asked.false) c.dump_capture.ensures.dumped
+
+pub returns-else-asked-clause-begun : goal.returns-else-asked-clause-begun
+returns-else-asked-clause-begun g c =
+    subst
+    (λ search. OnErr c.dump_capture.result (BeginsDump (IsDumpAsked search c.args.bytes.now)
+    (g.O.Write.contents c.args.out.now) (g.O.Write.contents c.dump_capture.new.sink)))
+    (sym c.if-asked.false) c.dump_capture.ensures.begun

@@ -1,0 +1,6 @@
+-- The spans so far are read.
+use Rattle.capture_commands.proofs.OffsetLists.{ReadSo}
+use Rattle.capture_commands.proofs.frame_reading.frames_of.Given as goal
+
+abbrev pub invariant-loop-span : goal.invariant-loop-span
+invariant-loop-span l = ReadSo l.harts l.fn.spans l.span-iterator l.frames

@@ -1,0 +1,46 @@
+-- How what is at a place of a damaged capture is added.
+use Rattle.std.specs.Prelude.{ℕ, ◌≡◌, ◌++◌, Bool, true, List, [], ◌∷◌, Option, Some, length, slice_get}
+use Rattle.std.specs.declared.alloc.Global.{Global}
+use Rattle.std.specs.declared.vec.Vec.{Vec}
+use Rattle.frames.specs.declared.span.Span.{Span}
+use Rattle.frames.specs.declared.span.Span.TheVariants.{Frame, Bytes}
+use Rattle.rvclass.specs.Image.{Image}
+use Rattle.searching.specs.Harts.{harts_counted}
+use Rattle.searching.specs.Start.{spans_of}
+use Rattle.capture_commands.specs.EachHart.{numbered_harts}
+use Rattle.capture_commands.specs.Frames.{AreFrames, own_offsets}
+use Rattle.capture_commands.specs.SalvagedText.{hart_text, rest_text}
+use Rattle.capture_commands.specs.Salvaging.{IsSalvagedCapture}
+use Rattle.capture_commands.specs.declared.frame_reading.Frames.{Frames}
+use Rattle.capture_commands.specs.declared.salvaging_capture.Found.{Found}
+
+-- An offset was added to the list of its hart, if there is one.
+pub record AddsOffset (hart offset : ℕ) (old new : List (Vec ℕ Global)) : Type 0 where
+  pub count : length new ≡ length old
+  pub own : (before after : Vec ℕ Global) → slice_get old hart ≡ Some before → slice_get new hart ≡ Some after
+      → after.items ≡ before.items ++ offset ∷ []
+  pub others : (other : ℕ) (before after : Vec ℕ Global) → ¬ (other ≡ hart) → slice_get old other ≡ Some before
+      → slice_get new other ≡ Some after → after.items ≡ before.items
+
+-- What is at a place was added: the message of a frame and its offset, or that there are bytes.
+abbrev pub AddsSpan : Span → Frames → Frames → Type 0
+AddsSpan (Frame offset message) old new =
+    (new.messages.items ≡ old.messages.items ++ message ∷ []) × (new.runs ≡ old.runs)
+    × AddsOffset message.hart offset old.offsets.items new.offsets.items
+AddsSpan (Bytes offset count) old new =
+    (new.messages.items ≡ old.messages.items) × (new.runs ≡ true) × (new.offsets.items ≡ old.offsets.items)
+
+-- This is found of a capture: what is salvaged of it, and the offsets of its frames.
+pub record IsFound (asked : Option ℕ) (program : Image) (bytes : List ℕ) (found : Found) : Type 0 where
+  pub salvaged : IsSalvagedCapture asked program bytes found.header found.fault found.salvaged
+  pub frames : AreFrames (harts_counted asked found.header bytes) (spans_of found.header bytes) found.frames
+
+-- The text of what was found, with the offsets from the lists that were made of them.
+abbrev pub found_harts : Bool → Found → List ℕ
+found_harts summary found =
+    numbered_harts (λ hart. hart_text summary found.header (own_offsets found.frames.offsets.items hart)) 0
+    found.salvaged.harts.items
+
+abbrev pub found_text : Bool → Found → List ℕ → List ℕ
+found_text summary found bytes =
+    found_harts summary found ++ rest_text (spans_of found.header bytes) found.salvaged.strangers

@@ -1,0 +1,26 @@
+//! The run of the subcommand that reads lines, with its reasons to stop among those of all.
+
+ghost use Rattle.std.specs.Prelude.{◌≤◌};
+ghost use Rattle.commands.specs.steps.Running.{IsRun};
+ghost use Rattle.subcommands.specs.Limits.{IsCountIfGiven};
+ghost use Rattle.subcommands.specs.declared.words.Asked.TheVariants as Asked;
+
+use crate::joining::joined_end;
+use crate::reason::Fault;
+use command_inputs::{Files, Status};
+use line_commands::capture;
+use std::io::Write;
+use subcommands::Capture;
+
+/// A run of `capture`.
+pub(crate) fn run_capture<'a, F: Files, O: Write>(
+    files: &mut F,
+    asked: &Capture<'a>,
+    out: &mut O,
+) -> Result<Status, Fault<'a>>
+    requires period { 1 ≤ asked.now.period }
+    requires harts { IsCountIfGiven asked.now.harts }
+    ensures { IsRun (F.content files.old) (Asked.Capture asked.now) O.contents result out.old out.new }
+{
+    joined_end(capture(files, asked, out))
+}

@@ -1,0 +1,2 @@
+mod CaptureRuns
+mod CaptureSteps

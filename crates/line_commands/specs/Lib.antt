@@ -1,0 +1,4 @@
+pub mod Faults
+pub mod FaultText
+pub mod Capturing
+pub mod steps

@@ -1,0 +1,9 @@
+-- What the writer of a capture of lines may be given.
+use Rattle.std.specs.Prelude.{◌≤◌, IfSome}
+use Rattle.capture_lines.specs.declared.settings.Settings.{Settings}
+use Rattle.message.specs.Version.{most_harts}
+
+-- The period is 1 at least, and the count of harts is 1 at least and no more than a capture of the version has.
+abbrev pub IsReady : Settings → Type 0
+IsReady settings = (1 ≤ settings.period)
+    × IfSome settings.harts (λ harts. (1 ≤ harts) × (harts ≤ most_harts settings.version))

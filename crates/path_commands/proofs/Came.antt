@@ -1,0 +1,35 @@
+-- How RECEIVED reads, from how it begins.
+use Rattle.std.proofs.Common.{◌≡◌, ℕ, Bool, List, [], Option, drop, refl, ◌∙◌}
+use Rattle.alike.specs.declared.by.By.{By}
+use Rattle.message.specs.declared.fault.MessageFault.{MessageFault}
+use Rattle.message.specs.declared.header.Header.{Header}
+use Rattle.message.specs.declared.message.Message.{Message}
+use Rattle.resuming.specs.Passages.{Left, spans_from, spans_left}
+use Rattle.searching.specs.Start.{IsStart, first_place}
+use Rattle.auditing.specs.Seen.{sight_of}
+use Rattle.path_commands.specs.AuditText.{span_lines}
+use Rattle.path_commands.specs.Audited.{Came, IsCame}
+
+-- RECEIVED of these bytes, which begin with this header or with none.
+abbrev pub came_of : By → List Message → List ℕ → Option Header → Option MessageFault → Came
+came_of how sent bytes header fault = record {
+  header = header;
+  fault = fault;
+  spans = spans_from (sight_of how sent) (first_place header) (drop (first_place header) bytes);
+}
+
+pub is_came_of : (how : By) (sent : List Message) (bytes : List ℕ) (header : Option Header)
+    (fault : Option MessageFault) → IsStart bytes header fault → IsCame how sent bytes (came_of how sent bytes header fault)
+is_came_of how sent bytes header fault start = record { start = start; spans = refl }
+
+module _ (own how : By) (sent : List Message) (bytes : List ℕ) (header : Option Header) (fault : Option MessageFault)
+    (left : Left) (from : ℕ) (by_is : own ≡ how) (from_is : from ≡ first_place header)
+    (left_is : spans_left (sight_of own sent) left ≡ spans_from (sight_of own sent) from (drop from bytes)) where
+  -- The spans that are read are those.
+  pub spans_are : spans_left (sight_of own sent) left ≡ (came_of how sent bytes header fault).spans
+  spans_are = left_is ∙ (λ i. spans_from (sight_of (by_is i) sent) (from_is i) (drop (from_is i) bytes))
+
+  -- The lines are those.
+  pub lines_are : (summary : Bool) → span_lines own summary sent [] (spans_left (sight_of own sent) left)
+      ≡ span_lines how summary sent [] (came_of how sent bytes header fault).spans
+  lines_are summary = λ i. span_lines (by_is i) summary sent [] (spans_are i)

@@ -1,0 +1,198 @@
+//! The messages of RECEIVED and the bytes between them, written line by line.
+
+ghost use Rattle.std.specs.Prelude.{◌≡◌, ◌<◌, ◌≤◌, ◌^◌, ◌∷◌, ◌++◌, ◌==◌, ◌&&◌, IfErr, IfOk, List, [], OnOk, is_none, length};
+ghost use Rattle.std.specs.Io.KnownBytes.{Appends};
+ghost use Rattle.output.specs.Begun.{AppendsBeginning};
+ghost use Rattle.captures.specs.Offsets.{bytes_line};
+ghost use Rattle.message.specs.declared.message.Message.{Message as AnyMessage};
+ghost use Rattle.auditing.specs.Audits.{Audits as IsAudit};
+ghost use Rattle.auditing.specs.Seen.{sight_of};
+ghost use Rattle.resuming.specs.Counted.{bytes_in, messages_in, runs_in};
+ghost use Rattle.resuming.specs.Passages.{spans_left};
+ghost use Rattle.path_commands.specs.AuditText.{line_or_none, span_line, span_lines, unless_summary};
+ghost use Rattle.path_commands.specs.steps.Reading.{progress_after};
+
+use crate::lines::FindingText;
+use auditing::{Audit, Finding};
+use captures::write_bytes_line;
+use frames::Span;
+use message::{Header, Message, MessageFault};
+use output::write_text;
+use resuming::Resuming;
+use retire::WriteFault;
+use std::io::Write;
+
+/// How far RECEIVED is read.
+#[derive(Clone, Copy)]
+pub(crate) struct Progress {
+    /// How many messages were taken.
+    pub(crate) messages: u64,
+    /// How many bytes were of no message.
+    pub(crate) bytes: u64,
+    /// How many runs they were in.
+    pub(crate) runs: u64,
+}
+
+impl Progress {
+    /// Before the first byte.
+    pub(crate) const START: Progress = Progress {
+        messages: 0,
+        bytes: 0,
+        runs: 0,
+    };
+
+    /// After one span more.
+    fn after(self, span: &Span) -> Progress
+        ensures { result ≡ progress_after self span.now }
+    {
+        match span {
+            Span::Frame { .. } => Progress {
+                messages: self.messages.saturating_add(1),
+                bytes: self.bytes,
+                runs: self.runs,
+            },
+            Span::Bytes { count, .. } => Progress {
+                messages: self.messages,
+                bytes: self.bytes.saturating_add(*count as u64),
+                runs: self.runs.saturating_add(1),
+            },
+        }
+    }
+}
+
+/// How RECEIVED was read.
+#[derive(Clone, Copy)]
+pub(crate) struct Arrived {
+    /// Its header, if it has a valid one.
+    pub(crate) header: Option<Header>,
+    /// Why it has none, where it begins as a capture of version 2 does.
+    pub(crate) fault: Option<MessageFault>,
+    /// How many bytes are of no message.
+    pub(crate) bytes: u64,
+    /// How many runs they are in.
+    pub(crate) runs: u64,
+}
+
+impl Arrived {
+    /// Whether it is read without damage.
+    pub(crate) fn is_undamaged(self) -> bool
+        ensures { result ≡ (is_none self.fault && (self.bytes == 0)) }
+    {
+        self.fault.is_none() && self.bytes == 0
+    }
+}
+
+/// Takes the messages of RECEIVED that are left, and writes a line for each that is not in order or skips a number, and
+/// for each run of bytes between them, but none in a summary. Returns how far it was read then.
+pub(crate) fn write_spans<O: Write>(
+    path: &mut Audit<'_>,
+    spans: Resuming<'_>,
+    summary: bool,
+    out: &mut O,
+) -> Result<Progress, WriteFault>
+    ensures audits { (sent : List AnyMessage) → IsAudit sent [] path.old → length spans.entry.bytes < 2 ^ 64
+        → IfOk result (λ progress. IsAudit sent (messages_in (spans_left (sight_of path.old.by sent) spans.entry)) path.new
+        × (progress.bytes ≡ bytes_in (spans_left (sight_of path.old.by sent) spans.entry))
+        × (progress.runs ≡ runs_in (spans_left (sight_of path.old.by sent) spans.entry))
+        × (length (messages_in (spans_left (sight_of path.old.by sent) spans.entry)) ≤ length spans.entry.bytes)) }
+    ensures by { path.new.by ≡ path.old.by }
+    ensures header { path.new.header ≡ path.old.header }
+    ensures text { (sent : List AnyMessage) → IsAudit sent [] path.old → length spans.entry.bytes < 2 ^ 64
+        → OnOk result (Appends (O.contents out.old) (O.contents out.new)
+        (span_lines path.old.by summary sent [] (spans_left (sight_of path.old.by sent) spans.entry))) }
+    ensures begun { (sent : List AnyMessage) → IsAudit sent [] path.old → length spans.entry.bytes < 2 ^ 64
+        → AppendsBeginning (span_lines path.old.by summary sent [] (spans_left (sight_of path.old.by sent) spans.entry))
+        (O.contents out.old) (O.contents out.new) }
+    ensures fault { IfErr result (λ fault. fault ≡ WriteFault.Write) }
+{
+    let mut left = spans;
+    let mut progress = Progress::START;
+    while let Some(span) = left.next(&*path) {
+        write_span(path, &span, progress.messages, summary, out)?;
+        progress = progress.after(&span);
+    }
+    Ok(progress)
+}
+
+/// Takes the message of a span, and writes its line or that of the span's bytes, where it has one. So many messages were
+/// taken before.
+fn write_span<O: Write>(
+    path: &mut Audit<'_>,
+    span: &Span,
+    place: u64,
+    summary: bool,
+    out: &mut O,
+) -> Result<(), WriteFault>
+    ensures audits { (sent received : List AnyMessage) → IsAudit sent received path.old
+        → IsAudit sent (received ++ messages_in (span.now ∷ [])) path.new }
+    ensures by { path.new.by ≡ path.old.by }
+    ensures header { path.new.header ≡ path.old.header }
+    ensures text { (sent received : List AnyMessage) → IsAudit sent received path.old → place ≡ length received
+        → OnOk result (Appends (O.contents out.old) (O.contents out.new)
+        (span_line path.old.by summary sent received span.now)) }
+    ensures begun { (sent received : List AnyMessage) → IsAudit sent received path.old → place ≡ length received
+        → AppendsBeginning (span_line path.old.by summary sent received span.now)
+        (O.contents out.old) (O.contents out.new) }
+    ensures fault { IfErr result (λ fault. fault ≡ WriteFault.Write) }
+{
+    match span {
+        Span::Frame { message, .. } => {
+            let finding = path.examine(message);
+            write_finding(path, place, message, finding, summary, out)
+        }
+        Span::Bytes { offset, count } => { write_run(*offset as u64, *count as u64, summary, out) }
+    }
+}
+
+/// Writes the line of a run of bytes of no message, but none in a summary.
+fn write_run<O: Write>(
+    offset: u64,
+    count: u64,
+    summary: bool,
+    out: &mut O,
+) -> Result<(), WriteFault>
+    ensures text { OnOk result (Appends (O.contents out.old) (O.contents out.new)
+        (unless_summary summary (bytes_line offset count))) }
+    ensures begun { AppendsBeginning (unless_summary summary (bytes_line offset count))
+        (O.contents out.old) (O.contents out.new) }
+    ensures fault { IfErr result (λ fault. fault ≡ WriteFault.Write) }
+{
+    if summary {
+        return Ok(());
+    }
+    write_bytes_line(out, offset, count)
+}
+
+/// Writes the line of a message at this place, where it is not in order or skips a number, but none in a summary.
+fn write_finding<O: Write>(
+    path: &Audit<'_>,
+    place: u64,
+    message: &Message,
+    finding: Finding,
+    summary: bool,
+    out: &mut O,
+) -> Result<(), WriteFault>
+    ensures text { (sent received : List AnyMessage) → IsAudit sent received path.now
+        → OnOk result (Appends (O.contents out.old) (O.contents out.new)
+        (line_or_none summary sent place (record { message = message.now; finding = finding }))) }
+    ensures begun { (sent received : List AnyMessage) → IsAudit sent received path.now
+        → AppendsBeginning (line_or_none summary sent place (record { message = message.now; finding = finding }))
+        (O.contents out.old) (O.contents out.new) }
+    ensures fault { IfErr result (λ fault. fault ≡ WriteFault.Write) }
+{
+    if summary || finding.is_plain() {
+        return Ok(());
+    }
+    let hart = message.hart;
+    let number = message.number;
+    let text = FindingText {
+        finding,
+        sent: path.sent(hart, number),
+        came: message.payload.bytes(),
+    };
+    write_text(
+        out,
+        format_args!("message {place}: hart {hart} number {number}: {text}\n"),
+    )?;
+    Ok(())
+}

@@ -1,0 +1,4 @@
+mod AmidLemmas
+mod PassageLemmas
+mod Seeing
+mod TakenLemmas

@@ -1,0 +1,5 @@
+pub mod Taken
+pub mod Passages
+pub mod Counted
+pub mod Amid
+pub mod steps

@@ -1,0 +1,101 @@
+//! Bytes to the messages among them.
+
+ghost use Rattle.std.specs.Prelude.{◌≡◌, ◌≤◌, ◌+◌, ◌++◌, ℕ, All, IfSome, List, [], None, drop, length};
+ghost use Rattle.std.specs.Option.{option_to_list};
+ghost use Rattle.frames.specs.Written.{Scattered, frames_from, scattered_bytes, scattered_from};
+ghost use Rattle.message.specs.Capture.{capture};
+ghost use Rattle.message.specs.Cut.{IsMessage};
+ghost use Rattle.message.specs.declared.message.Message.{Message as AnyMessage};
+ghost use Rattle.resuming.specs.Counted.{span_size};
+ghost use Rattle.resuming.specs.Amid.{IsSentMessage, NoneBegins};
+ghost use Rattle.resuming.specs.Passages.{Left, Sees, spans_from, spans_left};
+
+use crate::sent::Sent;
+use crate::taking::{bytes_to_next, taken};
+use frames::Span;
+use std::marker::Model;
+
+/// The messages among the bytes that came, and the longest runs of bytes between them, one at a time and in order. A
+/// clause sees the bytes that are left, and where the first of them is.
+///
+/// A complete message is taken where it was sent. It is also taken where right after it the bytes end, where a complete
+/// message follows whose hart and number were sent, and where one follows after which again the bytes end or a
+/// complete message is. Where none is taken, reading goes on at the next message that was sent. So a message that was
+/// changed or never sent is kept among others, and bytes that were lost, added or overwritten cost the messages that
+/// they were in, and no more.
+///
+/// Whether a message was sent is asked at most three times at each place: after a message that no other follows, before
+/// a run of bytes, and inside one. Whether a message is complete is asked three times more. So time is linear in the
+/// bytes, whatever they are. Takes no memory.
+#[derive(Debug, Drop)]
+pub struct Resuming<'a> {
+    bytes: &'a [u8],
+    at: usize,
+}
+
+impl<'a> Model for Resuming<'a> {
+    ghost Value = { Left };
+
+    ghost view = { λ reading. record { offset = reading.at; bytes = drop reading.at reading.bytes.now } };
+
+    ghost invariant = { λ reading. reading.at ≤ length reading.bytes.now };
+}
+
+impl<'a> Resuming<'a> {
+    /// The messages of bytes from the place `from` on. Their offsets count from the first of all bytes. From a place
+    /// after the last byte there is none.
+    pub fn new(bytes: &'a [u8], from: usize) -> Resuming<'a>
+        ensures spans { (sees : Sees) → spans_left sees result ≡ spans_from sees from (drop from bytes.now) }
+        ensures few { length result.bytes ≤ length bytes.now }
+
+        // Messages one after the other are found each at its place, and nothing else is, whatever was sent.
+        ensures complete { (sees : Sees) (messages : List AnyMessage) → All IsMessage messages
+            → drop from bytes.now ≡ capture messages
+            → spans_left sees result ≡ frames_from from messages }
+
+        // So are messages that were sent among other bytes, at no place of which a complete message begins.
+        ensures amid { (sees : Sees) (messages : List Scattered) (last : List ℕ)
+            → All (λ (s : Scattered). IsSentMessage sees s.message) messages → NoneBegins messages last
+            → drop from bytes.now ≡ scattered_bytes messages last
+            → spans_left sees result ≡ scattered_from from messages last }
+    {
+        Resuming {
+            bytes,
+            at: from.min(bytes.len()),
+        }
+    }
+
+    /// The next message that is taken, or the next run of bytes; `None` at the end. What was sent may be told by anything
+    /// that sees each message in the same way.
+    pub fn next<S: Sent>(&mut self, sent: &S) -> Option<Span>
+        ensures spans { (sees : Sees) → ((message : AnyMessage) → S.sees sent.now message ≡ sees message)
+            → spans_left sees self.old ≡ option_to_list result ++ spans_left sees self.new }
+        ensures end { result ≡ None → self.old.bytes ≡ [] }
+        ensures sizes { IfSome result (λ span. (1 ≤ span_size span)
+            × (span_size span + length self.new.bytes ≡ length self.old.bytes)) }
+    {
+        self.pass(sent)
+    }
+
+    /// The same, by what is seen of each message.
+    fn pass<S: Sent>(&mut self, sent: &S) -> Option<Span>
+        ensures spans { spans_left (S.sees sent.now) self.old
+            ≡ option_to_list result ++ spans_left (S.sees sent.now) self.new }
+        ensures end { result ≡ None → self.old.bytes ≡ [] }
+        ensures sizes { IfSome result (λ span. (1 ≤ span_size span)
+            × (span_size span + length self.new.bytes ≡ length self.old.bytes)) }
+    {
+        let offset = self.at;
+        let rest = &self.bytes[offset..];
+        if rest.is_empty() {
+            return None;
+        }
+        let Some(message) = taken(rest, sent) else {
+            let count = bytes_to_next(rest, sent);
+            self.at = offset + count;
+            return Some(Span::Bytes { offset, count });
+        };
+        self.at = offset + message.size();
+        Some(Span::Frame { offset, message })
+    }
+}

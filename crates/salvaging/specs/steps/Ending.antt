@@ -1,0 +1,43 @@
+-- How the end of a hart is found, and what is taken beyond it.
+use Rattle.std.specs.Prelude.{ℕ, ◌≡◌, ◌++◌, Bool, true, false, List, [], Option, Some, None}
+use Rattle.rvclass.specs.Words.{Words}
+use Rattle.payload.specs.Closing.{is_closing}
+use Rattle.payload.specs.declared.mode.Mode.{Mode}
+use Rattle.payload.specs.declared.packet.Packet.{Packet}
+use Rattle.decoder.specs.Resuming.{IsSync}
+use Rattle.losses.specs.Runs.{run_of}
+use Rattle.salvaging.specs.Bad.{IsBad, IsGood}
+use Rattle.salvaging.specs.Ends.{AllLeaveBeyond, none_good}
+use Rattle.salvaging.specs.Entries.{Entry, Used, Doubtful}
+use Rattle.salvaging.specs.LeftParts.{LeftPart}
+use Rattle.salvaging.specs.PartsIn.{parts_in}
+use Rattle.salvaging.specs.declared.reason.Reason.{Reason}
+use Rattle.salvaging.specs.declared.trail.Trail.{Trail}
+
+-- A used message with this payload was checked where a synchronisation is looked for: it is good, or bad for this reason.
+abbrev pub JudgedAlone : Words → Mode → List ℕ → Option ℕ → Option Reason → Type 0
+JudgedAlone words mode payload following None =
+    (packet : Packet) × IsGood words mode (run_of 1 []) payload following packet
+JudgedAlone words mode payload following (Some why) = IsBad words mode (run_of 1 []) payload following why
+
+-- A stretch begins at a used message with this payload, where a synchronisation is looked for.
+abbrev pub BeginsBy : Words → Mode → List ℕ → Type 0
+BeginsBy words mode payload = (packet : Packet) × IsSync packet × IsGood words mode (run_of 1 []) payload None packet
+
+-- The entry is used.
+abbrev pub is_used : Entry → Bool
+is_used (Used number place payload) = true
+is_used (Doubtful number) = false
+
+-- The entry is used, and its packet closes the trace.
+abbrev pub closes : Entry → Bool
+closes (Used number place payload) = is_closing payload
+closes (Doubtful number) = false
+
+-- Entries beyond the end of their hart were taken: what they leave was added, and none of them is good.
+pub record TakesBeyond {A : Type 0} (words : Words) (mode : Mode) (entries : List Entry) (old new : Trail A)
+    : Type 0 where
+  pub after : List LeftPart
+  pub parts : parts_in new.parts.items ≡ parts_in old.parts.items ++ after
+  pub leaves : AllLeaveBeyond words mode entries after
+  pub goods : new.goods.items ≡ old.goods.items ++ none_good entries

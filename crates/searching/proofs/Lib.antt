@@ -1,0 +1,2 @@
+mod KnownHarts
+mod SpanTexts

@@ -1,0 +1,3 @@
+pub mod Start
+pub mod Harts
+pub mod Search

@@ -1,0 +1,14 @@
+//! Captures that may be damaged: where their frames are, and a dump of them.
+//!
+//! [`start_of`] returns how a capture begins, [`spans_of`] its frames and the bytes between them, and [`harts_counted`]
+//! how many harts it has. [`search_capture`] writes a line of text for each frame and for each run of bytes between.
+//! Nothing here takes memory.
+#![tactic(auto)]
+
+mod counting;
+mod searched;
+mod start;
+
+pub use counting::harts_counted;
+pub use searched::search_capture;
+pub use start::{CaptureStart, first_place, spans_of, start_of};

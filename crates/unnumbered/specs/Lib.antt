@@ -1,0 +1,5 @@
+pub mod Aligned
+pub mod Arrivals
+pub mod Counted
+pub mod Cursor
+pub mod steps

@@ -1,0 +1,20 @@
+//! What became of messages that carry no numbers.
+//!
+//! SENT is the list of messages that a path was given, RECEIVED the list of those that came out of it. [`aligned_harts`]
+//! aligns the payloads of each hart of SENT (`alignment`). [`arrival_lines`] lists the messages of RECEIVED that are not
+//! matched or skip a number, [`counts_of`] and [`total_of`] count. The numbers of RECEIVED are not looked at.
+#![tactic(auto)]
+
+mod arrivals;
+mod counting;
+mod cursor;
+mod harts;
+mod laws;
+mod line;
+mod splitting;
+
+pub use arrivals::arrival_lines;
+pub use counting::{AlignedTotal, HartCounts, counts_of, total_of};
+pub use harts::aligned_harts;
+pub use laws::{counts_add_up, whole_is_equal};
+pub use line::Line;

@@ -1,0 +1,75 @@
+"""Wrong bodies of the calls for C."""
+
+BODIES = [
+    ("a new decoder that has announced full mode", "tracebench_c", "feeding.rt",
+        "    *state = numbers_of_state(&Decoder::new().state());\n",
+        "    *state = DecoderNumbers {\n        is_announced: 1,\n        announced: 1,\n"
+        "        ..numbers_of_state(&Decoder::new().state())\n    };\n"),
+    ("a decoder that passes over all packets", "tracebench_c", "feeding.rt",
+        "    let mut events = Vec::new(alloc);\n",
+        "    let mut events = Vec::new(alloc);\n    if numbers.phase == 2 {\n        return Ok(FedPayload {\n"
+        "            numbers: *numbers,\n            events,\n        });\n    }\n"),
+    ("packets with cause and interrupt exchanged", "tracebench_c", "numbers.rt",
+        "            cause: u32::from(*cause),\n            interrupt: u32::from(*interrupt),\n",
+        "            cause: u32::from(*interrupt),\n            interrupt: u32::from(*cause),\n"),
+    ("a tally with repeated and late exchanged", "tracebench_c", "path_audit.rt",
+        "        repeated: tally.repeated,\n        late: tally.late,\n",
+        "        repeated: tally.late,\n        late: tally.repeated,\n"),
+    ("statuses of repeats and gaps exchanged", "tracebench_c", "status.rt",
+        "pub const REPEAT: u32 = 97;", "pub const REPEAT: u32 = 98;",
+        "pub const GAP: u32 = 98;", "pub const GAP: u32 = 97;",
+        "        && STRANGER < REPEAT\n        && REPEAT < GAP\n        && GAP < AFTER_CLOSE\n",
+        "        && STRANGER < GAP\n        && GAP < REPEAT\n        && REPEAT < AFTER_CLOSE\n"),
+    ("tracebench_check MEMORY past 65,536 events", "tracebench_c", "checking.rt",
+        "    Ok(events.len() as u64)\n",
+        "    if events.len() > 65_536 {\n        return Err(Fault::Memory);\n    }\n    Ok(events.len() as u64)\n"),
+    *(("tracebench_encode MEMORY " + where, "tracebench_c", "encoding.rt",
+        "    let mut capture = Vec::new(alloc);\n",
+        f"    if {test} {{\n        return Err((0, Fault::Memory));\n    }}\n    let mut capture = Vec::new(alloc);\n")
+        for where, test in (
+            ("in full mode", "matches!(mode, Mode::Full)"),
+            ("at the period 65,535", "period == 65_535"),
+            ("in version 1 past a log", "matches!(version, Version::One) && logs.len() > 1"),
+            ("past 64 logs", "logs.len() > 64"),
+            ("past 65,536 bytes of texts", "ends.last().copied().unwrap_or(0) > 65_536"),
+        )),
+    ("tracebench_encode without the mode", "tracebench_c", "encoding.rt",
+        "logs.as_slice(), period, mode, version, &mut capture)",
+        "logs.as_slice(), period, Mode::Differential, version, &mut capture)"),
+    ("tracebench_encode without the period", "tracebench_c", "encoding.rt",
+        "logs.as_slice(), period, mode, version, &mut capture)",
+        "logs.as_slice(), 1024, mode, version, &mut capture)"),
+    ("tracebench_decode without the hart", "tracebench_c", "decoding.rt",
+        "    let place = usize::from(hart);\n", "    let place = usize::from(hart.min(1));\n"),
+    ("tracebench_dump MEMORY past 65,536 bytes", "tracebench_c", "dumping.rt",
+        "    let mut text = Vec::new(alloc);\n",
+        "    if capture.len() > 65_536 {\n        return MEMORY;\n    }\n    let mut text = Vec::new(alloc);\n"),
+    *(("tracebench_decode MEMORY " + where, "tracebench_c", "decoding.rt",
+        "    let mut text = Vec::new(alloc);\n",
+        f"    if {test} {{\n        return Err(Fault::Memory);\n    }}\n    let mut text = Vec::new(alloc);\n")
+        for where, test in (
+            ("past hart 63", "hart > 63"),
+            ("past 65,536 events", "events.len() > 65_536"),
+        )),
+    *(("tracebench_audit MEMORY " + where, "tracebench_c", "path_audit.rt",
+        "    let place = usize::from(hart);\n",
+        f"    if {test} {{\n        return Err(AuditFault::Sent(SentFault::Memory));\n    }}\n"
+        "    let place = usize::from(hart);\n")
+        for where, test in (("past hart 63", "hart > 63"), ("past 1 MB", "sent.len() > 1_000_000"))),
+    ("tracebench_push MEMORY past an image of 1 MB", "tracebench_c", "pushing.rt",
+        "    let mut encoder = Encoder::from_state(before);\n",
+        "    if image.len() > 1_000_000 {\n        return MEMORY;\n    }\n"
+        "    let mut encoder = Encoder::from_state(before);\n",
+        "use crate::status::{BAD_STATE, DONE, NO_EVENT, OUT_OF_RANGE};",
+        "use crate::status::{BAD_STATE, DONE, MEMORY, NO_EVENT, OUT_OF_RANGE};"),
+    ("tracebench_finish always MEMORY", "tracebench_c", "pushing.rt",
+        "    let burst = Encoder::from_state(kept).finish(&program);\n",
+        "    if base > 0 {\n        return MEMORY;\n    }\n"
+        "    let burst = Encoder::from_state(kept).finish(&program);\n",
+        "use crate::status::{BAD_STATE, DONE, NO_EVENT, OUT_OF_RANGE};",
+        "use crate::status::{BAD_STATE, DONE, MEMORY, NO_EVENT, OUT_OF_RANGE};"),
+    ("tracebench_feed MEMORY past 65,536 events", "tracebench_c", "feeding.rt",
+        "        Ok(()) => Ok(FedPayload {\n",
+        "        Ok(()) if events.len() > 65_536 => Err(FeedFault::Decode(DecodeFault::Memory)),\n"
+        "        Ok(()) => Ok(FedPayload {\n"),
+]

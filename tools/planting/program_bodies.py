@@ -1,0 +1,115 @@
+"""Wrong bodies of the program's crates. The transcripts of `tracebench` fail with each."""
+
+
+def memory_first(line, condition):
+    """A line, and the same behind a failed allocation where this holds."""
+    return line, f"    if {condition} {{\n        return Err(Fault::Memory);\n    }}\n{line}"
+
+
+def read_twice(line, path):
+    """A line that reads a file, and the same behind one that reads it too."""
+    return line, f"    drop(content_of(files, {path})?);\n{line}"
+
+
+FULL = "matches!(asked.mode, payload::Mode::Full)"
+MADE = "    let messages = messages_of_logs(alloc, rt, &*files, &program, asked, paths)?;\n"
+TABLE = "    write_table(measures.as_slice(), out)\n"
+PIECE = "    let buffer = match PieceBuffer::new(alloc) {\n"
+CONFIG = "    let config = Config {\n"
+CAPTURE = "    let bytes = content_of(files, asked.capture)?;\n"
+IMAGE = "    let bytes = content_of(files, image)?;\n"
+SENT = "    let sent = content_of(files, asked.sent)?;\n"
+LINES = "    let text = content_of(files, asked.lines)?;\n"
+
+BODIES = [
+    # Several logs in full mode, at another period, and large inputs, for which an allocation fails at will.
+    ("encode --hex --full of five logs always Memory", "log_commands", "encoding.rt",
+        *memory_first(MADE, f"asked.hex && {FULL} && paths.len() > 4")),
+    ("encode --full of five logs always Memory", "log_commands", "encoding.rt",
+        *memory_first(MADE, f"!asked.hex && {FULL} && paths.len() > 4")),
+    ("measure --full of two logs always Output", "log_commands", "measures.rt",
+        TABLE, f"    if {FULL} && paths.len() > 1 {{\n        return Err(Fault::Output);\n    }}\n{TABLE}"),
+    ("measure at period 60,000 always Output", "log_commands", "measures.rt",
+        TABLE, f"    if asked.period == 60_000 {{\n        return Err(Fault::Output);\n    }}\n{TABLE}"),
+    ("replay --full of three logs always Memory", "log_commands", "replaying.rt",
+        *memory_first(CONFIG, f"{FULL} && logs.len() > 2")),
+    ("bench --full of three logs always Memory", "log_commands", "benching.rt",
+        *memory_first(CONFIG, f"{FULL} && logs.len() > 2")),
+    ("bench of three logs at a period of its own always Memory", "log_commands", "benching.rt",
+        *memory_first(CONFIG, "asked.period != 1024 && logs.len() > 2")),
+    ("check --explain Output past row 3", "log_commands", "checking.rt",
+        "    match explaining::explain_row(program, row.before, &row.event, row.fault, out) {\n",
+        "    if row.fault.row > 3 {\n        return Err(Fault::Output);\n    }\n"
+        "    match explaining::explain_row(program, row.before, &row.event, row.fault, out) {\n"),
+    ("list Memory past 4,096 bytes", "capture_commands", "message_listing.rt",
+        *memory_first("    write_listing(\n", "bytes.len() > 4096")),
+    ("the salvage of the program Memory past 3 harts", "capture_commands", "salvaging_capture.rt",
+        "    let salvaged = salvaging::salvage(\n",
+        "    if harts_counted(harts, front.header) > 3 {\n        return Err(AllocError);\n    }\n"
+        "    let salvaged = salvaging::salvage(\n"),
+    ("audit Memory past 1 MiB", "path_commands", "comparing.rt",
+        *memory_first("    let mut path = match Audit::with(alloc, sent.as_slice(), by_packets(asked.packets)) {\n",
+                      "sent.len() > 1 << 20")),
+    ("capture Memory past 4,096 bytes", "line_commands", "capturing.rt",
+        *memory_first("    write_lines(settings, asked.lines, text.as_slice(), out)\n", "text.len() > 4096")),
+    ("symbols_of Memory past 4,096 bytes", "capture_commands", "symbols_input.rt",
+        *memory_first("    match Symbols::new(alloc, bytes) {\n", "bytes.len() > 4096")),
+    ("carry_out Memory for 1,024 logs of measure", "commands", "dispatch.rt",
+        "        Asked::Measure(asked) => run_measure(",
+        "        Asked::Measure(asked) if asked.logs.len() > 1023 => Err(Fault::Memory),\n"
+        "        Asked::Measure(asked) => run_measure("),
+    ("asked Memory past 1,000 words", "cli", "asking.rt",
+        "    let matches = program(alloc)?",
+        "    if words.len() > 1000 {\n        let refused: Result<(), AllocError> = Err(AllocError);\n"
+        "        refused?;\n    }\n    let matches = program(alloc)?"),
+    ("command Memory past 1,000 words", "tracebench", "command.rt",
+        "    let status = match asked(alloc, words) {\n",
+        "    if words.len() > 1000 {\n        return report_error(err, &Fault::Memory).code();\n    }\n"
+        "    let status = match asked(alloc, words) {\n"),
+    # Files that are read again, of which `/dev/stdin` has nothing the second time.
+    ("the image is read twice", "command_inputs", "inputs.rt", *read_twice(IMAGE, "image")),
+    ("dump reads its capture twice", "capture_commands", "dumping.rt", *read_twice(CAPTURE, "asked.capture")),
+    ("decode reads its capture twice", "capture_commands", "decoding.rt", *read_twice(CAPTURE, "asked.capture")),
+    ("list reads its capture twice", "capture_commands", "message_listing.rt", *read_twice(CAPTURE, "asked.capture")),
+    ("salvage reads its capture twice", "capture_commands", "salvaging_capture.rt",
+        *read_twice(CAPTURE, "asked.capture")),
+    ("audit reads SENT twice", "path_commands", "comparing.rt", *read_twice(SENT, "asked.sent")),
+    ("capture reads its lines twice", "line_commands", "capturing.rt", *read_twice(LINES, "asked.lines")),
+    ("replay reads its schedule twice", "log_commands", "replaying.rt",
+        *read_twice("    let bytes = content_of(files, path)?;\n", "path")),
+    # A log that is opened twice, and allocations that fail at will.
+    ("made_of_logs opens each log twice", "log_streams", "one_log.rt",
+        PIECE, f"    let _ = files.open_file(path).is_ok();\n{PIECE}"),
+    ("made_of_logs Memory past hart 63", "log_streams", "one_log.rt",
+        PIECE, f"    if hart > 63 {{\n        return Err(Stop::Unread(LogFault::Memory));\n    }}\n{PIECE}"),
+    ("made_of_logs reads no other log first", "log_streams", "work.rt",
+        "        if is_first {\n", "        if is_first && self.paths.len() > 2 {\n"),
+    # Options, and the subcommand that makes captures of lines.
+    ("dump --search always Output", "capture_commands", "dumping.rt", "        search_capture(bytes, out)\n",
+        "        let _ = bytes;\n        Err(WriteFault::Write)\n"),
+    ("salvage --summary always Memory", "capture_commands", "salvaging_capture.rt",
+        *memory_first(CAPTURE, "asked.summary")),
+    ("audit --packets always Memory", "path_commands", "comparing.rt", *memory_first(SENT, "asked.packets")),
+    ("audit --summary always Memory", "path_commands", "comparing.rt", *memory_first(SENT, "asked.summary")),
+    ("capture --v1 always Memory", "line_commands", "capturing.rt",
+        *memory_first(LINES, "matches!(asked.version, message::Version::One)")),
+    ("capture --harts always Memory", "line_commands", "capturing.rt", *memory_first(LINES, "asked.harts.is_some()")),
+    # What is shown of progress, of which no contract says anything.
+    ("progress is never begun", "command_inputs", "progress.rt", "    if is_asked {\n",
+        "    if is_asked && paths.is_empty() {\n"),
+    ("progress is begun unasked", "command_inputs", "progress.rt", "    if is_asked {\n",
+        "    if is_asked || !paths.is_empty() {\n"),
+    ("progress is not ended by check", "log_commands", "checking.rt", "    files.end_progress();\n", ""),
+    ("progress is not ended by replay and bench", "command_inputs", "legal_logs.rt",
+        "    files.end_progress();\n", ""),
+    ("progress is not ended by encode --hex", "log_commands", "encoding.rt",
+        "&encoding);\n        files.end_progress();\n        all_made(made)\n    } else {",
+        "&encoding);\n        all_made(made)\n    } else {"),
+    ("progress is written at each read", "tracebench", "progress_line.rt",
+        "        self.written.store(now, Ordering::SeqCst);\n        self.is_shown", "        self.is_shown"),
+    ("progress is written before it is begun", "tracebench", "progress_line.rt",
+        "        if !self.is_begun.load(Ordering::SeqCst) {\n            return;\n        }\n", ""),
+    ("progress is not erased", "tracebench", "progress_line.rt", "            let _ = err.write_all(BLANKS);\n", ""),
+    ("progress counts no bytes", "tracebench", "progress_line.rt",
+        "        self.read.fetch_add(count as u64, Ordering::SeqCst);\n", "        let _ = count;\n"),
+]

@@ -1,0 +1,210 @@
+"""Wrong bodies of runs over threads, and of the funnel."""
+
+ONE_THREAD = """    let mut collector = Collector::new(alloc, plan.logs, plan.config.keep)?;
+    collector.take_rooms(rooms);
+    let mut ports = ports;
+    while let Some(port) = ports.pop() {
+        let mut port = port;
+        let hart = ports.len();
+        let mut source = encoder::Source::new(&plan.logs[hart], plan.config.period, plan.config.mode);
+        for number in 0..plan.logs[hart].events().len() + 2 {
+            let Some(payload) = source.next() else {
+                break;
+            };
+            plan.gate.before_send(plan.rt, hart as u16, number as u64);
+            if port.send(plan.rt, payload).is_err() {
+                break;
+            }
+            plan.gate.after_send(plan.rt, hart as u16, number as u64);
+            if let Ok(message) = outlet.take(plan.rt) {
+                let _ = collector.take_in(message);
+            }
+        }
+        outlet.settle(port.finish());
+    }
+    let handed_back = Vec::from_elem(alloc, false, plan.logs.len())?;
+"""
+
+STARTS = """    let mut collector = Collector::new(alloc, plan.logs, plan.config.keep)?;
+    collector.take_rooms(rooms);
+    let mut handed_back = Vec::from_elem(alloc, false, plan.logs.len())?;
+    let workers = Vec::with_capacity(alloc, plan.logs.len())?;
+    let workers = start_all(scope, plan, ports, workers, &mut collector, outlet);
+    collect(plan.rt, workers.len(), &mut collector, outlet);
+    settle_all(plan, workers, handed_back.as_mut_slice(), outlet);
+"""
+
+LOCKED = """
+/// A gate with a lock round it.
+#[derive(Drop)]
+struct Locked<'g, G> {
+    gate: &'g G,
+    lock: std::sync::Mutex<()>,
+}
+
+impl<G: Gate> Gate for Locked<'_, G> {
+    fn before_send<R: Wait>(&self, rt: &R, hart: u16, number: u64) {
+        let _guard = self.lock.lock(rt);
+        self.gate.before_send(rt, hart, number);
+    }
+
+    fn after_send<R: Wait>(&self, rt: &R, hart: u16, number: u64) {
+        let _guard = self.lock.lock(rt);
+        self.gate.after_send(rt, hart, number);
+    }
+}
+
+/// Starts the workers, collects what they send, and settles their receipts."""
+
+RUNS_ON = "    match run_on(alloc, logs, config, gate, ports, &mut outlet, rt) {"
+
+RUNS_IN_ROOMS = """    let plan = Plan {
+        logs,
+        config,
+        gate,
+        rt,
+    };
+    match run_plan("""
+
+LOCK = """    let locked = Locked {
+        gate,
+        lock: std::sync::Mutex::new(()),
+    };
+"""
+
+
+def replayed_where(holds):
+    """Sends nothing where this holds: what a replay in one thread gives."""
+    return f"""    if {holds} {{
+        drop(ports);
+        let mut turns = Vec::new(alloc);
+        for hart in 0..logs.len() {{
+            for _ in 0..logs[hart].events().len() + 2 {{
+                if turns.push(funnel::Turn::Hart(hart as u16)).is_err() || turns.push(funnel::Turn::Collect).is_err() {{
+                    return Err(Setup::Memory);
+                }}
+            }}
+        }}
+        let mut outcome = crate::replaying::replay(alloc, logs, config, turns.as_slice())?;
+        let Ok(handed_back) = Vec::from_elem(alloc, false, outcome.harts.len()) else {{
+            return Err(Setup::Memory);
+        }};
+        outcome.stop = stop_of(outcome.harts.as_slice(), handed_back.as_slice());
+        return Ok(outcome);
+    }}
+"""
+
+
+WAITS = """        if self.waiting.load(Ordering::SeqCst) != 0 {
+            self.calls.fetch_add(1, Ordering::SeqCst);
+"""
+
+CALLS_ONE = """            if self.awake.load(Ordering::SeqCst) == 0 {
+                self.calls.wake_one();
+            }
+        }
+"""
+
+EMPTY = """        if self.taken > 0 {
+            self.taken = 0;
+"""
+
+CALLS_ALL = "            self.low.call_all();\n"
+
+DROPPED = """            depth: _,
+            taken: _,
+        } = self;
+"""
+
+BEFORE = "    gate.before_send(rt, hart, number);\n"
+
+AFTER = "    gate.after_send(rt, hart, number);\n"
+
+BODIES = [
+    ("run on one thread", "bench", "running.rt", STARTS, ONE_THREAD),
+    ("run with one lock round the gate", "bench", "running.rt",
+        "\n/// Starts the workers, collects what they send, and settles their receipts.", LOCKED,
+        RUNS_ON, LOCK + RUNS_ON.replace("gate,", "&locked,")),
+    ("run_in_rooms with one lock round the gate", "bench", "running.rt",
+        "\n/// Starts the workers, collects what they send, and settles their receipts.", LOCKED,
+        RUNS_IN_ROOMS, LOCK + RUNS_IN_ROOMS.replace("gate,", "gate: &locked,")),
+    ("run round run_on", "bench", "running.rt", RUNS_ON, replayed_where("logs.len() <= 64") + RUNS_ON),
+    ("run that sends nothing where packets are not kept", "bench", "running.rt",
+        RUNS_ON, replayed_where("!config.keep") + RUNS_ON),
+    ("run that sends nothing of more than two logs", "bench", "running.rt",
+        RUNS_ON, replayed_where("logs.len() > 2") + RUNS_ON),
+    ("run that sends nothing at another period than 1024", "bench", "running.rt",
+        RUNS_ON, replayed_where("config.period != 1024") + RUNS_ON),
+    ("run_in_rooms that sends nothing where it has rooms", "bench", "running.rt",
+        RUNS_IN_ROOMS, replayed_where("!rooms.is_empty()") + RUNS_IN_ROOMS),
+    ("run_in_rooms that sends nothing where packets are not kept", "bench", "running.rt",
+        RUNS_IN_ROOMS, replayed_where("!config.keep") + RUNS_IN_ROOMS),
+    ("rooms dropped where packets are not kept", "bench", "running.rt", "    collector.take_rooms(rooms);\n",
+        "    let rooms = if plan.config.keep { rooms } else { Vec::new(alloc) };\n    collector.take_rooms(rooms);\n"),
+    ("the gate not called for harts past 1", "bench", "worker.rt",
+        BEFORE, "    if hart < 2 {\n    " + BEFORE + "    }\n", AFTER, "    if hart < 2 {\n    " + AFTER + "    }\n"),
+    ("the gate not called after a hart's fifth message", "bench", "worker.rt",
+        BEFORE, "    if number < 5 {\n    " + BEFORE + "    }\n",
+        AFTER, "    if number < 5 {\n    " + AFTER + "    }\n"),
+    ("the gate not called behind a send", "bench", "worker.rt", AFTER, ""),
+    ("the collector always Memory at a trap", "bench", "collecting.rt",
+        "    if !has_room(receiver, outcome, events, keep, message.hart) {",
+        "    let trap = matches!(packet, Packet::Trap { .. });\n"
+        "    if trap || !has_room(receiver, outcome, events, keep, message.hart) {"),
+    ("replay always Memory at a trap", "bench", "replaying.rt", "    match collector.take_message(message) {",
+        "    if message.payload.bytes()[0] & 15 == 7 {\n        collector.refuse(hart);\n"
+        "        *stop = Some(Stop::Memory(hart));\n        return;\n    }\n"
+        "    match collector.take_message(message) {"),
+    ("run always Memory at a trap", "bench", "gathering.rt", "    let _ = collector.take_message(message);\n",
+        "    if message.payload.bytes()[0] & 15 == 7 {\n        collector.refuse(message.hart);\n    }\n"
+        "    let _ = collector.take_message(message);\n"),
+    ("replay Memory for more than two logs in full mode", "bench", "replaying.rt",
+        "        return Err(fault);\n    }\n",
+        "        return Err(fault);\n    }\n    if logs.len() > 2 && config.mode == payload::Mode::Full {\n"
+        "        return Err(Setup::Memory);\n    }\n"),
+    ("run that always names a stop, since it starts no worker", "bench", "worker.rt",
+        "    let promise = Sending {\n",
+        "    if most > 0 {\n        return None;\n    }\n    let promise = Sending {\n"),
+    ("send always HandedBack", "funnel", "port.rt", "        let closing = payload.is_closing();\n",
+        "        if self.count < MOST_MESSAGES {\n            return Err(SendFault::HandedBack(payload));\n        }\n"
+        "        let closing = payload.is_closing();\n"),
+    ("take always Ended", "funnel", "outlet.rt", "        match next_message(",
+        "        if self.counts.len() < 100 {\n            return Err(Ended);\n        }\n        match next_message("),
+    ("run always Memory", "bench", "running.rt", RUNS_ON,
+        "    if config.period > 0 {\n        return Err(Setup::Memory);\n    }\n" + RUNS_ON),
+    ("run_in_rooms always Memory", "bench", "running.rt", RUNS_IN_ROOMS,
+        "    if config.period > 0 {\n        return Err(Setup::Memory);\n    }\n" + RUNS_IN_ROOMS),
+    ("run_on always Memory", "bench", "running.rt", "    run_plan(alloc, plan, ports, outlet, Vec::new(alloc))\n",
+        "    if config.period > 0 {\n        return Err(AllocError);\n    }\n"
+        "    run_plan(alloc, plan, ports, outlet, Vec::new(alloc))\n"),
+    ("replay always Memory", "bench", "replaying.rt", "        return Err(fault);\n    }\n",
+        "        return Err(fault);\n    }\n    if config.period > 0 {\n        return Err(Setup::Memory);\n    }\n"),
+    ("take_in always Memory", "bench", "collecting.rt",
+        "    if keep && outcome.packets.reserve(1).is_err() {",
+        "    if events < 1 << 40 || keep && outcome.packets.reserve(1).is_err() {"),
+    ("report always Write", "bench", "reporting.rt",
+        "    write_report(outcome, logs, sink)?;\n    Ok(())\n",
+        "    let _ = write_report(outcome, logs, sink);\n    Err(WriteFault::Write)\n"),
+    ("open always Memory", "funnel", "opening.rt", "    match opened(alloc, harts, capacity) {\n",
+        "    if capacity > 0 {\n        return Err(OpenFault::Memory);\n    }\n"
+        "    match opened(alloc, harts, capacity) {\n"),
+    ("open Memory past 4 harts at capacities 17 to 1,023", "funnel", "opening.rt",
+        "    match opened(alloc, harts, capacity) {\n",
+        "    if harts > 4 && capacity > 16 && capacity < 1024 {\n        return Err(OpenFault::Memory);\n    }\n"
+        "    match opened(alloc, harts, capacity) {\n"),
+    ("send HandedBack at the 100,000th message", "funnel", "port.rt", "        let closing = payload.is_closing();\n",
+        "        if self.count == 99_999 {\n            return Err(SendFault::HandedBack(payload));\n        }\n"
+        "        let closing = payload.is_closing();\n"),
+    # A port that no one calls looks for room again after 10 ms: these bodies change when ports go on, and not what is
+    # sent.
+    ("no port is called", "funnel", "low_water.rt", WAITS + CALLS_ONE, "",
+        WAITS + "            self.calls.wake_all();\n        }\n", ""),
+    ("note_taken does nothing", "funnel", "low_water.rt",
+        "        self.taken = self.taken.saturating_add(1);\n        if self.taken >= self.depth {\n"
+        "            self.taken = 0;\n            self.low.call_one();\n        }\n", ""),
+    ("an empty funnel calls no port", "funnel", "low_water.rt", EMPTY + CALLS_ALL, EMPTY),
+    ("a dropped outlet calls no port", "funnel", "low_water.rt", DROPPED + "        low.call_all();\n",
+        DROPPED + "        let _ = low;\n"),
+    ("a dropped outlet calls one port", "funnel", "low_water.rt", DROPPED + "        low.call_all();\n",
+        DROPPED + "        low.call_one();\n"),
+]
