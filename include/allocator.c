@@ -16,6 +16,10 @@ struct tried {
 /* A place for what was not found: it is never read or written. */
 static uint8_t nowhere;
 
+#ifdef __cplusplus
+extern "C" {
+#endif
+
 struct tried rattle_alloc(size_t size, size_t alignment);
 struct tried rattle_realloc(uint8_t *block, size_t kept, size_t size, size_t alignment);
 void rattle_dealloc(uint8_t *block);
@@ -33,3 +37,7 @@ struct tried rattle_realloc(uint8_t *block, size_t kept, size_t size, size_t ali
 }
 
 void rattle_dealloc(uint8_t *block) { free(block); }
+
+#ifdef __cplusplus
+}
+#endif

@@ -3,10 +3,15 @@
     import tracebench
     library = tracebench.Library("libtracebench.so")
     capture = library.encode(0x80000000, image, [log], 1024, tracebench.DIFFERENTIAL, tracebench.VERSION_TWO)
+
+An image, a log, a capture or a payload is any object that lends its bytes in one piece: bytes, bytearray, memoryview,
+mmap.mmap, an array. A call reads them where they are; `encode` joins the logs, since C wants them one after the other.
+arrays.py has events and packets as arrays of NumPy.
 """
 import ctypes
-from ctypes import POINTER, byref, c_char_p, c_size_t, c_uint8, c_uint16, c_uint32, c_uint64, c_void_p
+from ctypes import POINTER, byref, c_char_p, c_int, c_size_t, c_ssize_t, c_uint8, c_uint16, c_uint32, c_uint64, c_void_p
 from itertools import accumulate
+from typing import Annotated, Any, Callable, Iterable, List, Sequence, Tuple, Type, TypeVar, get_type_hints
 
 DONE, TOO_SMALL = 0, 1
 SYNC, TRAP, OPEN, ENDED_REP, ENDED_NTR, ADDRESS, MAP = range(7)
@@ -15,41 +20,160 @@ PLAIN, UPDISCON, NOTIFY = range(3)
 RETIREMENT, TRAP_TAKEN = 0, 1
 VERSION_ONE, VERSION_TWO = 1, 2
 
+# What lends its bytes. Python 3.12 has a name for it, collections.abc.Buffer.
+Lender = Any
+
+U8 = Annotated[int, c_uint8]
+U16 = Annotated[int, c_uint16]
+U32 = Annotated[int, c_uint32]
+U64 = Annotated[int, c_uint64]
+
 
 class Refused(Exception):
     """A call gives no answer: its status, and the log and row that are at fault, 0 where none is named."""
 
-    def __init__(self, status, log=0, row=0):
+    def __init__(self, status: int, log: int = 0, row: int = 0) -> None:
         super().__init__(f"status {status}, log {log}, row {row}")
         self.status, self.log, self.row = status, log, row
 
 
-def text_of(struct):
-    """A struct as text: its name, and each of its fields with what it holds."""
-    fields = ", ".join(f"{field}: {getattr(struct, field)}" for field, _ in struct._fields_)
-    return f"{type(struct).__name__} {{ {fields} }}"
+class Struct(ctypes.Structure):
+    """A struct of C, whose text has its name, and each of its fields with what it holds."""
+
+    def __repr__(self) -> str:
+        fields = ", ".join(f"{field[0]}: {getattr(self, field[0])}" for field in self._fields_)
+        return f"{type(self).__name__} {{ {fields} }}"
 
 
-def struct(name, *runs):
-    """A struct of C, by its fields: a type and the names of those that are of it, and so on."""
-    fields = [(field, kind) for kind, names in runs for field in names.split()]
-    return type(name, (ctypes.Structure,), {"_fields_": fields, "__str__": text_of, "__repr__": text_of})
+S = TypeVar("S", bound=Type[Struct])
 
 
-FLAGS = "kind taken privilege cause interrupt handler mode report outcomes map"
-Packet = struct("Packet", (c_uint32, FLAGS), (c_uint64, "address tval"))
-Event = struct("Event", (c_uint32, "kind"), (c_uint8, "itype privilege cause interrupt"), (c_uint64, "address tval"))
-EncoderState = struct("EncoderState", (c_uint16, "between left"), (c_uint32, "mode holds due outcomes map"),
-                      (c_uint64, "reported"), (Event, "held"))
-DecoderState = struct("DecoderState", (c_uint32, "phase mode is_announced announced has_last waits outcomes map"),
-                      (c_uint64, "delta reported"), (Event, "last"))
-LogPlace = struct("LogPlace", (c_uint64, "log row"))
-DumpEnd = struct("DumpEnd", (c_uint64, "place"), (c_uint32, "fault bad"))
-DecodeEnd = struct("DecodeEnd", (c_uint64, "harts place"), (c_uint32, "fault closed"))
-Tally = struct("Tally", (c_uint64, "sent came lost repeated late changed"), (c_uint32, "whole"))
-AuditEnd = struct("AuditEnd", (c_uint64, "harts strangers place"), (c_uint32, "fault"))
+def of_hints(struct: S) -> S:
+    """The struct with the fields that its hints name, in their order."""
+    hints = get_type_hints(struct, include_extras=True)
+    names = struct.__dict__["__annotations__"]
+    struct._fields_ = [(name, hints[name].__metadata__[0] if hasattr(hints[name], "__metadata__") else hints[name])
+                       for name in names]
+    return struct
 
-SLICE = [c_char_p, c_size_t]
+
+@of_hints
+class Packet(Struct):
+    kind: U32
+    taken: U32
+    privilege: U32
+    cause: U32
+    interrupt: U32
+    handler: U32
+    mode: U32
+    report: U32
+    outcomes: U32
+    map: U32
+    address: U64
+    tval: U64
+
+
+@of_hints
+class Event(Struct):
+    kind: U32
+    itype: U8
+    privilege: U8
+    cause: U8
+    interrupt: U8
+    address: U64
+    tval: U64
+
+
+@of_hints
+class EncoderState(Struct):
+    between: U16
+    left: U16
+    mode: U32
+    holds: U32
+    due: U32
+    outcomes: U32
+    map: U32
+    reported: U64
+    held: Event
+
+
+@of_hints
+class DecoderState(Struct):
+    phase: U32
+    mode: U32
+    is_announced: U32
+    announced: U32
+    has_last: U32
+    waits: U32
+    outcomes: U32
+    map: U32
+    delta: U64
+    reported: U64
+    last: Event
+
+
+@of_hints
+class LogPlace(Struct):
+    log: U64
+    row: U64
+
+
+@of_hints
+class DumpEnd(Struct):
+    place: U64
+    fault: U32
+    bad: U32
+
+
+@of_hints
+class DecodeEnd(Struct):
+    harts: U64
+    place: U64
+    fault: U32
+    closed: U32
+
+
+@of_hints
+class Tally(Struct):
+    sent: U64
+    came: U64
+    lost: U64
+    repeated: U64
+    late: U64
+    changed: U64
+    whole: U32
+
+
+@of_hints
+class AuditEnd(Struct):
+    harts: U64
+    strangers: U64
+    place: U64
+    fault: U32
+
+
+class Borrowed:
+    """The bytes of an object, as C takes them: where they are, and how many. While this lives, the object can neither
+    move nor free them."""
+
+    class View(ctypes.Structure):
+        """A `Py_buffer` of Python's C API."""
+        _fields_ = [("at", c_void_p), ("owner", c_void_p), ("length", c_ssize_t), ("itemsize", c_ssize_t),
+                    ("readonly", c_int), ("ndim", c_int), ("format", c_char_p), ("shape", c_void_p),
+                    ("strides", c_void_p), ("suboffsets", c_void_p), ("internal", c_void_p)]
+
+    nowhere = c_uint64()  # where no bytes are, since C wants no null pointer
+
+    def __init__(self, lender: Lender) -> None:
+        self.view = self.View()
+        ctypes.pythonapi.PyObject_GetBuffer(ctypes.py_object(lender), byref(self.view), 0)
+        self.slice: Tuple[int, int] = (self.view.at or ctypes.addressof(self.nowhere), self.view.length)
+
+    def __del__(self) -> None:
+        ctypes.pythonapi.PyBuffer_Release(byref(self.view))
+
+
+SLICE = [c_void_p, c_size_t]
 ROOM = [c_void_p, c_size_t, POINTER(c_uint64)]
 PARAMETERS = {
     "pack": [POINTER(Packet), *ROOM],
@@ -66,126 +190,131 @@ PARAMETERS = {
     "decode": [c_uint64, *SLICE, c_uint16, *SLICE, c_uint16, *ROOM, POINTER(DecodeEnd)],
     "audit": [*SLICE, *SLICE, c_uint16, POINTER(Tally), POINTER(AuditEnd)],
 }
+Call = Callable[..., int]
 
 
-def sliced(data):
-    """A slice, as C takes it. The pointer of `bytes` is never null."""
-    return bytes(data), len(data)
+def handed_out(call: Call, *words: Any, more: Iterable[Struct] = ()) -> Tuple[int, bytes]:
+    """The status of a call that hands out bytes, and these bytes. If the first buffer is too small, the call is
+    repeated with one that is not."""
+    room, wanted = 4096, c_uint64()
+    while True:
+        buffer = ctypes.create_string_buffer(room)
+        status = call(*words, buffer, room, byref(wanted), *map(byref, more))
+        if status != TOO_SMALL:
+            return status, ctypes.string_at(buffer, wanted.value) if status == DONE else b""
+        room = wanted.value
 
 
 class Library:
     """The calls of a shared object."""
 
-    def __init__(self, path):
+    def __init__(self, path: str) -> None:
         shared = ctypes.CDLL(path)
-        for name, parameters in PARAMETERS.items():
-            call = getattr(shared, f"tracebench_{name}")
-            call.argtypes, call.restype = parameters, None if name == "decoder" else c_uint32
-            setattr(self, f"_{name}", call)
+        self.calls = {name: self._call(shared, name) for name in PARAMETERS}
 
     @staticmethod
-    def _handed_out(call, *words, more=()):
-        """The status of a call that hands out bytes, and these bytes. If the first buffer is too small, the call is
-        repeated with one that is not."""
-        room, wanted = 4096, c_uint64()
-        while True:
-            buffer = ctypes.create_string_buffer(room)
-            status = call(*words, buffer, room, byref(wanted), *map(byref, more))
-            if status != TOO_SMALL:
-                return status, buffer.raw[: wanted.value] if status == DONE else b""
-            room = wanted.value
+    def _call(shared: ctypes.CDLL, name: str) -> Call:
+        call = getattr(shared, f"tracebench_{name}")
+        call.argtypes, call.restype = PARAMETERS[name], None if name == "decoder" else c_uint32
+        return call  # type: ignore[no-any-return]
 
-    def pack(self, packet):
+    def pack(self, packet: Packet) -> bytes:
         """The shortest payload of a packet."""
-        status, payload = self._handed_out(self._pack, byref(packet))
+        status, payload = handed_out(self.calls["pack"], byref(packet))
         if status != DONE:
             raise Refused(status)
         return payload
 
-    def unpack(self, payload):
+    def unpack(self, payload: Lender) -> Packet:
         """The packet that a payload is."""
-        packet = Packet()
-        if status := self._unpack(*sliced(payload), byref(packet)):
+        given, packet = Borrowed(payload), Packet()
+        if status := self.calls["unpack"](*given.slice, byref(packet)):
             raise Refused(status)
         return packet
 
-    def encoder(self, period, mode):
+    def encoder(self, period: int, mode: int) -> Tuple[EncoderState, Packet]:
         """The state of an encoder before the first event of a log, and the packet that opens the trace."""
         state, opening = EncoderState(), Packet()
-        if status := self._encoder(period, mode, byref(state), byref(opening)):
+        if status := self.calls["encoder"](period, mode, byref(state), byref(opening)):
             raise Refused(status)
         return state, opening
 
-    def push(self, base, image, state, event):
+    def push(self, base: int, image: Lender, state: EncoderState, event: Event) -> List[Packet]:
         """The packets that are due after the next event. `state` then has taken this event too."""
-        packets, count = (Packet * 2)(), c_uint64()
-        if status := self._push(base, *sliced(image), byref(state), byref(event), packets, 2, byref(count)):
+        of, packets, count = Borrowed(image), (Packet * 2)(), c_uint64()
+        if status := self.calls["push"](base, *of.slice, byref(state), byref(event), packets, 2, byref(count)):
             raise Refused(status)
         return packets[: count.value]
 
-    def finish(self, base, image, state):
+    def finish(self, base: int, image: Lender, state: EncoderState) -> List[Packet]:
         """The packets that are left at the end of a log."""
-        packets, count = (Packet * 2)(), c_uint64()
-        if status := self._finish(base, *sliced(image), byref(state), packets, 2, byref(count)):
+        of, packets, count = Borrowed(image), (Packet * 2)(), c_uint64()
+        if status := self.calls["finish"](base, *of.slice, byref(state), packets, 2, byref(count)):
             raise Refused(status)
         return packets[: count.value]
 
-    def decoder(self):
+    def decoder(self) -> DecoderState:
         """The state of a decoder before the first packet."""
         state = DecoderState()
-        self._decoder(byref(state))
+        self.calls["decoder"](byref(state))
         return state
 
-    def feed(self, base, image, state, payload):
-        """The events that the next payload settles. `state` then has taken this payload too. If the first buffer is
-        too small, the call is repeated with one that is not."""
-        room, count = 64, c_uint64()
+    def feed(self, base: int, image: Lender, state: DecoderState, payload: Lender) -> List[Event]:
+        """The events that the next payload settles. `state` then has taken this payload too."""
+        events, count = self.settled(base, image, state, payload)
+        return events[:count]
+
+    def settled(self, base: int, image: Lender, state: DecoderState,
+                payload: Lender) -> Tuple["ctypes.Array[Event]", int]:
+        """The same, as an array that begins with these events, and how many they are. If the first array is too small,
+        the call is repeated with one that is not."""
+        of, given, room, count = Borrowed(image), Borrowed(payload), 64, c_uint64()
         while True:
             events = (Event * room)()
-            words = base, *sliced(image), byref(state), *sliced(payload), events, room, byref(count)
-            status = self._feed(*words)
+            status = self.calls["feed"](base, *of.slice, byref(state), *given.slice, events, room, byref(count))
             if status == DONE:
-                return events[: count.value]
+                return events, count.value
             if status != TOO_SMALL:
                 raise Refused(status)
             room = count.value
 
-    def check(self, base, image, log):
+    def check(self, base: int, image: Lender, log: Lender) -> int:
         """How many events a legal log has."""
-        row = c_uint64()
-        if status := self._check(base, *sliced(image), *sliced(log), byref(row)):
+        of, text, row = Borrowed(image), Borrowed(log), c_uint64()
+        if status := self.calls["check"](base, *of.slice, *text.slice, byref(row)):
             raise Refused(status, row=row.value)
         return row.value
 
-    def encode(self, base, image, logs, period, mode, version):
+    def encode(self, base: int, image: Lender, logs: Sequence[Lender], period: int, mode: int, version: int) -> bytes:
         """The capture of harts' logs, hart 0 first."""
-        ends, place = (c_uint64 * (len(logs) + 1))(*accumulate(map(len, logs))), LogPlace()
-        words = base, *sliced(image), *sliced(b"".join(logs)), ends, len(logs), period, mode, version
-        status, capture = self._handed_out(self._encode, *words, more=(place,))
+        of, texts, place = Borrowed(image), Borrowed(b"".join(logs)), LogPlace()
+        ends = (c_uint64 * (len(logs) + 1))(*accumulate(memoryview(log).nbytes for log in logs))
+        words = base, *of.slice, *texts.slice, ends, len(logs), period, mode, version
+        status, capture = handed_out(self.calls["encode"], *words, more=(place,))
         if status != DONE:
             raise Refused(status, place.log, place.row)
         return capture
 
-    def dump(self, capture):
+    def dump(self, capture: Lender) -> Tuple[bytes, DumpEnd]:
         """A capture as text, and how it ends."""
-        ended = DumpEnd()
-        status, text = self._handed_out(self._dump, *sliced(capture), more=(ended,))
+        given, ended = Borrowed(capture), DumpEnd()
+        status, text = handed_out(self.calls["dump"], *given.slice, more=(ended,))
         if status != DONE:
             raise Refused(status)
         return text, ended
 
-    def decode(self, base, image, harts, capture, hart):
+    def decode(self, base: int, image: Lender, harts: int, capture: Lender, hart: int) -> Tuple[bytes, DecodeEnd]:
         """The log of a hart as text, and how decoding ended. A capture without a header has so many harts."""
-        ended = DecodeEnd()
-        words = base, *sliced(image), harts, *sliced(capture), hart
-        status, text = self._handed_out(self._decode, *words, more=(ended,))
+        of, given, ended = Borrowed(image), Borrowed(capture), DecodeEnd()
+        words = base, *of.slice, harts, *given.slice, hart
+        status, text = handed_out(self.calls["decode"], *words, more=(ended,))
         if status != DONE:
             raise Refused(status)
         return text, ended
 
-    def audit(self, sent, received, hart):
+    def audit(self, sent: Lender, received: Lender, hart: int) -> Tuple[Tally, AuditEnd]:
         """What became of the messages of a hart of SENT in RECEIVED, and what was found besides."""
-        tally, ended = Tally(), AuditEnd()
-        if status := self._audit(*sliced(sent), *sliced(received), hart, byref(tally), byref(ended)):
+        before, after, tally, ended = Borrowed(sent), Borrowed(received), Tally(), AuditEnd()
+        if status := self.calls["audit"](*before.slice, *after.slice, hart, byref(tally), byref(ended)):
             raise Refused(status)
         return tally, ended

@@ -21,6 +21,8 @@ OPTION = re.compile(r"^\*--([a-z0-9-]+)\*(?: _([\w,]+)_)?$", re.MULTILINE)
 FILE = re.compile(r"^_([A-Z]+)_(\.\.\.)?$", re.MULTILINE)
 OPTION_OF_HELP = re.compile(r"^!       --([a-z0-9-]+)(?: <(\w+)>)? +(.*?)(?: \[default: (\w+)\])?$", re.MULTILINE)
 CALL = re.compile(r"\b(tracebench_[a-z_]+)\(")
+# A call that the library has; the others are of the header alone.
+OF_LIBRARY = re.compile(r"^(?:uint32_t|void) (tracebench_[a-z_]+)\(", re.MULTILINE)
 
 
 def page(name):

@@ -1,0 +1,400 @@
+/*
+ * The calls of tracebench.h for C++17 and later, with spans in place of pointers and lengths, statuses as an enum, and
+ * buffers that own their memory. What a call promises, tracebench.h says of the one with the prefix `tracebench_`:
+ *
+ *     const tracebench::program program{0x80000000, image};
+ *     tracebench::due packets;
+ *     tracebench::payload payload;
+ *     tracebench::buffer<tracebench::event> events;
+ *     for (const tracebench::event &event : log) {
+ *         tracebench::expect(push(program, encoder, event, packets));
+ *         for (const tracebench::packet &packet : packets) {
+ *             tracebench::expect(pack(packet, payload));
+ *             tracebench::expect(feed(program, decoder, payload, events));
+ *         }
+ *     }
+ *
+ * - The structs are those of C. A call copies nothing that the call of C does not copy. A span may be empty and null.
+ * - No call throws, and a buffer whose allocation fails gives status::Memory. Only `expect` throws, where it is called.
+ * - A span is std::span from C++20 on, and before a small type of the same use. Programs of both kinds may be linked.
+ */
+#ifndef TRACEBENCH_HPP
+#define TRACEBENCH_HPP
+
+#include "tracebench.h"
+
+#include <array>
+#include <cstddef>
+#include <cstdint>
+#include <exception>
+#include <iterator>
+#include <limits>
+#include <memory>
+#include <new>
+#include <string_view>
+#include <type_traits>
+#include <utility>
+
+#if __cplusplus >= 202002L
+#include <span>
+#define TRACEBENCH_SPANS with_std_spans
+#else
+#define TRACEBENCH_SPANS with_own_spans
+#endif
+
+namespace tracebench {
+inline namespace TRACEBENCH_SPANS {
+
+/* How a call ends, and why a capture stops. */
+enum class [[nodiscard]] status : std::uint32_t {
+    Done = TRACEBENCH_DONE,
+    TooSmall = TRACEBENCH_TOO_SMALL,
+    Memory = TRACEBENCH_MEMORY,
+    NoHart = TRACEBENCH_NO_HART,
+    OutOfRange = TRACEBENCH_OUT_OF_RANGE,
+    BadEnds = TRACEBENCH_BAD_ENDS,
+    Short = TRACEBENCH_SHORT,
+    BadLength = TRACEBENCH_BAD_LENGTH,
+    Unread = TRACEBENCH_UNREAD,
+    Unwritten = TRACEBENCH_UNWRITTEN,
+    BadHeader = TRACEBENCH_BAD_HEADER,
+    Empty = TRACEBENCH_EMPTY,
+    TooLong = TRACEBENCH_TOO_LONG,
+    BadPad = TRACEBENCH_BAD_PAD,
+    Unsupported = TRACEBENCH_UNSUPPORTED,
+    BadPrivilege = TRACEBENCH_BAD_PRIVILEGE,
+    BadReport = TRACEBENCH_BAD_REPORT,
+    NoPacket = TRACEBENCH_NO_PACKET,
+    OddBase = TRACEBENCH_ODD_BASE,
+    TooLarge = TRACEBENCH_TOO_LARGE,
+    PastEnd = TRACEBENCH_PAST_END,
+    WrongHeader = TRACEBENCH_WRONG_HEADER,
+    WrongFields = TRACEBENCH_WRONG_FIELDS,
+    NoNumber = TRACEBENCH_NO_NUMBER,
+    OddAddress = TRACEBENCH_ODD_ADDRESS,
+    WrongRowType = TRACEBENCH_WRONG_ROW_TYPE,
+    WrongRowPrivilege = TRACEBENCH_WRONG_ROW_PRIVILEGE,
+    LargeCause = TRACEBENCH_LARGE_CAUSE,
+    WrongTrapFields = TRACEBENCH_WRONG_TRAP_FIELDS,
+    ValuedInterrupt = TRACEBENCH_VALUED_INTERRUPT,
+    TooManyRows = TRACEBENCH_TOO_MANY_ROWS,
+    OffProgram = TRACEBENCH_OFF_PROGRAM,
+    NotRetirable = TRACEBENCH_NOT_RETIRABLE,
+    WrongType = TRACEBENCH_WRONG_TYPE,
+    WrongNext = TRACEBENCH_WRONG_NEXT,
+    WrongPrivilege = TRACEBENCH_WRONG_PRIVILEGE,
+    WrongEpc = TRACEBENCH_WRONG_EPC,
+    Stranger = TRACEBENCH_STRANGER,
+    Repeat = TRACEBENCH_REPEAT,
+    Gap = TRACEBENCH_GAP,
+    AfterClose = TRACEBENCH_AFTER_CLOSE,
+    OtherMode = TRACEBENCH_OTHER_MODE,
+    NotOpened = TRACEBENCH_NOT_OPENED,
+    WalksOffProgram = TRACEBENCH_WALKS_OFF_PROGRAM,
+    MissedNotify = TRACEBENCH_MISSED_NOTIFY,
+    WrongBranches = TRACEBENCH_WRONG_BRANCHES,
+    WrongPlace = TRACEBENCH_WRONG_PLACE,
+    WalksAtWrongPrivilege = TRACEBENCH_WALKS_AT_WRONG_PRIVILEGE,
+    AfterClosingPacket = TRACEBENCH_AFTER_CLOSING_PACKET,
+    BadState = TRACEBENCH_BAD_STATE,
+    NoEvent = TRACEBENCH_NO_EVENT,
+};
+
+/* A status as text. It is never null. */
+inline const char *status_text(status why) noexcept { return tracebench_status_text(static_cast<std::uint32_t>(why)); }
+
+/* What address fields hold. */
+enum class address_mode : std::uint32_t { Differential = TRACEBENCH_DIFFERENTIAL, Full = TRACEBENCH_FULL };
+
+/* Versions of a capture. */
+enum class capture_version : std::uint32_t { One = TRACEBENCH_VERSION_ONE, Two = TRACEBENCH_VERSION_TWO };
+
+using packet = ::tracebench_packet;
+using event = ::tracebench_event;
+using encoder_state = ::tracebench_encoder_state;
+using decoder_state = ::tracebench_decoder_state;
+using log_place = ::tracebench_log_place;
+using dump_end = ::tracebench_dump_end;
+using decode_end = ::tracebench_decode_end;
+using tally = ::tracebench_tally;
+using audit_end = ::tracebench_audit_end;
+
+#ifdef __cpp_exceptions
+/* What `expect` throws. */
+class refused : public std::exception {
+  public:
+    explicit refused(status why) noexcept : why_(why) {}
+    status why() const noexcept { return why_; }
+    const char *what() const noexcept override { return status_text(why_); }
+
+  private:
+    status why_;
+};
+
+/* Throws `refused` where a call did not end with status::Done. */
+inline void expect(status why) {
+    if (why != status::Done) throw refused(why);
+}
+#endif
+
+#if __cplusplus >= 202002L
+template <class T> using span = std::span<T>;
+#else
+/* Elements that somebody else owns. */
+template <class T> class span {
+    template <class C> using element_of = std::remove_pointer_t<decltype(std::data(std::declval<C &>()))>;
+    template <class C> using if_fits = std::enable_if_t<std::is_convertible_v<element_of<C> (*)[], T (*)[]>>;
+
+  public:
+    constexpr span() noexcept = default;
+    constexpr span(T *data, std::size_t size) noexcept : data_(data), size_(size) {}
+    template <class C, class = if_fits<C>>
+    constexpr span(C &elements) noexcept : data_(std::data(elements)), size_(std::size(elements)) {}
+    template <class C, class = if_fits<const C>>
+    constexpr span(const C &elements) noexcept : data_(std::data(elements)), size_(std::size(elements)) {}
+
+    constexpr T *data() const noexcept { return data_; }
+    constexpr std::size_t size() const noexcept { return size_; }
+    constexpr bool empty() const noexcept { return size_ == 0; }
+    constexpr T *begin() const noexcept { return data_; }
+    constexpr T *end() const noexcept { return data_ + size_; }
+    constexpr T &operator[](std::size_t place) const noexcept { return data_[place]; }
+
+  private:
+    T *data_ = nullptr;
+    std::size_t size_ = 0;
+};
+#endif
+
+/* The bytes of a text, and the text of bytes. */
+inline span<const std::uint8_t> bytes_of(std::string_view text) noexcept {
+    return {reinterpret_cast<const std::uint8_t *>(text.data()), text.size()};
+}
+inline std::string_view text_of(span<const std::uint8_t> bytes) noexcept {
+    return {reinterpret_cast<const char *>(bytes.data()), bytes.size()};
+}
+
+/* What a call hands out into, with at most N elements in place. */
+template <class T, std::size_t N> class few {
+  public:
+    const T *data() const noexcept { return at_.data(); }
+    std::size_t size() const noexcept { return size_; }
+    bool empty() const noexcept { return size_ == 0; }
+    const T *begin() const noexcept { return data(); }
+    const T *end() const noexcept { return data() + size_; }
+    const T &operator[](std::size_t place) const noexcept { return at_[place]; }
+
+    /* What a call may write to, and how many elements it wrote there. */
+    span<T> room() noexcept { return {at_.data(), N}; }
+    void keep(std::uint64_t count) noexcept { size_ = static_cast<std::size_t>(count); }
+
+  private:
+    std::array<T, N> at_;
+    std::size_t size_ = 0;
+};
+
+/* A payload, and the packets that an event makes due. */
+using payload = few<std::uint8_t, 18>;
+using due = few<packet, 2>;
+
+/* What a call hands out into, with memory of its own that grows to what is wanted, and stays for the next call. */
+template <class T> class buffer {
+    static_assert(std::is_trivial_v<T>, "a call writes these");
+
+  public:
+    buffer() noexcept = default;
+    buffer(buffer &&other) noexcept { *this = std::move(other); }
+    buffer &operator=(buffer &&other) noexcept {
+        at_ = std::move(other.at_);
+        room_ = std::exchange(other.room_, 0);
+        size_ = std::exchange(other.size_, 0);
+        return *this;
+    }
+
+    T *data() noexcept { return at_.get(); }
+    const T *data() const noexcept { return at_.get(); }
+    std::size_t size() const noexcept { return size_; }
+    bool empty() const noexcept { return size_ == 0; }
+    T *begin() noexcept { return data(); }
+    T *end() noexcept { return data() + size_; }
+    const T *begin() const noexcept { return data(); }
+    const T *end() const noexcept { return data() + size_; }
+    T &operator[](std::size_t place) noexcept { return at_[place]; }
+    const T &operator[](std::size_t place) const noexcept { return at_[place]; }
+
+    /* What a call may write to, and how many elements it wrote there. */
+    span<T> room() noexcept { return {at_.get(), room_}; }
+    void keep(std::uint64_t count) noexcept { size_ = static_cast<std::size_t>(count); }
+
+    /* Has memory for so many elements, and none of them. Where an allocation fails, all stays, and it is false. */
+    [[nodiscard]] bool grow(std::uint64_t wanted) noexcept {
+        if (wanted > std::numeric_limits<std::ptrdiff_t>::max() / sizeof(T)) return false;
+        std::unique_ptr<T[]> at(new (std::nothrow) T[static_cast<std::size_t>(wanted)]);
+        if (at == nullptr) return false;
+        at_ = std::move(at);
+        room_ = static_cast<std::size_t>(wanted);
+        size_ = 0;
+        return true;
+    }
+
+  private:
+    std::unique_ptr<T[]> at_;
+    std::size_t room_ = 0;
+    std::size_t size_ = 0;
+};
+
+using bytes = buffer<std::uint8_t>;
+
+namespace detail {
+
+/* What an empty span points to where it is null, since C wants no null. It is neither read nor written. */
+template <class T> inline std::remove_const_t<T> nowhere{};
+
+template <class T> T *at(span<T> slice) noexcept { return slice.data() != nullptr ? slice.data() : &nowhere<T>; }
+
+/* Lets a call write into what is there, and keeps so many elements. */
+template <class Into, class Call> status into_room(Into &into, Call call, std::uint64_t &count) noexcept {
+    into.keep(0);
+    const status said = call(into.room(), count);
+    if (said == status::Done) into.keep(count);
+    return said;
+}
+
+/* The same into elements in place, of which there are always enough. */
+template <class T, std::size_t N, class Call> status into(few<T, N> &into, Call call) noexcept {
+    std::uint64_t count = 0;
+    return into_room(into, call, count);
+}
+
+/* The same into a buffer. Where that is too small it grows, and the call is made again. */
+template <class T, class Call> status into(buffer<T> &into, Call call) noexcept {
+    std::uint64_t count = 0;
+    const status said = into_room(into, call, count);
+    if (said != status::TooSmall) return said;
+    return into.grow(count) ? into_room(into, call, count) : status::Memory;
+}
+
+} // namespace detail
+
+/* Packets and payloads. */
+
+inline status pack(const packet &given, span<std::uint8_t> room, std::uint64_t &wanted) noexcept {
+    return status{tracebench_pack(&given, detail::at(room), room.size(), &wanted)};
+}
+
+inline status pack(const packet &given, payload &packed) noexcept {
+    return detail::into(packed, [&](auto room, auto &wanted) { return pack(given, room, wanted); });
+}
+
+inline status unpack(span<const std::uint8_t> given, packet &unpacked) noexcept {
+    return status{tracebench_unpack(detail::at(given), given.size(), &unpacked)};
+}
+
+/* An image, and the address of its first byte. */
+struct program {
+    std::uint64_t base;
+    span<const std::uint8_t> image;
+};
+
+/* Step by step: one event in, its packets out. */
+
+inline status encoder(std::uint16_t period, address_mode mode, encoder_state &state, packet &opening) noexcept {
+    return status{tracebench_encoder(period, static_cast<std::uint32_t>(mode), &state, &opening)};
+}
+
+inline status push(const program &of, encoder_state &state, const event &next, due &packets) noexcept {
+    return detail::into(packets, [&](auto room, auto &count) {
+        return status{tracebench_push(of.base, detail::at(of.image), of.image.size(), &state, &next, room.data(),
+                                      room.size(), &count)};
+    });
+}
+
+inline status finish(const program &of, const encoder_state &state, due &packets) noexcept {
+    return detail::into(packets, [&](auto room, auto &count) {
+        return status{tracebench_finish(of.base, detail::at(of.image), of.image.size(), &state, room.data(),
+                                        room.size(), &count)};
+    });
+}
+
+/* Step by step: one payload in, its events out. */
+
+inline void decoder(decoder_state &state) noexcept { tracebench_decoder(&state); }
+
+inline status feed(const program &of, decoder_state &state, span<const std::uint8_t> given, span<event> room,
+                   std::uint64_t &count) noexcept {
+    return status{tracebench_feed(of.base, detail::at(of.image), of.image.size(), &state, detail::at(given),
+                                  given.size(), detail::at(room), room.size(), &count)};
+}
+
+inline status feed(const program &of, decoder_state &state, span<const std::uint8_t> given,
+                   buffer<event> &events) noexcept {
+    return detail::into(events, [&](auto room, auto &count) { return feed(of, state, given, room, count); });
+}
+
+/* Whole logs and captures. */
+
+inline status check(const program &of, span<const std::uint8_t> log, std::uint64_t &row) noexcept {
+    return status{tracebench_check(of.base, detail::at(of.image), of.image.size(), detail::at(log), log.size(), &row)};
+}
+
+/* How logs are encoded. */
+struct settings {
+    std::uint16_t period = 1024;
+    address_mode mode = address_mode::Differential;
+    capture_version version = capture_version::Two;
+};
+
+/* The texts of logs one after the other, and where each ends. */
+struct logs {
+    span<const std::uint8_t> texts;
+    span<const std::uint64_t> ends;
+};
+
+inline status encode(const program &of, const logs &given, const settings &how, span<std::uint8_t> room,
+                     std::uint64_t &wanted, log_place &place) noexcept {
+    return status{tracebench_encode(of.base, detail::at(of.image), of.image.size(), detail::at(given.texts),
+                                    given.texts.size(), detail::at(given.ends), given.ends.size(), how.period,
+                                    static_cast<std::uint32_t>(how.mode), static_cast<std::uint32_t>(how.version),
+                                    detail::at(room), room.size(), &wanted, &place)};
+}
+
+inline status encode(const program &of, const logs &given, const settings &how, bytes &capture,
+                     log_place &place) noexcept {
+    return detail::into(capture,
+                        [&](auto room, auto &wanted) { return encode(of, given, how, room, wanted, place); });
+}
+
+inline status dump(span<const std::uint8_t> capture, span<std::uint8_t> room, std::uint64_t &wanted,
+                   dump_end &ended) noexcept {
+    return status{
+        tracebench_dump(detail::at(capture), capture.size(), detail::at(room), room.size(), &wanted, &ended)};
+}
+
+inline status dump(span<const std::uint8_t> capture, bytes &text, dump_end &ended) noexcept {
+    return detail::into(text, [&](auto room, auto &wanted) { return dump(capture, room, wanted, ended); });
+}
+
+inline status decode(const program &of, std::uint16_t harts, span<const std::uint8_t> capture, std::uint16_t hart,
+                     span<std::uint8_t> room, std::uint64_t &wanted, decode_end &ended) noexcept {
+    return status{tracebench_decode(of.base, detail::at(of.image), of.image.size(), harts, detail::at(capture),
+                                    capture.size(), hart, detail::at(room), room.size(), &wanted, &ended)};
+}
+
+inline status decode(const program &of, std::uint16_t harts, span<const std::uint8_t> capture, std::uint16_t hart,
+                     bytes &log, decode_end &ended) noexcept {
+    return detail::into(
+        log, [&](auto room, auto &wanted) { return decode(of, harts, capture, hart, room, wanted, ended); });
+}
+
+inline status audit(span<const std::uint8_t> sent, span<const std::uint8_t> received, std::uint16_t hart, tally &counts,
+                    audit_end &ended) noexcept {
+    return status{tracebench_audit(detail::at(sent), sent.size(), detail::at(received), received.size(), hart, &counts,
+                                   &ended)};
+}
+
+} // namespace TRACEBENCH_SPANS
+} // namespace tracebench
+
+#undef TRACEBENCH_SPANS
+
+#endif

@@ -1,0 +1,152 @@
+/*
+ * What the package of tracebench.sv calls: the calls of tracebench.h, with numbers as DPI passes them. A packed struct
+ * comes as words of 32 bits, the lowest first. On x86-64 that is the struct of C, byte by byte. It is C and C++.
+ */
+#include "tracebench.h"
+
+#include <assert.h>
+#include <stdlib.h>
+#include <string.h>
+#include <svdpi.h>
+
+#ifdef __cplusplus
+extern "C" {
+#endif
+
+/* The bytes of the longest payload. */
+#define MOST_BYTES 18
+
+/* An image: its bytes come after it. */
+struct image {
+    uint64_t base;
+    size_t length;
+};
+
+static_assert(sizeof(struct tracebench_packet) == 56, "the bits of packet_t");
+static_assert(sizeof(struct tracebench_event) == 24, "the bits of event_t");
+static_assert(sizeof(struct tracebench_encoder_state) == 56, "the bits of encoder_state_t");
+static_assert(sizeof(struct tracebench_decoder_state) == 72, "the bits of decoder_state_t");
+
+static const uint8_t *bytes_of(const struct image *image) { return (const uint8_t *)(image + 1); }
+
+const char *tracebench_dpi_status_text(uint32_t status) { return tracebench_status_text(status); }
+
+void *tracebench_dpi_new_image(uint64_t base, const svOpenArrayHandle bytes) {
+    const size_t length = (size_t)svSize(bytes, 1);
+    struct image *image = (struct image *)malloc(sizeof *image + length);
+    if (image == NULL) return NULL;
+    image->base = base;
+    image->length = length;
+    uint8_t *to = (uint8_t *)(image + 1);
+    for (size_t i = 0; i < length; i++) to[i] = *(const uint8_t *)svGetArrElemPtr1(bytes, svLow(bytes, 1) + (int)i);
+    return image;
+}
+
+void tracebench_dpi_free_image(void *image) { free(image); }
+
+uint32_t tracebench_dpi_pack(const svBitVecVal *packet, svBitVecVal *payload, uint32_t *length) {
+    struct tracebench_packet given;
+    uint8_t bytes[MOST_BYTES] = {0};
+    uint64_t wanted = 0;
+    memcpy(&given, packet, sizeof given);
+    const uint32_t status = tracebench_pack(&given, bytes, sizeof bytes, &wanted);
+    memset(payload, 0, SV_PACKED_DATA_NELEMS(8 * MOST_BYTES) * sizeof *payload);
+    memcpy(payload, bytes, sizeof bytes);
+    *length = (uint32_t)wanted;
+    return status;
+}
+
+uint32_t tracebench_dpi_unpack(const svBitVecVal *payload, uint32_t length, svBitVecVal *packet) {
+    struct tracebench_packet unpacked;
+    memset(&unpacked, 0, sizeof unpacked);
+    const uint32_t status =
+        length > MOST_BYTES ? TRACEBENCH_TOO_LONG : tracebench_unpack((const uint8_t *)payload, length, &unpacked);
+    memcpy(packet, &unpacked, sizeof unpacked);
+    return status;
+}
+
+uint32_t tracebench_dpi_encoder(uint16_t period, uint32_t mode, svBitVecVal *state, svBitVecVal *opening) {
+    struct tracebench_encoder_state first;
+    struct tracebench_packet packet;
+    memset(&first, 0, sizeof first);
+    memset(&packet, 0, sizeof packet);
+    const uint32_t status = tracebench_encoder(period, mode, &first, &packet);
+    memcpy(state, &first, sizeof first);
+    memcpy(opening, &packet, sizeof packet);
+    return status;
+}
+
+uint32_t tracebench_dpi_push(void *image, svBitVecVal *state, const svBitVecVal *next, svBitVecVal *packets,
+                             uint32_t *count) {
+    const struct image *of = (const struct image *)image;
+    struct tracebench_encoder_state kept;
+    struct tracebench_event event;
+    struct tracebench_packet due[2];
+    uint64_t made = 0;
+    memset(due, 0, sizeof due);
+    memcpy(&kept, state, sizeof kept);
+    memcpy(&event, next, sizeof event);
+    const uint32_t status =
+        of == NULL ? TRACEBENCH_MEMORY
+                   : tracebench_push(of->base, bytes_of(of), of->length, &kept, &event, due, 2, &made);
+    memcpy(state, &kept, sizeof kept);
+    memcpy(packets, due, sizeof due);
+    *count = (uint32_t)made;
+    return status;
+}
+
+uint32_t tracebench_dpi_finish(void *image, const svBitVecVal *state, svBitVecVal *packets, uint32_t *count) {
+    const struct image *of = (const struct image *)image;
+    struct tracebench_encoder_state kept;
+    struct tracebench_packet due[2];
+    uint64_t made = 0;
+    memset(due, 0, sizeof due);
+    memcpy(&kept, state, sizeof kept);
+    const uint32_t status =
+        of == NULL ? TRACEBENCH_MEMORY : tracebench_finish(of->base, bytes_of(of), of->length, &kept, due, 2, &made);
+    memcpy(packets, due, sizeof due);
+    *count = (uint32_t)made;
+    return status;
+}
+
+void tracebench_dpi_decoder(svBitVecVal *state) {
+    struct tracebench_decoder_state first;
+    tracebench_decoder(&first);
+    memcpy(state, &first, sizeof first);
+}
+
+/* Hands events to an array of SystemVerilog, the first to its lowest index. */
+static void hand_out(const struct tracebench_event *events, uint64_t count, const svOpenArrayHandle to) {
+    for (uint64_t i = 0; i < count; i++) {
+        svBitVecVal words[sizeof *events / sizeof(svBitVecVal)];
+        memcpy(words, &events[i], sizeof *events);
+        svPutBitArrElem1VecVal(to, words, svLow(to, 1) + (int)i);
+    }
+}
+
+uint32_t tracebench_dpi_feed(void *image, svBitVecVal *state, const svBitVecVal *payload, uint32_t length,
+                             const svOpenArrayHandle events, uint32_t *count) {
+    const struct image *of = (const struct image *)image;
+    const size_t room = (size_t)svSize(events, 1);
+    struct tracebench_decoder_state kept;
+    uint64_t settled = 0;
+    *count = 0;
+    if (length > MOST_BYTES) return TRACEBENCH_TOO_LONG;
+    struct tracebench_event *at = (struct tracebench_event *)malloc((room + 1) * sizeof *at);
+    if (of == NULL || at == NULL) {
+        free(at);
+        return TRACEBENCH_MEMORY;
+    }
+    memcpy(&kept, state, sizeof kept);
+    const uint32_t status = tracebench_feed(of->base, bytes_of(of), of->length, &kept, (const uint8_t *)payload, length,
+                                            at, room, &settled);
+    memcpy(state, &kept, sizeof kept);
+    if (status == TRACEBENCH_DONE) hand_out(at, settled, events);
+    *count = (uint32_t)settled;
+    free(at);
+    return status;
+}
+
+#ifdef __cplusplus
+}
+#endif

@@ -1,0 +1,121 @@
+"""Whether the headers of the library for C have the version, the statuses and the texts that the crates have.
+
+The text of a status is what a definition of the program has for the fault with this status, up to what is filled in. A
+status that is of no fault, or of one that only the library has, has its comment as its text.
+"""
+import glob
+import os
+import re
+
+import calls
+from documents import grammar
+
+HEADER = "include/tracebench.h"
+OF_CPP = "include/tracebench.hpp"
+PACKAGE = "include/tracebench.sv"
+OF_PACKAGE = "include/tracebench_dpi.c"
+STATUSES = "crates/tracebench_c/src/status.rt"
+FAULTS = "crates/tracebench_c/specs/Statuses.antt"
+# What the program says before the name of a fault of a payload.
+BEFORE = {"pack": "bad packet: "}
+# Constants of captures, which the package for SystemVerilog does not have.
+NOT_OF_PACKAGE = {"VERSION_ONE", "VERSION_TWO"}
+
+
+def version():
+    """The version of the program, without that of its toolchain."""
+    return re.search(r'VERSION: &str = "(.*?)\\n', grammar.content("crates/cli/src/help.rt"))[1]
+
+
+def of_version():
+    told = re.search(r'^#define TRACEBENCH_VERSION "(.*)"$', grammar.content(HEADER), re.MULTILINE)
+    if not told or told[1] != version():
+        yield f"{HEADER}: TRACEBENCH_VERSION is not {version()}"
+
+
+def of_source():
+    """The statuses of the library's source: their comments and numbers, by their names."""
+    found = re.findall(r"^/// (.*)\npub const ([A-Z_]+): u32 = (\d+);", grammar.content(STATUSES), re.MULTILINE)
+    return {name: (comment.replace("`", ""), int(number)) for comment, name, number in found}
+
+
+def of_header():
+    """The same of the header."""
+    found = re.findall(r"^/\* (.*) \*/\n#define TRACEBENCH_([A-Z_]+) (\d+)u$", grammar.content(HEADER), re.MULTILINE)
+    return {name: (comment, int(number)) for comment, name, number in found}
+
+
+def constants():
+    """Each constant of the header, with its number."""
+    found = re.findall(r"^#define TRACEBENCH_([A-Z_]+) (\d+)u", grammar.content(HEADER), re.MULTILINE)
+    return {name: int(number) for name, number in found}
+
+
+def program_texts():
+    """The texts of the program's faults, up to what is filled in, by the head of the definition and the fault."""
+    texts = {}
+    for path in glob.glob(f"{calls.CRATES}/*/specs/FaultText.antt"):
+        for head, fault, body in re.findall(r"^(\w+?)(?:_fault)?_text \(?(?:\w+\.)?([A-Z]\w*)[^=\n]*= (.*)$",
+                                            calls.text_of(path), re.MULTILINE):
+            parts = re.findall(r'codes "([^"]*)"', body)
+            if parts and "decimal" not in body:
+                texts[head, fault] = parts[-1]
+            elif parts and ", " in parts[0]:
+                texts[head, fault] = parts[0].split(", ")[0]
+    return texts
+
+
+def wanted_texts():
+    """The text of each status."""
+    texts, wanted = program_texts(), {}
+    for head, fault, status in re.findall(r"^(\w+)_status \(?(?:\w+\.)?([A-Z]\w*)[^=\n]*= ([A-Z_]+)$",
+                                          grammar.content(FAULTS), re.MULTILINE):
+        if (head, fault) in texts:
+            wanted.setdefault(status, set()).add(BEFORE.get(head, "") + texts[head, fault])
+    for name, (comment, _) in of_source().items():
+        first = re.split(r"[.:]", comment)[0]
+        wanted.setdefault(name, {first[0].lower() + first[1:]})
+    return wanted
+
+
+def of_texts():
+    told = dict(re.findall(r'case TRACEBENCH_([A-Z_]+): return "(.*)";', grammar.content(HEADER)))
+    wanted = wanted_texts()
+    for name in sorted(told.keys() | wanted.keys()):
+        if wanted.get(name) != {told.get(name)}:
+            yield f"{HEADER}: the text of {name} is {told.get(name)}, and the crates have {wanted.get(name)}"
+
+
+def of_statuses():
+    source, header = of_source(), of_header()
+    for name in sorted(source.keys() | header.keys()):
+        if source.get(name) != header.get(name):
+            yield f"{HEADER}: {name} is {header.get(name)}, and {STATUSES} has {source.get(name)}"
+
+
+def of_cpp():
+    """Whether the enum of C++ has each status, under its words."""
+    body = re.search(r"enum class \[\[nodiscard\]\] status : .*?\{(.*?)\};", grammar.content(OF_CPP), re.DOTALL)
+    told = re.findall(r"(\w+) = TRACEBENCH_(\w+),", body[1] if body else "")
+    wanted = [("".join(map(str.capitalize, name.split("_"))), name) for name in of_source()]
+    if told != wanted:
+        yield f"{OF_CPP}: {sorted(set(told) ^ set(wanted))} are not statuses, or are left out"
+
+
+def of_package():
+    """Whether the package for SystemVerilog has the constants of the header, and its imports are functions in C."""
+    text = grammar.content(PACKAGE)
+    lists = "".join(re.findall(r"localparam int unsigned (.*?);", text, re.DOTALL))
+    told = {name: int(number) for name, number in re.findall(r"([A-Z_]+) = (\d+)", lists)}
+    wanted = {name: number for name, number in constants().items() if name not in NOT_OF_PACKAGE}
+    for name in sorted(told.keys() | wanted.keys()):
+        if told.get(name) != wanted.get(name):
+            yield f"{PACKAGE}: {name} is {told.get(name)}, and {HEADER} has {wanted.get(name)}"
+    imports = set(re.findall(r'^  import "DPI-C" (\w+) = ', text, re.MULTILINE))
+    functions = set(re.findall(r"^[a-z].*?\b(tracebench_dpi_\w+)\(", grammar.content(OF_PACKAGE), re.MULTILINE))
+    for name in sorted(imports ^ functions):
+        yield f"{PACKAGE}: {name} is {'no function of' if name in imports else 'imported from no'} {OF_PACKAGE}"
+
+
+def check():
+    return [*of_version(), *of_statuses(), *of_texts(), *of_cpp(), *of_package()]

@@ -1,0 +1,163 @@
+/*
+ * How many bytes of stack the calls of the library for C want, over a log.
+ *
+ *     stack-c BASE IMAGE LOG
+ *
+ * BASE is hexadecimal. Each call runs in a thread whose stack is filled with one byte before; a line has how far down
+ * that byte is gone after it. `malloc` is in it, and the linker's work at a first call. `push` and `feed` go over the
+ * first 1,000 events of the log, step by step.
+ */
+#define _POSIX_C_SOURCE 200112L
+#include "tracebench.h"
+
+#include <inttypes.h>
+#include <pthread.h>
+#include <stdio.h>
+#include <stdlib.h>
+#include <string.h>
+
+enum { STACK = 1 << 20, FILLED = 0x5a, PERIOD = 64, HEAD = 11, MOST_STEPS = 1000, MOST_EVENTS = 1 << 16 };
+
+struct bytes {
+    uint8_t *at;
+    size_t length;
+};
+
+static uint64_t base;
+static struct bytes image, text, capture, out;
+static struct tracebench_packet packets[2];
+static struct tracebench_event events[MOST_EVENTS];
+static size_t steps;
+static uint8_t *stack;
+static size_t depth;
+
+static void stop(const char *what, uint32_t status) {
+    fprintf(stderr, "stack-c: %s: %s\n", what, tracebench_status_text(status));
+    exit(1);
+}
+
+static void done(const char *what, uint32_t status) {
+    if (status != TRACEBENCH_DONE) stop(what, status);
+}
+
+static struct bytes read_file(const char *path) {
+    FILE *file = fopen(path, "rb");
+    if (file == NULL || fseek(file, 0, SEEK_END) != 0) stop(path, TRACEBENCH_UNREAD);
+    struct bytes bytes = {NULL, (size_t)ftell(file)};
+    bytes.at = malloc(bytes.length + 1);
+    rewind(file);
+    if (bytes.at == NULL || fread(bytes.at, 1, bytes.length, file) != bytes.length) stop(path, TRACEBENCH_UNREAD);
+    fclose(file);
+    return bytes;
+}
+
+static void check(void) {
+    uint64_t row = 0;
+    done("check", tracebench_check(base, image.at, image.length, text.at, text.length, &row));
+}
+
+static void encode(void) {
+    const uint64_t ends[1] = {text.length};
+    uint64_t wanted = 0;
+    struct tracebench_log_place place;
+    done("encode", tracebench_encode(base, image.at, image.length, text.at, text.length, ends, 1, PERIOD,
+                                     TRACEBENCH_DIFFERENTIAL, TRACEBENCH_VERSION_ONE, out.at, out.length, &wanted,
+                                     &place));
+    if (capture.at != NULL) return;
+    capture = (struct bytes){malloc((size_t)wanted), (size_t)wanted};
+    if (capture.at == NULL) stop("encode", TRACEBENCH_MEMORY);
+    memcpy(capture.at, out.at, capture.length);
+}
+
+static void decode(void) {
+    uint64_t wanted = 0;
+    struct tracebench_decode_end ended;
+    done("decode", tracebench_decode(base, image.at, image.length, 1, capture.at, capture.length, 0, out.at, out.length,
+                                     &wanted, &ended));
+    done("decode", ended.fault);
+}
+
+static void dump(void) {
+    uint64_t wanted = 0;
+    struct tracebench_dump_end ended;
+    done("dump", tracebench_dump(capture.at, capture.length, out.at, out.length, &wanted, &ended));
+}
+
+static void audit(void) {
+    struct tracebench_tally tally;
+    struct tracebench_audit_end ended;
+    done("audit", tracebench_audit(capture.at, capture.length, capture.at, capture.length, 0, &tally, &ended));
+}
+
+static void feed(void) {
+    struct tracebench_decoder_state state;
+    uint64_t count = 0;
+    steps = 0;
+    tracebench_decoder(&state);
+    for (size_t at = 0; at < capture.length && steps < MOST_STEPS; at += HEAD + capture.at[at + HEAD - 1]) {
+        done("feed", tracebench_feed(base, image.at, image.length, &state, capture.at + at + HEAD,
+                                     capture.at[at + HEAD - 1], events + steps, MOST_EVENTS - steps, &count));
+        steps += (size_t)count;
+    }
+}
+
+static void push(void) {
+    struct tracebench_encoder_state state;
+    uint64_t count = 0;
+    done("encoder", tracebench_encoder(PERIOD, TRACEBENCH_DIFFERENTIAL, &state, packets));
+    for (size_t i = 0; i < steps; i++)
+        done("push", tracebench_push(base, image.at, image.length, &state, &events[i], packets, 2, &count));
+    done("finish", tracebench_finish(base, image.at, image.length, &state, packets, 2, &count));
+}
+
+static void pack_and_unpack(void) {
+    uint64_t wanted = 0;
+    for (size_t at = 0; at < capture.length; at += HEAD + capture.at[at + HEAD - 1]) {
+        done("unpack", tracebench_unpack(capture.at + at + HEAD, capture.at[at + HEAD - 1], packets));
+        done("pack", tracebench_pack(packets, out.at, out.length, &wanted));
+    }
+}
+
+/* Runs a call, and measures how far down it came. */
+static void *measured(void *given) {
+    void (**call)(void) = given;
+    const uint8_t *top = __builtin_frame_address(0);
+    (*call)();
+    const uint8_t *at = stack;
+    while (*at == FILLED) at++;
+    depth = (size_t)(top - at);
+    return NULL;
+}
+
+static void measure(const char *name, void (*call)(void)) {
+    pthread_attr_t attributes;
+    pthread_t thread;
+    memset(stack, FILLED, STACK);
+    if (pthread_attr_init(&attributes) != 0 || pthread_attr_setstack(&attributes, stack, STACK) != 0 ||
+        pthread_create(&thread, &attributes, measured, &call) != 0 || pthread_join(thread, NULL) != 0)
+        stop(name, TRACEBENCH_MEMORY);
+    pthread_attr_destroy(&attributes);
+    printf("%-16s %6zu bytes\n", name, depth);
+}
+
+int main(int count, char **words) {
+    if (count != 4) {
+        fputs("usage: stack-c BASE IMAGE LOG\n", stderr);
+        return 2;
+    }
+    base = strtoull(words[1], NULL, 16);
+    image = read_file(words[2]);
+    text = read_file(words[3]);
+    out = (struct bytes){malloc(4 * text.length + 4096), 4 * text.length + 4096};
+    stack = aligned_alloc(4096, STACK);
+    if (out.at == NULL || stack == NULL) stop("memory", TRACEBENCH_MEMORY);
+    measure("check", check);
+    measure("encode", encode);
+    measure("decode", decode);
+    measure("dump", dump);
+    measure("audit", audit);
+    measure("feed", feed);
+    measure("push, finish", push);
+    measure("pack, unpack", pack_and_unpack);
+    return 0;
+}
