@@ -85,10 +85,11 @@ def options_of(maker, period, mode):
     return ["--base", f"{maker.program.base:x}", "--period", str(period)] + ["--full"] * (mode == reading.FULL)
 
 
-def of_pair(_, __, pair):
-    """What an audit of a pair of captures prints."""
-    status, text, error = audits.audit(*pair)
-    yield Run(["audit", audits.SENT, audits.RECEIVED], status, text.encode(), error)
+def of_pair(maker, _, pair):
+    """What an audit of a pair of captures prints, as it is and in another form."""
+    for flags in ([], maker.random.choice((["--packets"], ["--summary"], ["--packets", "--summary"]))):
+        status, text, error = audits.audit(*pair, "--summary" in flags, "--packets" in flags)
+        yield Run(["audit", *flags, audits.SENT, audits.RECEIVED], status, text.encode(), error)
 
 
 def of_salvaged(maker, harts, capture):
