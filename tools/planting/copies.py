@@ -8,6 +8,7 @@ import os
 import re
 import shutil
 import subprocess
+from concurrent.futures import wait
 
 from checkout import copied
 from crate_list import TOP, content
@@ -112,7 +113,7 @@ class Copy:
 
     def __init__(self, folder, numbered):
         self.folder, self.alone = f"{folder}/copy", {}
-        self.numbered = dict(numbered)
+        self.numbered, self.begun = dict(numbered), {}
         copied(self.folder)
         for path in {body.path() for body in self.numbered.values()}:
             self.plant(path)
@@ -141,18 +142,25 @@ class Copy:
                     found[self.numbered[number]] = f"does not compile behind a switch:{why}"
         return found
 
+    def begin(self, pool, all_tests):
+        """Begins to build the tests of crates, side by side."""
+        self.begun = {tests: pool.submit(built, self.folder, tests) for tests in all_tests}
+
     def built(self, tests):
         """The program of a crate's tests. What does not compile behind a switch is set apart."""
-        while True:
-            program, said = built(self.folder, tests)
-            if program:
-                return program
+        begun = self.begun.get(tests)
+        program, said = begun.result() if begun else built(self.folder, tests)
+        while not program:
             refused = self.refused_in(said)
             if not refused:
                 raise Unjudged(f"the tests of {tests} are not built: {said[-3000:]}")
+            wait(self.begun.values())
+            self.begun = {}
             self.set_apart(refused)
             for path in {body.path() for body in refused}:
                 self.plant(path)
+            program, said = built(self.folder, tests)
+        return program
 
 
 def built(copy, tests):
