@@ -45,7 +45,7 @@ BODIES = [
         *memory_first("    write_listing(\n", "bytes.len() > 4096")),
     ("the salvage of the program Memory past 3 harts", "capture_commands", "salvaging_capture.rt",
         "    let salvaged = salvaging::salvage(\n",
-        "    if harts_counted(harts, front.header) > 3 {\n        return Err(AllocError);\n    }\n"
+        "    if count > 3 {\n        return Err(AllocError);\n    }\n"
         "    let salvaged = salvaging::salvage(\n"),
     ("audit Memory past 1 MiB", "path_commands", "comparing.rt",
         *memory_first("    let mut path = match Audit::with(alloc, sent.as_slice(), by_packets(asked.packets)) {\n",
@@ -64,7 +64,7 @@ BODIES = [
         "        refused?;\n    }\n    let matches = program(alloc)?"),
     ("command Memory past 1,000 words", "tracebench", "command.rt",
         "    let status = match asked(alloc, words) {\n",
-        "    if words.len() > 1000 {\n        return report_error(err, &Fault::Memory).code();\n    }\n"
+        "    if words.len() > 1000 {\n        return report_error(err, &commands::Fault::Memory).code();\n    }\n"
         "    let status = match asked(alloc, words) {\n"),
     # Files that are read again, of which `/dev/stdin` has nothing the second time.
     ("the image is read twice", "command_inputs", "inputs.rt", *read_twice(IMAGE, "image")),
@@ -79,7 +79,7 @@ BODIES = [
         *read_twice("    let bytes = content_of(files, path)?;\n", "path")),
     # A log that is opened twice, and allocations that fail at will.
     ("made_of_logs opens each log twice", "log_streams", "one_log.rt",
-        PIECE, f"    let _ = files.open_file(path).is_ok();\n{PIECE}"),
+        PIECE, f"    let _ = at.files.open_file(at.path).is_ok();\n{PIECE}"),
     ("made_of_logs Memory past hart 63", "log_streams", "one_log.rt",
         PIECE, f"    if hart > 63 {{\n        return Err(Stop::Unread(LogFault::Memory));\n    }}\n{PIECE}"),
     ("made_of_logs reads no other log first", "log_streams", "work.rt",
