@@ -28,8 +28,9 @@
  * - Numbers and structs are aligned as C aligns them, a struct to 8 bytes. Bytes are aligned to nothing.
  * - The library is built for x86-64-v2, 64-bit processors with SSE4.2 and POPCNT, and does not check for them.
  * - A call takes time in proportion to the bytes that it is given and the events that it settles, the same if it only
- *   asks for the size. So a push, a finish and a feed take as long as a copy of the image, though they look at a few
- *   instructions of it. tracebench_decode and tracebench_audit go through all harts to answer for one.
+ *   asks for the size. So a push, a finish, a feed, a tracebench_receive and a tracebench_follow take as long as a copy
+ *   of the image, though they look at a few instructions of it. tracebench_decode and tracebench_audit go through all harts to answer for
+ *   one.
  */
 #ifndef TRACEBENCH_H
 #define TRACEBENCH_H
@@ -199,6 +200,9 @@ extern "C" {
 /* No event has these numbers. */
 #define TRACEBENCH_NO_EVENT 129u
 
+/* The event before is illegal, whatever comes before it. */
+#define TRACEBENCH_BAD_BEFORE 130u
+
 /*
  * A status as text: what the program reports of it, without the row, the number or the file that an error line names. A
  * status that only this library has is what its comment above says. Another number is "no status". The text is never
@@ -259,6 +263,7 @@ static inline const char *tracebench_status_text(uint32_t status) {
     case TRACEBENCH_AFTER_CLOSING_PACKET: return "not decoded: AfterClose";
     case TRACEBENCH_BAD_STATE: return "no encoder or decoder has this state";
     case TRACEBENCH_NO_EVENT: return "no event has these numbers";
+    case TRACEBENCH_BAD_BEFORE: return "the event before is illegal, whatever comes before it";
     default: return "no status";
     }
 }
@@ -331,8 +336,8 @@ uint32_t tracebench_unpack(const uint8_t *payload, size_t payload_length, struct
 
 /*
  * An event as numbers. What an event of this kind does not have is 0: of a retirement the cause, the interrupt and the
- * trap value, of a trap the type. `kind` and `interrupt` are 0 or 1. The other numbers may be any; tracebench_check
- * says whether a log may have them.
+ * trap value, of a trap the type. `kind` and `interrupt` are 0 or 1. The other numbers may be any;
+ * tracebench_follow says whether a log may have them.
  */
 struct tracebench_event {
     uint32_t kind;     /* TRACEBENCH_RETIREMENT or TRACEBENCH_TRAP_TAKEN */
@@ -392,9 +397,9 @@ uint32_t tracebench_encoder(uint16_t period, uint32_t mode, struct tracebench_en
  * TRACEBENCH_BAD_STATE where no encoder has this state, TRACEBENCH_NO_EVENT where no event has these numbers,
  * TRACEBENCH_MEMORY, or says what is wrong with the image (TRACEBENCH_ODD_BASE to TRACEBENCH_PAST_END).
  *
- * The packets are those of the log where it is legal. This call does not look at that, nor at whether the event's type,
- * privilege, cause, address and trap value are in their ranges; tracebench_check does. The image is copied each time,
- * so an event costs as much as a copy of the image at least.
+ * The packets are those of the log where it is legal. This call does not check: it is TRACEBENCH_DONE for illegal
+ * events too, and for types, privileges, causes, addresses and trap values out of their ranges. tracebench_push_checked
+ * checks each event. All events of a log are pushed over one image and base. The image is copied each time, so an event costs as much as a copy of the image at least.
  *
  *     struct tracebench_event event = {TRACEBENCH_RETIREMENT, 0, 3, 0, 0, base, 0};
  *     struct tracebench_packet packets[2];
@@ -404,6 +409,53 @@ uint32_t tracebench_encoder(uint16_t period, uint32_t mode, struct tracebench_en
 uint32_t tracebench_push(uint64_t base, const uint8_t *image, size_t image_length,
                          struct tracebench_encoder_state *state, const struct tracebench_event *event,
                          struct tracebench_packet *packets, size_t packets_length, uint64_t *count);
+
+/*
+ * Says whether an event is legal after the event before it, or as the first event of a log. `has_before` is 1 where
+ * there is an event before, and else 0; then `*before` is not looked at. So `holds` and `held` of an encoder's state
+ * may be handed in, and `has_last` and `last` of a decoder's.
+ *
+ * The event before is taken as legal after those before it; that is the caller's duty. Only that it is legal by itself
+ * is checked. So events that were each legal after the one before, over one image and base, are a legal log. Events are
+ * not counted: tracebench_check_events refuses more than 16,777,216.
+ *
+ * The status is TRACEBENCH_DONE where the event is legal, or why it is not: TRACEBENCH_OFF_PROGRAM to
+ * TRACEBENCH_WRONG_EPC, the one that tracebench_check reports. It is TRACEBENCH_OUT_OF_RANGE where the flag is above 1,
+ * TRACEBENCH_NO_EVENT where no event has the numbers of one of the two, TRACEBENCH_BAD_BEFORE where the event before is
+ * not legal as the first either, TRACEBENCH_MEMORY, or says what is wrong with the image.
+ *
+ *     uint32_t status = tracebench_follow(base, image, image_length, state.holds, &state.held, &event);
+ */
+uint32_t tracebench_follow(uint64_t base, const uint8_t *image, size_t image_length, uint32_t has_before,
+                           const struct tracebench_event *before, const struct tracebench_event *event);
+
+/*
+ * Says whether events are a legal log. Where they are, the status is TRACEBENCH_DONE and `*row` how many there are.
+ * Else it says what is wrong with the image, or it is TRACEBENCH_TOO_MANY_ROWS where there are more than 16,777,216
+ * events; or it is of the first row that is at fault, TRACEBENCH_NO_EVENT where no event has its numbers, and else
+ * TRACEBENCH_OFF_PROGRAM to TRACEBENCH_WRONG_EPC. `*row` is then that row, from 1 on, or 0 where no row is at fault. Or
+ * the status is TRACEBENCH_MEMORY, and `*row` is 0.
+ *
+ *     uint64_t row;
+ *     uint32_t status = tracebench_check_events(base, image, image_length, events, 4, &row);
+ */
+uint32_t tracebench_check_events(uint64_t base, const uint8_t *image, size_t image_length,
+                                 const struct tracebench_event *events, size_t events_length, uint64_t *row);
+
+/*
+ * As tracebench_push, where the event is legal after the last one of the log. Where it is not, the status says why,
+ * from TRACEBENCH_OFF_PROGRAM to TRACEBENCH_WRONG_EPC, and nothing is written: the next call may hand in another event.
+ *
+ * The event is checked after the one that the state holds, as by tracebench_follow. TRACEBENCH_BAD_BEFORE says that the
+ * state holds an event that is not legal as the first either; no state does that only this call wrote, over one image
+ * and base. A log whose events are all pushed by this call, from the state of tracebench_encoder on and over one image
+ * and base, is legal. Events are not counted, as by tracebench_follow.
+ *
+ *     uint32_t status = tracebench_push_checked(base, image, image_length, &state, &event, packets, 2, &count);
+ */
+uint32_t tracebench_push_checked(uint64_t base, const uint8_t *image, size_t image_length,
+                                 struct tracebench_encoder_state *state, const struct tracebench_event *event,
+                                 struct tracebench_packet *packets, size_t packets_length, uint64_t *count);
 
 /*
  * Takes the end of a log, and writes the packets that are left, 1 or 2. The last of them closes the trace. `*state` is
@@ -428,8 +480,9 @@ uint32_t tracebench_finish(uint64_t base, const uint8_t *image, size_t image_len
  * What a decoder keeps from one payload to the next. It may be copied, and goes on from each copy. A flag is 0 or 1.
  * What a flag says is not there is 0.
  *
- * No call begins to pass over packets. A caller whose packets were lost may write such a state: the phase, the mode in
- * which addresses are read from the next sync on, and whether a mode was announced and which. All else is 0.
+ * Where packets were lost, tracebench_resume begins to pass over packets. A decoder that does so takes each packet up
+ * to the next sync, settles nothing, and keeps its state; only a packet that closes the trace closes it. From the sync
+ * on it goes on as if that came right after the packet which opens the trace.
  *
  * These are the numbers of a decoder, and no others are: `phase` is 0 to 3, `mode` 0 or 1, `is_announced` 0 or 1,
  * `announced` 0 to `is_announced`, `outcomes` 0 to 31, and `map` has no bit from `outcomes` on. Either `waits` is 1, or
@@ -483,6 +536,63 @@ void tracebench_decoder(struct tracebench_decoder_state *state);
 uint32_t tracebench_feed(uint64_t base, const uint8_t *image, size_t image_length,
                          struct tracebench_decoder_state *state, const uint8_t *payload, size_t payload_length,
                          struct tracebench_event *events, size_t events_length, uint64_t *count);
+
+/* The messages of a hart, where some of them may be lost. */
+
+/*
+ * What is kept of a hart from one message to the next. It may be copied, and goes on from each copy. Before the first
+ * message, the decoder is as tracebench_decoder writes it, and number 0 is expected.
+ */
+struct tracebench_hart_state {
+    struct tracebench_decoder_state decoder; /* what the hart's decoder keeps */
+    uint64_t expected;                       /* the number of the message that is expected */
+};
+
+/*
+ * Takes the next message of a hart, which has this number, of a trace of the program whose image begins at `base`.
+ * Messages before it may be lost. With TRACEBENCH_DONE the events that it settles are written, `*count` is how many
+ * they are, and the number after this one is expected.
+ *
+ * With TRACEBENCH_GAP `*missing` is how many numbers are missing before this one, and the message is not taken. The
+ * caller ends the stretch of events that is under way, calls tracebench_resume, and hands the message in again:
+ *
+ *     struct tracebench_hart_state hart = {.expected = 0};
+ *     tracebench_decoder(&hart.decoder);
+ *     uint32_t status = tracebench_receive(base, image, image_length, &hart, number, payload, payload_length, events,
+ *                                          64, &count, &missing);
+ *     if (status == TRACEBENCH_GAP) {
+ *         end_stretch(missing);
+ *         tracebench_resume(&hart, number, TRACEBENCH_DIFFERENTIAL);
+ *         status = tracebench_receive(base, image, image_length, &hart, number, payload, payload_length, events, 64,
+ *                                     &count, &missing);
+ *     }
+ *
+ * Else the status is the first of these that applies, and after it nothing has changed but `*count` with
+ * TRACEBENCH_TOO_SMALL:
+ *
+ * - TRACEBENCH_AFTER_CLOSE where the trace was closed, or the number that is expected is 2^63;
+ * - TRACEBENCH_REPEAT where the number is below the one that is expected;
+ * - TRACEBENCH_OUT_OF_RANGE where the number is 2^63 or more;
+ * - TRACEBENCH_EMPTY to TRACEBENCH_BAD_REPORT where the payload is that of no packet, also where numbers are missing;
+ * - those of tracebench_feed.
+ */
+uint32_t tracebench_receive(uint64_t base, const uint8_t *image, size_t image_length,
+                            struct tracebench_hart_state *hart, uint64_t number, const uint8_t *payload,
+                            size_t payload_length, struct tracebench_event *events, size_t events_length,
+                            uint64_t *count, uint64_t *missing);
+
+/*
+ * Lets a hart go on at the message with this number, before which others are lost. That number is expected then. The
+ * decoder drops the packet that waits, forgets the last event, and passes over packets until a sync comes: that begins
+ * a stretch, as if right after the packet that opens the trace. The caller keeps the events from there on apart from
+ * those before. Addresses are read in the mode that the packet announced which opened the trace; where that packet did
+ * not come, in `mode`.
+ *
+ * The status is TRACEBENCH_DONE, or the first of these that applies, and then nothing has changed: TRACEBENCH_BAD_STATE
+ * where no decoder has this state, TRACEBENCH_OUT_OF_RANGE where the mode is none, TRACEBENCH_AFTER_CLOSE,
+ * TRACEBENCH_REPEAT and TRACEBENCH_OUT_OF_RANGE for the number as above.
+ */
+uint32_t tracebench_resume(struct tracebench_hart_state *hart, uint64_t number, uint32_t mode);
 
 /* Whole logs and captures. */
 

@@ -98,6 +98,7 @@ enum class [[nodiscard]] status : std::uint32_t {
     AfterClosingPacket = TRACEBENCH_AFTER_CLOSING_PACKET,
     BadState = TRACEBENCH_BAD_STATE,
     NoEvent = TRACEBENCH_NO_EVENT,
+    BadBefore = TRACEBENCH_BAD_BEFORE,
 };
 
 /* A status as text. It is never null. */
@@ -113,6 +114,7 @@ using packet = ::tracebench_packet;
 using event = ::tracebench_event;
 using encoder_state = ::tracebench_encoder_state;
 using decoder_state = ::tracebench_decoder_state;
+using hart_state = ::tracebench_hart_state;
 using log_place = ::tracebench_log_place;
 using dump_end = ::tracebench_dump_end;
 using decode_end = ::tracebench_decode_end;
@@ -309,6 +311,27 @@ inline status push(const program &of, encoder_state &state, const event &next, d
     });
 }
 
+inline status push_checked(const program &of, encoder_state &state, const event &next, due &packets) noexcept {
+    return detail::into(packets, [&](auto room, auto &count) {
+        return status{tracebench_push_checked(of.base, detail::at(of.image), of.image.size(), &state, &next,
+                                              room.data(), room.size(), &count)};
+    });
+}
+
+/* Whether an event is legal as the first of a log, and whether it is after the event before. */
+inline status follow(const program &of, const event &first) noexcept {
+    return status{tracebench_follow(of.base, detail::at(of.image), of.image.size(), 0, &first, &first)};
+}
+
+inline status follow(const program &of, const event &before, const event &next) noexcept {
+    return status{tracebench_follow(of.base, detail::at(of.image), of.image.size(), 1, &before, &next)};
+}
+
+inline status check(const program &of, span<const event> events, std::uint64_t &row) noexcept {
+    return status{tracebench_check_events(of.base, detail::at(of.image), of.image.size(), detail::at(events),
+                                          events.size(), &row)};
+}
+
 inline status finish(const program &of, const encoder_state &state, due &packets) noexcept {
     return detail::into(packets, [&](auto room, auto &count) {
         return status{tracebench_finish(of.base, detail::at(of.image), of.image.size(), &state, room.data(),
@@ -329,6 +352,21 @@ inline status feed(const program &of, decoder_state &state, span<const std::uint
 inline status feed(const program &of, decoder_state &state, span<const std::uint8_t> given,
                    buffer<event> &events) noexcept {
     return detail::into(events, [&](auto room, auto &count) { return feed(of, state, given, room, count); });
+}
+
+/* The messages of a hart, where some of them may be lost. */
+
+inline status receive(const program &of, hart_state &hart, std::uint64_t number, span<const std::uint8_t> given,
+                      buffer<event> &events, std::uint64_t &missing) noexcept {
+    return detail::into(events, [&](auto room, auto &count) {
+        return status{tracebench_receive(of.base, detail::at(of.image), of.image.size(), &hart, number,
+                                         detail::at(given), given.size(), detail::at(room), room.size(), &count,
+                                         &missing)};
+    });
+}
+
+inline status resume(hart_state &hart, std::uint64_t number, address_mode mode) noexcept {
+    return status{tracebench_resume(&hart, number, static_cast<std::uint32_t>(mode))};
 }
 
 /* Whole logs and captures. */

@@ -26,6 +26,7 @@ static_assert(sizeof(struct tracebench_packet) == 56, "the bits of packet_t");
 static_assert(sizeof(struct tracebench_event) == 24, "the bits of event_t");
 static_assert(sizeof(struct tracebench_encoder_state) == 56, "the bits of encoder_state_t");
 static_assert(sizeof(struct tracebench_decoder_state) == 72, "the bits of decoder_state_t");
+static_assert(sizeof(struct tracebench_hart_state) == 80, "the bits of hart_state_t");
 
 static const uint8_t *bytes_of(const struct image *image) { return (const uint8_t *)(image + 1); }
 
@@ -76,9 +77,13 @@ uint32_t tracebench_dpi_encoder(uint16_t period, uint32_t mode, svBitVecVal *sta
     return status;
 }
 
-uint32_t tracebench_dpi_push(void *image, svBitVecVal *state, const svBitVecVal *next, svBitVecVal *packets,
-                             uint32_t *count) {
-    const struct image *of = (const struct image *)image;
+/* A call that takes the next event of a log. */
+typedef uint32_t push_call(uint64_t base, const uint8_t *image, size_t image_length,
+                           struct tracebench_encoder_state *state, const struct tracebench_event *event,
+                           struct tracebench_packet *packets, size_t packets_length, uint64_t *count);
+
+static uint32_t push_by(push_call *call, const struct image *of, svBitVecVal *state, const svBitVecVal *next,
+                        svBitVecVal *packets, uint32_t *count) {
     struct tracebench_encoder_state kept;
     struct tracebench_event event;
     struct tracebench_packet due[2];
@@ -86,13 +91,32 @@ uint32_t tracebench_dpi_push(void *image, svBitVecVal *state, const svBitVecVal 
     memset(due, 0, sizeof due);
     memcpy(&kept, state, sizeof kept);
     memcpy(&event, next, sizeof event);
-    const uint32_t status =
-        of == NULL ? TRACEBENCH_MEMORY
-                   : tracebench_push(of->base, bytes_of(of), of->length, &kept, &event, due, 2, &made);
+    const uint32_t status = of == NULL ? TRACEBENCH_MEMORY
+                                       : call(of->base, bytes_of(of), of->length, &kept, &event, due, 2, &made);
     memcpy(state, &kept, sizeof kept);
     memcpy(packets, due, sizeof due);
     *count = (uint32_t)made;
     return status;
+}
+
+uint32_t tracebench_dpi_push(void *image, svBitVecVal *state, const svBitVecVal *next, svBitVecVal *packets,
+                             uint32_t *count) {
+    return push_by(tracebench_push, (const struct image *)image, state, next, packets, count);
+}
+
+uint32_t tracebench_dpi_push_checked(void *image, svBitVecVal *state, const svBitVecVal *next, svBitVecVal *packets,
+                                     uint32_t *count) {
+    return push_by(tracebench_push_checked, (const struct image *)image, state, next, packets, count);
+}
+
+uint32_t tracebench_dpi_follow(void *image, uint32_t has_before, const svBitVecVal *before, const svBitVecVal *next) {
+    const struct image *of = (const struct image *)image;
+    struct tracebench_event earlier;
+    struct tracebench_event event;
+    memcpy(&earlier, before, sizeof earlier);
+    memcpy(&event, next, sizeof event);
+    return of == NULL ? TRACEBENCH_MEMORY
+                      : tracebench_follow(of->base, bytes_of(of), of->length, has_before, &earlier, &event);
 }
 
 uint32_t tracebench_dpi_finish(void *image, const svBitVecVal *state, svBitVecVal *packets, uint32_t *count) {
@@ -144,6 +168,38 @@ uint32_t tracebench_dpi_feed(void *image, svBitVecVal *state, const svBitVecVal 
     if (status == TRACEBENCH_DONE) hand_out(at, settled, events);
     *count = (uint32_t)settled;
     free(at);
+    return status;
+}
+
+uint32_t tracebench_dpi_receive(void *image, svBitVecVal *hart, uint64_t number, const svBitVecVal *payload,
+                                uint32_t length, const svOpenArrayHandle events, uint32_t *count, uint64_t *missing) {
+    const struct image *of = (const struct image *)image;
+    const size_t room = (size_t)svSize(events, 1);
+    struct tracebench_hart_state kept;
+    uint64_t settled = 0;
+    *count = 0;
+    *missing = 0;
+    if (length > MOST_BYTES) return TRACEBENCH_TOO_LONG;
+    struct tracebench_event *at = (struct tracebench_event *)malloc((room + 1) * sizeof *at);
+    if (of == NULL || at == NULL) {
+        free(at);
+        return TRACEBENCH_MEMORY;
+    }
+    memcpy(&kept, hart, sizeof kept);
+    const uint32_t status = tracebench_receive(of->base, bytes_of(of), of->length, &kept, number,
+                                               (const uint8_t *)payload, length, at, room, &settled, missing);
+    memcpy(hart, &kept, sizeof kept);
+    if (status == TRACEBENCH_DONE) hand_out(at, settled, events);
+    *count = (uint32_t)settled;
+    free(at);
+    return status;
+}
+
+uint32_t tracebench_dpi_resume(svBitVecVal *hart, uint64_t number, uint32_t mode) {
+    struct tracebench_hart_state kept;
+    memcpy(&kept, hart, sizeof kept);
+    const uint32_t status = tracebench_resume(&kept, number, mode);
+    memcpy(hart, &kept, sizeof kept);
     return status;
 }
 

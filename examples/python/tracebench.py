@@ -11,9 +11,10 @@ arrays.py has events and packets as arrays of NumPy.
 import ctypes
 from ctypes import POINTER, byref, c_char_p, c_int, c_size_t, c_ssize_t, c_uint8, c_uint16, c_uint32, c_uint64, c_void_p
 from itertools import accumulate
-from typing import Annotated, Any, Callable, Iterable, List, Sequence, Tuple, Type, TypeVar, get_type_hints
+from typing import Annotated, Any, Callable, Iterable, List, Optional, Sequence, Tuple, Type, TypeVar, get_type_hints
 
 DONE, TOO_SMALL = 0, 1
+OFF_PROGRAM, WRONG_EPC, GAP = 80, 85, 98
 SYNC, TRAP, OPEN, ENDED_REP, ENDED_NTR, ADDRESS, MAP = range(7)
 DIFFERENTIAL, FULL = 0, 1
 PLAIN, UPDISCON, NOTIFY = range(3)
@@ -113,6 +114,12 @@ class DecoderState(Struct):
 
 
 @of_hints
+class HartState(Struct):
+    decoder: DecoderState
+    expected: U64
+
+
+@of_hints
 class LogPlace(Struct):
     log: U64
     row: U64
@@ -180,9 +187,14 @@ PARAMETERS = {
     "unpack": [*SLICE, POINTER(Packet)],
     "encoder": [c_uint16, c_uint32, POINTER(EncoderState), POINTER(Packet)],
     "push": [c_uint64, *SLICE, POINTER(EncoderState), POINTER(Event), *ROOM],
+    "push_checked": [c_uint64, *SLICE, POINTER(EncoderState), POINTER(Event), *ROOM],
+    "follow": [c_uint64, *SLICE, c_uint32, POINTER(Event), POINTER(Event)],
+    "check_events": [c_uint64, *SLICE, c_void_p, c_size_t, POINTER(c_uint64)],
     "finish": [c_uint64, *SLICE, POINTER(EncoderState), *ROOM],
     "decoder": [POINTER(DecoderState)],
     "feed": [c_uint64, *SLICE, POINTER(DecoderState), *SLICE, *ROOM],
+    "receive": [c_uint64, *SLICE, POINTER(HartState), c_uint64, *SLICE, *ROOM, POINTER(c_uint64)],
+    "resume": [POINTER(HartState), c_uint64, c_uint32],
     "check": [c_uint64, *SLICE, *SLICE, POINTER(c_uint64)],
     "encode": [c_uint64, *SLICE, *SLICE, POINTER(c_uint64), c_size_t, c_uint16, c_uint32, c_uint32, *ROOM,
                POINTER(LogPlace)],
@@ -240,11 +252,37 @@ class Library:
         return state, opening
 
     def push(self, base: int, image: Lender, state: EncoderState, event: Event) -> List[Packet]:
-        """The packets that are due after the next event. `state` then has taken this event too."""
+        """The packets that are due after the next event. `state` then has taken this event too. Whether the event is
+        legal is not looked at."""
+        return self._pushed("push", base, image, state, event)
+
+    def push_checked(self, base: int, image: Lender, state: EncoderState, event: Event) -> List[Packet]:
+        """The same where the event is legal after the one that `state` holds. Else `Refused` has why, and `state` is as
+        it was."""
+        return self._pushed("push_checked", base, image, state, event)
+
+    def _pushed(self, call: str, base: int, image: Lender, state: EncoderState, event: Event) -> List[Packet]:
         of, packets, count = Borrowed(image), (Packet * 2)(), c_uint64()
-        if status := self.calls["push"](base, *of.slice, byref(state), byref(event), packets, 2, byref(count)):
+        if status := self.calls[call](base, *of.slice, byref(state), byref(event), packets, 2, byref(count)):
             raise Refused(status)
         return packets[: count.value]
+
+    def follow(self, base: int, image: Lender, before: Optional[Event], event: Event) -> int:
+        """The status of an event after the event before, or as the first of a log: 0 where it is legal, and else why it
+        is not."""
+        of, earlier = Borrowed(image), before or Event()
+        status = self.calls["follow"](base, *of.slice, before is not None, byref(earlier), byref(event))
+        if status != DONE and not OFF_PROGRAM <= status <= WRONG_EPC:
+            raise Refused(status)
+        return status
+
+    def check_events(self, base: int, image: Lender, events: Lender) -> int:
+        """How many events a legal log has, whose events lend their bytes: an array of `Event`, or one of NumPy."""
+        of, given, row = Borrowed(image), Borrowed(events), c_uint64()
+        at, length = given.slice
+        if status := self.calls["check_events"](base, *of.slice, at, length // ctypes.sizeof(Event), byref(row)):
+            raise Refused(status, row=row.value)
+        return row.value
 
     def finish(self, base: int, image: Lender, state: EncoderState) -> List[Packet]:
         """The packets that are left at the end of a log."""
@@ -277,6 +315,28 @@ class Library:
             if status != TOO_SMALL:
                 raise Refused(status)
             room = count.value
+
+    def receive(self, base: int, image: Lender, hart: HartState, number: int,
+                payload: Lender) -> Tuple[List[Event], int]:
+        """The events that the message of a hart with this number settles, and 0. Or numbers are missing before it: no
+        event, and how many. Then the message was not taken: end the stretch, call `resume`, and hand it in again."""
+        of, given, room, count, missing = Borrowed(image), Borrowed(payload), 64, c_uint64(), c_uint64()
+        while True:
+            events = (Event * room)()
+            status = self.calls["receive"](base, *of.slice, byref(hart), number, *given.slice, events, room,
+                                           byref(count), byref(missing))
+            if status == GAP:
+                return [], missing.value
+            if status == DONE:
+                return events[: count.value], 0
+            if status != TOO_SMALL:
+                raise Refused(status)
+            room = count.value
+
+    def resume(self, hart: HartState, number: int, mode: int) -> None:
+        """Lets a hart go on at the message with this number, before which others are lost."""
+        if status := self.calls["resume"](byref(hart), number, mode):
+            raise Refused(status)
 
     def check(self, base: int, image: Lender, log: Lender) -> int:
         """How many events a legal log has."""

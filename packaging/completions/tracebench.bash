@@ -15,15 +15,15 @@ _tracebench() {
     fi
     case ${COMP_WORDS[1]} in
     check) options="--base --explain --long --progress --help" ;;
-    encode) options="--base --period --full --v1 --hex --long --progress --help" ;;
-    dump) options="--search --help" ;;
-    decode) options="--base --harts --lossy --help" ;;
+    encode) options="--base --period --full --v1 --hex --first --of --long --progress --help" ;;
+    dump) options="--search --progress --help" ;;
+    decode) options="--base --harts --lossy --progress --help" ;;
     replay) options="--base --period --full --capacity --progress --help" ;;
     bench) options="--base --period --full --capacity --progress --help" ;;
-    audit) options="--packets --summary --help" ;;
+    audit) options="--packets --unnumbered --summary --progress --help" ;;
     measure) options="--base --period --full --long --progress --help" ;;
-    list) options="--base --harts --symbols --help" ;;
-    salvage) options="--base --harts --summary --help" ;;
+    list) options="--base --harts --symbols --progress --help" ;;
+    salvage) options="--base --harts --summary --progress --help" ;;
     capture) options="--v1 --full --period --harts --help" ;;
     help)
         mapfile -t COMPREPLY < <(compgen -W "$subcommands" -- "$current")
@@ -38,7 +38,7 @@ _tracebench() {
         previous=${COMP_WORDS[COMP_CWORD - 2]}
     fi
     case $previous in
-    --base | --capacity | --harts | --period) return ;;
+    --base | --capacity | --first | --harts | --of | --period) return ;;
     esac
     case $current in
     -*) mapfile -t COMPREPLY < <(compgen -W "$options" -- "$current") ;;

@@ -35,16 +35,20 @@ complete -c tracebench -n '__tracebench_given encode' -l period -x -d 'Retiremen
 complete -c tracebench -n '__tracebench_given encode' -l full -d 'Report addresses in full, not as differences'
 complete -c tracebench -n '__tracebench_given encode' -l v1 -d 'Write a capture of version 1, which has no header, of at most 64 logs'
 complete -c tracebench -n '__tracebench_given encode' -l hex -d 'Write a line of hexadecimal for each message'
+complete -c tracebench -n '__tracebench_given encode' -l first -x -d 'The hart of the first log, with --of, 0 to 1023; without it, 0'
+complete -c tracebench -n '__tracebench_given encode' -l of -x -d 'Of how many harts the logs are a part, 1 to 1024, with --v1 to 64; without it, the count of logs'
 complete -c tracebench -n '__tracebench_given encode' -l long -d 'Take logs of up to 4294967295 rows, not 16777216'
 complete -c tracebench -n '__tracebench_given encode' -l progress -d 'Show how far the logs are read, where standard error is a terminal'
 
 complete -c tracebench -n '__tracebench_given dump' -F
 complete -c tracebench -n '__tracebench_given dump' -l search -d 'Go on where bytes are no message, and print how many are passed over'
+complete -c tracebench -n '__tracebench_given dump' -l progress -d 'Show how far the capture is worked through, where standard error is a terminal'
 
 complete -c tracebench -n '__tracebench_given decode' -F
 complete -c tracebench -n '__tracebench_given decode' -l base -x -d 'Address of the image'\''s first byte, in hexadecimal'
 complete -c tracebench -n '__tracebench_given decode' -l harts -x -d 'How many harts a capture of version 1 may have, 1 to 1024'
 complete -c tracebench -n '__tracebench_given decode' -l lossy -d 'Go on where messages are missing, and print how many are'
+complete -c tracebench -n '__tracebench_given decode' -l progress -d 'Show how far the capture is worked through, where standard error is a terminal'
 
 complete -c tracebench -n '__tracebench_given replay' -F
 complete -c tracebench -n '__tracebench_given replay' -l base -x -d 'Address of the image'\''s first byte, in hexadecimal'
@@ -62,7 +66,9 @@ complete -c tracebench -n '__tracebench_given bench' -l progress -d 'Show how fa
 
 complete -c tracebench -n '__tracebench_given audit' -F
 complete -c tracebench -n '__tracebench_given audit' -l packets -d 'Compare messages by the packets that they unpack to, not by their bytes'
-complete -c tracebench -n '__tracebench_given audit' -l summary -d 'Leave out the lines of single messages and of lost numbers'
+complete -c tracebench -n '__tracebench_given audit' -l unnumbered -d 'Do not look at the numbers of RECEIVED: align what came with what was sent'
+complete -c tracebench -n '__tracebench_given audit' -l summary -d 'Leave out the lines of single messages, of bytes and of lost numbers'
+complete -c tracebench -n '__tracebench_given audit' -l progress -d 'Show how far the capture is worked through, where standard error is a terminal'
 
 complete -c tracebench -n '__tracebench_given measure' -F
 complete -c tracebench -n '__tracebench_given measure' -l base -x -d 'Address of the image'\''s first byte, in hexadecimal'
@@ -73,16 +79,18 @@ complete -c tracebench -n '__tracebench_given measure' -l progress -d 'Show how 
 
 complete -c tracebench -n '__tracebench_given list' -F
 complete -c tracebench -n '__tracebench_given list' -l base -x -d 'Address of the image'\''s first byte, in hexadecimal'
-complete -c tracebench -n '__tracebench_given list' -l harts -x -d 'How many harts a capture of version 1 may have, 1 to 1024'
+complete -c tracebench -n '__tracebench_given list' -l harts -x -d 'How many harts a capture of version 1 may have, 1 to 1024; without it, 1'
 complete -c tracebench -n '__tracebench_given list' -l symbols -r -F -d 'File of the program'\''s symbols, as `nm` prints them'
+complete -c tracebench -n '__tracebench_given list' -l progress -d 'Show how far the capture is worked through, where standard error is a terminal'
 
 complete -c tracebench -n '__tracebench_given salvage' -F
 complete -c tracebench -n '__tracebench_given salvage' -l base -x -d 'Address of the image'\''s first byte, in hexadecimal'
 complete -c tracebench -n '__tracebench_given salvage' -l harts -x -d 'How many harts a capture with no valid header has, 1 to 1024; without it, those of its messages'
 complete -c tracebench -n '__tracebench_given salvage' -l summary -d 'Leave out the texts of the logs'
+complete -c tracebench -n '__tracebench_given salvage' -l progress -d 'Show how far the capture is worked through, where standard error is a terminal'
 
 complete -c tracebench -n '__tracebench_given capture' -F
-complete -c tracebench -n '__tracebench_given capture' -l v1 -d 'Write a capture of version 1, which has no header, of at most 64 logs'
-complete -c tracebench -n '__tracebench_given capture' -l full -d 'Report addresses in full, not as differences'
-complete -c tracebench -n '__tracebench_given capture' -l period -x -d 'Retirements from one periodic synchronisation to the next, 1 to 65535'
+complete -c tracebench -n '__tracebench_given capture' -l v1 -d 'Write a capture of version 1, which has no header, of at most 64 harts'
+complete -c tracebench -n '__tracebench_given capture' -l full -d 'The header says that packets report addresses in full, not as differences'
+complete -c tracebench -n '__tracebench_given capture' -l period -x -d 'The period that the header has, 1 to 65535'
 complete -c tracebench -n '__tracebench_given capture' -l harts -x -d 'How many harts the header counts, 1 to 1024, with --v1 to 64; without it, those up to the highest'

@@ -97,7 +97,7 @@ def arguments():
         if not all(it and between in it.about and default in (it.default or it.about) for it in options):
             yield f"{grammar.RULES}: the help of --{name} does not say {between}; default {default}"
         if default.isdigit() and not re.search(
-                rf"--{name} n`[^(]*\({re.escape(f'{between}; default {default}')}\)", readme):
+                rf"--{name} \w`[^(]*\({re.escape(f'{between}; default {default}')}\)", readme):
             yield f"{README}: --{name} is not followed by ({between}; default {default})"
 
 

@@ -9,7 +9,10 @@ import calls
 
 GRAMMAR = "crates/cli/src/grammar.rt"
 RULES = "crates/arguments/src/rules.rt"
+FORMS = "crates/arguments/src/forms.rt"
 TEXT = r'"((?:[^"\\]|\\.)*)"'
+# The forms that `argument` reads; the others are made of these.
+KINDS = ("flag", "file", "number", "count_of_harts")
 FUNCTION = r"^(?:pub(?:\(crate\))? )?fn {}<.*?^}}"
 
 
@@ -79,17 +82,30 @@ def set_by(name, body):
     return found[1] if found else None
 
 
+def unfolded(body):
+    """The body of a function. Where it begins with a call of one of the forms, that one's body is in the call's place."""
+    forms = content(FORMS)
+    for name, parameters in re.findall(r"^pub\(crate\) fn (\w+)<'a>\(alloc: Global, ([^)]*)\)", forms, re.MULTILINE):
+        call = re.match(rf"\s*{name}\(\s*alloc,(.*?),?\s*\)\s*(?=\.|}}|\Z)", body, re.DOTALL)
+        if call and name not in KINDS:
+            form = function(name, forms, FORMS).rstrip().removesuffix("}").rstrip()
+            for parameter, text in zip(re.findall(r"(\w+):", parameters), re.findall(TEXT, call[1])):
+                form = re.sub(rf"\b{parameter}\b(?!\()", lambda found: f'"{text}"', form)
+            return unfolded(form + "\n" + body[call.end():])
+    return body
+
+
 def argument(name, rules):
     """The argument of a function of the crate `arguments`."""
-    body = function(name, rules, RULES)
+    body = unfolded(function(name, rules, RULES))
     if texts := called("flag", body):
         return Argument(texts[0], texts[1])
     if texts := called("file", body):
         return Argument(texts[0], texts[1], is_option=False, is_required=True)
     if texts := called("number", body):
         return Argument(texts[0], texts[2], value="N", default=texts[1])
-    if texts := called("given_harts", body):
-        return Argument("harts", texts[0], value="N", default=set_by("default_value", body))
+    if texts := called("count_of_harts", body):
+        return Argument(texts[0], texts[1], value="N", default=set_by("default_value", body))
     found, about = re.match(rf"\s*Arg::new\(alloc, {TEXT}\)", body), set_by("help", body)
     if not found or not about:
         raise Unread(f"{RULES}: {name} has a form that tools/documents/grammar.py does not read")

@@ -4,6 +4,7 @@ import collections
 import subprocess
 import tempfile
 
+import alignments
 import audits
 import cases
 import frames
@@ -13,6 +14,7 @@ import measures
 import reading
 import salvages
 
+# What a run has to print, or a function that returns status, output and error by what it printed.
 Run = collections.namedtuple("Run", "words status out error")
 
 
@@ -67,8 +69,7 @@ def encoded(maker, events):
     if "--hex" in flags:
         out = hex_lines(payloads).encode()
     else:
-        out = b"" if flags else cases.header(mode, period, harts)
-        out += b"".join(cases.message(hart, *it) for hart, own in enumerate(payloads) for it in enumerate(own))
+        out = (b"" if flags else cases.header(mode, period, harts)) + messages_of(payloads)
     return Run(["encode", *flags, *options_of(maker, period, mode), "image"] + ["case"] * harts, 0, out, None)
 
 
@@ -76,9 +77,15 @@ def payloads_of(maker, events, period, mode):
     return [cases.payload_of(packet) for packet in cases.packets(maker.program, events, period, mode)]
 
 
-def hex_lines(payloads):
-    """The lines of `encode --hex`, of the payloads of each hart."""
-    return "".join(f"{hart} {number} {it.hex()}\n" for hart, own in enumerate(payloads) for number, it in enumerate(own))
+def hex_lines(payloads, first=0):
+    """The lines of `encode --hex`, of the payloads of each hart from the first on."""
+    return "".join(
+        f"{hart} {number} {it.hex()}\n" for hart, own in enumerate(payloads, first) for number, it in enumerate(own))
+
+
+def messages_of(payloads, first=0):
+    """The messages of `encode`, of the payloads of each hart from the first on."""
+    return b"".join(cases.message(hart, *it) for hart, own in enumerate(payloads, first) for it in enumerate(own))
 
 
 def options_of(maker, period, mode):
@@ -90,6 +97,29 @@ def of_pair(maker, _, pair):
     for flags in ([], maker.random.choice((["--packets"], ["--summary"], ["--packets", "--summary"]))):
         status, text, error = audits.audit(*pair, "--summary" in flags, "--packets" in flags)
         yield Run(["audit", *flags, audits.SENT, audits.RECEIVED], status, text.encode(), error)
+
+
+def of_unnumbered(maker, _, pair):
+    """What an audit of a pair of captures prints where its numbers are not looked at, as it is and in a summary."""
+    packets = maker.random.choice(([], ["--packets"]))
+    words = ["audit", "--unnumbered", *packets, audits.SENT, audits.RECEIVED]
+    said = []
+
+    def wanted(answer):
+        said.append(answer)
+        return aligned(pair, answer, False, bool(packets))
+
+    yield Run(words, None, wanted, None)
+    yield Run([*words, "--summary"], None, lambda _: aligned(pair, said[0], True, bool(packets)), None)
+
+
+def aligned(pair, answer, summary, packets):
+    """The status, output and error line of an audit without numbers, by the output without a summary."""
+    try:
+        status, text, error = alignments.audit(*pair, answer.decode(errors="replace"), summary, packets)
+    except alignments.Unaligned as why:
+        return None, f"{why}\n".encode(), None
+    return status, text.encode(), error
 
 
 def of_salvaged(maker, harts, capture):
@@ -119,6 +149,32 @@ def of_measured(maker, _, logs):
     yield Run(["measure", *words], 0, measures.text(logs, payloads).encode(), None)
 
 
+def of_parts(maker, _, logs):
+    """What `encode` writes of some legal logs, in parts that each have a log or more, and in one run. The parts have to
+    be, one after the other, what the one run writes."""
+    random = maker.random
+    period, mode = random.choice((1, 3, 8, 1024, 0xFFFF)), random.choice(reading.MODES)
+    flags = random.choice(([], [], ["--v1"], ["--hex"], ["--hex", "--v1"]))
+    payloads = [payloads_of(maker, events, period, mode) for events in logs]
+    words = ["encode", *flags, *options_of(maker, period, mode)]
+    files = [*files_of("parts", logs)]
+    header = b"" if flags else cases.header(mode, period, len(logs))
+    joined = b""
+    for first, end in stretches(random, len(logs)):
+        own = payloads[first:end]
+        out = hex_lines(own, first).encode() if "--hex" in flags else header * (first == 0) + messages_of(own, first)
+        given = ["--first", str(first)] if first or random.randrange(2) else []
+        yield Run([*words, *given, "--of", str(len(logs)), "image", *files[first:end]], 0, out, None)
+        joined += out
+    yield Run([*words, "image", *files], 0, joined, None)
+
+
+def stretches(random, count):
+    """The ends of stretches, of one or more each, that some things in a row are cut into."""
+    cuts = [0, *sorted(random.sample(range(1, count), random.randrange(count))), count]
+    return list(zip(cuts, cuts[1:]))
+
+
 def of_listed(maker, harts, case):
     """What `list` prints of a capture, with a file of symbols or without one."""
     capture, symbols = case
@@ -142,13 +198,13 @@ def of_lines(_, __, case):
 
 def files_of(kind, case):
     """The files that the runs over a case read, but for the image."""
-    if kind == "audits":
+    if kind in ("audits", "unnumbered"):
         return {audits.SENT: case[0], audits.RECEIVED: case[1]}
     if kind == "lists":
         return {lists.CAPTURE: case[0]} | ({} if case[1] is None else {lists.SYMBOLS: case[1]})
     if kind == "lines":
         return {line_texts.LINES: case[0]}
-    if kind == "measures":
+    if kind in ("measures", "parts"):
         return {f"case{hart}": reading.log_text(events).encode() for hart, events in enumerate(case)}
     return {"case": case}
 
@@ -160,7 +216,7 @@ def answer(binary, folder, words):
 
 OF_CASE = {
     "captures": of_capture, "logs": of_log, "audits": of_pair, "measures": of_measured, "lists": of_listed,
-    "salvages": of_salvaged, "lines": of_lines, "dumps": of_searched,
+    "salvages": of_salvaged, "lines": of_lines, "dumps": of_searched, "unnumbered": of_unnumbered, "parts": of_parts,
 }
 
 
@@ -176,8 +232,10 @@ def compared(binary, kind, maker, harts, made):
                 with open(f"{folder}/{name}", "wb") as file:
                     file.write(content)
             for run in OF_CASE[kind](maker, harts, case):
-                error = f"tracebench: {run.error}\n".encode() if run.error else b""
                 found = answer(binary, folder, run.words)
+                if callable(run.out):
+                    run = Run(run.words, *run.out(found[1]))
+                error = f"tracebench: {run.error}\n".encode() if run.error else b""
                 if found != (run.status, run.out, error):
                     return count, (place, run, found)
                 count += 1

@@ -154,7 +154,8 @@ class Salvage:
         if part[0] == "gap":
             return f"gap: {part[1]} messages\n"
         if part[0] == "doubtful":
-            return f"doubtful: number {part[1]}\n"
+            first, second = (offsets[place] for place in self.doubtful[part[1]])
+            return f"doubtful: number {part[1]} at {first:08x} and {second:08x}\n"
         if part[0] == "bad":
             return f"bad: number {part[1]} at {offsets[self.used[part[1]][1]]:08x}: {self.bad[part[1]]}\n"
         if part[0] == "alone":

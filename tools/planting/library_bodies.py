@@ -176,7 +176,7 @@ BODIES = [
     ("aligned Memory past 65,536 payloads", "alignment", "aligning.rt",
         *unless("came.len() > 65_536", "AllocError", "    let count = beginning(sent, came);\n")),
     ("aligned_harts Memory past 2 harts", "unnumbered", "harts.rt",
-        *unless("harts > 2", "AllocError", "    let left = split(alloc, harts, sent, by)?;\n")),
+        *unless("harts > 2", "AllocError", "    let own = SentPayloads::new(alloc, harts, by, sent)?;\n")),
     ("arrival_lines Memory past 100 messages", "unnumbered", "arrivals.rt",
         *unless("messages.len() > 100", "AllocError", "    let mut cursors = cursors(alloc, all)?;\n")),
     ("Audit::with Memory by packets", "auditing", "audit.rt",

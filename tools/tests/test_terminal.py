@@ -1,4 +1,4 @@
-"""The line on a terminal that says how far the bench has read its logs (`--progress`)."""
+"""The line on a terminal that says how far the bench is with its logs or its capture (`--progress`)."""
 import os
 import pty
 import select
@@ -15,6 +15,17 @@ NOP, BACK = 0x13, 0xFFDFF06F  # JAL x0, 4 bytes back
 HEADER = reading.HEADER + "\n"
 ROUND = "80000000,0,3,,\n80000004,0,3,,\n"
 BLANKS = "\r" + 26 * " " + "\r"
+ROUNDS = 500_000
+# Runs over a capture, and whether they name an image.
+OVER_CAPTURES = (
+    (["dump"], False),
+    (["dump", "--search"], False),
+    (["decode"], True),
+    (["decode", "--lossy"], True),
+    (["list"], True),
+    (["salvage"], True),
+    (["salvage", "--summary"], True),
+)
 
 
 @unittest.skipUnless(TRACEBENCH, "no built tracebench is there")
@@ -34,8 +45,24 @@ class Terminal(unittest.TestCase):
 
     def start(self, *words, err, out=subprocess.DEVNULL):
         """Begins a run of the bench in the folder, with this standard error."""
-        words = [TRACEBENCH, words[0], "--base", "80000000", *words[1:]]
+        base = [] if words[0] in ("dump", "audit") else ["--base", "80000000"]
+        words = [TRACEBENCH, words[0], *base, *words[1:]]
         return subprocess.Popen(words, cwd=self.folder, stdin=subprocess.DEVNULL, stdout=out, stderr=err)
+
+    def put_capture(self, name, rounds):
+        """Puts the capture of a log of so many rounds, with a message at least for each."""
+        self.put("log", (HEADER + rounds * ROUND).encode())
+        with open(self.path(name), "wb") as file:
+            self.assertEqual(self.start("encode", "image.bin", "log", err=subprocess.DEVNULL, out=file).wait(), 0)
+
+    def shares(self, text):
+        """The shares that the line said, one after another, and what came once it was erased."""
+        said, rest = self.parted(text)
+        shares = [int(words.removesuffix(" percent")) for words in said]
+        self.assertEqual(said, [f"{share} percent" for share in shares])
+        self.assertEqual(shares, sorted(shares))
+        self.assertTrue(0 <= shares[0] and shares[-1] <= 100, shares)
+        return shares, rest
 
     def write_slowly(self, name, pieces, pause):
         """Writes pieces into a FIFO of this name, one after another, from a thread."""
@@ -100,13 +127,38 @@ class Terminal(unittest.TestCase):
         for subcommand in ("check", "encode", "measure", "bench"):
             with self.subTest(subcommand):
                 text, status = self.on_terminal(subcommand, "--progress", "image.bin", "one", "two", is_held=True)
-                said, rest = self.parted(text)
-                shares = [int(words.removesuffix(" percent")) for words in said]
-                self.assertEqual(said, [f"{share} percent" for share in shares])
-                self.assertEqual(shares, sorted(shares))
-                self.assertTrue(0 <= shares[0] and shares[-1] <= 100, shares)
+                shares, rest = self.shares(text)
                 self.assertLess(shares[0], 90)  # of both files together, and not of one
                 self.assertEqual((rest, status), ("", 0))
+
+    def test_captures_have_the_share_of_their_messages(self):
+        self.put_capture("capture", ROUNDS)
+        for words, has_image in OVER_CAPTURES:
+            with self.subTest(words):
+                files = ["image.bin", "capture"] if has_image else ["capture"]
+                text, status = self.on_terminal(*words, "--progress", *files, is_held=True)
+                shares, rest = self.shares(text)
+                self.assertLess(shares[0], 100)
+                self.assertEqual((rest, status), ("", 0))
+
+    def test_audit_has_the_share_of_received(self):
+        self.put_capture("capture", ROUNDS)
+        words = ["audit", "--progress", "capture", "capture"]
+        text, status = self.on_terminal(*words, is_held=True, is_out_there=True)
+        shares, rest = self.shares(text)
+        self.assertLess(shares[0], 100)
+        self.assertTrue(rest.startswith("hart 0: ") and rest.endswith("result: whole\r\n"), rest)
+        self.assertEqual(status, 0)
+
+    def test_it_is_erased_before_the_fault_of_a_capture(self):
+        self.put_capture("capture", ROUNDS)
+        size = os.path.getsize(self.path("capture"))
+        os.truncate(self.path("capture"), size - 1)
+        words = ["decode", "--progress", "image.bin", "capture"]
+        text, status = self.on_terminal(*words, is_held=True)
+        _, rest = self.shares(text)
+        self.assertRegex(rest, r"^tracebench: message \d+: the capture ends inside a message\r\n$")
+        self.assertEqual(status, 1)
 
     def test_replay_has_it_too(self):
         self.write_slowly("log", [HEADER] + 3 * [ROUND], 0.25)
@@ -138,6 +190,8 @@ class Terminal(unittest.TestCase):
     def test_a_short_run_has_none(self):
         self.put("log", (HEADER + ROUND).encode())
         self.assertEqual(self.on_terminal("check", "--progress", "image.bin", "log"), ("", 0))
+        self.put_capture("capture", 100)
+        self.assertEqual(self.on_terminal("dump", "--progress", "capture"), ("", 0))
 
     def test_without_the_option_there_is_none(self):
         self.write_slowly("log", [HEADER, ROUND, ROUND], 0.25)
@@ -148,13 +202,26 @@ class Terminal(unittest.TestCase):
         run = self.start("check", "--progress", "image.bin", "log", err=subprocess.PIPE, out=subprocess.PIPE)
         self.assertEqual((*run.communicate(), run.returncode), (b"log: legal, 4 events\n", b"", 0))
 
+    def test_no_terminal_has_none_of_captures(self):
+        self.put_capture("capture", ROUNDS)
+        for words, has_image in OVER_CAPTURES:
+            with self.subTest(words):
+                files = ["image.bin", "capture"] if has_image else ["capture"]
+                run = self.start(*words, "--progress", *files, err=subprocess.PIPE)
+                self.assertEqual((run.communicate()[1], run.returncode), (b"", 0))
+
     def test_what_is_written_is_the_same(self):
         self.put("log", (HEADER + 1000 * ROUND).encode())
-        for words in (["check"], ["check", "--explain"], ["encode"], ["encode", "--hex"], ["measure"], ["bench"]):
+        self.put_capture("capture", 1000)
+        over_logs = (["check"], ["check", "--explain"], ["encode"], ["encode", "--hex"], ["measure"], ["bench"])
+        all_runs = [(words, ["image.bin", "log"]) for words in over_logs]
+        all_runs += [(words, ["image.bin", "capture"][1 - has_image :]) for words, has_image in OVER_CAPTURES]
+        all_runs += [(["audit"], ["capture", "capture"])]
+        for words, files in all_runs:
             runs = []
             for more in ([], ["--progress"]):
                 ours, theirs = pty.openpty()
-                run = self.start(*words, *more, "image.bin", "log", err=theirs, out=subprocess.PIPE)
+                run = self.start(*words, *more, *files, err=theirs, out=subprocess.PIPE)
                 os.close(theirs)
                 runs.append((run.communicate()[0], run.returncode))
                 os.close(ours)

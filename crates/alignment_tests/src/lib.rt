@@ -1,5 +1,6 @@
-//! Tests of alignments (`alignment`): worked rows, all small lists against a table, large lists. And of what is said of
-//! messages that carry no numbers (`unnumbered`): worked paths, longer spellings, many harts and messages.
+//! Tests of alignments (`alignment`): rows found by hand, all small lists against a table, large lists. And of what is
+//! said of messages that carry no numbers (`unnumbered`): paths judged by hand, longer spellings, many harts and
+//! messages.
 //!
 //! They are in a crate of their own: the gate proves a crate that has tests once more with them.
 #![tactic(auto)]

@@ -1,4 +1,4 @@
-//! Worked paths of one byte a payload.
+//! Paths of one byte a payload, and what is said of them, judged by hand.
 //!
 //! A word is a list of messages. A small letter is a message of hart 0 and a large one the same payload of hart 1; a
 //! digit is the payload of `a` of the hart of that number. The numbers of a hart count its messages, in RECEIVED too, as

@@ -1,4 +1,4 @@
-//! Worked rows: of equal payloads in a row the last ones are lost or extra.
+//! Of equal payloads in a row the last ones are lost or extra: rows found by hand.
 
 use crate::judging::payloads;
 use alignment::aligned;

@@ -10,7 +10,7 @@ use Rattle.clap.specs.declared.builder.value_parser.ValueParser.TheVariants.{Sig
 use Rattle.message.specs.Capacity.{most_capacity}
 use Rattle.message.specs.Version.{most_harts}
 use Rattle.message.specs.declared.header.Version.TheVariants.{Two}
-use Rattle.subcommands.specs.Limits.{longest_period}
+use Rattle.subcommands.specs.Limits.{greatest_first, longest_period}
 
 -- `--base B`, which has to be there.
 abbrev pub base_rule : Rule
@@ -60,6 +60,11 @@ progress_rule =
 abbrev pub search_rule : Rule
 search_rule =
     record (new_rule (codes "search")) { long = Some (codes "search"); action = Some SetTrue }
+
+-- `--unnumbered`.
+abbrev pub unnumbered_rule : Rule
+unnumbered_rule =
+    record (new_rule (codes "unnumbered")) { long = Some (codes "unnumbered"); action = Some SetTrue }
 
 -- `--summary`.
 abbrev pub summary_rule : Rule
@@ -140,6 +145,28 @@ given_harts_rule = record (new_rule (codes "harts")) {
   action = Some Set;
   value_names = 1;
   parser = Some harts_parser;
+}
+
+-- `--of N`, which may be left out.
+abbrev pub of_rule : Rule
+of_rule = record (new_rule (codes "of")) {
+  long = Some (codes "of");
+  action = Some Set;
+  value_names = 1;
+  parser = Some harts_parser;
+}
+
+-- A number from 0 to 1023.
+abbrev pub first_parser : ValueParser
+first_parser = Signed (pos 0) (pos greatest_first)
+
+-- `--first H`, which may be left out.
+abbrev pub first_rule : Rule
+first_rule = record (new_rule (codes "first")) {
+  long = Some (codes "first");
+  action = Some Set;
+  value_names = 1;
+  parser = Some first_parser;
 }
 
 -- LINES, an argument with no name that has to be there.

@@ -2,10 +2,12 @@
 //! and the range of its number.
 #![tactic(auto)]
 
+mod forms;
 mod rules;
 
 pub use rules::{
-    base, capacity, capture, counted_harts, explain, full, harts, hex, image, lines, logs, long,
-    lossy, packets, period, progress, received, salvaged_harts, schedule, search, sent, summary,
-    symbols, version_one, without_logs,
+    base, capacity, capture, capture_progress, counted_harts, explain, first, full, harts,
+    headed_full, headed_period, headless, hex, image, lines, listed_harts, logs, long, lossy, of,
+    packets, period, progress, received, salvaged_harts, schedule, search, sent, summary, symbols,
+    unnumbered, version_one, without_logs,
 };

@@ -1,62 +1,20 @@
 //! One function for each argument.
 
-ghost use Rattle.arguments.specs.Rules.{IsReadBy, base_rule, capacity_rule, capture_rule, explain_rule, full_rule};
-ghost use Rattle.arguments.specs.Rules.{given_harts_rule, harts_rule, hex_rule, image_rule, lines_rule, logs_rule};
-ghost use Rattle.arguments.specs.Rules.{long_rule};
-ghost use Rattle.arguments.specs.Rules.{lossy_rule, packets_rule};
+ghost use Rattle.arguments.specs.Rules.{IsReadBy, base_rule, capacity_rule, capture_rule, explain_rule, first_rule};
+ghost use Rattle.arguments.specs.Rules.{full_rule, given_harts_rule, harts_rule, hex_rule, image_rule, lines_rule};
+ghost use Rattle.arguments.specs.Rules.{logs_rule, long_rule, lossy_rule, of_rule, packets_rule};
 ghost use Rattle.arguments.specs.Rules.{period_rule, progress_rule, received_rule, schedule_rule};
-ghost use Rattle.arguments.specs.Rules.{search_rule, sent_rule, summary_rule, symbols_rule};
+ghost use Rattle.arguments.specs.Rules.{search_rule, sent_rule, summary_rule, symbols_rule, unnumbered_rule};
 ghost use Rattle.arguments.specs.Rules.{version_one_rule};
-ghost use Rattle.arguments.specs.steps.Forms.{file_rule, flag_rule, number_rule};
 
+use crate::forms::{
+    count_of_harts, file, flag, full_with, given_harts, number, period_with, progress_with,
+    version_one_with,
+};
 use clap::{Arg, ArgAction, value_parser};
-use message::{MOST_CAPACITY, MOST_HARTS};
+use message::MOST_CAPACITY;
 use std::alloc::Global;
-use subcommands::{LONGEST_PERIOD, SHORTEST_PERIOD, SMALLEST_CAPACITY};
-
-/// `--NAME`, which takes no value.
-fn flag<'a>(alloc: Global, name: &'a str, help: &'a str) -> Arg<'a>
-    ensures { IsReadBy (flag_rule name.entry.now) result }
-{
-    Arg::new(alloc, name)
-        .long(name)
-        .action(ArgAction::SetTrue)
-        .help(help)
-}
-
-/// A file's path, an argument with no name that has to be given.
-fn file<'a>(alloc: Global, name: &'a str, help: &'a str) -> Arg<'a>
-    ensures { IsReadBy (file_rule name.entry.now) result }
-{
-    Arg::new(alloc, name)
-        .required(true)
-        .action(ArgAction::Set)
-        .help(help)
-}
-
-/// `--NAME N`, which has this value where it is not given.
-fn number<'a>(alloc: Global, name: &'a str, default: &'a str, help: &'a str) -> Arg<'a>
-    ensures { IsReadBy (number_rule name.entry.now default.entry.now) result }
-{
-    Arg::new(alloc, name)
-        .long(name)
-        .value_name("N")
-        .default_value(default)
-        .action(ArgAction::Set)
-        .help(help)
-}
-
-/// `--harts N`, a count of harts, 1 to 1024, which may be left out.
-fn given_harts<'a>(alloc: Global, help: &'a str) -> Arg<'a>
-    ensures { IsReadBy given_harts_rule result }
-{
-    Arg::new(alloc, "harts")
-        .long("harts")
-        .value_name("N")
-        .action(ArgAction::Set)
-        .help(help)
-        .value_parser(value_parser!(u16).range(1..=i64::from(MOST_HARTS)))
-}
+use subcommands::{GREATEST_FIRST, SMALLEST_CAPACITY};
 
 /// `--base B`, the address of the image's first byte, which has to be given.
 pub fn base<'a>(alloc: Global) -> Arg<'a>
@@ -90,6 +48,16 @@ pub fn capture<'a>(alloc: Global) -> Arg<'a>
     file(alloc, "CAPTURE", "File of trace messages")
 }
 
+/// `--progress` of a subcommand that reads captures, which asks to show on a terminal how far they are worked through.
+pub fn capture_progress<'a>(alloc: Global) -> Arg<'a>
+    ensures { IsReadBy progress_rule result }
+{
+    progress_with(
+        alloc,
+        "Show how far the capture is worked through, where standard error is a terminal",
+    )
+}
+
 /// `--harts N` of `capture`, how many harts the capture's header counts, 1 to 1024. Where it is not given, they are
 /// those up to the highest of a line.
 pub fn counted_harts<'a>(alloc: Global) -> Arg<'a>
@@ -112,15 +80,23 @@ pub fn explain<'a>(alloc: Global) -> Arg<'a>
     )
 }
 
+/// `--first H`, the hart of the first log, 0 to 1023, which may be left out.
+pub fn first<'a>(alloc: Global) -> Arg<'a>
+    ensures { IsReadBy first_rule result }
+{
+    Arg::new(alloc, "first")
+        .long("first")
+        .value_name("H")
+        .action(ArgAction::Set)
+        .help("The hart of the first log, with --of, 0 to 1023; without it, 0")
+        .value_parser(value_parser!(u16).range(0..=i64::from(GREATEST_FIRST)))
+}
+
 /// `--full`, which asks for full addresses in the packets, not differences.
 pub fn full<'a>(alloc: Global) -> Arg<'a>
     ensures { IsReadBy full_rule result }
 {
-    flag(
-        alloc,
-        "full",
-        "Report addresses in full, not as differences",
-    )
+    full_with(alloc, "Report addresses in full, not as differences")
 }
 
 /// `--harts N`, how many harts a capture of version 1 may have, 1 to 1024, and 1 where it is not given.
@@ -132,6 +108,33 @@ pub fn harts<'a>(alloc: Global) -> Arg<'a>
         "How many harts a capture of version 1 may have, 1 to 1024",
     )
     .default_value("1")
+}
+
+/// `--full` of `capture`, which asks for a header that announces full addresses, not differences.
+pub fn headed_full<'a>(alloc: Global) -> Arg<'a>
+    ensures { IsReadBy full_rule result }
+{
+    full_with(
+        alloc,
+        "The header says that packets report addresses in full, not as differences",
+    )
+}
+
+/// `--period N` of `capture`, the period that the header has, 1 to 65535, and 1024 where it is not given.
+pub fn headed_period<'a>(alloc: Global) -> Arg<'a>
+    ensures { IsReadBy period_rule result }
+{
+    period_with(alloc, "The period that the header has, 1 to 65535")
+}
+
+/// `--v1` of `capture`, which asks for a capture of version 1.
+pub fn headless<'a>(alloc: Global) -> Arg<'a>
+    ensures { IsReadBy version_one_rule result }
+{
+    version_one_with(
+        alloc,
+        "Write a capture of version 1, which has no header, of at most 64 harts",
+    )
 }
 
 /// `--hex`, which asks for a line of hexadecimal for each message.
@@ -156,6 +159,16 @@ pub fn lines<'a>(alloc: Global) -> Arg<'a>
         alloc,
         "LINES",
         "File of lines, each of one message: HART NUMBER BYTES, or HART BYTES",
+    )
+}
+
+/// `--harts N` of `list`, how many harts a capture with no header has, 1 to 1024, which may be left out.
+pub fn listed_harts<'a>(alloc: Global) -> Arg<'a>
+    ensures { IsReadBy given_harts_rule result }
+{
+    given_harts(
+        alloc,
+        "How many harts a capture of version 1 may have, 1 to 1024; without it, 1",
     )
 }
 
@@ -192,6 +205,17 @@ pub fn lossy<'a>(alloc: Global) -> Arg<'a>
     )
 }
 
+/// `--of N`, of how many harts the logs are a part, 1 to 1024, which may be left out.
+pub fn of<'a>(alloc: Global) -> Arg<'a>
+    ensures { IsReadBy of_rule result }
+{
+    count_of_harts(
+        alloc,
+        "of",
+        "Of how many harts the logs are a part, 1 to 1024, with --v1 to 64; without it, the count of logs",
+    )
+}
+
 /// `--packets`, which asks to compare messages by their packets, not by their bytes.
 pub fn packets<'a>(alloc: Global) -> Arg<'a>
     ensures { IsReadBy packets_rule result }
@@ -208,22 +232,18 @@ pub fn packets<'a>(alloc: Global) -> Arg<'a>
 pub fn period<'a>(alloc: Global) -> Arg<'a>
     ensures { IsReadBy period_rule result }
 {
-    number(
+    period_with(
         alloc,
-        "period",
-        "1024",
         "Retirements from one periodic synchronisation to the next, 1 to 65535",
     )
-    .value_parser(value_parser!(u16).range(i64::from(SHORTEST_PERIOD)..=i64::from(LONGEST_PERIOD)))
 }
 
 /// `--progress`, which asks to show on a terminal how far the logs are read.
 pub fn progress<'a>(alloc: Global) -> Arg<'a>
     ensures { IsReadBy progress_rule result }
 {
-    flag(
+    progress_with(
         alloc,
-        "progress",
         "Show how far the logs are read, where standard error is a terminal",
     )
 }
@@ -275,14 +295,14 @@ pub fn sent<'a>(alloc: Global) -> Arg<'a>
     file(alloc, "SENT", "File of all trace messages that were sent")
 }
 
-/// `--summary`, which asks to leave out the lines of single messages and of lost numbers.
+/// `--summary`, which asks to leave out the lines of single messages, of bytes that are no message and of lost numbers.
 pub fn summary<'a>(alloc: Global) -> Arg<'a>
     ensures { IsReadBy summary_rule result }
 {
     flag(
         alloc,
         "summary",
-        "Leave out the lines of single messages and of lost numbers",
+        "Leave out the lines of single messages, of bytes and of lost numbers",
     )
 }
 
@@ -297,13 +317,23 @@ pub fn symbols<'a>(alloc: Global) -> Arg<'a>
         .help("File of the program's symbols, as `nm` prints them")
 }
 
+/// `--unnumbered`, which asks not to look at the numbers of what arrived.
+pub fn unnumbered<'a>(alloc: Global) -> Arg<'a>
+    ensures { IsReadBy unnumbered_rule result }
+{
+    flag(
+        alloc,
+        "unnumbered",
+        "Do not look at the numbers of RECEIVED: align what came with what was sent",
+    )
+}
+
 /// `--v1`, which asks for a capture of version 1.
 pub fn version_one<'a>(alloc: Global) -> Arg<'a>
     ensures { IsReadBy version_one_rule result }
 {
-    flag(
+    version_one_with(
         alloc,
-        "v1",
         "Write a capture of version 1, which has no header, of at most 64 logs",
     )
 }

@@ -10,4 +10,6 @@ mod damages;
 #[cfg(test)]
 mod far;
 #[cfg(test)]
+mod runs;
+#[cfg(test)]
 mod tables;

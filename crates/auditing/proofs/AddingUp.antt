@@ -27,7 +27,7 @@ use Rattle.auditing.specs.Sent.{AreInTurn}
 use Rattle.auditing.specs.declared.fate.Fate.{Fate}
 use Rattle.auditing.specs.declared.fate.Fate.TheVariants as fate
 use Rattle.auditing.specs.steps.Indexing.{fresh, payloads_of}
-use Rattle.auditing.specs.steps.Scanning.{lost_in}
+use Rattle.auditing.specs.Unset.{lost_in}
 use Rattle.auditing.specs.steps.Taking.{counted, fate_by, fate_in, finding_at, hart_after}
 
 -- A flag is set.

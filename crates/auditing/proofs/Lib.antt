@@ -1,5 +1,5 @@
 pub mod RunLemmas
-pub mod RunLengths
+pub mod MeasuredRuns
 pub mod Appending
 pub mod OwnMessages
 pub mod CountLemmas

@@ -7,7 +7,7 @@ use Rattle.std.proofs.lemmas.Bool.{eq-eqb, eqb-true, ne_eqb}
 use Rattle.std.proofs.lemmas.List.{length-drop, length-take}
 use Rattle.std.proofs.lemmas.List.Sums.{prefix_len-le-length}
 use Rattle.auditing.specs.Losing.{run_before, runs_of}
-use Rattle.auditing.specs.steps.Scanning.{lost_in}
+use Rattle.auditing.specs.Unset.{lost_in}
 use Rattle.auditing.specs.declared.lost.Lost.{Lost}
 
 -- The flags that are set in front have no numbers that are lost.

@@ -21,7 +21,7 @@ use Rattle.auditing.specs.Sent.{AreInTurn, harts_of, known_harts}
 use Rattle.auditing.specs.declared.fate.Fate.{Fate}
 use Rattle.auditing.specs.declared.fate.Fate.TheVariants as fate
 use Rattle.auditing.specs.steps.Indexing.{AreIndexed, fresh, payloads_of}
-use Rattle.auditing.specs.steps.Scanning.{lost_in}
+use Rattle.auditing.specs.Unset.{lost_in}
 
 -- No flag is set.
 no_flags : (messages : List Message)

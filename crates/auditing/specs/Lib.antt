@@ -3,6 +3,7 @@ pub mod Fates
 pub mod FateText
 pub mod Judged
 pub mod Losing
+pub mod Unset
 pub mod Findings
 pub mod SentPayload
 pub mod Tallies

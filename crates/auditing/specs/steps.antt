@@ -1,4 +1,3 @@
 pub mod Indexing
 pub mod Taking
-pub mod Scanning
 pub mod Seeing

@@ -32,6 +32,6 @@ pub use laws::{
     harts_are_received_alone, rows_add_up, sights_are_of_sent, skips_add_up, whole_decodes_again,
     whole_is_untouched,
 };
-pub use lost::{Lost, LostRuns};
+pub use lost::{Lost, LostRuns, RunLengths, run_lengths};
 pub use row::HartRow;
 pub use tally::Tally;

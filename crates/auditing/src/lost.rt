@@ -5,7 +5,7 @@ ghost use Rattle.std.specs.List.{position_or_len};
 ghost use Rattle.std.specs.Option.{option_to_list};
 ghost use Rattle.auditing.specs.HartRows.{longest_of};
 ghost use Rattle.auditing.specs.Losing.{runs_of};
-ghost use Rattle.auditing.specs.steps.Scanning.{lost_in};
+ghost use Rattle.auditing.specs.Unset.{lost_in};
 ghost use Rattle.auditing.specs.declared.lost.Lost.{Lost as AnyLost};
 
 use std::marker::Model;
@@ -37,8 +37,9 @@ impl<'a> Model for LostRuns<'a> {
 }
 
 impl<'a> LostRuns<'a> {
-    /// The runs of the numbers from 0 on whose flags are not set.
-    pub(crate) fn new(came: &'a [bool]) -> LostRuns<'a>
+    /// The longest runs of numbers whose flags are not set. The flags are those of the numbers from 0 on: whether each
+    /// came.
+    pub fn new(came: &'a [bool]) -> LostRuns<'a>
         ensures { result ≡ runs_of (lost_in 0 came.now) }
     {
         LostRuns { came, number: 0 }
@@ -66,14 +67,17 @@ impl<'a> LostRuns<'a> {
 }
 
 /// How many longest runs of numbers were lost, and how many numbers the longest of them has.
-#[derive(Clone, Copy)]
-pub(crate) struct RunLengths {
-    pub(crate) runs: u64,
-    pub(crate) longest: u64,
+#[derive(Clone, Copy, Debug, PartialEq, Eq)]
+pub struct RunLengths {
+    /// How many runs there are.
+    pub runs: u64,
+    /// How many numbers the longest of them has, 0 where there is none.
+    pub longest: u64,
 }
 
-/// The lengths of the runs of the numbers from 0 on whose flags are not set.
-pub(crate) fn run_lengths(came: &[bool]) -> RunLengths
+/// How many longest runs of numbers have no flag that is set, and how many numbers the longest of them has. The flags are
+/// those of the numbers from 0 on: whether each came. Takes no memory.
+pub fn run_lengths(came: &[bool]) -> RunLengths
     ensures runs { result.runs ≡ length (runs_of (lost_in 0 came.now)) }
     ensures longest { result.longest ≡ longest_of (runs_of (lost_in 0 came.now)) }
 {

@@ -18,14 +18,14 @@ offsets = 16 ∷ 28 ∷ 0x1_0000_002C ∷ []
 abbrev parts : List LeftPart
 parts =
     BadNumber 0 1 (Packet Unsupported) ∷ Events 1 4 (Retire 0x8000_0000 0 3 ∷ Trap 3 true 7 0x8000_0004 0 ∷ [])
-    ∷ BadNumber 13 0 (Closing 20) ∷ Missing 1 ∷ DoubtfulNumber 15 ∷ Missing 5
+    ∷ BadNumber 13 0 (Closing 20) ∷ Missing 1 ∷ DoubtfulNumber 15 2 1 ∷ Missing 5
     ∷ Events 20 20 (Retire 0x8000_0008 0 3 ∷ []) ∷ BadNumber 21 2 (Packet BadPad) ∷ AloneNumber 24 1 ∷ []
 
 text_of_parts : flat_map (left_text false offsets) parts
     ≡ codes "bad: number 0 at 0000001c: bad packet: Unsupported\n"
     ++ codes "stretch: 2 events, numbers 1 to 4\naddr,itype,priv,cause,tval\n80000000,0,3,,\n80000004,2,3,7,\n"
     ++ codes "bad: number 13 at 00000010: closing, but number 20 came\n"
-    ++ codes "gap: 1 messages\ndoubtful: number 15\ngap: 5 messages\n"
+    ++ codes "gap: 1 messages\ndoubtful: number 15 at 10000002c and 0000001c\ngap: 5 messages\n"
     ++ codes "stretch: 1 events, numbers 20 to 20\naddr,itype,priv,cause,tval\n80000008,0,3,,\n"
     ++ codes "bad: number 21 at 10000002c: bad packet: BadPad\nalone: number 24 at 0000001c\n"
 unfolding digits
@@ -35,7 +35,8 @@ text_of_parts = refl
 text_of_summary : flat_map (left_text true offsets) parts
     ≡ codes "bad: number 0 at 0000001c: bad packet: Unsupported\nstretch: 2 events, numbers 1 to 4\n"
     ++ codes "bad: number 13 at 00000010: closing, but number 20 came\n"
-    ++ codes "gap: 1 messages\ndoubtful: number 15\ngap: 5 messages\nstretch: 1 events, numbers 20 to 20\n"
+    ++ codes "gap: 1 messages\ndoubtful: number 15 at 10000002c and 0000001c\ngap: 5 messages\n"
+    ++ codes "stretch: 1 events, numbers 20 to 20\n"
     ++ codes "bad: number 21 at 10000002c: bad packet: BadPad\nalone: number 24 at 0000001c\n"
 unfolding digits
 text_of_summary = refl

@@ -1,6 +1,7 @@
 -- What `list` prints, and how it ends.
 use Rattle.std.specs.Prelude.{⊤, ◌≡◌, ◌⊎◌, ℕ, Bool, List, Option, Err}
 use Rattle.std.specs.Io.KnownBytes.{Keeps}
+use Rattle.std.specs.Option.{unwrap_or}
 use Rattle.captures.specs.declared.outcome.CaptureFault.{CaptureFault}
 use Rattle.listing.specs.Begun.{IsPartOfListing}
 use Rattle.listing.specs.Listing.{IsListing}
@@ -25,6 +26,10 @@ pub record WritesListing (harts : ℕ) (program : Image) (symbols : Option (List
   pub listing : IsListing (words_of program) harts symbols bytes closed stop printed.text
   pub ended : printed.ended ≡ end_of_capture stop closed
 
+-- A capture with no header has one hart where no count is given.
+abbrev pub harts_or_one : Option ℕ → ℕ
+harts_or_one given = unwrap_or given 1
+
 -- The base is looked at first, then the image, the symbols, if they are given, and the capture. Where there is no
 -- fault, the listing of the capture is written.
 abbrev pub Lists : Content → Listing → Printed → Type 0
@@ -32,7 +37,7 @@ Lists content asked =
     First (IsBase asked.base.now) (λ base.
     First (IsProgramAt content base asked.image) (λ program.
     First (AreSymbols content asked.symbols) (λ symbols.
-    First (IsRead content asked.capture) (WritesListing asked.harts program symbols))))
+    First (IsRead content asked.capture) (WritesListing (harts_or_one asked.harts) program symbols))))
 
 -- The program, the symbols and the bytes of the capture are found, and this holds of them.
 abbrev pub OnceListed : Content → Listing → (Image → Option (List ℕ) → List ℕ → Type 0) → Type 0
@@ -54,7 +59,7 @@ WritesPart harts program symbols bytes printed =
 -- The program, the symbols and the capture were found, and a part of the capture's listing is written.
 abbrev pub ListsInPart : Content → Listing → Printed → Type 0
 ListsInPart content asked printed =
-    OnceListed content asked (λ program symbols bytes. WritesPart asked.harts program symbols bytes printed)
+    OnceListed content asked (λ program symbols bytes. WritesPart (harts_or_one asked.harts) program symbols bytes printed)
 
 -- Nothing was written, or all lines before the message at which allocation failed.
 abbrev pub ListsUpToMemory : (Printed → Type 0) → Option (List ℕ) → Option (List ℕ) → Type 0

@@ -38,6 +38,12 @@ bad_line number offset why =
     codes "bad: number " ++ (decimal number ++ (codes " at " ++ (offset_text offset
     ++ (codes ": " ++ (reason_text why ++ codes "\n")))))
 
+-- The line of a doubtful number, with where the first two messages are whose payloads differ.
+abbrev pub doubtful_line : ℕ → ℕ → ℕ → List ℕ
+doubtful_line number first second =
+    codes "doubtful: number " ++ (decimal number ++ (codes " at " ++ (offset_text first
+    ++ (codes " and " ++ (offset_text second ++ codes "\n")))))
+
 -- The line of a number that stands alone, with where its message is.
 abbrev pub alone_line : ℕ → ℕ → List ℕ
 alone_line number offset =
@@ -50,7 +56,8 @@ left_text summary offsets (Missing count) = messages_line (codes "gap") count
 left_text summary offsets (Events first last events) =
     stretch_line (length events) first last ++ rows_text summary events
 left_text summary offsets (BadNumber number place why) = bad_line number (offset_at offsets place) why
-left_text summary offsets (DoubtfulNumber number) = codes "doubtful: number " ++ (decimal number ++ codes "\n")
+left_text summary offsets (DoubtfulNumber number first second) =
+    doubtful_line number (offset_at offsets first) (offset_at offsets second)
 left_text summary offsets (AloneNumber number place) = alone_line number (offset_at offsets place)
 
 -- The line of this count of messages, where there are any.

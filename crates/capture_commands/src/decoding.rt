@@ -1,8 +1,10 @@
 //! The subcommand `decode`.
 
-ghost use Rattle.std.specs.Prelude.{⊤, ◌≡◌, ◌≢◌, ◌⊎◌, Err, IfErr, IfSome, OnOk};
+ghost use Rattle.std.specs.Prelude.{⊤, ◌≡◌, ◌≢◌, ◌⊎◌, Err, IfErr, IfOk, IfSome, OnOk};
 ghost use Rattle.std.specs.Io.KnownBytes.{Appends, Keeps};
+ghost use Rattle.captures.specs.Decoded.{IsDecoded};
 ghost use Rattle.receiver.specs.Received.{events_in};
+ghost use Rattle.rvclass.specs.Fetch.{words_of};
 ghost use Rattle.output.specs.Begun.{AppendsBeginning};
 ghost use Rattle.retire.specs.Number.{number_of};
 ghost use Rattle.command_inputs.specs.Begun.{BeginsPrinted, IsCutOf};
@@ -13,15 +15,16 @@ ghost use Rattle.capture_commands.specs.Decoded.{Decodes, WritesDecoded, harts_t
 ghost use Rattle.capture_commands.specs.steps.Writing.{EndsWriting, StopsBehindLine};
 ghost use Rattle.command_inputs.specs.declared.fault.Fault.TheVariants as Fault;
 
+use crate::counting::messages_in;
 use crate::ending::ended;
 use crate::lossy_decoding::decode_lossy;
 use crate::reason::Fault;
-use captures::{CaptureOutcome, decode_capture};
-use command_inputs::{Files, Status, base_of, content_of, program_of};
+use captures::{CaptureOutcome, decode_watched};
+use command_inputs::{Files, MessageProgress, Status, base_of, content_of, program_of};
 use output::write_text;
 use retire::{Event, write_log};
 use rvclass::Program;
-use std::alloc::Global;
+use std::alloc::{AllocError, Global};
 use std::io::Write;
 use subcommands::Decode;
 
@@ -52,16 +55,18 @@ pub fn decode<'a, F: Files, O: Write>(
     let program = program_of(files, base, asked.image)?;
     let bytes = content_of(files, asked.capture)?;
     let capture = bytes.as_slice();
+    let progress = MessageProgress::new(&*files, asked.progress);
     if asked.lossy {
-        decode_lossy(alloc, &program, asked.harts, capture, out)
+        decode_lossy(alloc, &progress, &program, asked.harts, capture, out)
     } else {
-        decode_whole(alloc, &program, asked.harts, capture, out)
+        decode_whole(alloc, &progress, &program, asked.harts, capture, out)
     }
 }
 
 /// Writes the log of each hart, as far as the messages of these bytes settle it, where no message may be lost.
-fn decode_whole<'a, O: Write>(
+fn decode_whole<'a, F: Files, O: Write>(
     alloc: Global,
+    progress: &MessageProgress<'_, F>,
     program: &Program,
     harts: u16,
     bytes: &[u8],
@@ -72,8 +77,28 @@ fn decode_whole<'a, O: Write>(
         (O.contents out.old) (O.contents out.new) }
     ensures cut { IsCutOf (WritesDecoded harts program.now bytes.now) (O.contents out.old) (O.contents out.new) }
 {
-    let outcome = decode_capture(alloc, program, harts, bytes)?;
+    let outcome = outcome_of(alloc, progress, program, harts, bytes)?;
     write_outcome(alloc, &outcome, out)
+}
+
+/// What the messages of these bytes decode to. How far they are worked through is shown, where that is asked for.
+fn outcome_of<F: Files>(
+    alloc: Global,
+    progress: &MessageProgress<'_, F>,
+    program: &Program,
+    harts: u16,
+    bytes: &[u8],
+) -> Result<CaptureOutcome, AllocError>
+    ensures { IfOk result (λ outcome.
+        IsDecoded (words_of program.now) harts bytes.now (events_in outcome.harts.items) outcome.closed.items
+        outcome.fault) }
+{
+    if progress.is_asked() {
+        progress.begin(messages_in(bytes));
+    }
+    let outcome = decode_watched(alloc, program, harts, bytes, progress);
+    progress.end();
+    outcome
 }
 
 /// Writes the log of each hart, as far as it was decoded, and returns how decoding ended. All that was decoded before a

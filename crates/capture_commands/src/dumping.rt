@@ -8,10 +8,11 @@ ghost use Rattle.capture_commands.specs.Faults.{final_status};
 ghost use Rattle.capture_commands.specs.Dumping.{CanDump, Dumps, IsDumpAsked, end_of_dump};
 ghost use Rattle.command_inputs.specs.declared.fault.Fault.TheVariants as Fault;
 
+use crate::counting::{frames_in, messages_in};
 use crate::reason::Fault;
 use crate::stopping::capture_fault;
-use captures::{CaptureFault, Dumped, dump_capture};
-use command_inputs::{Files, Status, content_of};
+use captures::{CaptureFault, Dumped, dump_watched};
+use command_inputs::{Files, MessageProgress, Status, content_of};
 use retire::WriteFault;
 use searching::search_capture;
 use std::io::Write;
@@ -37,13 +38,44 @@ pub fn dump<'a, F: Files, O: Write>(
     ensures cut { IsCutOf (Dumps (F.content files.old) asked.now) (O.contents out.old) (O.contents out.new) }
 {
     let bytes = content_of(files, asked.capture)?;
-    let dumped = write_dump(asked, bytes.as_slice(), out)?;
+    let progress = MessageProgress::new(&*files, asked.progress);
+    let dumped = show_dump(&progress, asked, bytes.as_slice(), out)?;
     out.flush()?;
     ended(&dumped)
 }
 
+/// Writes the dump of a capture's bytes. How far their messages are worked through is shown, where that is asked for.
+fn show_dump<'a, F: Files, O: Write>(
+    progress: &MessageProgress<'_, F>,
+    asked: &Dump<'a>,
+    bytes: &[u8],
+    out: &mut O,
+) -> Result<Dumped, WriteFault>
+    ensures dumped { IfOk result (λ dumped. AppendsDump (IsDumpAsked asked.now.search bytes.now) dumped.bad dumped.fault
+        (O.contents out.old) (O.contents out.new)) }
+    ensures begun { OnErr result
+        (BeginsDump (IsDumpAsked asked.now.search bytes.now) (O.contents out.old) (O.contents out.new)) }
+    ensures fault { IfErr result (λ fault. fault ≡ WriteFault.Write) }
+{
+    if progress.is_asked() {
+        progress.begin(dumped_in(asked, bytes));
+    }
+    let dumped = write_dump(progress, asked, bytes, out);
+    progress.end();
+    dumped
+}
+
+/// How many messages a dump of these bytes has.
+fn dumped_in(asked: &Dump<'_>, bytes: &[u8]) -> u64 {
+    if !asked.search {
+        return messages_in(bytes);
+    }
+    frames_in(bytes)
+}
+
 /// Writes the dump of a capture's bytes, by a search where one is asked for.
-fn write_dump<'a, O: Write>(
+fn write_dump<'a, F: Files, O: Write>(
+    progress: &MessageProgress<'_, F>,
     asked: &Dump<'a>,
     bytes: &[u8],
     out: &mut O,
@@ -55,9 +87,9 @@ fn write_dump<'a, O: Write>(
     ensures fault { IfErr result (λ fault. fault ≡ WriteFault.Write) }
 {
     if asked.search {
-        search_capture(bytes, out)
+        search_capture(bytes, out, progress)
     } else {
-        dump_capture(bytes, out)
+        dump_watched(bytes, out, progress)
     }
 }
 

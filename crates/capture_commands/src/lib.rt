@@ -3,6 +3,7 @@
 //! message does, and [`salvage`] what is left of the logs after any damage.
 #![tactic(auto)]
 
+mod counting;
 mod decoding;
 mod dumping;
 mod ending;

@@ -15,12 +15,13 @@ ghost use Rattle.capture_commands.specs.Pieces.{ArePieces, HasPieces, WritesPiec
 ghost use Rattle.capture_commands.specs.Pieces.{harts_counted, have_gaps, is_gap, mode_of_header, part_text, parts_of};
 ghost use Rattle.capture_commands.specs.Pieces.{parts_text};
 
+use crate::counting::messages_in;
 use crate::messages_line::write_messages;
 use crate::reason::{CaptureReason, Fault};
 use crate::stopping::{lossy_fault, reading_fault};
 use captures::read_messages;
-use command_inputs::Status;
-use losses::{HartPieces, Part, collect_lossy};
+use command_inputs::{Files, MessageProgress, Status};
+use losses::{HartPieces, Part, collect_watched};
 use message::Header;
 use output::write_text;
 use payload::Mode;
@@ -32,8 +33,9 @@ use std::io::Write;
 /// Writes what is left of the log of each hart. Returns that all is done where each hart's closing packet came and
 /// there is no gap. Where the capture is not read to its end, a message is refused or its packet is not decoded, nothing
 /// is written.
-pub(crate) fn decode_lossy<'a, O: Write>(
+pub(crate) fn decode_lossy<'a, F: Files, O: Write>(
     alloc: Global,
+    progress: &MessageProgress<'_, F>,
     program: &Program,
     harts: u16,
     bytes: &[u8],
@@ -44,15 +46,37 @@ pub(crate) fn decode_lossy<'a, O: Write>(
         (HasPieces harts program.now bytes.now) result (O.contents out.old) (O.contents out.new) }
     ensures cut { IsCutOf (WritesPieces harts program.now bytes.now) (O.contents out.old) (O.contents out.new) }
 {
-    let pieces = pieces_of(alloc, program, harts, bytes)?;
+    let pieces = pieces_of(alloc, progress, program, harts, bytes)?;
     write_pieces(alloc, pieces.as_slice(), out)?;
     out.flush()?;
     ended(pieces.as_slice())
 }
 
-/// What is left of the logs of a capture's harts.
-fn pieces_of<'a>(
+/// What is left of the logs of a capture's harts. How far its messages are worked through is shown, where that is asked
+/// for.
+fn pieces_of<'a, F: Files>(
     alloc: Global,
+    progress: &MessageProgress<'_, F>,
+    program: &Program,
+    harts: u16,
+    bytes: &[u8],
+) -> Result<Vec<HartPieces>, Fault<'a>>
+    ensures found { IfOk result (λ pieces. ArePieces harts program.now bytes.now (Ok pieces.items)) }
+    ensures fault { IfErr result (λ fault. ArePieces harts program.now bytes.now (Err fault)) }
+    ensures never_refused { IfErr result (λ fault. status_of fault ≢ Status.Refused) }
+{
+    if progress.is_asked() {
+        progress.begin(messages_in(bytes));
+    }
+    let pieces = collect(alloc, progress, program, harts, bytes);
+    progress.end();
+    pieces
+}
+
+/// Collects what is left of the logs of a capture's harts.
+fn collect<'a, F: Files>(
+    alloc: Global,
+    progress: &MessageProgress<'_, F>,
     program: &Program,
     harts: u16,
     bytes: &[u8],
@@ -65,12 +89,13 @@ fn pieces_of<'a>(
         Ok(whole) => whole,
         Err(fault) => return Err(reading_fault(fault)),
     };
-    match collect_lossy(
+    match collect_watched(
         alloc,
         program,
         harts_counted(harts, whole.header),
         mode_of_header(whole.header),
         whole.messages.as_slice(),
+        progress,
     ) {
         Ok(pieces) => Ok(pieces),
         Err(fault) => Err(lossy_fault(fault)),

@@ -1,20 +1,25 @@
 //! The subcommand `list`.
 
-ghost use Rattle.std.specs.Prelude.{⊤, ◌≡◌, ◌≢◌, Err, IfSome, option_map};
+ghost use Rattle.std.specs.Prelude.{⊤, ◌≡◌, ◌≢◌, Err, IfOk, IfSome, OnErr, option_map};
+ghost use Rattle.listing.specs.Begun.{BeginsPart, IsPartOfListing};
+ghost use Rattle.listing.specs.Listing.{AppendsListing, IsListing};
 ghost use Rattle.retire.specs.Number.{number_of};
+ghost use Rattle.rvclass.specs.Fetch.{words_of};
 ghost use Rattle.command_inputs.specs.Begun.{IsCutOf};
 ghost use Rattle.command_inputs.specs.Order.{base_fault};
 ghost use Rattle.command_inputs.specs.Printed.{PrintsUnlessDenied};
 ghost use Rattle.capture_commands.specs.Faults.{final_status};
-ghost use Rattle.capture_commands.specs.Listed.{CanList, Lists, ListsInPart, ListsUpToMemory, WritesListing};
+ghost use Rattle.capture_commands.specs.Listed.{CanList, Lists, ListsInPart, ListsUpToMemory, WritesListing, harts_or_one};
 ghost use Rattle.capture_commands.specs.Listed.{WritesPart};
 ghost use Rattle.command_inputs.specs.declared.fault.Fault.TheVariants as Fault;
 
+use crate::counting::messages_in;
 use crate::ending::ended;
 use crate::reason::Fault;
 use crate::symbols_input::symbols_of;
-use command_inputs::{Files, Status, base_of, content_of, program_of};
-use listing::list_capture;
+use command_inputs::{Files, MessageProgress, Status, base_of, content_of, program_of};
+use listing::{Listed, list_watched};
+use retire::WriteFault;
 use rvclass::Program;
 use std::alloc::Global;
 use std::io::Write;
@@ -46,19 +51,29 @@ pub fn list<'a, F: Files, O: Write>(
     let program = program_of(files, base, asked.image)?;
     let symbols = symbols_of(alloc, files, asked.symbols)?;
     let bytes = content_of(files, asked.capture)?;
+    let progress = MessageProgress::new(&*files, asked.progress);
     write_listing(
         alloc,
+        &progress,
         &program,
-        asked.harts,
+        harts_or_one(asked.harts),
         symbols.as_ref(),
         bytes.as_slice(),
         out,
     )
 }
 
+/// The count of harts of a capture with no header: one where none is given.
+fn harts_or_one(given: Option<u16>) -> u16
+    ensures { result ≡ harts_or_one given }
+{
+    given.unwrap_or(1)
+}
+
 /// Writes the listing of a capture's bytes, and returns how their decoding ended.
-fn write_listing<'a, O: Write>(
+fn write_listing<'a, F: Files, O: Write>(
     alloc: Global,
+    progress: &MessageProgress<'_, F>,
     program: &Program,
     harts: u16,
     symbols: Option<&Symbols>,
@@ -75,7 +90,34 @@ fn write_listing<'a, O: Write>(
     ensures cut { IsCutOf (WritesPart harts program.now (option_map (λ file. file.now) symbols.entry) bytes.now)
         (O.contents out.old) (O.contents out.new) }
 {
-    let listed = list_capture(alloc, program, harts, bytes, symbols, out)?;
+    let listed = show_listing(alloc, progress, program, harts, symbols, bytes, out)?;
     out.flush()?;
     ended(listed.fault, listed.closed.as_slice())
+}
+
+/// Writes the listing of a capture's bytes. How far their messages are worked through is shown, where that is asked
+/// for.
+fn show_listing<F: Files, O: Write>(
+    alloc: Global,
+    progress: &MessageProgress<'_, F>,
+    program: &Program,
+    harts: u16,
+    symbols: Option<&Symbols>,
+    bytes: &[u8],
+    out: &mut O,
+) -> Result<Listed, WriteFault>
+    ensures listed { IfOk result (λ listed. AppendsListing
+        (IsListing (words_of program.now) harts (option_map (λ file. file.now) symbols.entry) bytes.now)
+        listed.closed.items listed.fault (O.contents out.old) (O.contents out.new)) }
+    ensures begun { OnErr result (BeginsPart
+        (IsPartOfListing (words_of program.now) harts (option_map (λ file. file.now) symbols.entry) bytes.now)
+        (O.contents out.old) (O.contents out.new)) }
+    ensures memory { result ≡ Err WriteFault.Memory → out.new ≡ out.old }
+{
+    if progress.is_asked() {
+        progress.begin(messages_in(bytes));
+    }
+    let listed = list_watched(alloc, program, harts, bytes, symbols, out, progress);
+    progress.end();
+    listed
 }

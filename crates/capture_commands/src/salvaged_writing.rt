@@ -8,8 +8,8 @@ ghost use Rattle.salvaging.specs.LeftParts.{Events};
 ghost use Rattle.salvaging.specs.PartsIn.{part_of, parts_in};
 ghost use Rattle.capture_commands.specs.EachHart.{numbered_harts};
 ghost use Rattle.capture_commands.specs.Frames.{offset_at, own_offsets};
-ghost use Rattle.capture_commands.specs.SalvagedText.{alone_line, bad_line, counted_line, hart_text, left_text};
-ghost use Rattle.capture_commands.specs.SalvagedText.{mode_line, parts_and_counts, rows_text, run_text};
+ghost use Rattle.capture_commands.specs.SalvagedText.{alone_line, bad_line, counted_line, doubtful_line, hart_text};
+ghost use Rattle.capture_commands.specs.SalvagedText.{left_text, mode_line, parts_and_counts, rows_text, run_text};
 ghost use Rattle.command_inputs.specs.declared.fault.Fault.TheVariants as Fault;
 
 use crate::messages_line::write_messages;
@@ -175,10 +175,16 @@ fn write_part<'a, O: Write>(
             write_bad(*number, offset_at(offsets, *place), *why, out)
         }
         Part::Alone { number, place } => write_alone(*number, offset_at(offsets, *place), out),
-        Part::Doubtful(number) => {
-            write_text(out, format_args!("doubtful: number {number}\n"))?;
-            Ok(())
-        }
+        Part::Doubtful {
+            number,
+            first,
+            second,
+        } => write_doubtful(
+            *number,
+            offset_at(offsets, *first),
+            offset_at(offsets, *second),
+            out,
+        ),
     }
 }
 
@@ -250,6 +256,26 @@ fn write_bad<'a, O: Write>(
 {
     let at = Offset(offset);
     write_text(out, format_args!("bad: number {number} at {at}: {why}\n"))?;
+    Ok(())
+}
+
+/// Writes the line of a doubtful number, with where the first two messages are whose payloads differ.
+fn write_doubtful<'a, O: Write>(
+    number: u64,
+    first: u64,
+    second: u64,
+    out: &mut O,
+) -> Result<(), Fault<'a>>
+    ensures output { IfErr result (λ fault. fault ≡ Fault.Output) }
+    ensures text { OnOk result (Appends (O.contents out.old) (O.contents out.new) (doubtful_line number first second)) }
+    ensures begun { AppendsBeginning (doubtful_line number first second) (O.contents out.old) (O.contents out.new) }
+{
+    let one = Offset(first);
+    let other = Offset(second);
+    write_text(
+        out,
+        format_args!("doubtful: number {number} at {one} and {other}\n"),
+    )?;
     Ok(())
 }
 

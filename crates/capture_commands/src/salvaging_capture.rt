@@ -5,6 +5,7 @@ ghost use Rattle.std.specs.Io.KnownBytes.{Appends};
 ghost use Rattle.std.specs.List.{list_any};
 ghost use Rattle.output.specs.Begun.{AppendsBeginning};
 ghost use Rattle.retire.specs.Number.{number_of};
+ghost use Rattle.salvaging.specs.Salvages.{GivesSalvaged};
 ghost use Rattle.salvaging.specs.PartsIn.{parts_in};
 ghost use Rattle.command_inputs.specs.Begun.{IsCutOf};
 ghost use Rattle.command_inputs.specs.Order.{base_fault};
@@ -23,12 +24,13 @@ use crate::reason::{CaptureReason, Fault};
 use crate::salvaged_writing::{write_counted, write_harts, write_runs};
 use crate::stopping::capture_fault;
 use captures::CaptureFault;
-use command_inputs::{Files, Status, base_of, content_of, program_of};
+use command_inputs::{Files, MessageProgress, Status, base_of, content_of, program_of};
 use frames::Spans;
-use message::{Header, MessageFault};
+use message::{Header, Message, MessageFault};
+use payload::Mode;
 use retire::LOG_ROOM;
 use rvclass::Program;
-use salvaging::{Part, Salvaged, SalvagedHart};
+use salvaging::{Part, Salvaged, SalvagedHart, salvage_watched};
 use searching::{harts_counted, spans_of, start_of};
 use std::alloc::{AllocError, Global};
 use std::io::Write;
@@ -57,8 +59,10 @@ pub fn salvage<'a, F: Files, O: Write>(
     let base = base_of(asked.base)?;
     let program = program_of(files, base, asked.image)?;
     let bytes = content_of(files, asked.capture)?;
+    let progress = MessageProgress::new(&*files, asked.progress);
     salvage_capture(
         alloc,
+        &progress,
         &program,
         asked.harts,
         asked.summary,
@@ -68,8 +72,9 @@ pub fn salvage<'a, F: Files, O: Write>(
 }
 
 /// Writes what is salvaged of the bytes of a capture.
-fn salvage_capture<'a, O: Write>(
+fn salvage_capture<'a, F: Files, O: Write>(
     alloc: Global,
+    progress: &MessageProgress<'_, F>,
     program: &Program,
     harts: Option<u16>,
     summary: bool,
@@ -83,7 +88,7 @@ fn salvage_capture<'a, O: Write>(
     ensures cut { IsCutOf (WritesSalvaged harts summary program.now bytes.now) (O.contents out.old)
         (O.contents out.new) }
 {
-    let found = find(alloc, program, harts, bytes)?;
+    let found = find(alloc, progress, program, harts, bytes)?;
     let mut room = Vec::with_capacity(alloc, LOG_ROOM)?;
     write_found(&mut room, summary, &found, bytes, out)?;
     out.flush()?;
@@ -146,8 +151,9 @@ pub(crate) struct Found {
 }
 
 /// What is salvaged of the messages of a capture's frames.
-fn find(
+fn find<F: Files>(
     alloc: Global,
+    progress: &MessageProgress<'_, F>,
     program: &Program,
     harts: Option<u16>,
     bytes: &[u8],
@@ -157,8 +163,9 @@ fn find(
     let start = start_of(bytes);
     let count = harts_counted(harts, start.header, bytes);
     let frames = frames_of(alloc, count, spans_of(bytes, start.header))?;
-    let salvaged = salvaging::salvage(
+    let salvaged = salvage_shown(
         alloc,
+        progress,
         program,
         count,
         mode_of_header(start.header),
@@ -170,6 +177,23 @@ fn find(
         frames,
         salvaged,
     })
+}
+
+/// What is salvaged of these messages. How far they are worked through is shown, where that is asked for.
+fn salvage_shown<F: Files>(
+    alloc: Global,
+    progress: &MessageProgress<'_, F>,
+    program: &Program,
+    harts: u16,
+    mode: Mode,
+    messages: &[Message],
+) -> Result<Salvaged, AllocError>
+    ensures { IfOk result (GivesSalvaged program.now harts mode messages.now) }
+{
+    progress.begin(messages.len() as u64);
+    let salvaged = salvage_watched(alloc, program, harts, mode, messages, progress);
+    progress.end();
+    salvaged
 }
 
 /// How salvaging ended: at a header that is not valid, or else at the first hart that is not closed, or else by whether

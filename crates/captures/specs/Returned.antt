@@ -1,11 +1,9 @@
 -- Logs that come back complete.
 use Rattle.std.specs.Prelude.{ℕ, ◌≡◌, ◌≤◌, All, Bool, true, List, Option, Some, None, length, map, replicate}
-use Rattle.retire.specs.Is64Bit.{Is64Bit}
 use Rattle.retire.specs.Log.{most_long_rows}
 use Rattle.retire.specs.declared.event.Event.{Event}
-use Rattle.rvclass.specs.Fetch.{words_of}
-use Rattle.rvclass.specs.Image.{Image, IsImage}
-use Rattle.legalpath.specs.Legal.{Legal}
+use Rattle.rvclass.specs.Image.{Image}
+use Rattle.legalpath.specs.LegalUpTo.{IsLegalUpTo}
 use Rattle.legalpath.specs.ProgramLog.{ProgramLog}
 use Rattle.payload.specs.declared.mode.Mode.{Mode}
 use Rattle.decoder.specs.declared.fault.DecodeFault.TheVariants.{Memory}
@@ -15,13 +13,9 @@ use Rattle.captures.specs.Versions.{MayStart, capture_of, header_of}
 use Rattle.captures.specs.declared.outcome.CaptureFault.{CaptureFault}
 use Rattle.captures.specs.declared.outcome.CaptureFault.TheVariants as fault
 
--- The log is legal for its program and has at most 4294967295 events. Its numbers have 64 bits, and its image keeps what
--- the image of every program keeps.
-pub record IsLongLegalLog (log : ProgramLog) : Type 0 where
-  pub legal : Legal (words_of log.program) log.events
-  pub short : length log.events ≤ most_long_rows
-  pub numbers : All Is64Bit log.events
-  pub image : IsImage log.program
+-- The log is legal for its program and has at most 4294967295 events.
+abbrev pub IsLongLegalLog : ProgramLog → Type 0
+IsLongLegalLog log = IsLegalUpTo most_long_rows log.program log.events
 
 -- The logs are legal, long ones among them, and all of this program. The bytes are the capture, in this version, of all
 -- their messages at this period and in this mode, one hart after the other. What comes before the messages has numbers

@@ -17,6 +17,7 @@ use payload::Mode;
 use receiver::Receiver;
 use rvclass::Program;
 use std::alloc::{AllocError, Allocator};
+use watching::{Unwatched, Watch};
 
 /// Reads the messages of a capture, splits them by hart, and decodes each hart's, up to the first fault.
 ///
@@ -41,30 +42,60 @@ pub fn decode_capture<A: Allocator + Copy>(
         → AreAskedFor version harts logs
         → IfOk result (λ outcome. AreReturned logs (events_in outcome.harts.items) outcome.closed.items outcome.fault) }
 {
+    decode_watched(alloc, program, harts, bytes, &Unwatched)
+}
+
+/// Decodes a capture as [`decode_capture`] does, and tells `watch` of each message that is received.
+pub fn decode_watched<A: Allocator + Copy, V: Watch>(
+    alloc: A,
+    program: &Program,
+    harts: u16,
+    bytes: &[u8],
+    watch: &V,
+) -> Result<CaptureOutcome<A>, AllocError>
+    ensures decoded { IfOk result (λ outcome.
+        IsDecoded (words_of program.now) harts bytes.now (events_in outcome.harts.items) outcome.closed.items
+        outcome.fault) }
+
+    // The capture of all messages of legal logs, in either version and mode, gives the logs back, unless an allocation
+    // failed.
+    ensures whole { (version : Version) (period : ℕ) (mode : AnyMode) (logs : List ProgramLog)
+        → IsCaptureOf program.now version period mode logs bytes.now
+        → AreAskedFor version harts logs
+        → IfOk result (λ outcome. AreReturned logs (events_in outcome.harts.items) outcome.closed.items outcome.fault) }
+{
     let mut messages = Messages::new(bytes);
     match messages.header() {
         Ok(Some(header)) => {
-            decode_messages(alloc, program, header.harts, Some(header.mode), messages)
+            decode_messages(
+                alloc,
+                program,
+                header.harts,
+                Some(header.mode),
+                messages,
+                watch,
+            )
         }
-        Ok(None) => decode_messages(alloc, program, harts, None, messages),
+        Ok(None) => decode_messages(alloc, program, harts, None, messages, watch),
         Err(fault) => decode_nothing(alloc, harts, CaptureFault::Message(fault)),
     }
 }
 
 /// What messages of so many harts decode to, where the header announces this mode, if there is a header.
-fn decode_messages<A: Allocator + Copy>(
+fn decode_messages<A: Allocator + Copy, V: Watch>(
     alloc: A,
     program: &Program,
     harts: u16,
     announced: Option<Mode>,
     messages: Messages<'_>,
+    watch: &V,
 ) -> Result<CaptureOutcome<A>, AllocError>
     ensures { IfOk result (λ outcome.
         AreMessagesDecoded (words_of program.now) harts announced messages.entry (events_in outcome.harts.items)
         outcome.closed.items outcome.fault) }
 {
     let mut receiver = Receiver::new(alloc, harts)?;
-    let fault = collect(&mut receiver, program, announced, messages);
+    let fault = collect(&mut receiver, program, announced, messages, watch);
     let (harts, closed) = receiver.into_parts();
     Ok(CaptureOutcome {
         harts,
@@ -94,11 +125,12 @@ fn decode_nothing<A: Allocator + Copy>(
 
 /// Receives messages, where the header announces this mode, if there is a header. Returns where that stops before their
 /// end, and why.
-fn collect<A: Allocator + Copy>(
+fn collect<A: Allocator + Copy, V: Watch>(
     receiver: &mut Receiver<A>,
     program: &Program,
     announced: Option<Mode>,
     mut messages: Messages<'_>,
+    watch: &V,
 ) -> Option<(u64, CaptureFault)>
     ensures { (harts : ℕ) → HasReceived (λ hart. words_of program.now) harts [] receiver.old
         → HasReceivedUpTo (words_of program.now) harts announced messages.entry receiver.new result }
@@ -111,7 +143,10 @@ fn collect<A: Allocator + Copy>(
             Err(fault) => return Some((number, CaptureFault::Message(fault))),
         };
         match receiver.receive(program, announced, &message) {
-            Ok(()) => number += 1,
+            Ok(()) => {
+                number += 1;
+                watch.note(1);
+            }
             Err(fault) => return Some((number, CaptureFault::from(fault))),
         }
     }

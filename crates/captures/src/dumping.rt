@@ -13,6 +13,7 @@ use output::write_text;
 use payload::{Mode, unpack};
 use retire::WriteFault;
 use std::io::Write;
+use watching::{Unwatched, Watch};
 
 /// What was found in a capture that was dumped.
 #[derive(Clone, Copy, Debug, PartialEq, Eq)]
@@ -39,13 +40,27 @@ pub fn dump_capture<W: Write>(capture: &[u8], sink: &mut W) -> Result<Dumped, Wr
     ensures begun { OnErr result (BeginsDump (IsDump capture.now) (W.contents sink.old) (W.contents sink.new)) }
     ensures fault { IfErr result (λ fault. fault ≡ WriteFault.Write) }
 {
+    dump_watched(capture, sink, &Unwatched)
+}
+
+/// Writes a capture as [`dump_capture`] does, and tells `watch` of each message whose line is written.
+pub fn dump_watched<W: Write, V: Watch>(
+    capture: &[u8],
+    sink: &mut W,
+    watch: &V,
+) -> Result<Dumped, WriteFault>
+    ensures dumped { IfOk result (λ dumped.
+        AppendsDump (IsDump capture.now) dumped.bad dumped.fault (W.contents sink.old) (W.contents sink.new)) }
+    ensures begun { OnErr result (BeginsDump (IsDump capture.now) (W.contents sink.old) (W.contents sink.new)) }
+    ensures fault { IfErr result (λ fault. fault ≡ WriteFault.Write) }
+{
     let mut messages = Messages::new(capture);
     match messages.header() {
         Ok(Some(header)) => {
             write_header_line(sink, &header)?;
-            dump_messages(messages, header.mode, sink)
+            dump_messages(messages, header.mode, sink, watch)
         }
-        Ok(None) => dump_messages(messages, Mode::Differential, sink),
+        Ok(None) => dump_messages(messages, Mode::Differential, sink, watch),
         Err(fault) => Ok(Dumped {
             bad: false,
             fault: Some((0, fault)),
@@ -84,10 +99,11 @@ fn mode_text(mode: Mode) -> &'static str
 }
 
 /// Writes a line for each message, its address field named by this mode.
-fn dump_messages<W: Write>(
+fn dump_messages<W: Write, V: Watch>(
     all: Messages<'_>,
     mode: Mode,
     sink: &mut W,
+    watch: &V,
 ) -> Result<Dumped, WriteFault>
     requires { AreBytes all }
     ensures dumped { IfOk result (λ dumped. AppendsDump (AreMessagesDumped mode all.entry) dumped.bad dumped.fault
@@ -104,6 +120,7 @@ fn dump_messages<W: Write>(
             Ok(Some(message)) => {
                 bad |= write_message_line(sink, mode, &message)?;
                 count += 1;
+                watch.note(1);
             }
             Ok(None) => return Ok(Dumped { bad, fault: None }),
             Err(fault) => {

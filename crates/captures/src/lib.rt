@@ -5,7 +5,8 @@
 //! a hart's payloads as lines. [`decode_capture`] returns the events of each hart of a capture, [`read_messages`] its
 //! messages as they are, [`read_front`] those up to the first place where there is none. [`dump_capture`] writes a line
 //! of text for each message, [`write_message_line`] that line alone, and [`write_bytes_line`] the line of bytes that are
-//! of no message.
+//! of no message. [`decode_watched`] and [`dump_watched`] do the same as the calls without a watch, and tell a
+//! [`Watch`](watching::Watch) of each message.
 #![tactic(auto)]
 
 mod capture_decoding;
@@ -18,9 +19,9 @@ mod offsets;
 mod outcome;
 mod packet_text;
 
-pub use capture_decoding::decode_capture;
+pub use capture_decoding::{decode_capture, decode_watched};
 pub use capture_reading::{CaptureFront, ReadFault, WholeCapture, read_front, read_messages};
-pub use dumping::{Dumped, dump_capture, write_header_line, write_message_line};
+pub use dumping::{Dumped, dump_capture, dump_watched, write_header_line, write_message_line};
 pub use encoding::{encode_capture, encode_hart, encode_hex, write_start};
 pub use form::{CaptureBytes, Form, HexLines};
 pub use lines::hex_lines;

@@ -11,7 +11,7 @@ use Rattle.message.specs.declared.header.Version.TheVariants.{One, Two}
 use Rattle.payload.specs.declared.mode.Mode.{Mode}
 use Rattle.payload.specs.declared.mode.Mode.TheVariants.{Differential, Full}
 use Rattle.subcommands.specs.Kind.{IsCheck}
-use Rattle.subcommands.specs.Limits.{longest_period}
+use Rattle.subcommands.specs.Limits.{greatest_first, longest_period}
 use Rattle.subcommands.specs.declared.words.Asked.{Asked}
 use Rattle.subcommands.specs.declared.words.Asked.TheVariants.{Audit, Bench, Capture, Check, Decode, Dump, Encode}
 use Rattle.subcommands.specs.declared.words.Asked.TheVariants.{Listing, Measure, Replay, Salvage}
@@ -72,6 +72,14 @@ IsCapacity = IsUpTo most_capacity
 abbrev pub IsHarts : Option Text → ℕ → Type 0
 IsHarts = IsUpTo (most_harts Two)
 
+-- A first hart is there only where the argument has a value, and is 0 to 1023. Where the argument's text spells such a
+-- number in decimal, it is that one.
+abbrev pub IsGivenFirst : Option Text → Option ℕ → Type 0
+IsGivenFirst value given = (value ≡ None → given ≡ None)
+    × IfSome given (λ first. first ≤ greatest_first)
+    × ((text : Text) → value ≡ Some text → IsNumeral 10 (without_leading_plus text) → decimal text ≤ greatest_first
+    → given ≡ Some (decimal text))
+
 -- A count of harts is there only where the argument has a value, and is 1 to 1024. Where the argument's text spells
 -- such a number, it is that one.
 abbrev pub IsGivenHarts : Option Text → Option ℕ → Type 0
@@ -90,15 +98,18 @@ Asks name rows (Check asked) = (name ≡ codes "check")
 Asks name rows (Encode asked) = (name ≡ codes "encode")
     × (asked.base.now ≡ text_of (codes "base") rows) × IsPeriod (one_of (codes "period") rows) asked.period
     × IsMode (one_of (codes "full") rows) asked.mode × IsVersion (one_of (codes "v1") rows) asked.version
-    × IsFlag (one_of (codes "hex") rows) asked.hex × IsFlag (one_of (codes "long") rows) asked.long
+    × IsFlag (one_of (codes "hex") rows) asked.hex × IsGivenFirst (one_of (codes "first") rows) asked.first
+    × IsGivenHarts (one_of (codes "of") rows) asked.of × IsFlag (one_of (codes "long") rows) asked.long
     × IsFlag (one_of (codes "progress") rows) asked.progress
     × (asked.image.now ≡ text_of (codes "IMAGE") rows)
     × (map (λ log. log.now) asked.logs.items ≡ texts_of (codes "LOG") rows)
 Asks name rows (Dump asked) = (name ≡ codes "dump") × IsFlag (one_of (codes "search") rows) asked.search
+    × IsFlag (one_of (codes "progress") rows) asked.progress
     × (asked.capture.now ≡ text_of (codes "CAPTURE") rows)
 Asks name rows (Decode asked) = (name ≡ codes "decode")
     × (asked.base.now ≡ text_of (codes "base") rows) × IsHarts (one_of (codes "harts") rows) asked.harts
-    × IsFlag (one_of (codes "lossy") rows) asked.lossy × (asked.image.now ≡ text_of (codes "IMAGE") rows)
+    × IsFlag (one_of (codes "lossy") rows) asked.lossy × IsFlag (one_of (codes "progress") rows) asked.progress
+    × (asked.image.now ≡ text_of (codes "IMAGE") rows)
     × (asked.capture.now ≡ text_of (codes "CAPTURE") rows)
 Asks name rows (Replay asked) = (name ≡ codes "replay")
     × (asked.base.now ≡ text_of (codes "base") rows) × IsPeriod (one_of (codes "period") rows) asked.period
@@ -115,7 +126,8 @@ Asks name rows (Bench asked) = (name ≡ codes "bench")
     × (asked.image.now ≡ text_of (codes "IMAGE") rows)
     × (map (λ log. log.now) asked.logs.items ≡ texts_of (codes "LOG") rows)
 Asks name rows (Audit asked) = (name ≡ codes "audit") × IsFlag (one_of (codes "packets") rows) asked.packets
-    × IsFlag (one_of (codes "summary") rows) asked.summary
+    × IsFlag (one_of (codes "unnumbered") rows) asked.unnumbered
+    × IsFlag (one_of (codes "summary") rows) asked.summary × IsFlag (one_of (codes "progress") rows) asked.progress
     × (asked.sent.now ≡ text_of (codes "SENT") rows) × (asked.received.now ≡ text_of (codes "RECEIVED") rows)
 Asks name rows (Measure asked) = (name ≡ codes "measure")
     × (asked.base.now ≡ text_of (codes "base") rows) × IsPeriod (one_of (codes "period") rows) asked.period
@@ -124,12 +136,13 @@ Asks name rows (Measure asked) = (name ≡ codes "measure")
     × (asked.image.now ≡ text_of (codes "IMAGE") rows)
     × (map (λ log. log.now) asked.logs.items ≡ texts_of (codes "LOG") rows)
 Asks name rows (Listing asked) = (name ≡ codes "list")
-    × (asked.base.now ≡ text_of (codes "base") rows) × IsHarts (one_of (codes "harts") rows) asked.harts
+    × (asked.base.now ≡ text_of (codes "base") rows) × IsGivenHarts (one_of (codes "harts") rows) asked.harts
     × (option_map (λ path. path.now) asked.symbols ≡ first_of (codes "symbols") rows)
+    × IsFlag (one_of (codes "progress") rows) asked.progress
     × (asked.image.now ≡ text_of (codes "IMAGE") rows) × (asked.capture.now ≡ text_of (codes "CAPTURE") rows)
 Asks name rows (Salvage asked) = (name ≡ codes "salvage")
     × (asked.base.now ≡ text_of (codes "base") rows) × IsGivenHarts (one_of (codes "harts") rows) asked.harts
-    × IsFlag (one_of (codes "summary") rows) asked.summary
+    × IsFlag (one_of (codes "summary") rows) asked.summary × IsFlag (one_of (codes "progress") rows) asked.progress
     × (asked.image.now ≡ text_of (codes "IMAGE") rows) × (asked.capture.now ≡ text_of (codes "CAPTURE") rows)
 Asks name rows (Capture asked) = (name ≡ codes "capture")
     × IsVersion (one_of (codes "v1") rows) asked.version × IsMode (one_of (codes "full") rows) asked.mode

@@ -6,11 +6,11 @@ use Rattle.clap.specs.Words.{with_rule, with_subcommand}
 use Rattle.clap.specs.Simple.{on_top}
 use Rattle.clap.specs.declared.builder.command.Command.{Command}
 use Rattle.clap.specs.declared.builder.command.Command.TheViews.{out-Command as fields_of}
-use Rattle.arguments.specs.Rules.{base_rule, capacity_rule, capture_rule, explain_rule, full_rule, given_harts_rule}
-use Rattle.arguments.specs.Rules.{harts_rule, hex_rule, image_rule, lines_rule, logs_rule, long_rule, lossy_rule}
-use Rattle.arguments.specs.Rules.{packets_rule}
-use Rattle.arguments.specs.Rules.{period_rule, progress_rule, received_rule, schedule_rule}
-use Rattle.arguments.specs.Rules.{search_rule, sent_rule, summary_rule, symbols_rule, version_one_rule}
+use Rattle.arguments.specs.Rules.{base_rule, capacity_rule, capture_rule, explain_rule, first_rule, full_rule}
+use Rattle.arguments.specs.Rules.{given_harts_rule, harts_rule, hex_rule, image_rule, lines_rule, logs_rule, long_rule}
+use Rattle.arguments.specs.Rules.{lossy_rule, of_rule, packets_rule, period_rule, progress_rule, received_rule}
+use Rattle.arguments.specs.Rules.{schedule_rule, search_rule, sent_rule, summary_rule, symbols_rule}
+use Rattle.arguments.specs.Rules.{unnumbered_rule, version_one_rule}
 
 -- A subcommand of this name with arguments that are read by these rules.
 abbrev pub with_arguments : Text → List Rule → App
@@ -21,18 +21,19 @@ abbrev pub check_app : App
 check_app = with_arguments (codes "check") (base_rule ∷ explain_rule ∷ long_rule ∷ progress_rule ∷ image_rule ∷
     logs_rule ∷ [])
 
--- `encode --base B [--period N] [--full] [--v1] [--hex] [--long] [--progress] IMAGE LOG...`.
+-- `encode --base B [--period N] [--full] [--v1] [--hex] [--first H] [--of N] [--long] [--progress] IMAGE LOG...`.
 abbrev pub encode_app : App
 encode_app = with_arguments (codes "encode") (base_rule ∷ period_rule ∷ full_rule ∷ version_one_rule ∷ hex_rule ∷
-    long_rule ∷ progress_rule ∷ image_rule ∷ logs_rule ∷ [])
+    first_rule ∷ of_rule ∷ long_rule ∷ progress_rule ∷ image_rule ∷ logs_rule ∷ [])
 
--- `dump [--search] CAPTURE`.
+-- `dump [--search] [--progress] CAPTURE`.
 abbrev pub dump_app : App
-dump_app = with_arguments (codes "dump") (search_rule ∷ capture_rule ∷ [])
+dump_app = with_arguments (codes "dump") (search_rule ∷ progress_rule ∷ capture_rule ∷ [])
 
--- `decode --base B [--harts N] [--lossy] IMAGE CAPTURE`.
+-- `decode --base B [--harts N] [--lossy] [--progress] IMAGE CAPTURE`.
 abbrev pub decode_app : App
-decode_app = with_arguments (codes "decode") (base_rule ∷ harts_rule ∷ lossy_rule ∷ image_rule ∷ capture_rule ∷ [])
+decode_app = with_arguments (codes "decode") (base_rule ∷ harts_rule ∷ lossy_rule ∷ progress_rule ∷ image_rule ∷
+    capture_rule ∷ [])
 
 -- `replay --base B [--period N] [--full] [--capacity N] [--progress] IMAGE SCHEDULE LOG...`.
 abbrev pub replay_app : App
@@ -46,9 +47,10 @@ bench_app = with_arguments (codes "bench") (base_rule ∷ period_rule ∷ full_r
     image_rule ∷
     logs_rule ∷ [])
 
--- `audit [--packets] [--summary] SENT RECEIVED`.
+-- `audit [--packets] [--unnumbered] [--summary] [--progress] SENT RECEIVED`.
 abbrev pub audit_app : App
-audit_app = with_arguments (codes "audit") (packets_rule ∷ summary_rule ∷ sent_rule ∷ received_rule ∷ [])
+audit_app = with_arguments (codes "audit") (packets_rule ∷ unnumbered_rule ∷ summary_rule ∷ progress_rule ∷
+    sent_rule ∷ received_rule ∷ [])
 
 -- `measure --base B [--period N] [--full] [--long] [--progress] IMAGE LOG...`.
 abbrev pub measure_app : App
@@ -56,15 +58,14 @@ measure_app = with_arguments (codes "measure") (base_rule ∷ period_rule ∷ fu
     image_rule ∷
     logs_rule ∷ [])
 
--- `list --base B [--harts N] [--symbols FILE] IMAGE CAPTURE`.
+-- `list --base B [--harts N] [--symbols FILE] [--progress] IMAGE CAPTURE`.
 abbrev pub list_app : App
-list_app = with_arguments (codes "list") (base_rule ∷ harts_rule ∷ symbols_rule ∷ image_rule ∷ capture_rule ∷ [])
+list_app = with_arguments (codes "list") (base_rule ∷ given_harts_rule ∷ symbols_rule ∷ progress_rule ∷ image_rule ∷ capture_rule ∷ [])
 
--- `salvage --base B [--harts N] [--summary] IMAGE CAPTURE`.
+-- `salvage --base B [--harts N] [--summary] [--progress] IMAGE CAPTURE`.
 abbrev pub salvage_app : App
-salvage_app = with_arguments (codes "salvage") (base_rule ∷ given_harts_rule ∷ summary_rule ∷ image_rule ∷
-    capture_rule ∷
-    [])
+salvage_app = with_arguments (codes "salvage") (base_rule ∷ given_harts_rule ∷ summary_rule ∷ progress_rule ∷
+    image_rule ∷ capture_rule ∷ [])
 
 -- `capture [--v1] [--full] [--period N] [--harts N] LINES`.
 abbrev pub capture_app : App

@@ -3,8 +3,8 @@
 ghost use Rattle.std.specs.Prelude.{◌≡◌, ◌⊎◌, IfErr, IfOk, [], codes, map, string_bytes, unwrap_or};
 ghost use Rattle.clap.specs.Words.{FailsBy, fault_of, first_value, found_of, kind_of, one_of, rows_of};
 ghost use Rattle.clap.specs.declared.error.kind.ErrorKind.TheVariants as kind;
-ghost use Rattle.cli.specs.Asking.{AreRefused, Asks, IsCapacity, IsFlag, IsGivenHarts, IsHarts, IsMode, IsPeriod};
-ghost use Rattle.cli.specs.Asking.{IsVersion};
+ghost use Rattle.cli.specs.Asking.{AreRefused, Asks, IsCapacity, IsFlag, IsGivenFirst, IsGivenHarts, IsHarts, IsMode};
+ghost use Rattle.cli.specs.Asking.{IsPeriod, IsVersion};
 ghost use Rattle.cli.specs.Asking.{WordsAsk, text_of, texts_of};
 ghost use Rattle.cli.specs.Grammar.{IsSubcommand, program_app};
 ghost use Rattle.subcommands.specs.Limits.{IsWithinLimits};
@@ -15,8 +15,8 @@ use message::{MOST_CAPACITY, MOST_HARTS, Version};
 use payload::Mode;
 use std::alloc::{AllocError, Global};
 use subcommands::{
-    Asked, Audit, Bench, Capture, Check, Decode, Dump, Encode, Listing, Measure, Replay,
-    SHORTEST_PERIOD, SMALLEST_CAPACITY, Salvage,
+    Asked, Audit, Bench, Capture, Check, Decode, Dump, Encode, GREATEST_FIRST, Listing, Measure,
+    Replay, SHORTEST_PERIOD, SMALLEST_CAPACITY, Salvage,
 };
 
 /// The period where the arguments give none.
@@ -116,6 +116,8 @@ fn encode_asked<'a>(alloc: Global, given: &ArgMatches<'a>) -> Result<Asked<'a>, 
         mode: mode(given),
         version: version(given),
         hex: flag(given, "hex"),
+        first: given_first(given),
+        of: given_harts(given, "of"),
         long: flag(given, "long"),
         progress: flag(given, "progress"),
         image: text(given, "IMAGE"),
@@ -129,6 +131,7 @@ fn dump_asked<'a>(given: &ArgMatches<'a>) -> Asked<'a>
 {
     Asked::Dump(Dump {
         search: flag(given, "search"),
+        progress: flag(given, "progress"),
         capture: text(given, "CAPTURE"),
     })
 }
@@ -143,12 +146,22 @@ fn harts<'a>(given: &ArgMatches<'a>) -> u16
         .clamp(1, MOST_HARTS)
 }
 
-/// The count of harts, where it is given, 1 to 1024 by the range that `clap` keeps.
-fn given_harts<'a>(given: &ArgMatches<'a>) -> Option<u16>
-    ensures { IsGivenHarts (one_of (codes "harts") (rows_of (found_of given.now))) result }
+/// A count of harts, where this argument is given, 1 to 1024 by the range that `clap` keeps.
+fn given_harts<'a>(given: &ArgMatches<'a>, id: &str) -> Option<u16>
+    ensures { IsGivenHarts (one_of id.now (rows_of (found_of given.now))) result }
 {
-    match given.get_one::<u16>("harts") {
+    match given.get_one::<u16>(id) {
         Some(harts) => Some(harts.clamp(1, MOST_HARTS)),
+        None => None,
+    }
+}
+
+/// The hart of the first log, where it is given, 0 to 1023 by the range that `clap` keeps.
+fn given_first<'a>(given: &ArgMatches<'a>) -> Option<u16>
+    ensures { IsGivenFirst (one_of (codes "first") (rows_of (found_of given.now))) result }
+{
+    match given.get_one::<u16>("first") {
+        Some(first) => Some(first.min(GREATEST_FIRST)),
         None => None,
     }
 }
@@ -161,6 +174,7 @@ fn decode_asked<'a>(given: &ArgMatches<'a>) -> Asked<'a>
         base: text(given, "base"),
         harts: harts(given),
         lossy: flag(given, "lossy"),
+        progress: flag(given, "progress"),
         image: text(given, "IMAGE"),
         capture: text(given, "CAPTURE"),
     })
@@ -213,7 +227,9 @@ fn audit_asked<'a>(given: &ArgMatches<'a>) -> Asked<'a>
 {
     Asked::Audit(Audit {
         packets: flag(given, "packets"),
+        unnumbered: flag(given, "unnumbered"),
         summary: flag(given, "summary"),
+        progress: flag(given, "progress"),
         sent: text(given, "SENT"),
         received: text(given, "RECEIVED"),
     })
@@ -240,8 +256,9 @@ fn list_asked<'a>(given: &ArgMatches<'a>) -> Asked<'a>
 {
     Asked::Listing(Listing {
         base: text(given, "base"),
-        harts: harts(given),
+        harts: given_harts(given, "harts"),
         symbols: given.get_str("symbols"),
+        progress: flag(given, "progress"),
         image: text(given, "IMAGE"),
         capture: text(given, "CAPTURE"),
     })
@@ -253,8 +270,9 @@ fn salvage_asked<'a>(given: &ArgMatches<'a>) -> Asked<'a>
 {
     Asked::Salvage(Salvage {
         base: text(given, "base"),
-        harts: given_harts(given),
+        harts: given_harts(given, "harts"),
         summary: flag(given, "summary"),
+        progress: flag(given, "progress"),
         image: text(given, "IMAGE"),
         capture: text(given, "CAPTURE"),
     })
@@ -268,7 +286,7 @@ fn capture_asked<'a>(given: &ArgMatches<'a>) -> Asked<'a>
         version: version(given),
         mode: mode(given),
         period: period(given),
-        harts: given_harts(given),
+        harts: given_harts(given, "harts"),
         lines: text(given, "LINES"),
     })
 }
@@ -298,9 +316,9 @@ fn asked_of<'a>(alloc: Global, name: &str, given: &ArgMatches<'a>) -> Result<Ask
 ///
 /// `Ok` comes where `clap` finds no fault in them by the program's grammar. It holds the texts of the subcommand's
 /// arguments as they are given: a base is not yet a number, and no file was looked at. A period is a number from 1 to
-/// 65535, a count of harts one from 1 to 1024, and a capacity one from 1 to 65536. Where no such number is given, it is
-/// 1024, 1 or 16, and `salvage` and `capture` have no count of harts then. A capture is of version 1 with
-/// `--v1`, and else of version 2.
+/// 65535, a count of harts one from 1 to 1024, a first hart one from 0 to 1023, and a capacity one from 1 to 65536. Where
+/// no such number is given, a period is 1024, the count of harts of `decode` 1, and a capacity 16; other counts and a
+/// first hart are none then. A capture is of version 1 with `--v1`, and else of version 2.
 ///
 /// An error is `clap`'s own. A call for help or for the version is one. Its `Display` is the text for the user, and its
 /// kind is `ErrorKind::OutOfMemory` where an allocation failed.

@@ -15,9 +15,10 @@ use crate::help::{
     VERSION,
 };
 use arguments::{
-    base, capacity, capture, counted_harts, explain, full, harts, hex, image, lines, logs, long,
-    lossy, packets, period, progress, received, salvaged_harts, schedule, search, sent, summary,
-    symbols, version_one, without_logs,
+    base, capacity, capture, capture_progress, counted_harts, explain, first, full, harts,
+    headed_full, headed_period, headless, hex, image, lines, listed_harts, logs, long, lossy, of,
+    packets, period, progress, received, salvaged_harts, schedule, search, sent, summary, symbols,
+    unnumbered, version_one, without_logs,
 };
 use clap::{Arg, Command};
 use std::alloc::{AllocError, Global};
@@ -70,6 +71,8 @@ fn encode<'a>(alloc: Global) -> Result<Command<'a>, AllocError>
         full(alloc),
         version_one(alloc),
         hex(alloc),
+        first(alloc),
+        of(alloc),
         long(alloc),
         progress(alloc),
         image(alloc),
@@ -88,7 +91,7 @@ fn encode<'a>(alloc: Global) -> Result<Command<'a>, AllocError>
 fn dump<'a>(alloc: Global) -> Result<Command<'a>, AllocError>
     ensures { IfOk result (HasGrammar dump_app) }
 {
-    let args = vec![in alloc; search(alloc), capture(alloc)]?;
+    let args = vec![in alloc; search(alloc), capture_progress(alloc), capture(alloc)]?;
     subcommand(
         alloc,
         "dump",
@@ -106,6 +109,7 @@ fn decode<'a>(alloc: Global) -> Result<Command<'a>, AllocError>
         base(alloc),
         harts(alloc),
         lossy(alloc),
+        capture_progress(alloc),
         image(alloc),
         capture(alloc),
     ]?;
@@ -169,7 +173,9 @@ fn audit<'a>(alloc: Global) -> Result<Command<'a>, AllocError>
 {
     let args = vec![in alloc;
         packets(alloc),
+        unnumbered(alloc),
         summary(alloc),
+        capture_progress(alloc),
         sent(alloc),
         received(alloc),
     ]?;
@@ -210,8 +216,9 @@ fn list<'a>(alloc: Global) -> Result<Command<'a>, AllocError>
 {
     let args = vec![in alloc;
         base(alloc),
-        harts(alloc),
+        listed_harts(alloc),
         symbols(alloc),
+        capture_progress(alloc),
         image(alloc),
         capture(alloc),
     ]?;
@@ -232,6 +239,7 @@ fn salvage<'a>(alloc: Global) -> Result<Command<'a>, AllocError>
         base(alloc),
         salvaged_harts(alloc),
         without_logs(alloc),
+        capture_progress(alloc),
         image(alloc),
         capture(alloc),
     ]?;
@@ -249,9 +257,9 @@ fn capture_of_lines<'a>(alloc: Global) -> Result<Command<'a>, AllocError>
     ensures { IfOk result (HasGrammar capture_app) }
 {
     let args = vec![in alloc;
-        version_one(alloc),
-        full(alloc),
-        period(alloc),
+        headless(alloc),
+        headed_full(alloc),
+        headed_period(alloc),
         counted_harts(alloc),
         lines(alloc),
     ]?;

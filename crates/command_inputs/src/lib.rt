@@ -20,6 +20,6 @@ pub use fault::Fault;
 pub use files::{FileFault, FileReader, Files};
 pub use inputs::{asked_program, base_of, content_of, program_of};
 pub use legal_logs::legal_logs_of;
-pub use progress::begin_progress;
+pub use progress::{MessageProgress, begin_progress};
 pub use reason::Reason;
 pub use status::Status;

@@ -40,6 +40,7 @@ pub use Rattle.legalpath.specs.LastPlace
 pub use Rattle.legalpath.specs.StepLaws
 pub use Rattle.legalpath.specs.FollowOnLaws
 pub use Rattle.legalpath.specs.ReasonLaws
+pub use Rattle.legalpath.specs.LegalUpTo
 pub use Rattle.legalpath.specs.ProgramLog
 pub use Rattle.legalpath.specs.Allowed
 pub use Rattle.legalpath.specs.Passed

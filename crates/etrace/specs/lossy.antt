@@ -13,12 +13,14 @@ pub use Rattle.losses.specs.Stops
 pub use Rattle.losses.specs.Collects
 pub use Rattle.alignment.specs.Matches
 pub use Rattle.unnumbered.specs.Aligned
+pub use Rattle.unnumbered.specs.Split
 pub use Rattle.unnumbered.specs.Cursor
 pub use Rattle.unnumbered.specs.Arrivals
 pub use Rattle.unnumbered.specs.Counted
 pub use Rattle.auditing.specs.Fates
 pub use Rattle.auditing.specs.Judged
 pub use Rattle.auditing.specs.Losing
+pub use Rattle.auditing.specs.Unset
 pub use Rattle.auditing.specs.Tallies
 pub use Rattle.auditing.specs.Ledger
 pub use Rattle.auditing.specs.Audits

@@ -4,7 +4,6 @@ pub use Rattle.retire.specs.ReaderSource
 pub use Rattle.retire.specs.HasRead
 pub use Rattle.files.specs.Gave
 pub use Rattle.files.specs.Known
-pub use Rattle.log_streams.specs.Legal as LegalUpTo
 pub use Rattle.log_streams.specs.Illegal
 pub use Rattle.log_streams.specs.Read
 pub use Rattle.log_streams.specs.Next

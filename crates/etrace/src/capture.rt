@@ -4,15 +4,16 @@
 pub use capture_lines::{LineFault, LinesFault, Settings, write_capture};
 pub use captures::{
     CaptureBytes, CaptureFault, CaptureFront, CaptureOutcome, Dumped, Form, HexLines, Offset,
-    ReadFault, ReadingText, WholeCapture, decode_capture, dump_capture, encode_capture,
-    encode_hart, encode_hex, hex_lines, read_front, read_messages, write_bytes_line,
-    write_header_line, write_message_line, write_start,
+    ReadFault, ReadingText, WholeCapture, decode_capture, decode_watched, dump_capture,
+    dump_watched, encode_capture, encode_hart, encode_hex, hex_lines, read_front, read_messages,
+    write_bytes_line, write_header_line, write_message_line, write_start,
 };
 pub use hart_encoding::HartMessages;
-pub use listing::{Listed, list_capture};
+pub use listing::{Listed, list_capture, list_watched};
 pub use message::{
     Demux, DemuxFault, Header, MOST_HARTS, Message, MessageFault, Messages, Start, Version,
     read_message, read_start, write_header, write_message,
 };
 pub use receiver::{ReceiveFault, Receiver};
 pub use symbols::{Named, Symbols, SymbolsFault, write_symbol};
+pub use watching::{Unwatched, Watch};

@@ -2,9 +2,11 @@
 
 pub use alignment::{Alignment, aligned};
 pub use alike::{By, known, same};
-pub use auditing::{Audit, Fate, Finding, HartRow, Lost, LostRuns, SentFault, Tally};
-pub use losses::{HartPieces, LossyFault, Part, collect_lossy};
+pub use auditing::{
+    Audit, Fate, Finding, HartRow, Lost, LostRuns, RunLengths, SentFault, Tally, run_lengths,
+};
+pub use losses::{HartPieces, LossyFault, Part, collect_lossy, collect_watched};
 pub use resuming::{Resuming, Sent, Sight};
 pub use unnumbered::{
-    AlignedTotal, HartCounts, Line, aligned_harts, arrival_lines, counts_of, total_of,
+    AlignedTotal, HartCounts, Line, SentPayloads, aligned_harts, arrival_lines, counts_of, total_of,
 };

@@ -53,7 +53,19 @@ pub trait Files {
         let _ = count;
     }
 
-    /// Ends what [`Files::begin_progress`] began, and takes away what was shown. Nothing reads the files meanwhile.
-    /// Files that show nothing do nothing.
+    /// Begins to show how many of so many messages are worked through, where the files can show that. Files that cannot
+    /// do nothing.
+    fn begin_messages(&self, total: u64) {
+        let _ = total;
+    }
+
+    /// Is told that so many messages more are worked through, by one thread at a time. Files that show nothing do
+    /// nothing.
+    fn note_messages(&self, count: u64) {
+        let _ = count;
+    }
+
+    /// Ends what [`Files::begin_progress`] or [`Files::begin_messages`] began, and takes away what was shown. Nothing
+    /// reads the files or notes messages meanwhile. Files that show nothing do nothing.
     fn end_progress(&self) {}
 }

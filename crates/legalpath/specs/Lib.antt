@@ -16,6 +16,7 @@ pub mod LastPlace
 pub mod StepLaws
 pub mod FollowOnLaws
 pub mod ReasonLaws
+pub mod LegalUpTo
 pub mod ProgramLog
 pub mod Allowed
 pub mod steps

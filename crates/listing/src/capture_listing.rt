@@ -24,6 +24,7 @@ use rvclass::Program;
 use std::alloc::Allocator;
 use std::io::Write;
 use symbols::Symbols;
+use watching::{Unwatched, Watch};
 
 /// The bytes of a capture's header.
 const HEADER_SIZE: u64 = 16;
@@ -64,9 +65,33 @@ pub fn list_capture<A: Allocator + Copy, S: Allocator, W: Write>(
         (W.contents sink.old) (W.contents sink.new)) }
     ensures memory { result ≡ Err WriteFault.Memory → sink.new ≡ sink.old }
 {
+    list_watched(alloc, program, harts, capture, symbols, sink, &Unwatched)
+}
+
+/// Writes what each message of a capture says and settles as [`list_capture`] does, and tells `watch` of each message
+/// that is received and has its line.
+pub fn list_watched<A: Allocator + Copy, S: Allocator, W: Write, V: Watch>(
+    alloc: A,
+    program: &Program,
+    harts: u16,
+    capture: &[u8],
+    symbols: Option<&Symbols<S>>,
+    sink: &mut W,
+    watch: &V,
+) -> Result<Listed<A>, WriteFault>
+    ensures listed { IfOk result (λ listed. AppendsListing
+        (IsListing (words_of program.now) harts (option_map (λ file. file.now) symbols.entry) capture.now)
+        listed.closed.items listed.fault (W.contents sink.old) (W.contents sink.new)) }
+    ensures begun { OnErr result (BeginsPart
+        (IsPartOfListing (words_of program.now) harts (option_map (λ file. file.now) symbols.entry) capture.now)
+        (W.contents sink.old) (W.contents sink.new)) }
+    ensures memory { result ≡ Err WriteFault.Memory → sink.new ≡ sink.old }
+{
     let mut messages = Messages::new(capture);
     match messages.header() {
-        Ok(header) => list_behind(alloc, program, harts, header, messages, symbols, sink),
+        Ok(header) => list_behind(
+            alloc, program, harts, header, messages, symbols, sink, watch,
+        ),
         Err(fault) => list_nothing(alloc, harts, fault),
     }
 }
@@ -88,7 +113,7 @@ fn list_nothing<A: Allocator>(
 }
 
 /// Lists the messages after a header, or those of a capture that has none, and before them the header's line.
-fn list_behind<A: Allocator + Copy, S: Allocator, W: Write>(
+fn list_behind<A: Allocator + Copy, S: Allocator, W: Write, V: Watch>(
     alloc: A,
     program: &Program,
     harts: u16,
@@ -96,6 +121,7 @@ fn list_behind<A: Allocator + Copy, S: Allocator, W: Write>(
     messages: Messages<'_>,
     symbols: Option<&Symbols<S>>,
     sink: &mut W,
+    watch: &V,
 ) -> Result<Listed<A>, WriteFault>
     requires { first_offset header + length messages < 2 ^ 64 }
     ensures listed { IfOk result (λ listed. AppendsListing (IsListedBehind (words_of program.now) harts header
@@ -106,7 +132,15 @@ fn list_behind<A: Allocator + Copy, S: Allocator, W: Write>(
     ensures memory { result ≡ Err WriteFault.Memory → sink.new ≡ sink.old }
 {
     let mut receiver = Receiver::new(alloc, harts_by(header, harts))?;
-    let fault = list_started(&mut receiver, program, header, messages, symbols, sink)?;
+    let fault = list_started(
+        &mut receiver,
+        program,
+        header,
+        messages,
+        symbols,
+        sink,
+        watch,
+    )?;
     let (_, closed) = receiver.into_parts();
     Ok(Listed { closed, fault })
 }
@@ -154,13 +188,14 @@ fn write_start<W: Write>(header: Option<Header>, sink: &mut W) -> Result<(), Wri
 }
 
 /// Lists the messages after a header with a receiver that received none, and before them the header's line.
-fn list_started<A: Allocator + Copy, S: Allocator, W: Write>(
+fn list_started<A: Allocator + Copy, S: Allocator, W: Write, V: Watch>(
     receiver: &mut Receiver<A>,
     program: &Program,
     header: Option<Header>,
     messages: Messages<'_>,
     symbols: Option<&Symbols<S>>,
     sink: &mut W,
+    watch: &V,
 ) -> Result<Option<(u64, CaptureFault)>, WriteFault>
     requires room { first_offset header + length messages < 2 ^ 64 }
     requires none { (harts : ℕ) × HasReceived (λ hart. words_of program.now) harts [] receiver.old }
@@ -184,12 +219,13 @@ fn list_started<A: Allocator + Copy, S: Allocator, W: Write>(
         messages,
         symbols,
         sink,
+        watch,
     )
 }
 
 /// Lists messages with a receiver that received none. The first of them has this offset. Returns where that stops
 /// before their end, and why.
-fn list_messages<A: Allocator + Copy, S: Allocator, W: Write>(
+fn list_messages<A: Allocator + Copy, S: Allocator, W: Write, V: Watch>(
     receiver: &mut Receiver<A>,
     program: &Program,
     announced: Option<Mode>,
@@ -197,6 +233,7 @@ fn list_messages<A: Allocator + Copy, S: Allocator, W: Write>(
     mut messages: Messages<'_>,
     symbols: Option<&Symbols<S>>,
     sink: &mut W,
+    watch: &V,
 ) -> Result<Option<(u64, CaptureFault)>, WriteFault>
     requires room { first + length messages < 2 ^ 64 }
     requires none { (harts : ℕ) × HasReceived (λ hart. words_of program.now) harts [] receiver.old }
@@ -227,6 +264,7 @@ fn list_messages<A: Allocator + Copy, S: Allocator, W: Write>(
             None => {
                 number += 1;
                 offset += message.size() as u64;
+                watch.note(1);
             }
             Some(fault) => return Ok(Some((number, CaptureFault::from(fault)))),
         }

@@ -1,7 +1,9 @@
 mod CheckedLogs
 mod Gots
 mod Headers
+mod JoinedParts
 mod JoinedTexts
 mod MadeLogs
+mod PartLogs
 mod Reports
 mod Schedules

@@ -9,9 +9,8 @@ use Rattle.std.specs.List.{AllZip, flat_map}
 use Rattle.std.specs.declared.alloc.Global.{Global}
 use Rattle.std.specs.declared.vec.Vec.{Vec}
 use Rattle.captures.proofs.MessageTexts.{capture_is}
-use Rattle.captures.specs.HexLines.{hex_line, hex_text}
+use Rattle.captures.specs.HexLines.{hex_line}
 use Rattle.captures.specs.Messages.{messages_of_harts}
-use Rattle.captures.specs.Versions.{capture_of, header_of, start_bytes}
 use Rattle.encoder.specs.Payloads.{payloads}
 use Rattle.files.specs.Known.{Content}
 use Rattle.legalpath.specs.ProgramLog.{ProgramLog, program_log}
@@ -35,8 +34,9 @@ use Rattle.command_inputs.specs.declared.fault.Fault.TheVariants as fault
 use Rattle.log_commands.specs.Faults.{Fault}
 use Rattle.log_commands.specs.declared.reason.LogReason.{LogReason}
 use Rattle.log_commands.specs.Encoding.{written}
+use Rattle.log_commands.specs.Parts.{all_harts, first_hart, part_start, part_text}
 use Rattle.log_commands.specs.steps.Made.{AreMadeFrom, AreMadeOfLogs, AreMeasuresOf, AreMessagesOf, all_or_fault}
-use Rattle.log_commands.specs.steps.Made.{form_text, joined, written_of}
+use Rattle.log_commands.specs.steps.Made.{asked_header, form_text, joined, written_of}
 
 module _ {X : Type 0} (Makes : ℕ → ProgramLog → X → Type 0) where
   -- What was made belongs to as many logs.
@@ -176,36 +176,48 @@ module _ {X : Type 0} (Makes : ℕ → ProgramLog → X → Type 0) where
           (first_refused made.items last are)
 
 -- The messages of logs, one after the other, are those of their harts.
-pub messages_joined : (text_of : Message → List ℕ) (period : ℕ) (mode : Mode) (hart : ℕ) (logs : List ProgramLog)
-    (made : List (Vec ℕ Global)) → AreMadeFrom (AreMessagesOf text_of period mode) hart logs made
-    → joined made ≡ flat_map text_of (messages_of_harts period mode hart logs)
-messages_joined text_of period mode hart [] [] are = refl
-messages_joined text_of period mode hart [] (one ∷ made) are = elim are [ ]
-messages_joined text_of period mode hart (log ∷ logs) [] are = elim are [ ]
-messages_joined text_of period mode hart (log ∷ logs) (one ∷ made) are =
+pub messages_joined : (text_of : Message → List ℕ) (period : ℕ) (mode : Mode) (first place : ℕ) (logs : List ProgramLog)
+    (made : List (Vec ℕ Global)) → AreMadeFrom (AreMessagesOf text_of period mode first) place logs made
+    → joined made ≡ flat_map text_of (messages_of_harts period mode (first + place) logs)
+messages_joined text_of period mode first place [] [] are = refl
+messages_joined text_of period mode first place [] (one ∷ made) are = elim are [ ]
+messages_joined text_of period mode first place (log ∷ logs) [] are = elim are [ ]
+messages_joined text_of period mode first place (log ∷ logs) (one ∷ made) are =
+    let next : first + (place + 1) ≡ first + place + 1 = omega arith in
     ap (λ here. here ++ joined made) are.0
-    ∙ ap (λ rest. flat_map text_of (messages_from hart 0 (payloads period mode log)) ++ rest)
-    (messages_joined text_of period mode (hart + 1) logs made are.1)
-    ∙ sym (flat_map-append text_of (messages_from hart 0 (payloads period mode log))
-    (messages_of_harts period mode (hart + 1) logs))
+    ∙ ap (λ rest. flat_map text_of (messages_from (first + place) 0 (payloads period mode log)) ++ rest)
+    (messages_joined text_of period mode first (place + 1) logs made are.1
+    ∙ ap (λ hart. flat_map text_of (messages_of_harts period mode hart logs)) next)
+    ∙ sym (flat_map-append text_of (messages_from (first + place) 0 (payloads period mode log))
+    (messages_of_harts period mode (first + place + 1) logs))
+
+-- The first of the logs is that of the first hart.
+all_joined : (text_of : Message → List ℕ) (period : ℕ) (mode : Mode) (first : ℕ) (logs : List ProgramLog)
+    (made : List (Vec ℕ Global)) → AreMadeFrom (AreMessagesOf text_of period mode first) 0 logs made
+    → joined made ≡ flat_map text_of (messages_of_harts period mode first logs)
+all_joined text_of period mode first logs made are =
+    let here : first + 0 ≡ first = omega arith in
+    messages_joined text_of period mode first 0 logs made are
+    ∙ ap (λ hart. flat_map text_of (messages_of_harts period mode hart logs)) here
 
 module _ (asked : Encode) (logs : List ProgramLog) (made : List (Vec ℕ Global)) where
-  by_form : (hex : Bool) → AreMadeFrom (AreMessagesOf (form_text hex) asked.period asked.mode) 0 logs made
-      → (if hex then joined made
-      else start_bytes asked.version (record { mode = asked.mode; period = asked.period; harts = length made })
-      ++ joined made)
-      ≡ (if hex then hex_text (messages_of_harts asked.period asked.mode 0 logs)
-      else capture_of asked.version asked.period asked.mode logs)
-  by_form true are = messages_joined hex_line asked.period asked.mode 0 logs made are
+  -- The hart of the first log.
+  abbrev first : ℕ
+  first = first_hart asked.first
+
+  by_form : (hex : Bool) → AreMadeFrom (AreMessagesOf (form_text hex) asked.period asked.mode first) 0 logs made
+      → (if hex then [] else part_start asked.version first (asked_header asked (length made))) ++ joined made
+      ≡ part_text hex asked.version asked.period asked.mode first (all_harts asked.of (length logs)) logs
+  by_form true are = all_joined hex_line asked.period asked.mode first logs made are
   by_form false are =
-      ap (λ harts. start_bytes asked.version (record { mode = asked.mode; period = asked.period; harts = harts })
-      ++ joined made) (sym (made_long (AreMessagesOf message_bytes asked.period asked.mode) 0 logs made are))
-      ∙ ap (λ bytes. start_bytes asked.version (header_of asked.period asked.mode logs) ++ bytes)
-      (messages_joined message_bytes asked.period asked.mode 0 logs made are
-      ∙ sym (capture_is (messages_of_harts asked.period asked.mode 0 logs)))
+      ap (λ count. part_start asked.version first (asked_header asked count) ++ joined made)
+      (sym (made_long (AreMessagesOf message_bytes asked.period asked.mode first) 0 logs made are))
+      ∙ ap (λ bytes. part_start asked.version first (asked_header asked (length logs)) ++ bytes)
+      (all_joined message_bytes asked.period asked.mode first logs made are
+      ∙ sym (capture_is (messages_of_harts asked.period asked.mode first logs)))
 
   -- What is written of the messages of logs is what is asked for.
-  pub messages_written : AreMadeFrom (AreMessagesOf (form_text asked.hex) asked.period asked.mode) 0 logs made
+  pub messages_written : AreMadeFrom (AreMessagesOf (form_text asked.hex) asked.period asked.mode first) 0 logs made
       → written_of asked made ≡ written asked logs
   messages_written are = by_form asked.hex are
 

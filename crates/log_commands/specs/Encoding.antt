@@ -1,50 +1,65 @@
 -- What `encode` prints, and how it ends.
-use Rattle.std.specs.Prelude.{⊤, ◌≡◌, ℕ, if◌then◌else◌, List, Ok, length}
-use Rattle.captures.specs.HexLines.{hex_text}
-use Rattle.captures.specs.Messages.{messages_of_harts}
-use Rattle.captures.specs.Versions.{capture_of}
+use Rattle.std.specs.Prelude.{⊤, ◌≡◌, ℕ, List, Option, Result, Ok, length}
 use Rattle.legalpath.specs.ProgramLog.{ProgramLog}
-use Rattle.message.specs.Version.{most_harts}
 use Rattle.retire.specs.Number.{number_of}
 use Rattle.subcommands.specs.declared.words.Encode.{Encode}
+use Rattle.command_inputs.specs.Finding.{After}
+use Rattle.command_inputs.specs.Found.{IsBase}
 use Rattle.command_inputs.specs.FoundLogs.{AreAskedLogsUpTo}
 use Rattle.files.specs.Known.{Content}
 use Rattle.command_inputs.specs.Meaning.{writing_at_once}
-use Rattle.command_inputs.specs.Order.{logs_fault}
 use Rattle.command_inputs.specs.Printed.{First}
 use Rattle.command_inputs.specs.declared.status.Status.TheVariants.{Whole}
-use Rattle.log_commands.specs.Faults.{Meaning, Once, Printed}
+use Rattle.log_commands.specs.Faults.{Fault, Meaning, Once, Printed}
 use Rattle.log_commands.specs.Most.{most_of}
+use Rattle.log_commands.specs.Parts.{all_harts, asked_part, first_hart, most_logs, part_fault, part_text}
 
 -- The text of the messages of legal logs, hart after hart: lines of hexadecimal, or a capture of the version that is
--- asked for.
+-- asked for, or a part of one. Where no count of all harts is given, it is the complete capture.
 abbrev pub written : Encode → List ProgramLog → List ℕ
 written asked logs =
-    if asked.hex then hex_text (messages_of_harts asked.period asked.mode 0 logs)
-    else capture_of asked.version asked.period asked.mode logs
+    part_text asked.hex asked.version asked.period asked.mode (first_hart asked.first)
+    (all_harts asked.of (length logs)) logs
 
 -- The messages of legal logs are written, and all is done.
 abbrev pub WritesMessages : Encode → List ProgramLog → Printed → Type 0
 WritesMessages asked logs printed = printed ≡ record { text = written asked logs; ended = Ok Whole }
 
--- The base is looked at first, then the count of logs, the image and each log. Where there is no fault, the messages of
--- the logs are written.
+-- It is found whether there is a part that is asked for.
+abbrev pub IsPart : Encode → Result (Unit {0}) Fault → Type 0
+IsPart asked found = found ≡ asked_part asked.version asked.first asked.of
+
+-- It is found how many logs there may be.
+abbrev pub IsMostLogs : Encode → Result ℕ Fault → Type 0
+IsMostLogs asked found = found ≡ most_logs asked.version asked.first asked.of
+
+-- The logs that are asked for, at most so many, are found.
+abbrev pub AreLogsOf : Content → Encode → ℕ → Result (List ProgramLog) Fault → Type 0
+AreLogsOf content asked most =
+    AreAskedLogsUpTo (most_of asked.long) content most asked.base.now asked.image asked.logs.items
+
+-- The logs of the part that is asked for are found. The part is looked at first, then the base, the first hart, the
+-- count of logs, the image and each log.
+abbrev pub ArePartLogs : Content → Encode → Result (List ProgramLog) Fault → Type 0
+ArePartLogs content asked =
+    After (IsPart asked) (λ part.
+    After (IsBase asked.base.now) (λ base. After (IsMostLogs asked) (AreLogsOf content asked)))
+
+-- Where there is no fault, the messages of the logs are written.
 abbrev pub Encodes : Content → Encode → Printed → Type 0
-Encodes content asked =
-    First
-    (AreAskedLogsUpTo (most_of asked.long) content (most_harts asked.version) asked.base.now asked.image
-    asked.logs.items)
-    (WritesMessages asked)
+Encodes content asked = First (ArePartLogs content asked) (WritesMessages asked)
 
 -- `encode` writes once it has the legal logs.
 abbrev pub CanEncode : Content → Encode → Type 0
-CanEncode content asked =
-    Once
-    (AreAskedLogsUpTo (most_of asked.long) content (most_harts asked.version) asked.base.now asked.image
-    asked.logs.items) (λ _. ⊤)
+CanEncode content asked = Once (ArePartLogs content asked) (λ _. ⊤)
 
--- What `encode` means. The version that is asked for limits the count of logs.
+-- The fault that is found before any file is read.
+abbrev pub encode_fault : Encode → Option Fault
+encode_fault asked =
+    part_fault (asked_part asked.version asked.first asked.of) (number_of asked.base.now)
+    (most_logs asked.version asked.first asked.of) (length asked.logs.items)
+
+-- What `encode` means.
 abbrev pub encode_meaning : Encode → Meaning
-encode_meaning asked = writing_at_once
-    (logs_fault (most_harts asked.version) (number_of asked.base.now) (length asked.logs.items))
-    (λ content. Encodes content asked) (λ content. CanEncode content asked)
+encode_meaning asked =
+    writing_at_once (encode_fault asked) (λ content. Encodes content asked) (λ content. CanEncode content asked)

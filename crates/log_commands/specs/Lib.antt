@@ -2,7 +2,9 @@ pub mod Faults
 pub mod FaultText
 pub mod Most
 pub mod Checking
+pub mod Parts
 pub mod Encoding
+pub mod Joining
 pub mod Measuring
 pub mod Sending
 pub mod Replaying

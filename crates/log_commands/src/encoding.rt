@@ -1,6 +1,6 @@
 //! The subcommand `encode`.
 
-ghost use Rattle.std.specs.Prelude.{◌≡◌, ◌⊎◌, ◌≤◌, Err, IfErr, IfOk, IfSome, OnOk, length};
+ghost use Rattle.std.specs.Prelude.{◌≡◌, ◌⊎◌, ◌≤◌, ◌+◌, Err, IfErr, IfOk, IfSome, Ok, OnOk, length};
 ghost use Rattle.std.specs.Io.KnownBytes.{Appends};
 ghost use Rattle.legalpath.specs.ProgramLog.{program_log};
 ghost use Rattle.message.specs.Version.{most_harts};
@@ -12,14 +12,18 @@ ghost use Rattle.command_inputs.specs.Begun.{IsCutOf};
 ghost use Rattle.command_inputs.specs.FoundLogs.{AreLegalLogsUpTo};
 ghost use Rattle.command_inputs.specs.Order.{logs_fault};
 ghost use Rattle.command_inputs.specs.Printed.{PrintsUnlessDenied};
-ghost use Rattle.log_commands.specs.Encoding.{CanEncode, Encodes};
+ghost use Rattle.log_commands.specs.Encoding.{CanEncode, Encodes, encode_fault};
 ghost use Rattle.log_commands.specs.Most.{most_of};
 ghost use Rattle.log_commands.specs.Faults.{final_status};
-ghost use Rattle.log_commands.specs.steps.Made.{AreMadeOfLogs, AreMessagesOf, form_text, joined, written_of};
+ghost use Rattle.log_commands.specs.Parts.{all_harts, first_hart};
+ghost use Rattle.log_commands.specs.steps.Made.{AreMadeOfLogs, AreMessagesOf, form_text, joined};
+ghost use Rattle.log_commands.specs.steps.Made.{start_of, written_of};
+ghost use Rattle.log_commands.specs.steps.Parts.{CanEncodeUpTo, EncodesUpTo, limit_of};
 ghost use Rattle.command_inputs.specs.declared.fault.Fault.TheVariants as Fault;
 
 use crate::made::all_made;
 use crate::most::most_of;
+use crate::parts::{all_harts, first_hart, hart_at, limit_of};
 use crate::reason::Fault;
 use captures::{CaptureBytes, Form, HexLines, write_start};
 use command_inputs::{Status, asked_program, begin_progress};
@@ -36,14 +40,20 @@ use std::io::Write;
 use std::thread::Threads;
 use subcommands::Encode;
 
-/// Writes the messages of each hart's log, once all logs are legal: as a capture of the version that is asked for, or as
-/// lines of hexadecimal. The version limits the count of logs in both cases. A log may have 4,294,967,295 rows where long
-/// logs are asked for, and else 16,777,216.
+/// Writes the messages of each hart's log, once all logs are legal: as a capture of the version that is asked for, or
+/// as lines of hexadecimal. The version limits the count of logs in both cases. A log may have 4,294,967,295 rows where
+/// long logs are asked for, and else 16,777,216.
+///
+/// Where a count of all harts is given, the logs are those of some of them, and a part of the capture is written. Its
+/// header counts all harts, and only the part with the log of hart 0 has it. The parts of all harts, one after the
+/// other, are the capture of all logs: so [`parts_are_joined`] promises.
 ///
 /// The logs are read side by side, each a piece at a time. The messages are made while the events come, and kept until
-/// it is known that all logs are legal. No list holds the events of a log. A capture that is written decodes to the logs
-/// again, to long ones too, unless allocation fails, and in version 1 if the count of logs is given: so
+/// it is known that all logs are legal. No list holds the events of a log. A complete capture decodes to the logs again,
+/// to long ones too, unless allocation fails, and in version 1 if the count of logs is given: so
 /// `captures::decode_capture` promises.
+///
+/// [`parts_are_joined`]: crate::parts_are_joined
 pub fn encode<'a, F: Files + Sync, O: Write, R: Threads + Sync>(
     alloc: Global,
     rt: &R,
@@ -54,9 +64,7 @@ pub fn encode<'a, F: Files + Sync, O: Write, R: Threads + Sync>(
 where
     F::Reader: Send,
     requires { 1 ≤ asked.now.period }
-    ensures early { IfSome
-        (logs_fault (most_harts asked.now.version) (number_of asked.now.base.now) (length asked.now.logs.items))
-        (λ fault. result ≡ Err fault) }
+    ensures early { IfSome (encode_fault asked.now) (λ fault. result ≡ Err fault) }
     ensures refused { final_status result ≡ Status.Refused → out.new ≡ out.old }
     ensures untouched { result ≡ Err Fault.Memory → out.new ≡ out.old }
     ensures printed { PrintsUnlessDenied (Encodes (F.content files.old) asked.now)
@@ -64,7 +72,35 @@ where
         (O.contents out.old) (O.contents out.new) }
     ensures cut { IsCutOf (Encodes (F.content files.old) asked.now) (O.contents out.old) (O.contents out.new) }
 {
-    let most = asked.version.most_harts();
+    match limit_of(asked) {
+        Ok(most) => encode_up_to(alloc, rt, files, asked, most, out),
+        Err(why) => Err(why),
+    }
+}
+
+/// Writes the same of at most this many logs.
+fn encode_up_to<'a, F: Files + Sync, O: Write, R: Threads + Sync>(
+    alloc: Global,
+    rt: &R,
+    files: &mut F,
+    asked: &Encode<'a>,
+    most: u16,
+    out: &mut O,
+) -> Result<Status, Fault<'a>>
+where
+    F::Reader: Send,
+    requires period { 1 ≤ asked.now.period }
+    requires most { limit_of asked.now ≡ Ok most }
+    ensures early { IfSome (logs_fault most (number_of asked.now.base.now) (length asked.now.logs.items))
+        (λ fault. result ≡ Err fault) }
+    ensures refused { final_status result ≡ Status.Refused → out.new ≡ out.old }
+    ensures untouched { result ≡ Err Fault.Memory → out.new ≡ out.old }
+    ensures printed { PrintsUnlessDenied (EncodesUpTo (F.content files.old) asked.now most)
+        (CanEncodeUpTo (F.content files.old) asked.now most) result
+        (O.contents out.old) (O.contents out.new) }
+    ensures cut { IsCutOf (EncodesUpTo (F.content files.old) asked.now most)
+        (O.contents out.old) (O.contents out.new) }
+{
     let paths = asked.logs.as_slice();
     let program = asked_program(files, most, asked.base, asked.image, paths)?;
     let messages = messages_of_logs(alloc, rt, &*files, &program, asked, paths)?;
@@ -76,6 +112,8 @@ where
 struct Encoding<C> {
     alloc: Global,
     form: C,
+    /// The hart of the first log.
+    first: u16,
     period: u16,
     mode: Mode,
     ghost some: { 1 ≤ period },
@@ -84,19 +122,19 @@ struct Encoding<C> {
 impl<C: Form> LogTask<Vec<u8>> for Encoding<C> {
     type State = HartMessages<C>;
 
-    ghost Keeps = { λ task program hart seen messages.
-        HasEncoded C.text (words_of program) task.period task.mode hart seen messages };
+    ghost Keeps = { λ task program place seen messages.
+        HasEncoded C.text (words_of program) task.period task.mode (task.first + place) seen messages };
 
-    ghost Makes = { λ task program hart events bytes.
-        AreMessagesOf C.text task.period task.mode hart (program_log program events) bytes };
+    ghost Makes = { λ task program place events bytes.
+        AreMessagesOf C.text task.period task.mode task.first place (program_log program events) bytes };
 
     ghost MakesOfIllegal = { λ task program events row bytes. ⊥ };
 
-    fn begin(&self, _: &Program, hart: usize) -> Result<HartMessages<C>, AllocError> {
+    fn begin(&self, _: &Program, place: usize) -> Result<HartMessages<C>, AllocError> {
         // Messages have 16 bits for the number of the hart. No version has more harts.
-        match u16::try_from(hart) {
-            Ok(hart) => Ok(HartMessages::new(self.alloc, hart, self.period, self.mode)),
-            Err(_) => Err(AllocError),
+        match hart_at(self.first, place) {
+            Some(hart) => Ok(HartMessages::new(self.alloc, hart, self.period, self.mode)),
+            None => Err(AllocError),
         }
     }
 
@@ -132,12 +170,14 @@ where
     requires { 1 ≤ asked.now.period }
     ensures count { IfOk result (λ made. length made.items ≡ length paths.now) }
     ensures logs { IfOk result (λ made.
-        AreMadeOfLogs (AreMessagesOf (form_text asked.now.hex) asked.now.period asked.now.mode) (most_of asked.now.long)
+        AreMadeOfLogs (AreMessagesOf (form_text asked.now.hex) asked.now.period asked.now.mode
+        (first_hart asked.now.first)) (most_of asked.now.long)
         (F.content files.now) program.now paths.now made.items) }
     ensures fault { IfErr result (λ why. (why ≡ Fault.Memory)
         ⊎ AreLegalLogsUpTo (most_of asked.now.long) (F.content files.now) program.now paths.now (Err why)) }
 {
     let rows = most_of(asked.long);
+    let first = first_hart(asked);
     let period = asked.period;
     let mode = asked.mode;
     begin_progress(files, asked.progress, paths);
@@ -146,6 +186,7 @@ where
         let encoding = Encoding {
             alloc,
             form,
+            first,
             period,
             mode,
         };
@@ -157,6 +198,7 @@ where
         let encoding = Encoding {
             alloc,
             form,
+            first,
             period,
             mode,
         };
@@ -173,8 +215,8 @@ fn write_messages<'a, O: Write>(
     out: &mut O,
 ) -> Result<Status, Fault<'a>>
     requires period { 1 ≤ asked.now.period }
-    requires some { 1 ≤ length messages.now }
-    requires few { length messages.now ≤ most_harts asked.now.version }
+    requires some { 1 ≤ all_harts asked.now.of (length messages.now) }
+    requires few { all_harts asked.now.of (length messages.now) ≤ most_harts asked.now.version }
     ensures fault { IfErr result (λ fault. fault ≡ Fault.Output) }
     ensures ended { IfOk result (λ status. status ≡ Status.Whole) }
     ensures text { OnOk result (Appends (O.contents out.old) (O.contents out.new) (written_of asked.now messages.now)) }
@@ -186,24 +228,45 @@ fn write_messages<'a, O: Write>(
 }
 
 /// Writes the messages that were made of logs: what a capture begins with, where one is asked for, and their bytes.
-#[tactic(auto, using(crate::proofs::Headers::may_start))]
 fn write_in_form<'a, O: Write>(
     asked: &Encode<'a>,
     messages: &[Vec<u8>],
     out: &mut O,
 ) -> Result<(), Fault<'a>>
     requires period { 1 ≤ asked.now.period }
-    requires some { 1 ≤ length messages.now }
-    requires few { length messages.now ≤ most_harts asked.now.version }
+    requires some { 1 ≤ all_harts asked.now.of (length messages.now) }
+    requires few { all_harts asked.now.of (length messages.now) ≤ most_harts asked.now.version }
     ensures fault { IfErr result (λ fault. fault ≡ Fault.Output) }
     ensures text { OnOk result (Appends (O.contents out.old) (O.contents out.new) (written_of asked.now messages.now)) }
     ensures begun { AppendsBeginning (written_of asked.now messages.now) (O.contents out.old) (O.contents out.new) }
 {
+    write_beginning(asked, messages.len(), out)?;
+    write_joined(messages, out)
+}
+
+/// Writes what comes before the messages of this many logs.
+#[tactic(auto, using(crate::proofs::Headers::may_start))]
+fn write_beginning<'a, O: Write>(
+    asked: &Encode<'a>,
+    logs: usize,
+    out: &mut O,
+) -> Result<(), Fault<'a>>
+    requires period { 1 ≤ asked.now.period }
+    requires some { 1 ≤ all_harts asked.now.of logs }
+    requires few { all_harts asked.now.of logs ≤ most_harts asked.now.version }
+    ensures fault { IfErr result (λ fault. fault ≡ Fault.Output) }
+    ensures text { OnOk result (Appends (O.contents out.old) (O.contents out.new) (start_of asked.now logs)) }
+    ensures begun { AppendsBeginning (start_of asked.now logs) (O.contents out.old) (O.contents out.new) }
+{
     if asked.hex {
-        return write_joined(messages, out);
+        return Ok(());
     }
-    match write_start(out, asked.version, asked.period, asked.mode, messages.len()) {
-        Ok(()) => write_joined(messages, out),
+    if first_hart(asked) > 0 {
+        return Ok(());
+    }
+    let harts = all_harts(asked, logs);
+    match write_start(out, asked.version, asked.period, asked.mode, harts) {
+        Ok(()) => Ok(()),
         Err(_) => Err(Fault::Output),
     }
 }

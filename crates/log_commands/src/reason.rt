@@ -19,6 +19,12 @@ pub enum LogReason {
     Schedule(ScheduleFault),
     /// Nothing is sent through the funnel. A command line that `cli` reads leads to no such fault.
     Unsent(Setup),
+    /// A first hart is given, and no count of all harts.
+    FirstAlone,
+    /// More harts are counted than this many, the most that a capture of the version has.
+    ManyHarts(u16),
+    /// The first log is of a hart that is not below this many, the count of all harts.
+    FirstHart(u16),
 }
 
 impl fmt::Display for LogReason {
@@ -28,6 +34,9 @@ impl fmt::Display for LogReason {
         match self {
             LogReason::Schedule(why) => write!(f, "schedule: {why}"),
             LogReason::Unsent(why) => write!(f, "{why}"),
+            LogReason::FirstAlone => f.write_str("--first needs --of"),
+            LogReason::ManyHarts(most) => write!(f, "more than {most} harts"),
+            LogReason::FirstHart(harts) => write!(f, "first hart is not below {harts}"),
         }
     }
 }

@@ -1,5 +1,4 @@
 pub mod Illegal
-pub mod Legal
 pub mod Made
 pub mod Next
 pub mod Read

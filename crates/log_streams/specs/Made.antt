@@ -10,7 +10,7 @@ use Rattle.rvclass.specs.Image.{Image}
 use Rattle.files.specs.Gave.{Gave}
 use Rattle.files.specs.Known.{Content, Known, MayLack}
 use Rattle.log_streams.specs.Illegal.{IsIllegalRow}
-use Rattle.log_streams.specs.Legal.{IsLegalUpTo}
+use Rattle.legalpath.specs.LegalUpTo.{IsLegalUpTo}
 use Rattle.log_streams.specs.Read.{IsReadFrom, IsReadIn}
 use Rattle.log_streams.specs.declared.illegal_row.IllegalRow.{IllegalRow}
 use Rattle.log_streams.specs.declared.logs_fault.LogsFault.{LogsFault}

@@ -3,7 +3,7 @@ use Rattle.std.specs.Prelude.{◌++◌, ℕ, List}
 use Rattle.retire.specs.Log.{most_long_rows}
 use Rattle.retire.specs.declared.event.Event.{Event}
 use Rattle.rvclass.specs.Image.{Image}
-use Rattle.log_streams.specs.Legal.{IsLegalUpTo}
+use Rattle.legalpath.specs.LegalUpTo.{IsLegalUpTo}
 
 -- These events come next in the log of a hart. What is kept is that of the events before. Those and these together are
 -- legal for the program, and at most 4,294,967,295 of them.

@@ -6,7 +6,7 @@ ghost use Rattle.retire.specs.declared.event.Event.{Event as AnyEvent};
 ghost use Rattle.rvclass.specs.Fetch.{words_of};
 ghost use Rattle.rvclass.specs.Image.{Image};
 ghost use Rattle.log_streams.specs.Illegal.{IsIllegalRow};
-ghost use Rattle.log_streams.specs.Legal.{IsLegalUpTo};
+ghost use Rattle.legalpath.specs.LegalUpTo.{IsLegalUpTo};
 ghost use Rattle.log_streams.specs.Next.{ComesNext};
 ghost use Rattle.log_streams.specs.declared.illegal_row.IllegalRow.{IllegalRow as AnyRow};
 

@@ -23,6 +23,7 @@ use message::{Demux, Message};
 use payload::{Mode, Packet};
 use rvclass::Program;
 use std::alloc::{AllocError, Allocator};
+use watching::{Unwatched, Watch};
 
 /// A new trace for each of so many harts: nothing is under way.
 fn new_traces<A: Allocator + Copy>(
@@ -149,12 +150,13 @@ impl<A: Allocator + Copy> Collection<A> {
 
 /// Collects the messages of the harts below `harts` one after the other, up to the first fault. The stretches under way
 /// are not ended.
-fn take_all<A: Allocator + Copy>(
+fn take_all<A: Allocator + Copy, V: Watch>(
     alloc: A,
     program: &Program,
     harts: u16,
     mode: Mode,
     messages: &[Message],
+    watch: &V,
 ) -> Result<Collection<A>, LossyFault>
     ensures of_logs { (period : ℕ) (own : ℕ → AnyMode) (logs : List ProgramLog)
         → AreOfLogs program.now period mode own logs messages.now → length logs ≡ harts
@@ -168,6 +170,7 @@ fn take_all<A: Allocator + Copy>(
     let mut collection = Collection::new(alloc, harts)?;
     for (place, message) in messages.iter().enumerate() {
         collection.take(alloc, program, mode, place, message)?;
+        watch.note(1);
     }
     Ok(collection)
 }
@@ -220,7 +223,35 @@ pub fn collect_lossy<A: Allocator + Copy>(
     ensures described { IfOk result (λ pieces. AreDescribed (words_of program.now) mode messages.now pieces.items) }
     ensures stops { IfErr result (λ fault. CollectingStopsBy (words_of program.now) mode harts messages.now fault) }
 {
-    let collection = take_all(alloc, program, harts, mode, messages)?;
+    collect_watched(alloc, program, harts, mode, messages, &Unwatched)
+}
+
+/// Collects what is left of logs as [`collect_lossy`] does, and tells `watch` of each message that is taken.
+pub fn collect_watched<A: Allocator + Copy, V: Watch>(
+    alloc: A,
+    program: &Program,
+    harts: u16,
+    mode: Mode,
+    messages: &[Message],
+    watch: &V,
+) -> Result<Vec<HartPieces<A>, A>, LossyFault>
+    // Of the messages of legal logs, of which some are lost: each hart's parts are those of its log, and the only fault
+    // is that an allocation failed.
+    ensures parts { (period : ℕ) (own : ℕ → AnyMode) (logs : List ProgramLog) → AreOfLogs program.now period mode own
+        logs messages.now
+        → length logs ≡ harts
+        → IfOk result (λ pieces. AreCollected program.now period own logs messages.now pieces.items) }
+    ensures memory { (period : ℕ) (own : ℕ → AnyMode) (logs : List ProgramLog) → AreOfLogs program.now period mode own
+        logs messages.now
+        → length logs ≡ harts → IfErr result (λ fault. fault ≡ LossyFault.Memory) }
+
+    // Of any messages.
+    ensures count { IfOk result (λ pieces. length pieces.items ≡ harts) }
+    ensures accepted { OnOk result (AreAcceptedLossy (newcomers harts) messages.now) }
+    ensures described { IfOk result (λ pieces. AreDescribed (words_of program.now) mode messages.now pieces.items) }
+    ensures stops { IfErr result (λ fault. CollectingStopsBy (words_of program.now) mode harts messages.now fault) }
+{
+    let collection = take_all(alloc, program, harts, mode, messages, watch)?;
     let mut traces = collection.traces;
     let mut pieces = collection.pieces;
     end_all(alloc, &mut traces, &mut pieces)?;

@@ -13,8 +13,8 @@ use Rattle.subcommands.specs.declared.words.Audit.{Audit}
 use Rattle.path_commands.specs.Faults.{Fault, Printed}
 use Rattle.command_inputs.specs.declared.status.Status.{Status}
 use Rattle.path_commands.specs.AuditText.{span_lines}
-use Rattle.path_commands.specs.Audited.{Came, IsCame, Sent, WritesAudit, audit_text, behind_findings, by_packets}
-use Rattle.path_commands.specs.Audited.{end_of_audit, is_whole_result}
+use Rattle.path_commands.specs.Audited.{Came, IsCame, WritesAudit, audit_text, behind_findings, is_whole_result}
+use Rattle.path_commands.specs.Sides.{Sent, by_packets, end_of_audit}
 use Rattle.path_commands.specs.steps.Ending.{EndsRest}
 
 module _ (asked : Audit) (sent : Sent) (bytes : List ℕ) (came : Came)

@@ -6,3 +6,5 @@ pub mod Rests
 pub mod AuditRuns
 pub mod Came
 pub mod AuditSteps
+pub mod MatchedLines
+pub mod MatchedRuns

@@ -13,7 +13,8 @@ use Rattle.auditing.specs.Judged.{strangers_in}
 use Rattle.auditing.specs.Known.{known_all}
 use Rattle.auditing.specs.Sent.{harts_of}
 use Rattle.path_commands.specs.AuditText.{all_lost_lines, ending_text, row_lines, total_of, unless_summary}
-use Rattle.path_commands.specs.Audited.{Came, Sent, behind_findings, heads_differ, is_undamaged, is_whole_result}
+use Rattle.path_commands.specs.Audited.{Came, behind_findings, is_undamaged, is_whole_result}
+use Rattle.path_commands.specs.Sides.{Sent, heads_differ}
 use Rattle.path_commands.specs.steps.Reading.{HasArrived}
 use Rattle.path_commands.specs.declared.received.Arrived.{Arrived}
 use Rattle.path_commands.specs.declared.total.Total.{Total}

@@ -1,8 +1,6 @@
 -- What `audit` prints, and how it ends.
-use Rattle.std.specs.Prelude.{◌≡◌, ⊤, ℕ, ◌==◌, ◌&&◌, ◌++◌, not, Bool, true, false, is_none, is_some, List, [], Option, Some, None}
-use Rattle.std.specs.Prelude.{Result, Ok, Err, drop}
+use Rattle.std.specs.Prelude.{◌≡◌, ⊤, ℕ, ◌==◌, ◌&&◌, ◌++◌, not, Bool, true, false, is_none, List, [], Option, None, drop}
 use Rattle.alike.specs.declared.by.By.{By}
-use Rattle.alike.specs.declared.by.By.TheVariants as by
 use Rattle.frames.specs.declared.span.Span.{Span}
 use Rattle.message.specs.declared.fault.MessageFault.{MessageFault}
 use Rattle.message.specs.declared.header.Header.{Header}
@@ -15,28 +13,16 @@ use Rattle.auditing.specs.Findings.{first_found}
 use Rattle.auditing.specs.Judged.{strangers_in}
 use Rattle.auditing.specs.Known.{known_all}
 use Rattle.auditing.specs.Seen.{sight_of}
-use Rattle.auditing.specs.Sent.{IsSent, IsSentFault, harts_of}
-use Rattle.auditing.specs.declared.fault.SentFault.{SentFault}
-use Rattle.command_inputs.specs.Faults.{Path}
+use Rattle.auditing.specs.Sent.{harts_of}
 use Rattle.command_inputs.specs.Found.{IsRead}
 use Rattle.files.specs.Known.{Content}
 use Rattle.command_inputs.specs.Meaning.{writing_at_once}
 use Rattle.command_inputs.specs.Printed.{First}
-use Rattle.path_commands.specs.Faults.{Fault, Meaning, Once, Printed, damaged_fault, sent_fault}
-use Rattle.command_inputs.specs.declared.status.Status.{Status}
-use Rattle.command_inputs.specs.declared.status.Status.TheVariants.{NotWhole, Whole}
-use Rattle.path_commands.specs.AuditText.{all_lost_lines, are_whole, ending_text, headers_differ, row_lines, span_lines}
+use Rattle.path_commands.specs.Faults.{Meaning, Once, Printed}
+use Rattle.path_commands.specs.AuditText.{all_lost_lines, are_whole, ending_text, row_lines, span_lines}
 use Rattle.path_commands.specs.AuditText.{total_of, unless_summary}
-
--- SENT: its header, if it has one, and its messages.
-pub record Sent : Type 0 where
-  pub header : Option Header
-  pub messages : List Message
-
--- SENT is found to be whole, or it is refused.
-abbrev pub IsFoundSent : Path → List ℕ → Result Sent Fault → Type 0
-IsFoundSent path bytes (Ok sent) = IsSent bytes sent.header sent.messages
-IsFoundSent path bytes (Err why) = (fault : SentFault) × IsSentFault bytes fault × (why ≡ sent_fault path fault)
+use Rattle.path_commands.specs.Sides.{IsFoundSent, Sent, by_packets, end_of_audit, heads_differ}
+use Rattle.path_commands.specs.Unnumbered.{WritesUnnumbered}
 
 -- RECEIVED: its header, if it has a valid one; why it has none, where it begins as a capture of version 2 does; and its
 -- messages and the runs of bytes between them.
@@ -50,11 +36,6 @@ pub record Came : Type 0 where
 pub record IsCame (how : By) (sent : List Message) (bytes : List ℕ) (came : Came) : Type 0 where
   pub start : IsStart bytes came.header came.fault
   pub spans : came.spans ≡ spans_from (sight_of how sent) (first_place came.header) (drop (first_place came.header) bytes)
-
--- Headers differ: both captures have one, and these differ; or SENT has one, and that of RECEIVED is cut or not valid.
-abbrev pub heads_differ : Option Header → Option Header → Option MessageFault → Bool
-heads_differ sent header None = headers_differ sent header
-heads_differ sent header (Some why) = is_some sent
 
 -- RECEIVED is read without damage: its header is valid, if it begins as a capture of version 2 does, and each byte is
 -- one of a message.
@@ -89,17 +70,6 @@ abbrev pub audit_text : By → Bool → Sent → Came → List ℕ
 audit_text how summary sent came =
     span_lines how summary sent.messages [] came.spans ++ behind_findings how summary sent came
 
--- A header of RECEIVED that is cut or not valid, if it is so; else the end by whether the result is whole.
-abbrev pub end_of_audit : Path → Option MessageFault → Bool → Result Status Fault
-end_of_audit received (Some why) whole = Err (damaged_fault received)
-end_of_audit received None true = Ok Whole
-end_of_audit received None false = Ok NotWhole
-
--- What payloads are compared by.
-abbrev pub by_packets : Bool → By
-by_packets true = by.Packets
-by_packets false = by.Bytes
-
 -- What became of the messages of SENT in these bytes of RECEIVED is written.
 pub record WritesAudit (asked : Audit) (sent : Sent) (bytes : List ℕ) (printed : Printed) : Type 0 where
   pub came : Came
@@ -108,12 +78,22 @@ pub record WritesAudit (asked : Audit) (sent : Sent) (bytes : List ℕ) (printed
   pub ended : printed.ended
       ≡ end_of_audit asked.received came.fault (is_whole_result (by_packets asked.packets) sent came)
 
--- SENT is read and checked, and then RECEIVED is read. Where there is no fault, what became of the messages is written.
-abbrev pub Audits : Content → Audit → Printed → Type 0
-Audits content asked =
+-- SENT is read and checked, and then RECEIVED is read. Where there is no fault, this is written of both.
+abbrev pub AuditsBy : (Sent → List ℕ → Printed → Type 0) → Content → Audit → Printed → Type 0
+AuditsBy Writes content asked =
     First (IsRead content asked.sent) (λ bytes.
     First (IsFoundSent asked.sent bytes) (λ sent.
-    First (IsRead content asked.received) (WritesAudit asked sent)))
+    First (IsRead content asked.received) (Writes sent)))
+
+-- What became of the messages is written, by their numbers or by their payloads alone.
+abbrev pub Writes : Bool → Audit → Sent → List ℕ → Printed → Type 0
+Writes false asked = WritesAudit asked
+Writes true asked = WritesUnnumbered asked
+
+-- SENT is read and checked, and then RECEIVED is read. Where there is no fault, what became of the messages is written:
+-- by their numbers, or as it is asked, by their payloads alone.
+abbrev pub Audits : Content → Audit → Printed → Type 0
+Audits content asked = AuditsBy (Writes asked.unnumbered asked) content asked
 
 -- `audit` writes once it has SENT, which is whole, and RECEIVED.
 abbrev pub CanAudit : Content → Audit → Type 0

@@ -1,7 +1,8 @@
 -- The fault of `audit` for each fault of what it calls, and how it ends at that.
-use Rattle.std.specs.Prelude.{Result}
+use Rattle.std.specs.Prelude.{ℕ, Result}
 use Rattle.auditing.specs.declared.fault.SentFault.{SentFault}
 use Rattle.auditing.specs.declared.fault.SentFault.TheVariants as sent
+use Rattle.message.specs.declared.fault.MessageFault.{MessageFault}
 use Rattle.command_inputs.specs.Faults as inputs
 use Rattle.command_inputs.specs.Faults.{Path}
 use Rattle.command_inputs.specs.Finding as finding
@@ -12,7 +13,7 @@ use Rattle.command_inputs.specs.declared.fault.Fault.TheVariants as fault
 use Rattle.command_inputs.specs.declared.status.Status.{Status}
 use Rattle.command_inputs.specs.declared.status.Status.TheVariants.{NotWhole, Refused}
 use Rattle.path_commands.specs.declared.reason.PathReason.{PathReason}
-use Rattle.path_commands.specs.declared.reason.PathReason.TheVariants.{Damaged, Sent}
+use Rattle.path_commands.specs.declared.reason.PathReason.TheVariants.{Damaged, Sent, Unread}
 
 -- A fault of `audit`.
 abbrev pub Fault : Type 0
@@ -30,11 +31,12 @@ Meaning = meaning.Meaning PathReason
 abbrev pub Once : {A : Type 0} → (Result A Fault → Type 0) → (A → Type 0) → Type 0
 Once Finds Holds = finding.Once Finds Holds
 
--- The status at a reason of `audit`'s own. SENT is refused; where RECEIVED's header is not valid, that capture is not
--- good.
+-- The status at a reason of `audit`'s own. SENT is refused; where RECEIVED's header is not valid or it is not read to its
+-- end, that capture is not good.
 abbrev pub path_reason_status : PathReason → Status
 path_reason_status (Sent path why) = Refused
 path_reason_status (Damaged path) = NotWhole
+path_reason_status (Unread path number why) = NotWhole
 
 -- The status at a fault.
 abbrev pub status_of : Fault → Status
@@ -52,3 +54,7 @@ sent_fault path why = fault.Own (Sent path why)
 -- The fault of RECEIVED where its header is cut or not valid.
 abbrev pub damaged_fault : Path → Fault
 damaged_fault path = fault.Own (Damaged path)
+
+-- The fault of RECEIVED where it is read by lengths and there is no message after so many.
+abbrev pub unread_fault : Path → ℕ → MessageFault → Fault
+unread_fault path number why = fault.Own (Unread path number why)

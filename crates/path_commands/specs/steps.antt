@@ -1,3 +1,4 @@
 pub mod Ending
 pub mod Reading
 pub mod Summing
+pub mod Matching

@@ -1,32 +1,31 @@
-//! The subcommand `audit`.
+//! The subcommand `audit`, by the numbers of the messages.
 
-ghost use Rattle.std.specs.Prelude.{⊤, ◌≡◌, ◌≢◌, ◌<◌, ◌^◌, ◌==◌, ◌&&◌, not, List, [], Err, IfOk, OnOk, length};
+ghost use Rattle.std.specs.Prelude.{⊤, ◌≡◌, ◌≢◌, ◌<◌, ◌^◌, List, [], Err, IfOk, OnOk, length};
 ghost use Rattle.std.specs.Io.KnownBytes.{Appends};
 ghost use Rattle.output.specs.Begun.{AppendsBeginning};
 ghost use Rattle.message.specs.declared.message.Message.{Message as AnyMessage};
 ghost use Rattle.auditing.specs.Audits.{Audits as IsAudit};
 ghost use Rattle.auditing.specs.Known.{known_all};
-ghost use Rattle.auditing.specs.Losing.{lost_runs};
 ghost use Rattle.resuming.specs.Counted.{messages_in};
 ghost use Rattle.command_inputs.specs.Begun.{IsCutOf};
 ghost use Rattle.command_inputs.specs.Printed.{PrintsUnlessDenied};
 ghost use Rattle.path_commands.specs.Faults.{final_status};
-ghost use Rattle.path_commands.specs.AuditText.{all_lost_lines, lost_lines, row_lines, total_of, unless_summary};
-ghost use Rattle.path_commands.specs.Audited.{Audits, Came, CanAudit, WritesAudit, behind_findings, by_packets, end_of_audit};
-ghost use Rattle.path_commands.specs.Audited.{heads_differ};
+ghost use Rattle.path_commands.specs.AuditText.{all_lost_lines, row_lines, total_of, unless_summary};
+ghost use Rattle.path_commands.specs.Audited.{AuditsBy, Came, CanAudit, WritesAudit, behind_findings};
+ghost use Rattle.path_commands.specs.Sides.{by_packets};
 ghost use Rattle.path_commands.specs.steps.Ending.{EndsRest};
 ghost use Rattle.path_commands.specs.steps.Reading.{HasArrived};
 ghost use Rattle.command_inputs.specs.declared.fault.Fault.TheVariants as Fault;
 
 use crate::ending::Ending;
-use crate::lines::{LostLine, RowText};
-use crate::reason::{Fault, damaged_fault, sent_fault};
-use crate::received::{Arrived, write_spans};
+use crate::lines::RowText;
+use crate::lost_lines::write_lost;
+use crate::reason::{Fault, sent_fault};
+use crate::received::{Arrived, begin_spans, write_spans};
+use crate::sides::{are_unlike, by_packets, ended, is_whole};
 use crate::total::Total;
-use alike::By;
 use auditing::Audit;
-use command_inputs::{Files, Status, content_of};
-use message::{Header, MessageFault};
+use command_inputs::{Files, MessageProgress, Status, content_of};
 use output::write_text;
 use resuming::Resuming;
 use searching::{first_place, start_of};
@@ -35,15 +34,8 @@ use std::io;
 use std::io::Write;
 use subcommands::Audit as Asked;
 
-/// Writes what became of the messages of SENT in RECEIVED: a line for each message of RECEIVED that is not in order or
-/// skips a number and for each run of bytes of no message, one for each longest run of numbers of a hart that were lost,
-/// the lines of each hart, and the result. A summary has no lines of messages and of runs. Returns that all is done if
-/// the result is `whole`.
-///
-/// SENT is checked to its end before RECEIVED is read. Where it is refused, nothing is written. RECEIVED is read on after
-/// damage, by what was sent. Where its header is cut or not valid, it is read from its first byte on, and the fault is
-/// returned after all is written.
-pub fn audit<'a, F: Files, O: Write>(
+/// As [`crate::audit`], by the numbers of the messages.
+pub(crate) fn audit_numbered<'a, F: Files, O: Write>(
     alloc: Global,
     files: &mut F,
     asked: &Asked<'a>,
@@ -51,10 +43,11 @@ pub fn audit<'a, F: Files, O: Write>(
 ) -> Result<Status, Fault<'a>>
     ensures refused { final_status result ≡ Status.Refused → out.new ≡ out.old }
     ensures untouched { result ≡ Err Fault.Memory → out.new ≡ out.old }
-    ensures printed { PrintsUnlessDenied (Audits (F.content files.old) asked.now)
+    ensures printed { PrintsUnlessDenied (AuditsBy (WritesAudit asked.now) (F.content files.old) asked.now)
         (CanAudit (F.content files.old) asked.now) result
         (O.contents out.old) (O.contents out.new) }
-    ensures cut { IsCutOf (Audits (F.content files.old) asked.now) (O.contents out.old) (O.contents out.new) }
+    ensures cut { IsCutOf (AuditsBy (WritesAudit asked.now) (F.content files.old) asked.now)
+        (O.contents out.old) (O.contents out.new) }
 {
     let sent = content_of(files, asked.sent)?;
     let mut path = match Audit::with(alloc, sent.as_slice(), by_packets(asked.packets)) {
@@ -62,18 +55,13 @@ pub fn audit<'a, F: Files, O: Write>(
         Err(why) => return Err(sent_fault(asked.sent, why)),
     };
     let received = content_of(files, asked.received)?;
-    write_audit(&mut path, asked, received.as_slice(), out)
-}
-
-/// What payloads are compared by.
-fn by_packets(packets: bool) -> By
-    ensures { result ≡ by_packets packets }
-{
-    if packets { By::Packets } else { By::Bytes }
+    let progress = MessageProgress::new(&*files, asked.progress);
+    write_audit(&progress, &mut path, asked, received.as_slice(), out)
 }
 
 /// Writes what became of the messages of SENT in these bytes of RECEIVED.
-fn write_audit<'a, O: Write>(
+fn write_audit<'a, F: Files, O: Write>(
+    progress: &MessageProgress<'_, F>,
     path: &mut Audit<'_>,
     asked: &Asked<'a>,
     bytes: &[u8],
@@ -90,7 +78,14 @@ fn write_audit<'a, O: Write>(
 {
     let start = start_of(bytes);
     let from = first_place(start.header);
-    let read = write_spans(path, Resuming::new(bytes, from), asked.summary, out)?;
+    begin_spans(progress, path, bytes, from);
+    let read = write_spans(
+        progress,
+        path,
+        Resuming::new(bytes, from),
+        asked.summary,
+        out,
+    )?;
     let arrived = Arrived {
         header: start.header,
         fault: start.fault,
@@ -122,7 +117,7 @@ fn write_rest<'a, O: Write>(
     write_runs(path, summary, out)?;
     let total = write_rows(path, out)?;
     let count = path.strangers();
-    let unlike = are_unlike(path.header(), arrived);
+    let unlike = are_unlike(path.header(), arrived.header, arrived.fault);
     let whole = is_whole(total.whole, count, unlike, arrived.is_undamaged());
     let ending = Ending {
         harts: path.harts(),
@@ -137,49 +132,6 @@ fn write_rest<'a, O: Write>(
     write_text(out, ending)?;
     out.flush()?;
     ended(received, arrived.fault, whole)
-}
-
-/// Whether the result is whole, by whether all harts are, how many strangers came, whether headers differ, and whether
-/// RECEIVED is read without damage.
-fn is_whole(all_whole: bool, strangers: u64, unlike: bool, undamaged: bool) -> bool
-    ensures { result ≡ (all_whole && (strangers == 0) && not unlike && undamaged) }
-{
-    all_whole && strangers == 0 && !unlike && undamaged
-}
-
-/// How the run ends: at RECEIVED's header, where it is cut or not valid, or else by whether the result is whole.
-fn ended<'a>(
-    received: &'a str,
-    fault: Option<MessageFault>,
-    whole: bool,
-) -> Result<Status, Fault<'a>>
-    ensures value { result ≡ end_of_audit received.entry fault whole }
-    ensures never_refused { final_status result ≢ Status.Refused }
-    ensures no_memory { result ≢ Err Fault.Memory }
-{
-    match fault {
-        Some(_) => Err(damaged_fault(received)),
-        None if whole => Ok(Status::Whole),
-        None => Ok(Status::NotWhole),
-    }
-}
-
-/// Whether headers differ: both captures have one, and these differ; or SENT has one, and that of RECEIVED is cut or not
-/// valid.
-fn are_unlike(sent: Option<Header>, arrived: Arrived) -> bool
-    ensures { result ≡ heads_differ sent arrived.header arrived.fault }
-{
-    if arrived.fault.is_some() {
-        return sent.is_some();
-    }
-    match (sent, arrived.header) {
-        (Some(sent), Some(received)) => {
-            sent.mode != received.mode
-                || sent.period != received.period
-                || sent.harts != received.harts
-        }
-        _ => false,
-    }
 }
 
 /// Writes the lines of the numbers of each hart that were lost, but none in a summary.
@@ -211,24 +163,7 @@ fn write_losses<O: Write>(path: &Audit<'_>, out: &mut O) -> io::Result<()>
         (O.contents out.old) (O.contents out.new) }
 {
     for hart in 0..path.harts() {
-        write_lost(path, hart, out)?;
-    }
-    Ok(())
-}
-
-/// Writes the lines of the numbers of a hart that were lost.
-fn write_lost<O: Write>(path: &Audit<'_>, hart: usize, out: &mut O) -> io::Result<()>
-    requires known { hart < length path.now.harts }
-    ensures text { (sent received : List AnyMessage) → IsAudit sent received path.now
-        → OnOk result (Appends (O.contents out.old) (O.contents out.new)
-        (lost_lines hart (lost_runs (known_all path.now.by sent) (known_all path.now.by received) hart))) }
-    ensures begun { (sent received : List AnyMessage) → IsAudit sent received path.now
-        → AppendsBeginning (lost_lines hart (lost_runs (known_all path.now.by sent) (known_all path.now.by received) hart)) (O.contents out.old) (O.contents out.new) }
-{
-    let mut runs = path.lost(hart);
-    while let Some(run) = runs.next() {
-        let line = LostLine { hart, run };
-        write_text(out, line)?;
+        write_lost(path.lost(hart), hart, out)?;
     }
     Ok(())
 }

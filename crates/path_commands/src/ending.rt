@@ -86,8 +86,8 @@ impl fmt::Display for AllLine {
 
 /// The line of strangers, where there are any.
 #[derive(Clone, Copy)]
-struct StrangersLine {
-    strangers: u64,
+pub(crate) struct StrangersLine {
+    pub(crate) strangers: u64,
 }
 
 impl fmt::Display for StrangersLine {
@@ -126,10 +126,10 @@ impl fmt::Display for DamageLine {
 
 /// What follows the line of the bytes.
 #[derive(Clone, Copy)]
-struct Closing {
-    unlike: bool,
-    first: Option<u64>,
-    whole: bool,
+pub(crate) struct Closing {
+    pub(crate) unlike: bool,
+    pub(crate) first: Option<u64>,
+    pub(crate) whole: bool,
 }
 
 impl fmt::Display for Closing {

@@ -140,10 +140,10 @@ impl fmt::Display for RowCounts {
 
 /// The line of the runs of a hart's lost numbers, where there are any.
 #[derive(Clone, Copy)]
-struct RunsLine {
-    hart: usize,
-    runs: u64,
-    longest: u64,
+pub(crate) struct RunsLine {
+    pub(crate) hart: usize,
+    pub(crate) runs: u64,
+    pub(crate) longest: u64,
 }
 
 impl fmt::Display for RunsLine {

@@ -15,12 +15,15 @@ ghost use Rattle.path_commands.specs.steps.Reading.{progress_after};
 use crate::lines::FindingText;
 use auditing::{Audit, Finding};
 use captures::write_bytes_line;
+use command_inputs::MessageProgress;
+use files::Files;
 use frames::Span;
 use message::{Header, Message, MessageFault};
 use output::write_text;
 use resuming::Resuming;
 use retire::WriteFault;
 use std::io::Write;
+use watching::Watch;
 
 /// How far RECEIVED is read.
 #[derive(Clone, Copy)]
@@ -82,9 +85,66 @@ impl Arrived {
     }
 }
 
+/// Begins to show how far the messages of RECEIVED are worked through, where that is asked for. These are its bytes,
+/// and messages are looked for from this offset on.
+pub(crate) fn begin_spans<F: Files>(
+    progress: &MessageProgress<'_, F>,
+    path: &Audit<'_>,
+    bytes: &[u8],
+    from: usize,
+) {
+    if progress.is_asked() {
+        progress.begin(messages_in(path, bytes, from));
+    }
+}
+
+/// How many messages there are in these bytes of RECEIVED from this offset on.
+fn messages_in(path: &Audit<'_>, bytes: &[u8], from: usize) -> u64 {
+    let mut left = Resuming::new(bytes, from);
+    let mut read = Progress::START;
+    // A span has a byte at least.
+    for _ in 0..bytes.len() {
+        match left.next(path) {
+            Some(span) => read = read.after(&span),
+            None => return read.messages,
+        }
+    }
+    read.messages
+}
+
+/// Takes the messages of RECEIVED that are left, and writes their lines, as [`take_spans`] does. Ends what
+/// [`begin_spans`] began.
+pub(crate) fn write_spans<F: Files, O: Write>(
+    progress: &MessageProgress<'_, F>,
+    path: &mut Audit<'_>,
+    spans: Resuming<'_>,
+    summary: bool,
+    out: &mut O,
+) -> Result<Progress, WriteFault>
+    ensures audits { (sent : List AnyMessage) → IsAudit sent [] path.old → length spans.entry.bytes < 2 ^ 64
+        → IfOk result (λ progress. IsAudit sent (messages_in (spans_left (sight_of path.old.by sent) spans.entry)) path.new
+        × (progress.bytes ≡ bytes_in (spans_left (sight_of path.old.by sent) spans.entry))
+        × (progress.runs ≡ runs_in (spans_left (sight_of path.old.by sent) spans.entry))
+        × (length (messages_in (spans_left (sight_of path.old.by sent) spans.entry)) ≤ length spans.entry.bytes)) }
+    ensures by { path.new.by ≡ path.old.by }
+    ensures header { path.new.header ≡ path.old.header }
+    ensures text { (sent : List AnyMessage) → IsAudit sent [] path.old → length spans.entry.bytes < 2 ^ 64
+        → OnOk result (Appends (O.contents out.old) (O.contents out.new)
+        (span_lines path.old.by summary sent [] (spans_left (sight_of path.old.by sent) spans.entry))) }
+    ensures begun { (sent : List AnyMessage) → IsAudit sent [] path.old → length spans.entry.bytes < 2 ^ 64
+        → AppendsBeginning (span_lines path.old.by summary sent [] (spans_left (sight_of path.old.by sent) spans.entry))
+        (O.contents out.old) (O.contents out.new) }
+    ensures fault { IfErr result (λ fault. fault ≡ WriteFault.Write) }
+{
+    let read = take_spans(progress, path, spans, summary, out);
+    progress.end();
+    read
+}
+
 /// Takes the messages of RECEIVED that are left, and writes a line for each that is not in order or skips a number, and
 /// for each run of bytes between them, but none in a summary. Returns how far it was read then.
-pub(crate) fn write_spans<O: Write>(
+fn take_spans<V: Watch, O: Write>(
+    watch: &V,
     path: &mut Audit<'_>,
     spans: Resuming<'_>,
     summary: bool,
@@ -110,8 +170,16 @@ pub(crate) fn write_spans<O: Write>(
     while let Some(span) = left.next(&*path) {
         write_span(path, &span, progress.messages, summary, out)?;
         progress = progress.after(&span);
+        note(watch, &span);
     }
     Ok(progress)
+}
+
+/// Tells of the message of a span, if there is one.
+fn note<V: Watch>(watch: &V, span: &Span) {
+    if matches!(span, Span::Frame { .. }) {
+        watch.note(1);
+    }
 }
 
 /// Takes the message of a span, and writes its line or that of the span's bytes, where it has one. So many messages were

@@ -1,26 +1,17 @@
 -- The message that is taken.
-use Rattle.std.proofs.Common.{◌≡◌, ◌≤◌, ◌+◌, ◌-◌, ◌&&◌, ℕ, Bool, true, false, if◌then◌else◌, List, Option, Some, None, length, drop}
-use Rattle.std.proofs.Common.{refl, sym, ap, ap₂, ◌∙◌, arith, length-take-le}
+use Rattle.std.proofs.Common.{◌≡◌, ◌≤◌, ◌+◌, ◌∙◌, Bool, true, false, if◌then◌else◌, ℕ, List, ◌∷◌, Some, None, length, drop}
+use Rattle.std.proofs.Common.{refl, ap, arith, length-take-le}
 use Rattle.std.proofs.lemmas.List.{length-drop}
 use Rattle.frames.proofs.FrameLemmas.{complete}
 use Rattle.frames.specs.Frame.{frame_in, frame_size, is_complete, length_in, message_in}
+use Rattle.frames.specs.declared.span.Span.TheVariants.{Frame}
 use Rattle.message.specs.declared.message.Message.{Message}
-use Rattle.resuming.specs.Taken.{Sees, after, is_kept, is_taken_first}
-use Rattle.resuming.specs.steps.Taking.{IsTaken}
+use Rattle.resuming.proofs.PassageLemmas.{next-frame}
+use Rattle.resuming.specs.Passages.{spans_from}
+use Rattle.resuming.specs.Taken.{Sees, is_taken_first}
 
--- Where no message begins bytes, none is taken.
-pub none_taken : (sees : Sees) (bytes : List ℕ) → None ≡ message_in bytes → is_taken_first sees bytes ≡ false
-none_taken sees bytes none = go (is_complete bytes) none
-  where
-    never : (m : Message) → None ≡ Some m → ⊥
-    never m e = cc
-
-    go : (c : Bool) → None ≡ (if c then Some (frame_in bytes) else None)
-        → (c && is_kept sees (frame_in bytes) (after bytes)) ≡ false
-    go true e = absurd (never (frame_in bytes) e)
-    go false e = refl
-
-module _ (sees : Sees) (bytes : List ℕ) (m : Message) (begins : Some m ≡ message_in bytes) where
+-- A message that begins bytes is the complete one there.
+module _ (bytes : List ℕ) (m : Message) (begins : Some m ≡ message_in bytes) where
   same_some : (a b : Message) → Some a ≡ Some b → a ≡ b
   same_some a b e = cc
 
@@ -44,21 +35,20 @@ module _ (sees : Sees) (bytes : List ℕ) (m : Message) (begins : Some m ≡ mes
       let same = ap (λ (n : Message). length n.payload) its.1 in
       omega (arith, long, same)
 
-  -- It is taken if and only if it is kept before what follows it.
-  pub first_is : (next : List ℕ) (answer : Bool) → next ≡ drop (11 + length m.payload) bytes
-      → answer ≡ is_kept sees m next → answer ≡ is_taken_first sees bytes
-  first_is next answer rest is =
-      is ∙ (λ i. is_kept sees (its.1 i) ((rest ∙ ap (λ k. drop k bytes) size) i))
-      ∙ ap (λ c. c && is_kept sees (frame_in bytes) (after bytes)) (sym its.0)
+-- Where it is taken, it is the first span from its place on.
+pub next_taken : (sees : Sees) (at count : ℕ) (bytes rest : List ℕ) (m : Message) → rest ≡ drop at bytes
+    → Some m ≡ message_in rest → is_taken_first sees rest ≡ true → count ≡ 11 + length m.payload
+    → spans_from sees at (drop at bytes) ≡ Frame at m ∷ spans_from sees (at + count) (drop (at + count) bytes)
+next_taken sees at count bytes rest m here begins taken long =
+    next-frame sees at count bytes rest m here taken (long ∙ size rest m begins) (its rest m begins).1
 
-  pub taken_is : (next : List ℕ) (answer : Bool) → next ≡ drop (11 + length m.payload) bytes
-      → answer ≡ is_kept sees m next → answer ≡ true → IsTaken sees bytes m
-  taken_is next answer rest is holds =
-      let whole = complete bytes its.0 in
-      let fits = whole.fits in
-      record {
-        taken = sym (first_is next answer rest is) ∙ holds;
-        is = its.1;
-        size = size;
-        within = omega (arith, fits);
-      }
+-- It ends within the bytes.
+pub ends_within : (at count : ℕ) (bytes rest : List ℕ) (m : Message) → rest ≡ drop at bytes
+    → Some m ≡ message_in rest → at ≤ length bytes → count ≡ 11 + length m.payload → at + count ≤ length bytes
+ends_within at count bytes rest m here begins some long =
+    let whole = complete rest (its rest m begins).0 in
+    let fits = whole.fits in
+    let sized = size rest m begins in
+    let left = length-drop at bytes in
+    let same = ap length here in
+    omega (arith, fits, sized, left, same, some, long)

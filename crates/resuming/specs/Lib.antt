@@ -2,4 +2,3 @@ pub mod Taken
 pub mod Passages
 pub mod Counted
 pub mod Amid
-pub mod steps

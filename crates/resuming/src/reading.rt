@@ -11,8 +11,8 @@ ghost use Rattle.resuming.specs.Amid.{IsSentMessage, NoneBegins};
 ghost use Rattle.resuming.specs.Passages.{Left, Sees, spans_from, spans_left};
 
 use crate::sent::Sent;
-use crate::taking::{bytes_to_next, taken};
-use frames::Span;
+use crate::taking::{bytes_to_next, is_taken};
+use frames::{Span, message_in};
 use std::marker::Model;
 
 /// The messages among the bytes that came, and the longest runs of bytes between them, one at a time and in order. A
@@ -21,8 +21,8 @@ use std::marker::Model;
 /// A complete message is taken where it was sent. It is also taken where right after it the bytes end, where a complete
 /// message follows whose hart and number were sent, and where one follows after which again the bytes end or a
 /// complete message is. Where none is taken, reading goes on at the next message that was sent. So a message that was
-/// changed or never sent is kept among others, and bytes that were lost, added or overwritten cost the messages that
-/// they were in, and no more.
+/// changed or never sent is kept among others. Bytes that were lost, added or overwritten cost the messages that they
+/// were in, and a message that begins inside one that is taken, as where a length was changed.
 ///
 /// Whether a message was sent is asked at most three times at each place: after a message that no other follows, before
 /// a run of bytes, and inside one. Whether a message is complete is asked three times more. So time is linear in the
@@ -87,15 +87,20 @@ impl<'a> Resuming<'a> {
     {
         let offset = self.at;
         let rest = &self.bytes[offset..];
-        if rest.is_empty() {
-            return None;
-        }
-        let Some(message) = taken(rest, sent) else {
+        if !is_taken(rest, sent) {
+            if rest.is_empty() {
+                return None;
+            }
             let count = bytes_to_next(rest, sent);
             self.at = offset + count;
             return Some(Span::Bytes { offset, count });
-        };
-        self.at = offset + message.size();
-        Some(Span::Frame { offset, message })
+        }
+        match message_in(rest) {
+            Some(message) => {
+                self.at = offset + message.size();
+                Some(Span::Frame { offset, message })
+            }
+            None => unreachable!(),
+        }
     }
 }

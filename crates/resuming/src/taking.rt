@@ -1,8 +1,7 @@
 //! Which messages are taken.
 
-ghost use Rattle.std.specs.Prelude.{◌≡◌, ◌≤◌, ◌<◌, ◌⊎◌, ◌||◌, ℕ, IfSome, None, false, true, length, drop};
-ghost use Rattle.resuming.specs.Taken.{ends_or_begins, goes_on, is_counted_at, is_kept, is_same, is_sent_at, is_taken_first};
-ghost use Rattle.resuming.specs.steps.Taking.{IsTaken};
+ghost use Rattle.std.specs.Prelude.{◌≡◌, ◌≤◌, ◌<◌, ◌⊎◌, ◌||◌, ℕ, false, true, length, drop};
+ghost use Rattle.resuming.specs.Taken.{ends_or_begins, goes_on, is_counted_at, is_sent_at, is_taken_first};
 
 use crate::sent::{Sent, Sight};
 use frames::{message_in, message_size};
@@ -50,37 +49,24 @@ fn is_counted_at<S: Sent>(bytes: &[u8], sent: &S) -> bool
     }
 }
 
-/// The message that bytes begin with, where it is taken.
+/// Whether bytes begin with a message that is taken.
 #[inline(always)]
-pub(crate) fn taken<S: Sent>(bytes: &[u8], sent: &S) -> Option<Message>
-    ensures some { IfSome result (IsTaken (S.sees sent.now) bytes.now) }
-    ensures none { result ≡ None → is_taken_first (S.sees sent.now) bytes.now ≡ false }
+pub(crate) fn is_taken<S: Sent>(bytes: &[u8], sent: &S) -> bool
+    ensures { result ≡ is_taken_first (S.sees sent.now) bytes.now }
 {
-    let Some(message) = message_in(bytes) else {
-        return None;
+    let Some(size) = message_size(bytes) else {
+        return false;
     };
-    let after = &bytes[message.size()..];
-    if is_kept(&message, after, sent) {
-        Some(message)
-    } else {
-        None
-    }
+    let after = &bytes[size..];
+    goes_on(after) || is_backed(bytes, after, sent)
 }
 
-/// Whether a message is taken before these bytes.
-#[inline(always)]
-fn is_kept<S: Sent>(message: &Message, after: &[u8], sent: &S) -> bool
-    ensures { result ≡ is_kept (S.sees sent.now) message.now after.now }
-{
-    goes_on(after) || is_backed(message, after, sent)
-}
-
-/// Whether a message was sent, or one comes right after it whose hart and number were.
+/// Whether the message that bytes begin with was sent, or one comes right after it whose hart and number were.
 #[inline(never)]
-fn is_backed<S: Sent>(message: &Message, after: &[u8], sent: &S) -> bool
-    ensures { result ≡ (is_same (S.sees sent.now message.now) || is_counted_at (S.sees sent.now) after.now) }
+fn is_backed<S: Sent>(bytes: &[u8], after: &[u8], sent: &S) -> bool
+    ensures { result ≡ (is_sent_at (S.sees sent.now) bytes.now || is_counted_at (S.sees sent.now) after.now) }
 {
-    sent.sight(message) == Sight::Same || is_counted_at(after, sent)
+    is_sent_at(bytes, sent) || is_counted_at(after, sent)
 }
 
 /// How many bytes there are from the first one up to the next message that was sent, or to the end. The first byte is

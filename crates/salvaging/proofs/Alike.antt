@@ -1,5 +1,5 @@
 -- What the test of two messages says.
-use Rattle.std.proofs.Common.{◌≡◌, ℕ, Bool, true, false, List, ◌&&◌, ◌==◌, refl, ap, ◌∙◌}
+use Rattle.std.proofs.Common.{◌≡◌, ◌≢◌, ℕ, Bool, true, false, List, ◌&&◌, ◌==◌, refl, ap, ◌∙◌}
 use Rattle.std.specs.Str.{bytes_eq}
 use Rattle.std.proofs.lemmas.Bool.{eq-eqb, eqb-true}
 use Rattle.std.proofs.lemmas.Slice.Eq.{bytes_eq-Decides}
@@ -12,6 +12,9 @@ same_bytes one other is = (bytes_eq-Decides one other).0 is
 
 pub bytes_same : (one other : List ℕ) → one ≡ other → bytes_eq one other ≡ true
 bytes_same one other is = (bytes_eq-Decides one other).1 is
+
+pub other_bytes : (one other : List ℕ) → bytes_eq one other ≡ false → one ≢ other
+other_bytes one other is same = let equal = bytes_same one other same in cc
 
 both_true : (one other : Bool) → (one && other) ≡ true → (one ≡ true) × (other ≡ true)
 both_true true true is = (refl, refl)

@@ -8,15 +8,16 @@ closed_by_used : (closed : Bool) (entries : List Entry) (number place : ℕ) (pa
 closed_by_used closed [] number place payload = refl
 closed_by_used closed (Used before at bytes ∷ entries) number place payload =
     closed_by_used (is_closing bytes) entries number place payload
-closed_by_used closed (Doubtful before ∷ entries) number place payload =
+closed_by_used closed (Doubtful before one other ∷ entries) number place payload =
     closed_by_used closed entries number place payload
 
-closed_but_doubtful : (closed : Bool) (entries : List Entry) (number : ℕ)
-    → closed_behind closed (entries ++ Doubtful number ∷ []) ≡ closed_behind closed entries
-closed_but_doubtful closed [] number = refl
-closed_but_doubtful closed (Used before at bytes ∷ entries) number =
-    closed_but_doubtful (is_closing bytes) entries number
-closed_but_doubtful closed (Doubtful before ∷ entries) number = closed_but_doubtful closed entries number
+closed_but_doubtful : (closed : Bool) (entries : List Entry) (number first second : ℕ)
+    → closed_behind closed (entries ++ Doubtful number first second ∷ []) ≡ closed_behind closed entries
+closed_but_doubtful closed [] number first second = refl
+closed_but_doubtful closed (Used before at bytes ∷ entries) number first second =
+    closed_but_doubtful (is_closing bytes) entries number first second
+closed_but_doubtful closed (Doubtful before one other ∷ entries) number first second =
+    closed_but_doubtful closed entries number first second
 
 -- The last entry is used, and so it decides.
 pub used_closes : (entries front : List Entry) (last : Entry) (number place : ℕ) (payload : List ℕ)
@@ -26,7 +27,8 @@ used_closes entries front last number place payload is used =
     ∙ closed_by_used false front number place payload
 
 -- It is doubtful, and so those in front decide.
-pub doubtful_leaves : (entries front : List Entry) (last : Entry) (number : ℕ) → entries ≡ front ++ last ∷ []
-    → last ≡ Doubtful number → is_closed entries ≡ is_closed front
-doubtful_leaves entries front last number is doubtful =
-    ap is_closed is ∙ ap (λ l. is_closed (front ++ l ∷ [])) doubtful ∙ closed_but_doubtful false front number
+pub doubtful_leaves : (entries front : List Entry) (last : Entry) (number first second : ℕ)
+    → entries ≡ front ++ last ∷ [] → last ≡ Doubtful number first second → is_closed entries ≡ is_closed front
+doubtful_leaves entries front last number first second is doubtful =
+    ap is_closed is ∙ ap (λ l. is_closed (front ++ l ∷ [])) doubtful
+    ∙ closed_but_doubtful false front number first second

@@ -61,7 +61,7 @@ module _ (words : Words) (program : IsProgram words) (period : ℕ) (mode : Mode
           let end = closing_is_last words program period mode log legal number has.packet has.later has.here
           closes_packet in
           inr (inl (omega (arith, end)))
-  closed_came closed (Doubtful number ∷ entries) are is = absurd are
+  closed_came closed (Doubtful number one other ∷ entries) are is = absurd are
 
   -- The last packet of the log closes it.
   closes_at : (number : ℕ) (payload : List ℕ) → last ≡ number → HasPacketOf all number payload
@@ -82,7 +82,7 @@ module _ (words : Words) (program : IsProgram words) (period : ℕ) (mode : Mode
       let above = rising.0 in
       let within = place_within next all has.packet has.later has.here in
       absurd (omega (arith, is, above, within))
-  none_greater number (Doubtful next ∷ entries) rising are is = absurd are
+  none_greater number (Doubtful next one other ∷ entries) rising are is = absurd are
 
   -- Where that packet came, the hart is closed.
   pub came_closed : (closed : Bool) (from : ℕ) (entries : List Entry) → AreRising from (map entry_number entries)
@@ -93,4 +93,4 @@ module _ (words : Words) (program : IsProgram words) (period : ℕ) (mode : Mode
       ∙ closes_at number payload is has
   came_closed closed from (Used number place payload ∷ entries) rising (has, are) (inr came) =
       came_closed (is_closing payload) (number + 1) entries rising.1 are came
-  came_closed closed from (Doubtful number ∷ entries) rising are came = absurd are
+  came_closed closed from (Doubtful number one other ∷ entries) rising are came = absurd are

@@ -99,8 +99,8 @@ own_mode_is : (mode : Mode) (entries : List Entry) (messages : List Message) →
 own_mode_is mode [] [] are taken = refl
 own_mode_is mode [] (message ∷ messages) are taken = absurd are
 own_mode_is mode (Used number at payload ∷ entries) [] are taken = absurd are
-own_mode_is mode (Doubtful number ∷ entries) [] are taken = absurd are
-own_mode_is mode (Doubtful number ∷ entries) (message ∷ messages) are taken = absurd are
+own_mode_is mode (Doubtful number one other ∷ entries) [] are taken = absurd are
+own_mode_is mode (Doubtful number one other ∷ entries) (message ∷ messages) are taken = absurd are
 own_mode_is mode (Used number at payload ∷ entries) (message ∷ messages) (number_is, payload_is, at_is, are)
     (taken, later) =
     ap (λ n. mode_by n mode (reading payload)) number_is
@@ -112,8 +112,9 @@ none_late_before : (place base : ℕ) (entries : List Entry) (messages : List Me
     → AreMessages base entries messages → place < base → is_late place entries goods ≡ false
 none_late_before place base [] messages goods are below = refl
 none_late_before place base (entry ∷ entries) messages [] are below = refl
-none_late_before place base (Doubtful number ∷ entries) [] (good ∷ goods) are below = absurd are
-none_late_before place base (Doubtful number ∷ entries) (message ∷ messages) (good ∷ goods) are below = absurd are
+none_late_before place base (Doubtful number one other ∷ entries) [] (good ∷ goods) are below = absurd are
+none_late_before place base (Doubtful number one other ∷ entries) (message ∷ messages) (good ∷ goods) are below =
+    absurd are
 none_late_before place base (Used number at payload ∷ entries) [] (good ∷ goods) are below = absurd are
 none_late_before place base (Used number at payload ∷ entries) (message ∷ messages) (true ∷ goods)
     (number_is, payload_is, at_is, are) below =
@@ -127,8 +128,8 @@ none_late : (base : ℕ) (entries : List Entry) (messages : List Message) (goods
     → AreMessages base entries messages → late entries goods ≡ 0
 none_late base [] messages goods are = refl
 none_late base (entry ∷ entries) messages [] are = refl
-none_late base (Doubtful number ∷ entries) [] (good ∷ goods) are = absurd are
-none_late base (Doubtful number ∷ entries) (message ∷ messages) (good ∷ goods) are = absurd are
+none_late base (Doubtful number one other ∷ entries) [] (good ∷ goods) are = absurd are
+none_late base (Doubtful number one other ∷ entries) (message ∷ messages) (good ∷ goods) are = absurd are
 none_late base (Used number at payload ∷ entries) [] (good ∷ goods) are = absurd are
 none_late base (Used number at payload ∷ entries) (message ∷ messages) (good ∷ goods)
     (number_is, payload_is, at_is, are) =
@@ -148,8 +149,8 @@ closed_same : (closed : Bool) (base : ℕ) (expects : Hart) (entries : List Entr
 closed_same closed base expects [] [] are taken = refl
 closed_same closed base expects [] (message ∷ messages) are taken = absurd are
 closed_same closed base expects (Used number at payload ∷ entries) [] are taken = absurd are
-closed_same closed base expects (Doubtful number ∷ entries) [] are taken = absurd are
-closed_same closed base expects (Doubtful number ∷ entries) (message ∷ messages) are taken = absurd are
+closed_same closed base expects (Doubtful number one other ∷ entries) [] are taken = absurd are
+closed_same closed base expects (Doubtful number one other ∷ entries) (message ∷ messages) are taken = absurd are
 closed_same closed base expects (Used number at payload ∷ entries) (message ∷ messages)
     (number_is, payload_is, at_is, are) (taken, later) =
     let closes_too = ap (λ l. is_closing_reading (reading l)) payload_is ∙ ap is_closing_reading taken.read in

@@ -70,7 +70,7 @@ module _ (words : Words) (mode : Mode) where
       → BeginsStretch words mode start → ¬ IsEnd words mode entry (front ++ start ∷ later)
   not_before (Used number place payload) front start later begins (closes, some, none) =
       none_begins_at front start later begins none
-  not_before (Doubtful number) front start later begins end = end
+  not_before (Doubtful number one other) front start later begins end = end
 
   -- Nor at that entry itself.
   not_closing : (payload : List ℕ) (p : Packet) → reading payload ≡ Ok p → IsSync p → is_closing payload ≡ false
@@ -86,7 +86,7 @@ module _ (words : Words) (mode : Mode) where
       let never = not_closing payload p good.read sync in
       let both : true ≡ false = sym closes ∙ never in
       cc
-  not_at_start (Doubtful number) later begins end = end
+  not_at_start (Doubtful number one other) later begins end = end
 
   none_up_to : (front : List Entry) (start : Entry) (later : List Entry) → BeginsStretch words mode start
       → NoneEnds words mode (front ++ start ∷ []) later
@@ -285,9 +285,9 @@ module _ (words : Words) (mode : Mode) (came : List Came) where
           → AreOfOne (arrivals_in (drop count rest)) one → ¬ BeginsStretch words mode one
           → EndSo words mode came (take count rest) (if used && closes one then length rest else end)
           (used || is_used one)
-      by_entry (Doubtful number) last group none =
-          by_test (Doubtful number) (used && false) (used || false) false (and_false used) (λ never. cc)
-          (λ test. next_same rest end used e (Doubtful number) count last group rising none (used || false)
+      by_entry (Doubtful number one other) last group none =
+          by_test (Doubtful number one other) (used && false) (used || false) false (and_false used) (λ never. cc)
+          (λ test. next_same rest end used e (Doubtful number one other) count last group rising none (used || false)
           (or_false used ∙ e.used_is) (λ end. end))
       by_entry (Used number place payload) last group none = by_tests used (is_closing payload) refl refl
         where

@@ -178,7 +178,7 @@ module _ (words : Words) (program : IsProgram words) (mode : Mode) where
       → AreMessages place entries messages → next_used entries ≡ None
   none_behind place number packet [] [] closes taken are = refl
   none_behind place number packet [] (Used n at payload ∷ entries) closes taken are = absurd are
-  none_behind place number packet [] (Doubtful n ∷ entries) closes taken are = absurd are
+  none_behind place number packet [] (Doubtful n one other ∷ entries) closes taken are = absurd are
   none_behind place number packet (message ∷ messages) entries closes (taken, later) are =
       let goes = taken.goes in cc
 
@@ -196,7 +196,7 @@ module _ (words : Words) (program : IsProgram words) (mode : Mode) where
         where
           by_last : (last : Entry) (messages : List Message) → AreTakenFrom expects messages
               → AreMessages place (last ∷ later) messages → ¬ IsEnd words reads last later
-          by_last (Doubtful number) messages taken are end = end
+          by_last (Doubtful number one other) messages taken are end = end
           by_last (Used number at payload) [] taken are end = absurd are
           by_last (Used number at payload) (message ∷ messages) (taken, further)
               (number_is, payload_is, at_is, are) (closes, some, none) =
@@ -204,10 +204,10 @@ module _ (words : Words) (program : IsProgram words) (mode : Mode) where
               sym (ap (λ l. is_closing_reading (reading l)) payload_is ∙ ap is_closing_reading taken.read) ∙ closes in
               some (none_behind (place + 1) message.number taken.packet messages later closes_packet further are)
       by_front (Used number at payload ∷ front) [] place expects taken are end = absurd are
-      by_front (Doubtful number ∷ front) messages place expects taken are end = by_messages messages are
+      by_front (Doubtful number one other ∷ front) messages place expects taken are end = by_messages messages are
         where
           by_messages : (messages : List Message)
-              → AreMessages place (Doubtful number ∷ front ++ last ∷ later) messages → ⊥
+              → AreMessages place (Doubtful number one other ∷ front ++ last ∷ later) messages → ⊥
           by_messages [] are = are
           by_messages (message ∷ messages) are = are
       by_front (Used number at payload ∷ front) (message ∷ messages) place expects (taken, further)
@@ -231,9 +231,10 @@ module _ (words : Words) (program : IsProgram words) (mode : Mode) where
           (run_left run next events described left leave)))
   entries_collected [] [] (good ∷ goods) place expects taken are = λ run next left parts leave describe. absurd leave
   entries_collected [] (Used number at payload ∷ entries) goods place expects taken are = absurd are
-  entries_collected [] (Doubtful number ∷ entries) goods place expects taken are = absurd are
+  entries_collected [] (Doubtful number one other ∷ entries) goods place expects taken are = absurd are
   entries_collected (message ∷ messages) [] goods place expects taken are = absurd are
-  entries_collected (message ∷ messages) (Doubtful number ∷ entries) goods place expects taken are = absurd are
+  entries_collected (message ∷ messages) (Doubtful number one other ∷ entries) goods place expects taken are =
+      absurd are
   entries_collected (message ∷ messages) (Used number at payload ∷ entries) [] place expects taken are =
       λ run next left parts leave describe. absurd leave
   entries_collected (message ∷ messages) (Used number at payload ∷ entries) (good ∷ goods) place expects

@@ -45,7 +45,7 @@ abbrev pub AreOfPackets : List Packet → List Entry → Type 0
 AreOfPackets packets [] = Unit {0}
 AreOfPackets packets (Used number place payload ∷ entries) =
     HasPacketOf packets number payload × AreOfPackets packets entries
-AreOfPackets packets (Doubtful number ∷ entries) = ⊥
+AreOfPackets packets (Doubtful number one other ∷ entries) = ⊥
 
 -- Parts behind one another are those of a log behind one another.
 pub parts_append : (left more : List LeftPart) (parts others : List LogPart) → AreLogParts left parts
@@ -62,8 +62,8 @@ parts_append (Events first last events ∷ left) more (LogEvents stretch ∷ par
     (are.0, parts_append left more parts others are.1 further)
 parts_append (BadNumber first last why ∷ left) more [] others are further = absurd are
 parts_append (BadNumber first last why ∷ left) more (part ∷ parts) others are further = absurd are
-parts_append (DoubtfulNumber number ∷ left) more [] others are further = absurd are
-parts_append (DoubtfulNumber number ∷ left) more (part ∷ parts) others are further = absurd are
+parts_append (DoubtfulNumber number one other ∷ left) more [] others are further = absurd are
+parts_append (DoubtfulNumber number one other ∷ left) more (part ∷ parts) others are further = absurd are
 parts_append (AloneNumber number place ∷ left) more [] others are further = absurd are
 parts_append (AloneNumber number place ∷ left) more (part ∷ parts) others are further = absurd are
 
@@ -96,7 +96,7 @@ next_within packets from (Used number place payload ∷ entries) next rising (ha
     let least = rising.0 in
     let within = place_within number packets has.packet has.later has.here in
     omega (arith, least, within)
-next_within packets from (Doubtful number ∷ entries) next rising are is = absurd are
+next_within packets from (Doubtful number one other ∷ entries) next rising are is = absurd are
 
 module _ (words : Words) (program : IsProgram words) (period : ℕ) (mode : Mode) (log : List Event)
     (legal : Legal words log) where
@@ -234,4 +234,4 @@ module _ (words : Words) (program : IsProgram words) (period : ℕ) (mode : Mode
       λ missing first count next zero_at at_zero place rising left leave.
       with_used number at payload entries goods has are (entries_left entries goods are) rising.1 missing first count
       next zero_at at_zero place rising.0 (number - next) refl good left leave.0 leave.2 leave.1 leave.3 leave.4
-  entries_left (Doubtful number ∷ entries) goods are = absurd are
+  entries_left (Doubtful number one other ∷ entries) goods are = absurd are

@@ -36,7 +36,7 @@ rising_sooner from (number ∷ numbers) (low, rising) = (omega (arith, low), ris
 pub own_mode-more : (mode : Mode) (entry : Entry) (more : List Entry)
     → own_mode mode (entry ∷ more) ≡ own_mode mode (entry ∷ [])
 own_mode-more mode (Used number place payload) more = refl
-own_mode-more mode (Doubtful number) more = refl
+own_mode-more mode (Doubtful number first second) more = refl
 
 own_mode-same : (mode : Mode) (entry : Entry) (more other : List Entry)
     → own_mode mode (entry ∷ more) ≡ own_mode mode (entry ∷ other)
@@ -301,11 +301,12 @@ module _ {A : Type 0} (words : Words) (mode : Mode) (all done rest : List Entry)
     used_taken (Err refused) t takes = tt
 
   -- A doubtful number is taken.
-  pub doubtful_taken : (number : ℕ) → (t : TakesEntries words mode all done (Doubtful number ∷ rest) old)
-      → TakesDoubtful words mode (own_mode mode done) t.run old.next number t.closed old new
-      → TakesEntries words mode all (done ++ Doubtful number ∷ []) rest new
-  doubtful_taken number t k =
-      let one = Doubtful number in
+  pub doubtful_taken : (number first second : ℕ)
+      → (t : TakesEntries words mode all done (Doubtful number first second ∷ rest) old)
+      → TakesDoubtful words mode (own_mode mode done) t.run old.next number first second t.closed old new
+      → TakesEntries words mode all (done ++ Doubtful number first second ∷ []) rest new
+  doubtful_taken number first second t k =
+      let one = Doubtful number first second in
       let own : own_mode mode done ≡ own_mode mode all =
       by_done done ∙ ap (own_mode mode) (sym t.whole) in
       let whole : all ≡ (done ++ one ∷ []) ++ rest = t.whole ∙ sym (append_assoc done (one ∷ []) rest) in
@@ -323,21 +324,20 @@ module _ {A : Type 0} (words : Words) (mode : Mode) (all done rest : List Entry)
         over = t.over;
         rising = subst (λ n. AreRising n (map entry_number rest)) (sym u.next_is)
             (rising_sooner number (map entry_number rest) t.rising.1);
-        leaves = λ goods parts further. all_leave one t false k.left (lost ++ DoubtfulNumber number ∷ []) goods parts
-            k.parts
-            k.goods (
+        leaves = λ goods parts further. all_leave one t false k.left
+            (lost ++ DoubtfulNumber number first second ∷ []) goods parts k.parts k.goods (
               refl,
               k.left,
               subst (λ m. RunLeaves words m t.run old.next k.left) own k.leaves,
               parts,
-              ap (λ l. k.left ++ l) (append_assoc lost (DoubtfulNumber number ∷ []) parts),
+              ap (λ l. k.left ++ l) (append_assoc lost (DoubtfulNumber number first second ∷ []) parts),
               subst (λ n. EntriesLeave words (own_mode mode all) (run_of 1 []) n rest goods parts) u.next_is further,
             );
       }
     where
-      by_done : (ds : List Entry) → own_mode mode ds ≡ own_mode mode (ds ++ Doubtful number ∷ rest)
+      by_done : (ds : List Entry) → own_mode mode ds ≡ own_mode mode (ds ++ Doubtful number first second ∷ rest)
       by_done [] = refl
-      by_done (entry ∷ ds) = own_mode-same mode entry ds (ds ++ Doubtful number ∷ rest)
+      by_done (entry ∷ ds) = own_mode-same mode entry ds (ds ++ Doubtful number first second ∷ rest)
 
 -- No entry is taken yet.
 pub none_taken : {A : Type 0} (words : Words) (mode : Mode) (all : List Entry) (trail : Trail A)

@@ -6,7 +6,7 @@ use Rattle.salvaging.specs.steps.Arrivals.{Arrival}
 use Rattle.salvaging.specs.steps.Grouping.{AreOfOne, HaveOne, entries_by, entries_on, entry_by, entry_with}
 use Rattle.salvaging.specs.steps.Grouping.{join_or_begin}
 use Rattle.salvaging.proofs.EntriesParted.{parted}
-use Rattle.salvaging.proofs.GroupedEntries.{number_kept}
+use Rattle.salvaging.proofs.OneMore.{number_kept}
 
 -- The first entry has the number of the first message.
 pub record BeginsWithNumber (entries : List Entry) (number : ℕ) : Type 0 where
@@ -15,22 +15,24 @@ pub record BeginsWithNumber (entries : List Entry) (number : ℕ) : Type 0 where
   pub whole : entries ≡ entry ∷ later
   pub number_is : entry_number entry ≡ number
 
-on_first : (entry : Entry) (arrivals : List Arrival) → BeginsWithNumber (entries_on entry arrivals) (entry_number entry)
-on_first entry [] = record { entry = entry; later = []; whole = refl; number_is = refl }
-on_first entry (next ∷ arrivals) =
-    by_test (entry_number entry == next.message.number) (on_first (entry_with entry next.message.payload) arrivals)
+on_first : (entry : Entry) (before : Arrival) (arrivals : List Arrival)
+    → BeginsWithNumber (entries_on entry before arrivals) (entry_number entry)
+on_first entry before [] = record { entry = entry; later = []; whole = refl; number_is = refl }
+on_first entry before (next ∷ arrivals) =
+    by_test (entry_number entry == next.message.number) (on_first (entry_with entry before next) next arrivals)
   where
-    by_test : (same : Bool) → BeginsWithNumber (entries_on (entry_with entry next.message.payload) arrivals)
-        (entry_number (entry_with entry next.message.payload))
-        → BeginsWithNumber (join_or_begin same entry next (λ later. entries_on later arrivals)) (entry_number entry)
+    by_test : (same : Bool) → BeginsWithNumber (entries_on (entry_with entry before next) next arrivals)
+        (entry_number (entry_with entry before next))
+        → BeginsWithNumber (join_or_begin same entry before next (λ later. entries_on later next arrivals))
+        (entry_number entry)
     by_test true later =
-        subst (BeginsWithNumber (entries_on (entry_with entry next.message.payload) arrivals))
-        (number_kept entry next.message.payload) later
+        subst (BeginsWithNumber (entries_on (entry_with entry before next) next arrivals))
+        (number_kept entry before next) later
     by_test false later = record { entry = entry; later = _; whole = refl; number_is = refl }
 
 pub begins_with_first : (first : Arrival) (arrivals : List Arrival)
     → BeginsWithNumber (entries_by (first ∷ arrivals)) first.message.number
-begins_with_first first arrivals = on_first (entry_by first) arrivals
+begins_with_first first arrivals = on_first (entry_by first) first arrivals
 
 pub number_of_first : (group : List Arrival) (entry : Entry) (number : ℕ) → HaveOne number group
     → entries_by group ≡ entry ∷ [] → entry_number entry ≡ number

@@ -1,7 +1,6 @@
 -- The entries of messages in the order of their numbers.
 use Rattle.std.proofs.Common.{◌≡◌, ◌⊎◌, inl, inr, ℕ, ◌+◌, ◌≤◌, ◌<◌, ◌++◌, ◌==◌, ◌≢◌, Bool, true, false, List, [], ◌∷◌}
-use Rattle.std.proofs.Common.{map, refl, sym, ap, subst, ◌∙◌, arith, append_assoc}
-use Rattle.std.specs.Str.{bytes_eq}
+use Rattle.std.proofs.Common.{map, refl, sym, ap, subst, arith, append_assoc}
 use Rattle.std.proofs.lemmas.Bool.{cases_lt, eq-eqb, eqb-true}
 use Rattle.std.proofs.lemmas.List.{append-nil}
 use Rattle.losses.specs.Apart.{AreRising}
@@ -9,35 +8,10 @@ use Rattle.losses.specs.WholeStretches.{NumberCame}
 use Rattle.salvaging.specs.Entries.{Entry, Used, Doubtful, entry_number}
 use Rattle.salvaging.specs.steps.Arrivals.{Arrival, AreOrdered, IsUpTo}
 use Rattle.salvaging.specs.steps.Grouping.{entries_by, entries_on, entry_by, entry_with, join_or_begin}
-use Rattle.salvaging.specs.steps.Grouping.{kept_or_doubtful}
-use Rattle.salvaging.proofs.Alike.{bytes_same, same_bytes}
 use Rattle.salvaging.proofs.Members.{IsIn}
-use Rattle.salvaging.proofs.OrderLemmas.{Each, came_first, each_in, each_of_all, no_lower}
-
--- Of these messages, the one at this place is the earliest with the number, and all with the number have its payload.
-pub record IsUsedOf (arrivals : List Arrival) (number place : ℕ) (payload : List ℕ) : Type 0 where
-  pub one : Arrival
-  pub there : IsIn one arrivals
-  pub place_is : one.place ≡ place
-  pub number_is : one.message.number ≡ number
-  pub payload_is : one.message.payload ≡ payload
-  pub first : (other : Arrival) → IsIn other arrivals → other.message.number ≡ number → place ≤ other.place
-  pub alone : (other : Arrival) → IsIn other arrivals → other.message.number ≡ number
-      → other.message.payload ≡ payload
-
--- Two of these messages have the number, and their payloads differ.
-pub record IsDoubtfulOf (arrivals : List Arrival) (number : ℕ) : Type 0 where
-  pub one : Arrival
-  pub other : Arrival
-  pub one_there : IsIn one arrivals
-  pub other_there : IsIn other arrivals
-  pub one_number : one.message.number ≡ number
-  pub other_number : other.message.number ≡ number
-  pub differ : one.message.payload ≢ other.message.payload
-
-abbrev pub IsEntryAmong : List Arrival → Entry → Type 0
-IsEntryAmong arrivals (Used number place payload) = IsUsedOf arrivals number place payload
-IsEntryAmong arrivals (Doubtful number) = IsDoubtfulOf arrivals number
+use Rattle.salvaging.proofs.OneMore.{IsEntryAmong, IsGroup, in_either, in_left, in_one, in_right, member, more_in_group}
+use Rattle.salvaging.proofs.OneMore.{number_kept}
+use Rattle.salvaging.proofs.OrderLemmas.{Each, each_in, each_of_all, no_lower}
 
 -- The entries of messages, the numbers of which are not below this one.
 pub record AreEntriesAmong (arrivals : List Arrival) (from : ℕ) (entries : List Entry) : Type 0 where
@@ -45,128 +19,8 @@ pub record AreEntriesAmong (arrivals : List Arrival) (from : ℕ) (entries : Lis
   pub each : Each (IsEntryAmong arrivals) entries
   pub all : (one : Arrival) → IsIn one arrivals → NumberCame one.message.number (map entry_number entries)
 
--- Members of two lists.
-in_left : (xs ys : List Arrival) (x : Arrival) → IsIn x xs → IsIn x (xs ++ ys)
-in_left [] ys x there = absurd there
-in_left (y ∷ xs) ys x (inl is) = inl is
-in_left (y ∷ xs) ys x (inr there) = inr (in_left xs ys x there)
-
-in_right : (xs ys : List Arrival) (x : Arrival) → IsIn x ys → IsIn x (xs ++ ys)
-in_right [] ys x there = there
-in_right (y ∷ xs) ys x there = inr (in_right xs ys x there)
-
-in_either : (xs ys : List Arrival) (x : Arrival) → IsIn x (xs ++ ys) → IsIn x xs ⊎ IsIn x ys
-in_either [] ys x there = inr there
-in_either (y ∷ xs) ys x (inl is) = inl (inl is)
-in_either (y ∷ xs) ys x (inr there) = by_rest (in_either xs ys x there)
-  where
-    by_rest : IsIn x xs ⊎ IsIn x ys → IsIn x (y ∷ xs) ⊎ IsIn x ys
-    by_rest (inl left) = inl (inr left)
-    by_rest (inr right) = inr right
-
-in_one : (x y : Arrival) → IsIn x (y ∷ []) → x ≡ y
-in_one x y (inl is) = is
-in_one x y (inr none) = absurd none
-
--- The messages of one number so far, and their entry.
-pub record IsGroup (group : List Arrival) (entry : Entry) : Type 0 where
-  pub is_entry : IsEntryAmong group entry
-  pub numbers : (one : Arrival) → IsIn one group → one.message.number ≡ entry_number entry
-
--- One of the group.
-member : (group : List Arrival) (entry : Entry) → IsEntryAmong group entry → (one : Arrival) × IsIn one group
-member group (Used number place payload) is = (is.one, is.there)
-member group (Doubtful number) is = (is.one, is.one_there)
-
-pub number_kept : (entry : Entry) (payload : List ℕ) → entry_number (entry_with entry payload) ≡ entry_number entry
-number_kept (Used number place bytes) payload = by_test (bytes_eq bytes payload)
-  where
-    by_test : (same : Bool) → entry_number (kept_or_doubtful same (Used number place bytes)) ≡ number
-    by_test true = refl
-    by_test false = refl
-number_kept (Doubtful number) payload = refl
-
--- One more of the number.
-more_used : (group : List Arrival) (next : Arrival) (number place : ℕ) (payload : List ℕ)
-    → IsUsedOf group number place payload → next.message.number ≡ number → Each (λ one. IsUpTo one next) group
-    → (same : Bool) → bytes_eq payload next.message.payload ≡ same
-    → IsEntryAmong (group ++ next ∷ []) (kept_or_doubtful same (Used number place payload))
-more_used group next number place payload is here upto true test =
-    let alike = same_bytes payload next.message.payload test in
-    record {
-      one = is.one;
-      there = in_left group (next ∷ []) is.one is.there;
-      place_is = is.place_is;
-      number_is = is.number_is;
-      payload_is = is.payload_is;
-      first = λ other there numbered. by_first other numbered (in_either group (next ∷ []) other there);
-      alone = λ other there numbered. by_alone other numbered (in_either group (next ∷ []) other there);
-    }
-  where
-    early : place ≤ next.place
-    early =
-        let earlier = came_first is.one next (each_in (λ one. IsUpTo one next) group is.one upto is.there)
-        (record {
-          number = is.number_is ∙ sym here;
-          payload = is.payload_is ∙ same_bytes payload next.message.payload test;
-        }) in
-        let at = is.place_is in
-        omega (arith, earlier, at)
-
-    by_first : (other : Arrival) → other.message.number ≡ number → IsIn other group ⊎ IsIn other (next ∷ [])
-        → place ≤ other.place
-    by_first other numbered (inl there) = is.first other there numbered
-    by_first other numbered (inr there) =
-        subst (λ (a : Arrival). place ≤ a.place) (sym (in_one other next there)) early
-
-    by_alone : (other : Arrival) → other.message.number ≡ number → IsIn other group ⊎ IsIn other (next ∷ [])
-        → other.message.payload ≡ payload
-    by_alone other numbered (inl there) = is.alone other there numbered
-    by_alone other numbered (inr there) =
-        ap (λ (a : Arrival). a.message.payload) (in_one other next there)
-        ∙ sym (same_bytes payload next.message.payload test)
-more_used group next number place payload is here upto false test = record {
-  one = is.one;
-  other = next;
-  one_there = in_left group (next ∷ []) is.one is.there;
-  other_there = in_right group (next ∷ []) next (inl refl);
-  one_number = is.number_is;
-  other_number = here;
-  differ = λ same. apart (sym is.payload_is ∙ same);
-}
-  where
-    apart : payload ≢ next.message.payload
-    apart same = let equal = bytes_same payload next.message.payload same in cc
-
-more_in_group : (group : List Arrival) (next : Arrival) (entry : Entry) → IsGroup group entry
-    → entry_number entry ≡ next.message.number → Each (λ one. IsUpTo one next) group
-    → IsGroup (group ++ next ∷ []) (entry_with entry next.message.payload)
-more_in_group group next entry g here upto = record {
-  is_entry = by_entry entry g.is_entry here;
-  numbers = λ one there. by_place one (in_either group (next ∷ []) one there)
-      ∙ sym (number_kept entry next.message.payload);
-}
-  where
-    by_entry : (entry : Entry) → IsEntryAmong group entry → entry_number entry ≡ next.message.number
-        → IsEntryAmong (group ++ next ∷ []) (entry_with entry next.message.payload)
-    by_entry (Used number place payload) is here =
-        more_used group next number place payload is (sym here) upto (bytes_eq payload next.message.payload) refl
-    by_entry (Doubtful number) is here = record {
-      one = is.one;
-      other = is.other;
-      one_there = in_left group (next ∷ []) is.one is.one_there;
-      other_there = in_left group (next ∷ []) is.other is.other_there;
-      one_number = is.one_number;
-      other_number = is.other_number;
-      differ = is.differ;
-    }
-
-    by_place : (one : Arrival) → IsIn one group ⊎ IsIn one (next ∷ []) → one.message.number ≡ entry_number entry
-    by_place one (inl there) = g.numbers one there
-    by_place one (inr there) = ap (λ (a : Arrival). a.message.number) (in_one one next there) ∙ sym here
-
 -- The first of a number.
-first_group : (next : Arrival) → IsGroup (next ∷ []) (entry_by next)
+first_group : (next : Arrival) → IsGroup (next ∷ []) next (entry_by next)
 first_group next = record {
   is_entry = record {
     one = next;
@@ -179,6 +33,8 @@ first_group next = record {
     alone = λ other there numbered. ap (λ (a : Arrival). a.message.payload) (in_one other next there);
   };
   numbers = λ one there. ap (λ (a : Arrival). a.message.number) (in_one one next there);
+  last = inl refl;
+  greatest = λ one there. inl (in_one one next there);
 }
 
 -- An entry stays one where messages with other numbers are added.
@@ -206,15 +62,30 @@ wider group others whole (Used number place payload) sub either apart is = recor
         → other.message.payload ≡ payload
     by_alone other numbered (inl there) = absurd (apart other there numbered)
     by_alone other numbered (inr there) = is.alone other there numbered
-wider group others whole (Doubtful number) sub either apart is = record {
+wider group others whole (Doubtful number first second) sub either apart is = record {
   one = is.one;
   other = is.other;
   one_there = sub is.one is.one_there;
   other_there = sub is.other is.other_there;
+  one_place = is.one_place;
+  other_place = is.other_place;
   one_number = is.one_number;
   other_number = is.other_number;
   differ = is.differ;
+  least = λ other there numbered. by_least other numbered (either other there);
+  least_other = λ other there numbered differs. by_other other numbered differs (either other there);
 }
+  where
+    by_least : (other : Arrival) → other.message.number ≡ number → IsIn other others ⊎ IsIn other group
+        → first ≤ other.place
+    by_least other numbered (inl there) = absurd (apart other there numbered)
+    by_least other numbered (inr there) = is.least other there numbered
+
+    by_other : (other : Arrival) → other.message.number ≡ number
+        → other.message.payload ≢ is.one.message.payload → IsIn other others ⊎ IsIn other group
+        → second ≤ other.place
+    by_other other numbered differs (inl there) = absurd (apart other there numbered)
+    by_other other numbered differs (inr there) = is.least_other other there numbered differs
 
 swapped : {P Q : Type 0} → P ⊎ Q → Q ⊎ P
 swapped (inl p) = inr p
@@ -253,12 +124,13 @@ tails : (group : List Arrival) (next : Arrival) (arrivals : List Arrival)
 tails [] next arrivals upto behind = (behind, tt)
 tails (one ∷ group) next arrivals upto behind = (upto.0.1, tails group next arrivals upto.1 behind)
 
-module _ (group : List Arrival) (next : Arrival) (arrivals : List Arrival) (entry : Entry) (g : IsGroup group entry)
+module _ (group : List Arrival) (before next : Arrival) (arrivals : List Arrival) (entry : Entry)
+    (g : IsGroup group before entry)
     (upto : Each (λ one. IsUpTo one next) group) (behind : Each (IsUpTo next) arrivals)
-    (later_same : IsGroup (group ++ next ∷ []) (entry_with entry next.message.payload)
-    → AreEntriesAmong ((group ++ next ∷ []) ++ arrivals) (entry_number (entry_with entry next.message.payload))
-    (entries_on (entry_with entry next.message.payload) arrivals))
-    (later_new : AreEntriesAmong (next ∷ arrivals) next.message.number (entries_on (entry_by next) arrivals)) where
+    (later_same : IsGroup (group ++ next ∷ []) next (entry_with entry before next)
+    → AreEntriesAmong ((group ++ next ∷ []) ++ arrivals) (entry_number (entry_with entry before next))
+    (entries_on (entry_with entry before next) next arrivals))
+    (later_new : AreEntriesAmong (next ∷ arrivals) next.message.number (entries_on (entry_by next) next arrivals)) where
   below : (entry_number entry == next.message.number) ≡ false → entry_number entry < next.message.number
   below is =
       let one = member group entry g.is_entry in
@@ -282,17 +154,17 @@ module _ (group : List Arrival) (next : Arrival) (arrivals : List Arrival) (entr
 
   step : (same : Bool) → (entry_number entry == next.message.number) ≡ same
       → AreEntriesAmong (group ++ next ∷ arrivals) (entry_number entry)
-      (join_or_begin same entry next (λ later. entries_on later arrivals))
+      (join_or_begin same entry before next (λ later. entries_on later next arrivals))
   step true is =
       let here = eqb-true (entry_number entry) next.message.number is in
-      let later = later_same (more_in_group group next entry g here upto) in
-      subst (λ l. AreEntriesAmong l (entry_number entry) (entries_on (entry_with entry next.message.payload) arrivals))
+      let later = later_same (more_in_group group before next entry g here upto) in
+      subst (λ l. AreEntriesAmong l (entry_number entry) (entries_on (entry_with entry before next) next arrivals))
       (append_assoc group (next ∷ []) arrivals)
       (subst (λ n. AreEntriesAmong ((group ++ next ∷ []) ++ arrivals) n
-      (entries_on (entry_with entry next.message.payload) arrivals)) (number_kept entry next.message.payload) later)
+      (entries_on (entry_with entry before next) next arrivals)) (number_kept entry before next) later)
   step false is =
       let lower = below is in
-      let rest = entries_on (entry_by next) arrivals in
+      let rest = entries_on (entry_by next) next arrivals in
       record {
         rising = (
           omega arith,
@@ -310,25 +182,26 @@ module _ (group : List Arrival) (next : Arrival) (arrivals : List Arrival) (entr
       }
     where
       by_place : (one : Arrival) → IsIn one group ⊎ IsIn one (next ∷ arrivals)
-          → NumberCame one.message.number (entry_number entry ∷ map entry_number (entries_on (entry_by next) arrivals))
+          → NumberCame one.message.number
+          (entry_number entry ∷ map entry_number (entries_on (entry_by next) next arrivals))
       by_place one (inl there) = inl (g.numbers one there)
       by_place one (inr there) = inr (later_new.all one there)
 
-pub entries_on_are : (arrivals group : List Arrival) (entry : Entry) → IsGroup group entry
+pub entries_on_are : (arrivals group : List Arrival) (before : Arrival) (entry : Entry) → IsGroup group before entry
     → Each (λ one. Each (IsUpTo one) arrivals) group → AreOrdered arrivals
-    → AreEntriesAmong (group ++ arrivals) (entry_number entry) (entries_on entry arrivals)
-entries_on_are [] group entry g upto ordered =
+    → AreEntriesAmong (group ++ arrivals) (entry_number entry) (entries_on entry before arrivals)
+entries_on_are [] group before entry g upto ordered =
     subst (λ l. AreEntriesAmong l (entry_number entry) (entry ∷ [])) (sym (append-nil group)) (record {
       rising = (omega arith, tt);
       each = (g.is_entry, tt);
       all = λ one there. inl (g.numbers one there);
     })
-entries_on_are (next ∷ arrivals) group entry g upto ordered =
+entries_on_are (next ∷ arrivals) group before entry g upto ordered =
     let behind = each_of_all (IsUpTo next) arrivals ordered.0 in
-    step group next arrivals entry g (heads group next arrivals upto) behind
-    (λ more. entries_on_are arrivals (group ++ next ∷ []) (entry_with entry next.message.payload) more
+    step group before next arrivals entry g (heads group next arrivals upto) behind
+    (λ more. entries_on_are arrivals (group ++ next ∷ []) next (entry_with entry before next) more
     (tails group next arrivals upto behind) ordered.1)
-    (entries_on_are arrivals (next ∷ []) (entry_by next) (first_group next) (behind, tt) ordered.1)
+    (entries_on_are arrivals (next ∷ []) next (entry_by next) (first_group next) (behind, tt) ordered.1)
     (entry_number entry == next.message.number) refl
 
 -- The entries of all.
@@ -336,9 +209,9 @@ pub entries_are : (arrivals : List Arrival) → AreOrdered arrivals → AreEntri
 entries_are [] ordered = record { rising = tt; each = tt; all = λ one there. absurd there }
 entries_are (first ∷ arrivals) ordered =
     let behind = each_of_all (IsUpTo first) arrivals ordered.0 in
-    let are = entries_on_are arrivals (first ∷ []) (entry_by first) (first_group first) (behind, tt) ordered.1 in
+    let are = entries_on_are arrivals (first ∷ []) first (entry_by first) (first_group first) (behind, tt) ordered.1 in
     record {
-      rising = rising_lower first.message.number 0 (map entry_number (entries_on (entry_by first) arrivals))
+      rising = rising_lower first.message.number 0 (map entry_number (entries_on (entry_by first) first arrivals))
           (omega arith) are.rising;
       each = are.each;
       all = are.all;

@@ -1,8 +1,9 @@
 -- The entries and the copies of a hart's messages, from the messages in the order of their numbers.
-use Rattle.std.proofs.Common.{◌≡◌, inl, inr, ℕ, zero, suc, ◌+◌, All, Contains, List, [], ◌∷◌, length}
-use Rattle.std.proofs.Common.{map}
+use Rattle.std.proofs.Common.{◌≡◌, ◌≢◌, inl, inr, ℕ, zero, suc, ◌+◌, All, Bool, true, false, Contains, List, [], ◌∷◌}
+use Rattle.std.proofs.Common.{length, map}
 use Rattle.std.proofs.Common.{Some, slice_get, refl, sym, ap, subst, ◌∙◌, arith}
 use Rattle.std.specs.List.Sorted.{IsPermutation}
+use Rattle.std.specs.Str.{bytes_eq}
 use Rattle.std.proofs.lemmas.List.{length-map}
 use Rattle.std.proofs.lemmas.List.Elements.{All-cons, All-nil, All-weaker}
 use Rattle.std.proofs.lemmas.List.Sorted.{Contains-permutation, IsPermutation-sym, length_permutation}
@@ -12,7 +13,9 @@ use Rattle.salvaging.specs.Copies.{AllDiffer, AreCopies, HasLike}
 use Rattle.salvaging.specs.Entries.{Entry, Used, Doubtful, AreEntries, IsEntryOf, entry_number}
 use Rattle.salvaging.specs.steps.Arrivals.{Arrival, AreOrdered, placed_from}
 use Rattle.salvaging.specs.steps.Grouping.{copies_by, entries_by}
-use Rattle.salvaging.proofs.GroupedEntries.{IsEntryAmong, entries_are}
+use Rattle.salvaging.proofs.Alike.{other_bytes, same_bytes}
+use Rattle.salvaging.proofs.GroupedEntries.{entries_are}
+use Rattle.salvaging.proofs.OneMore.{IsEntryAmong}
 use Rattle.salvaging.proofs.Members.{IsIn, all_in, contains_of_came, contains_of_in, in_of_contains}
 use Rattle.salvaging.proofs.NeighbouringCopies.{NoneAlike, among, counted, first_ones, first_ones_differ}
 use Rattle.salvaging.proofs.NeighbouringCopies.{has_first}
@@ -67,6 +70,14 @@ length-placed : (from : ℕ) (messages : List Message) → length (placed_from f
 length-placed from [] = refl
 length-placed from (message ∷ messages) = let rest = length-placed (from + 1) messages in omega (arith, rest)
 
+-- Payloads that do not differ are the same.
+same_payload : (one other : List ℕ) → ¬ (one ≢ other) → one ≡ other
+same_payload one other not_apart = by_test (bytes_eq one other) refl
+  where
+    by_test : (same : Bool) → bytes_eq one other ≡ same → one ≡ other
+    by_test true test = same_bytes one other test
+    by_test false test = absurd (not_apart (other_bytes one other test))
+
 module _ (messages : List Message) (arrivals : List Arrival)
     (permuted : IsPermutation (placed_from 0 messages) arrivals) (ordered : AreOrdered arrivals) where
   -- All arrivals are placed, and what is placed is among them.
@@ -112,14 +123,24 @@ module _ (messages : List Message) (arrivals : List Arrival)
         ∙ is.alone found.0 found.1 (ap (λ (m : Message). m.number) found.2 ∙ numbered)) messages
         (all_in messages);
   }
-  entry_of_messages (Doubtful number) is = record {
+  entry_of_messages (Doubtful number first second) is = record {
     one = is.one.message;
     other = is.other.message;
-    one_came = came is.one is.one_there;
-    other_came = came is.other is.other_there;
+    one_here = subst (λ n. slice_get messages n ≡ Some is.one.message) is.one_place (stands is.one is.one_there);
+    other_here = subst (λ n. slice_get messages n ≡ Some is.other.message) is.other_place
+        (stands is.other is.other_there);
     one_number = is.one_number;
     other_number = is.other_number;
     differ = is.differ;
+    one_first = λ before earlier below at numbered.
+        let there = is_there (placed (0 + before) earlier) (placed_at 0 messages before earlier at) in
+        let least = is.least (placed (0 + before) earlier) there numbered in
+        omega (arith, least, below);
+    other_first = λ before earlier below at numbered.
+        let there = is_there (placed (0 + before) earlier) (placed_at 0 messages before earlier at) in
+        same_payload earlier.payload is.one.message.payload (λ differs.
+        let least = is.least_other (placed (0 + before) earlier) there numbered differs in
+        omega (arith, least, below));
   }
 
   all_of_each : (entries : List Entry) → Each (IsEntryAmong arrivals) entries → All (IsEntryOf messages) entries

@@ -17,13 +17,13 @@ leaves_count words mode (entry ∷ entries) [] run next parts leaves = by_entry 
     by_entry : (entry : Entry) → EntriesLeave words mode run next (entry ∷ entries) [] parts
         → length {A = Bool} [] ≡ length (entry ∷ entries)
     by_entry (Used number place payload) leaves = absurd leaves
-    by_entry (Doubtful number) leaves = absurd leaves
+    by_entry (Doubtful number one other) leaves = absurd leaves
 leaves_count words mode (Used number place payload ∷ entries) (true ∷ goods) run next parts
     (before, leaves, rest, is, (packet, good, further)) =
     ap suc (leaves_count words mode entries goods _ (number + 1) rest further)
 leaves_count words mode (Used number place payload ∷ entries) (false ∷ goods) run next parts
     (before, leaves, rest, is, (why, bad, left, over, more, parts_is, further)) =
     ap suc (leaves_count words mode entries goods _ (number + 1) more further)
-leaves_count words mode (Doubtful number ∷ entries) (good ∷ goods) run next parts
+leaves_count words mode (Doubtful number one other ∷ entries) (good ∷ goods) run next parts
     (none, before, leaves, rest, is, further) =
     ap suc (leaves_count words mode entries goods _ number rest further)

@@ -51,4 +51,4 @@ late_by_earliest place (Used number before payload ∷ entries) (true ∷ goods)
     ap (λ b. nat_lt before place || b) (late_by_earliest place entries goods)
     ∙ either_way before place (earliest entries goods)
 late_by_earliest place (Used number before payload ∷ entries) (false ∷ goods) = late_by_earliest place entries goods
-late_by_earliest place (Doubtful number ∷ entries) (good ∷ goods) = late_by_earliest place entries goods
+late_by_earliest place (Doubtful number one other ∷ entries) (good ∷ goods) = late_by_earliest place entries goods

@@ -30,14 +30,14 @@ late_one : (entry : Entry) (entries : List Entry) (good : Bool) (goods : List Bo
     ≡ counted (is_late_behind entry (earliest entries goods)) (late entries goods)
 late_one (Used number place payload) entries good goods =
     ap (λ b. counted b (late entries goods)) (late_by_earliest place entries goods)
-late_one (Doubtful number) entries good goods = refl
+late_one (Doubtful number one other) entries good goods = refl
 
 earliest_one : (entry : Entry) (entries : List Entry) (good : Bool) (goods : List Bool)
     → earliest (entry ∷ entries) (good ∷ goods) ≡ earliest_with entry good (earliest entries goods)
 earliest_one (Used number place payload) entries true goods = refl
 earliest_one (Used number place payload) entries false goods = refl
-earliest_one (Doubtful number) entries true goods = refl
-earliest_one (Doubtful number) entries false goods = refl
+earliest_one (Doubtful number one other) entries true goods = refl
+earliest_one (Doubtful number one other) entries false goods = refl
 
 few_counted : (late : Bool) (count at long : ℕ) → count + suc at ≤ long → counted late count + at ≤ long
 few_counted true count at long few = omega (arith, few)

@@ -15,6 +15,7 @@ pub mod Rising
 pub mod OrderLemmas
 pub mod Alike
 pub mod NeighbouringCopies
+pub mod OneMore
 pub mod GroupedEntries
 pub mod GroupedMessages
 pub mod Sorted
@@ -43,5 +44,6 @@ pub mod HartSalvaged
 pub mod CutLemmas
 pub mod SalvagedEach
 pub mod DistributedAll
+pub mod EntriesOnce
 pub mod CutOnce
 pub mod OneWay

@@ -103,10 +103,10 @@ module _ (hart period : ℕ) (handed mode : Mode) (log : ProgramLog) (legal : Is
           read = ap reading (sym used.payload_here) ∙ i.read;
         }
 
-    none_doubtful : (number : ℕ) → ¬ IsEntryOf messages (Doubtful number)
-    none_doubtful number doubtful =
-        let same = one_message doubtful.one doubtful.other (in_of_contains messages doubtful.one doubtful.one_came)
-        (in_of_contains messages doubtful.other doubtful.other_came)
+    none_doubtful : (number first second : ℕ) → ¬ IsEntryOf messages (Doubtful number first second)
+    none_doubtful number first second doubtful =
+        let same = one_message doubtful.one doubtful.other (in_at messages first doubtful.one doubtful.one_here)
+        (in_at messages second doubtful.other doubtful.other_here)
         (doubtful.one_number ∙ sym doubtful.other_number) in
         doubtful.differ (ap (λ (m : Message). m.payload) same)
 
@@ -116,15 +116,16 @@ module _ (hart period : ℕ) (handed mode : Mode) (log : ProgramLog) (legal : Is
       has_packet number place payload (All-head (IsEntryOf messages) (Used number place payload) entries are),
       of_packets entries (All-tail (IsEntryOf messages) (Used number place payload) entries are),
     )
-    of_packets (Doubtful number ∷ entries) are =
-        absurd (none_doubtful number (All-head (IsEntryOf messages) (Doubtful number) entries are))
+    of_packets (Doubtful number first second ∷ entries) are =
+        absurd (none_doubtful number first second
+        (All-head (IsEntryOf messages) (Doubtful number first second) entries are))
 
     -- The number of an entry came.
     entry_came : (entry : Entry) → IsEntryOf messages entry → Contains came (entry_number entry)
     entry_came (Used number place payload) used =
         contains_of_came came number (subst (λ n. NumberCame n came) used.number_here
         (number_in messages used.message (in_at messages place used.message used.here)))
-    entry_came (Doubtful number) doubtful = absurd (none_doubtful number doubtful)
+    entry_came (Doubtful number first second) doubtful = absurd (none_doubtful number first second doubtful)
 
     module _ (entries : List Entry) (are : AreEntries messages entries) where
       abbrev numbers : List ℕ
@@ -157,7 +158,7 @@ module _ (hart period : ℕ) (handed mode : Mode) (log : ProgramLog) (legal : Is
       own_mode_is (Used (suc number) place payload ∷ entries) rising are (inr (inr came)) =
           let above = not_below (suc number + 1) (map entry_number entries) 0 rising.1 came in
           absurd (omega (arith, above))
-      own_mode_is (Doubtful number ∷ entries) rising are known = absurd are
+      own_mode_is (Doubtful number first second ∷ entries) rising are known = absurd are
 
       leaves_by_mode : (goods : List Bool) (left : List LeftPart)
           → (handed ≡ mode) ⊎ (NumberCame 0 came ⊎ (messages ≡ []))

@@ -1,10 +1,9 @@
 -- The same messages leave the same, but for which fault of a decoder a bad number has.
-use Rattle.std.proofs.Common.{◌≡◌, ◌⊎◌, inl, inr, ℕ, zero, suc, ◌+◌, ◌-◌, ◌≤◌, ◌<◌, ◌++◌, All, Bool, true}
-use Rattle.std.proofs.Common.{false, Contains, List, [], ◌∷◌, map, Option, Some, None, length, refl, sym, ap}
+use Rattle.std.proofs.Common.{◌≡◌, inl, inr, ℕ, zero, suc, ◌+◌, ◌-◌, ◌≤◌, ◌++◌, Bool, true}
+use Rattle.std.proofs.Common.{false, Contains, List, [], ◌∷◌, Option, Some, None, length, refl, sym, ap}
 use Rattle.std.proofs.Common.{subst, ◌∙◌, arith}
 use Rattle.std.specs.Prelude.{Ok, Err}
-use Rattle.std.proofs.lemmas.Bool.{cases_lt}
-use Rattle.std.proofs.lemmas.List.Elements.{All-contains, All-head, All-tail}
+use Rattle.std.proofs.lemmas.List.Elements.{All-contains}
 use Rattle.retire.specs.declared.event.Event.{Event}
 use Rattle.rvclass.specs.Words.{Words, IsProgram}
 use Rattle.payload.specs.Closing.{is_closing, is_closing_packet, is_closing_reading}
@@ -17,12 +16,11 @@ use Rattle.decoder.specs.Describes.{Describes}
 use Rattle.decoder.specs.Order.{IsOpen}
 use Rattle.message.specs.declared.message.Message.{Message}
 use Rattle.losses.specs.Runs.{Run, first_run, longer, run_behind, run_of, trace_of_run}
-use Rattle.losses.specs.WholeStretches.{NumberCame}
 use Rattle.salvaging.specs.AlikeParts.{AreAlikeHarts, AreAlikeParts, AreAlikeReasons}
 use Rattle.salvaging.specs.Bad.{IsBad, IsGood}
 use Rattle.salvaging.specs.Copies.{AllDiffer, AreAlike, AreCopies, HasLike}
 use Rattle.salvaging.specs.Ends.{AllLeaveBeyond, AreCutAtEnd, HartLeaves, LeavesBeyond, none_good}
-use Rattle.salvaging.specs.Entries.{Entry, Used, Doubtful, AreEntries, IsEntryOf, entry_number, is_closed, next_used}
+use Rattle.salvaging.specs.Entries.{Entry, Used, Doubtful, is_closed, next_used}
 use Rattle.salvaging.specs.Late.{late}
 use Rattle.salvaging.specs.Leaving.{EntriesLeave, LeavesBefore, RunLeaves, UsedLeaves, kept, own_mode}
 use Rattle.salvaging.specs.LeftParts.{LeftPart, Missing, Events, BadNumber, DoubtfulNumber, AloneNumber, gap, stretch}
@@ -33,91 +31,8 @@ use Rattle.salvaging.specs.declared.reason.Reason.TheVariants as reason
 use Rattle.salvaging.specs.declared.salvaged.SalvagedHart.{SalvagedHart}
 use Rattle.salvaging.proofs.CutOnce.{cut_once}
 use Rattle.salvaging.proofs.EntriesOfLog.{same_packet}
-use Rattle.salvaging.proofs.Members.{IsIn, came_of_contains, contains_of_in, in_of_contains}
-use Rattle.salvaging.proofs.OneHart.{all_at, in_at, message_with, number_in}
-use Rattle.salvaging.proofs.RisingNumbers.{rising_same}
-use Rattle.salvaging.proofs.RunsOfLog.{number_of}
-
--- Messages have one list of entries.
-same_entry : (messages : List Message) (one other : Entry) → IsEntryOf messages one → IsEntryOf messages other
-    → entry_number one ≡ entry_number other → one ≡ other
-same_entry messages (Used number place payload) (Used again there bytes) used too is =
-    by_place (cases_lt place there) (cases_lt there place)
-  where
-    by_place : (place < there) ⊎ (there ≤ place) → (there < place) ⊎ (place ≤ there)
-        → Used number place payload ≡ Used again there bytes
-    by_place (inl below) other_way =
-        absurd (too.first place used.message below used.here (used.number_here ∙ is))
-    by_place (inr over) (inl below) =
-        absurd (used.first there too.message below too.here (too.number_here ∙ sym is))
-    by_place (inr over) (inr least) =
-        let places : place ≡ there = omega (arith, over, least) in
-        let same = all_at (λ (m : Message). m.number ≡ again → m.payload ≡ bytes) messages place used.message
-        used.here too.alone (used.number_here ∙ is) in
-        ap (λ n. Used n place payload) is ∙ ap (λ p. Used again p payload) places
-        ∙ ap (Used again there) (sym used.payload_here ∙ same)
-same_entry messages (Used number place payload) (Doubtful again) used doubtful is =
-    let payload_of_one = All-contains (λ (m : Message). m.number ≡ number → m.payload ≡ payload) messages doubtful.one
-    used.alone doubtful.one_came (doubtful.one_number ∙ sym is) in
-    let payload_of_other = All-contains (λ (m : Message). m.number ≡ number → m.payload ≡ payload) messages
-    doubtful.other used.alone doubtful.other_came (doubtful.other_number ∙ sym is) in
-    absurd (doubtful.differ (payload_of_one ∙ sym payload_of_other))
-same_entry messages (Doubtful number) (Used again place payload) doubtful used is =
-    let payload_of_one = All-contains (λ (m : Message). m.number ≡ again → m.payload ≡ payload) messages doubtful.one
-    used.alone doubtful.one_came (doubtful.one_number ∙ is) in
-    let payload_of_other = All-contains (λ (m : Message). m.number ≡ again → m.payload ≡ payload) messages
-    doubtful.other used.alone doubtful.other_came (doubtful.other_number ∙ is) in
-    absurd (doubtful.differ (payload_of_one ∙ sym payload_of_other))
-same_entry messages (Doubtful number) (Doubtful again) doubtful too is = ap Doubtful is
-
-same_entries : (messages : List Message) (entries others : List Entry) → All (IsEntryOf messages) entries
-    → All (IsEntryOf messages) others → map entry_number entries ≡ map entry_number others → entries ≡ others
-same_entries messages [] [] each every numbers = refl
-same_entries messages [] (other ∷ others) each every numbers = cc
-same_entries messages (entry ∷ entries) [] each every numbers = cc
-same_entries messages (entry ∷ entries) (other ∷ others) each every numbers =
-    let first : entry_number entry ≡ entry_number other = cc in
-    let rest : map entry_number entries ≡ map entry_number others = cc in
-    let same = same_entry messages entry other (All-head (IsEntryOf messages) entry entries each)
-    (All-head (IsEntryOf messages) other others every) first in
-    ap (λ e. e ∷ entries) same
-    ∙ ap (λ l. other ∷ l) (same_entries messages entries others (All-tail (IsEntryOf messages) entry entries each)
-    (All-tail (IsEntryOf messages) other others every) rest)
-
-entry_number_came : (messages : List Message) (entry : Entry) → IsEntryOf messages entry
-    → NumberCame (entry_number entry) (map number_of messages)
-entry_number_came messages (Used number place payload) used =
-    subst (λ n. NumberCame n (map number_of messages)) used.number_here
-    (number_in messages used.message (in_at messages place used.message used.here))
-entry_number_came messages (Doubtful number) doubtful =
-    subst (λ n. NumberCame n (map number_of messages)) doubtful.one_number
-    (number_in messages doubtful.one (in_of_contains messages doubtful.one doubtful.one_came))
-
-numbers_came : (messages : List Message) (entries : List Entry) → All (IsEntryOf messages) entries → (number : ℕ)
-    → NumberCame number (map entry_number entries) → NumberCame number (map number_of messages)
-numbers_came messages [] each number there = absurd there
-numbers_came messages (entry ∷ entries) each number (inl is) =
-    subst (λ n. NumberCame n (map number_of messages)) (sym is)
-    (entry_number_came messages entry (All-head (IsEntryOf messages) entry entries each))
-numbers_came messages (entry ∷ entries) each number (inr there) =
-    numbers_came messages entries (All-tail (IsEntryOf messages) entry entries each) number there
-
-numbers_have : (messages : List Message) (entries : List Entry) → AreEntries messages entries → (number : ℕ)
-    → NumberCame number (map number_of messages) → NumberCame number (map entry_number entries)
-numbers_have messages entries are number there =
-    let found = message_with messages number there in
-    let contained = All-contains (λ (m : Message). Contains (map entry_number entries) m.number) messages found.0
-    are.none_left_out (contains_of_in messages found.0 found.1) in
-    subst (λ n. NumberCame n (map entry_number entries)) (sym found.2)
-    (came_of_contains (map entry_number entries) found.0.number contained)
-
-entries_once : (messages : List Message) (entries others : List Entry) → AreEntries messages entries
-    → AreEntries messages others → entries ≡ others
-entries_once messages entries others are too =
-    same_entries messages entries others are.each too.each
-    (rising_same 0 (map entry_number entries) (map entry_number others) are.rising too.rising
-    (λ number there. numbers_have messages others too number (numbers_came messages entries are.each number there))
-    (λ number there. numbers_have messages entries are number (numbers_came messages others too.each number there)))
+use Rattle.salvaging.proofs.EntriesOnce.{entries_once}
+use Rattle.salvaging.proofs.Members.{IsIn, contains_of_in, in_of_contains}
 
 -- Of distinct messages there are as many.
 abbrev without_one : (message : Message) (messages : List Message) → IsIn message messages → List Message
@@ -187,41 +102,41 @@ alike_append [] more [] further are too = too
 alike_append [] more (Missing m ∷ others) further are too = absurd are
 alike_append [] more (Events b d s ∷ others) further are too = absurd are
 alike_append [] more (BadNumber b d v ∷ others) further are too = absurd are
-alike_append [] more (DoubtfulNumber m ∷ others) further are too = absurd are
+alike_append [] more (DoubtfulNumber m r s ∷ others) further are too = absurd are
 alike_append [] more (AloneNumber m q ∷ others) further are too = absurd are
 alike_append (Missing n ∷ left) more [] further are too = absurd are
 alike_append (Missing n ∷ left) more (Missing m ∷ others) further are too =
     (are.0, alike_append left more others further are.1 too)
 alike_append (Missing n ∷ left) more (Events b d s ∷ others) further are too = absurd are
 alike_append (Missing n ∷ left) more (BadNumber b d v ∷ others) further are too = absurd are
-alike_append (Missing n ∷ left) more (DoubtfulNumber m ∷ others) further are too = absurd are
+alike_append (Missing n ∷ left) more (DoubtfulNumber m r s ∷ others) further are too = absurd are
 alike_append (Missing n ∷ left) more (AloneNumber m q ∷ others) further are too = absurd are
 alike_append (Events f l e ∷ left) more [] further are too = absurd are
 alike_append (Events f l e ∷ left) more (Missing m ∷ others) further are too = absurd are
 alike_append (Events f l e ∷ left) more (Events b d s ∷ others) further are too =
     (are.0, are.1, are.2, alike_append left more others further are.3 too)
 alike_append (Events f l e ∷ left) more (BadNumber b d v ∷ others) further are too = absurd are
-alike_append (Events f l e ∷ left) more (DoubtfulNumber m ∷ others) further are too = absurd are
+alike_append (Events f l e ∷ left) more (DoubtfulNumber m r s ∷ others) further are too = absurd are
 alike_append (Events f l e ∷ left) more (AloneNumber m q ∷ others) further are too = absurd are
 alike_append (BadNumber f l w ∷ left) more [] further are too = absurd are
 alike_append (BadNumber f l w ∷ left) more (Missing m ∷ others) further are too = absurd are
 alike_append (BadNumber f l w ∷ left) more (Events b d s ∷ others) further are too = absurd are
 alike_append (BadNumber f l w ∷ left) more (BadNumber b d v ∷ others) further are too =
     (are.0, are.1, are.2, alike_append left more others further are.3 too)
-alike_append (BadNumber f l w ∷ left) more (DoubtfulNumber m ∷ others) further are too = absurd are
+alike_append (BadNumber f l w ∷ left) more (DoubtfulNumber m r s ∷ others) further are too = absurd are
 alike_append (BadNumber f l w ∷ left) more (AloneNumber m q ∷ others) further are too = absurd are
-alike_append (DoubtfulNumber n ∷ left) more [] further are too = absurd are
-alike_append (DoubtfulNumber n ∷ left) more (Missing m ∷ others) further are too = absurd are
-alike_append (DoubtfulNumber n ∷ left) more (Events b d s ∷ others) further are too = absurd are
-alike_append (DoubtfulNumber n ∷ left) more (BadNumber b d v ∷ others) further are too = absurd are
-alike_append (DoubtfulNumber n ∷ left) more (DoubtfulNumber m ∷ others) further are too =
-    (are.0, alike_append left more others further are.1 too)
-alike_append (DoubtfulNumber n ∷ left) more (AloneNumber m q ∷ others) further are too = absurd are
+alike_append (DoubtfulNumber n i j ∷ left) more [] further are too = absurd are
+alike_append (DoubtfulNumber n i j ∷ left) more (Missing m ∷ others) further are too = absurd are
+alike_append (DoubtfulNumber n i j ∷ left) more (Events b d s ∷ others) further are too = absurd are
+alike_append (DoubtfulNumber n i j ∷ left) more (BadNumber b d v ∷ others) further are too = absurd are
+alike_append (DoubtfulNumber n i j ∷ left) more (DoubtfulNumber m r s ∷ others) further are too =
+    (are.0, are.1, are.2, alike_append left more others further are.3 too)
+alike_append (DoubtfulNumber n i j ∷ left) more (AloneNumber m q ∷ others) further are too = absurd are
 alike_append (AloneNumber n p ∷ left) more [] further are too = absurd are
 alike_append (AloneNumber n p ∷ left) more (Missing m ∷ others) further are too = absurd are
 alike_append (AloneNumber n p ∷ left) more (Events b d s ∷ others) further are too = absurd are
 alike_append (AloneNumber n p ∷ left) more (BadNumber b d v ∷ others) further are too = absurd are
-alike_append (AloneNumber n p ∷ left) more (DoubtfulNumber m ∷ others) further are too = absurd are
+alike_append (AloneNumber n p ∷ left) more (DoubtfulNumber m r s ∷ others) further are too = absurd are
 alike_append (AloneNumber n p ∷ left) more (AloneNumber m q ∷ others) further are too =
     (are.0, are.1, alike_append left more others further are.2 too)
 
@@ -366,17 +281,17 @@ module _ (words : Words) (program : IsProgram words) (mode : Mode) where
             (alike_append leave.0 leave.2 too.0 too.2 (before_once run next (number - next) leave.0 too.0 leave.1 too.1)
             used.1),
       )
-  leaves_once (Doubtful number ∷ entries) run next [] others left parts leave too = absurd leave
-  leaves_once (Doubtful number ∷ entries) run next (good ∷ goods) [] left parts leave too = absurd too
-  leaves_once (Doubtful number ∷ entries) run next (good ∷ goods) (other ∷ others) left parts
+  leaves_once (Doubtful number first second ∷ entries) run next [] others left parts leave too = absurd leave
+  leaves_once (Doubtful number first second ∷ entries) run next (good ∷ goods) [] left parts leave too = absurd too
+  leaves_once (Doubtful number first second ∷ entries) run next (good ∷ goods) (other ∷ others) left parts
       (is, before, leaves, rest, whole, behind) (is_too, begun, leaves_too, further, whole_too, behind_too) =
       let below = leaves_once entries (run_of 1 []) number goods others rest further behind behind_too in (
         ap (λ g. g ∷ goods) (is ∙ sym is_too) ∙ ap (λ l. other ∷ l) below.0,
-        by_both left parts (before ++ (gap (number - next) ++ DoubtfulNumber number ∷ rest))
-            (begun ++ (gap (number - next) ++ DoubtfulNumber number ∷ further)) whole whole_too
+        by_both left parts (before ++ (gap (number - next) ++ DoubtfulNumber number first second ∷ rest))
+            (begun ++ (gap (number - next) ++ DoubtfulNumber number first second ∷ further)) whole whole_too
             (alike_append before _ begun _ (run_once run next before begun leaves leaves_too)
-            (alike_append (gap (number - next)) (DoubtfulNumber number ∷ rest) (gap (number - next))
-            (DoubtfulNumber number ∷ further) (gap_alike (number - next)) (refl, below.1))),
+            (alike_append (gap (number - next)) (DoubtfulNumber number first second ∷ rest) (gap (number - next))
+            (DoubtfulNumber number first second ∷ further) (gap_alike (number - next)) (refl, refl, refl, below.1))),
       )
 
 module _ (words : Words) (program : IsProgram words) (mode : Mode) where
@@ -401,22 +316,23 @@ module _ (words : Words) (program : IsProgram words) (mode : Mode) where
       (too, there, again, good_too) = (is ∙ sym too, at ∙ sym there, tt)
   one_beyond (Used number place payload) following (Missing n) other leaves too = absurd leaves
   one_beyond (Used number place payload) following (Events f l e) other leaves too = absurd leaves
-  one_beyond (Used number place payload) following (DoubtfulNumber n) other leaves too = absurd leaves
+  one_beyond (Used number place payload) following (DoubtfulNumber n i j) other leaves too = absurd leaves
   one_beyond (Used number place payload) following (BadNumber n p why) (Missing m) leaves too = absurd too
   one_beyond (Used number place payload) following (BadNumber n p why) (Events b d s) leaves too = absurd too
-  one_beyond (Used number place payload) following (BadNumber n p why) (DoubtfulNumber m) leaves too = absurd too
+  one_beyond (Used number place payload) following (BadNumber n p why) (DoubtfulNumber m r s) leaves too = absurd too
   one_beyond (Used number place payload) following (AloneNumber n p) (Missing m) leaves too = absurd too
   one_beyond (Used number place payload) following (AloneNumber n p) (Events b d s) leaves too = absurd too
-  one_beyond (Used number place payload) following (AloneNumber n p) (DoubtfulNumber m) leaves too = absurd too
-  one_beyond (Doubtful number) following (DoubtfulNumber n) (DoubtfulNumber m) is too = (is ∙ sym too, tt)
-  one_beyond (Doubtful number) following (Missing n) other leaves too = absurd leaves
-  one_beyond (Doubtful number) following (Events f l e) other leaves too = absurd leaves
-  one_beyond (Doubtful number) following (BadNumber n p why) other leaves too = absurd leaves
-  one_beyond (Doubtful number) following (AloneNumber n p) other leaves too = absurd leaves
-  one_beyond (Doubtful number) following (DoubtfulNumber n) (Missing m) leaves too = absurd too
-  one_beyond (Doubtful number) following (DoubtfulNumber n) (Events b d s) leaves too = absurd too
-  one_beyond (Doubtful number) following (DoubtfulNumber n) (BadNumber m q why) leaves too = absurd too
-  one_beyond (Doubtful number) following (DoubtfulNumber n) (AloneNumber m q) leaves too = absurd too
+  one_beyond (Used number place payload) following (AloneNumber n p) (DoubtfulNumber m r s) leaves too = absurd too
+  one_beyond (Doubtful number first second) following (DoubtfulNumber n i j) (DoubtfulNumber m r s) is too =
+      (is.0 ∙ sym too.0, is.1 ∙ sym too.1, is.2 ∙ sym too.2, tt)
+  one_beyond (Doubtful number first second) following (Missing n) other leaves too = absurd leaves
+  one_beyond (Doubtful number first second) following (Events f l e) other leaves too = absurd leaves
+  one_beyond (Doubtful number first second) following (BadNumber n p why) other leaves too = absurd leaves
+  one_beyond (Doubtful number first second) following (AloneNumber n p) other leaves too = absurd leaves
+  one_beyond (Doubtful number first second) following (DoubtfulNumber n i j) (Missing m) leaves too = absurd too
+  one_beyond (Doubtful number first second) following (DoubtfulNumber n i j) (Events b d s) leaves too = absurd too
+  one_beyond (Doubtful number first second) following (DoubtfulNumber n i j) (BadNumber m q why) leaves too = absurd too
+  one_beyond (Doubtful number first second) following (DoubtfulNumber n i j) (AloneNumber m q) leaves too = absurd too
 
   all_beyond : (entries : List Entry) (left others : List LeftPart) → AllLeaveBeyond words mode entries left
       → AllLeaveBeyond words mode entries others → AreAlikeParts left others

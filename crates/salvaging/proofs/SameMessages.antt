@@ -8,7 +8,7 @@ use Rattle.message.specs.declared.message.Message.{Message}
 use Rattle.losses.specs.Apart.{AreRising}
 use Rattle.losses.specs.WholeStretches.{NumberCame}
 use Rattle.salvaging.specs.Entries.{Entry, Used, Doubtful, AreEntries, IsEntryOf, entry_number}
-use Rattle.salvaging.proofs.Members.{IsIn, came_of_contains, contains_of_in, in_of_contains}
+use Rattle.salvaging.proofs.Members.{came_of_contains, contains_of_in}
 use Rattle.salvaging.proofs.OneHart.{in_at, message_with, number_in}
 use Rattle.salvaging.proofs.RisingNumbers.{not_below, rising_same}
 use Rattle.salvaging.proofs.RunsOfLog.{number_of}
@@ -55,13 +55,6 @@ one_place messages i j one other rising at_one at_other is = by_order (cases_lt 
         absurd (omega (arith, less, is))
     by_order (inr over) (inr least) = omega (arith, over, least)
 
--- A message has a place.
-place_of : (messages : List Message) (message : Message) → IsIn message messages
-    → (k : ℕ) × (slice_get messages k ≡ Some message)
-place_of [] message there = absurd there
-place_of (first ∷ messages) message (inl is) = (0, ap Some (sym is))
-place_of (first ∷ messages) message (inr there) = let found = place_of messages message there in (suc found.0, found.1)
-
 at_same : (messages : List Message) (i j : ℕ) (one other : Message) → slice_get messages i ≡ Some one
     → slice_get messages j ≡ Some other → i ≡ j → one ≡ other
 at_same messages i j one other at_one at_other is =
@@ -83,13 +76,11 @@ module _ (all : List Message) (rising : AreRising 0 (map number_of all)) where
       let same = one_place all at place used.message message rising used.here here (used.number_here ∙ is) in
       let own = at_same all at place used.message message used.here here same in
       (is, sym used.payload_here ∙ ap (λ (m : Message). m.payload) own, same, later)
-  is_message place message (Doubtful number) here is doubtful entries messages later =
-      let one = place_of all doubtful.one (in_of_contains all doubtful.one doubtful.one_came) in
-      let other = place_of all doubtful.other (in_of_contains all doubtful.other doubtful.other_came) in
-      let same = one_place all one.0 other.0 doubtful.one doubtful.other rising one.1 other.1
+  is_message place message (Doubtful number first second) here is doubtful entries messages later =
+      let same = one_place all first second doubtful.one doubtful.other rising doubtful.one_here doubtful.other_here
       (doubtful.one_number ∙ sym doubtful.other_number) in
       absurd (doubtful.differ (ap (λ (m : Message). m.payload)
-      (at_same all one.0 other.0 doubtful.one doubtful.other one.1 other.1 same)))
+      (at_same all first second doubtful.one doubtful.other doubtful.one_here doubtful.other_here same)))
 
   are_messages : (front messages : List Message) (entries : List Entry) → all ≡ front ++ messages
       → map entry_number entries ≡ map number_of messages → All (IsEntryOf all) entries
@@ -123,9 +114,9 @@ module _ (all : List Message) (rising : AreRising 0 (map number_of all)) where
       own_number (Used number at payload) used =
           subst (λ n. NumberCame n (map number_of all)) used.number_here
           (number_in all used.message (in_at all at used.message used.here))
-      own_number (Doubtful number) doubtful =
+      own_number (Doubtful number first second) doubtful =
           subst (λ n. NumberCame n (map number_of all)) doubtful.one_number
-          (number_in all doubtful.one (in_of_contains all doubtful.one doubtful.one_came))
+          (number_in all doubtful.one (in_at all first doubtful.one doubtful.one_here))
 
       entry_came : (entries : List Entry) → All (IsEntryOf all) entries → (number : ℕ)
           → NumberCame number (map entry_number entries) → NumberCame number (map number_of all)

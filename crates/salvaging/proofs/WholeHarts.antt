@@ -67,7 +67,7 @@ of_packets_later : (packets : List Packet) (front later : List Entry) → AreOfP
 of_packets_later packets [] later are = are
 of_packets_later packets (Used number place payload ∷ front) later (has, are) =
     of_packets_later packets front later are
-of_packets_later packets (Doubtful number ∷ front) later are = absurd are
+of_packets_later packets (Doubtful number one other ∷ front) later are = absurd are
 
 rising_later : (from : ℕ) (front later : List Entry) → AreRising from (map entry_number (front ++ later))
     → (start : ℕ) × AreRising start (map entry_number later)
@@ -77,7 +77,8 @@ rising_later from (entry ∷ front) later rising = rising_later (entry_number en
 pub log_has_no_end : (words : Words) (program : IsProgram words) (period : ℕ) (mode : Mode) (log : List Event)
     (legal : Legal words log) (reads : Mode) (entries : List Entry) → AreRising 0 (map entry_number entries)
     → AreOfPackets (ps words program period mode log legal) entries → HasNoEnd words reads entries
-log_has_no_end words program period mode log legal reads entries rising are front (Doubtful number) later is end = end
+log_has_no_end words program period mode log legal reads entries rising are front (Doubtful number one other) later is end =
+    end
 log_has_no_end words program period mode log legal reads entries rising are front (Used number place payload) later is
     (closes, some, none) =
     by_used (next_used later) refl

@@ -1,6 +1,6 @@
 -- Entries, copies and strangers that were worked by hand, as the definitions give them.
 use Rattle.std.proofs.Common.{◌≡◌, ◌≢◌, ◌<◌, inl, inr, ℕ, zero, suc, ◌-◌, ◌^◌, All, List, [], ◌∷◌, Some}
-use Rattle.std.proofs.Common.{Contains, map, slice_get, refl, ap, ◌∙◌, arith}
+use Rattle.std.proofs.Common.{Contains, map, slice_get, refl, sym, ap, ◌∙◌, arith}
 use Rattle.std.specs.List.{AllByRecursion}
 use Rattle.std.specs.Prelude.{count_by}
 use Rattle.std.proofs.lemmas.List.Elements.{All-cons, All-nil}
@@ -32,8 +32,33 @@ module _ (p q : List ℕ) (differ : p ≢ q) where
       omega (arith, zero_is)
   second (suc before) other less at is = omega (arith, less)
 
+  -- The first message of number 1 is the fourth of all, and the fifth is the first one with another payload.
+  first_of_one : (before : ℕ) (other : Message) → before < 3 → slice_get came before ≡ Some other → other.number ≢ 1
+  first_of_one zero other less at is =
+      let zero_is : 0 ≡ 1 = ap (λ (m : Message). m.number) (same_Some (message 1 0 p) other at) ∙ is in
+      omega (arith, zero_is)
+  first_of_one (suc zero) other less at is =
+      let two_is : 2 ≡ 1 = ap (λ (m : Message). m.number) (same_Some (message 1 2 q) other at) ∙ is in
+      omega (arith, two_is)
+  first_of_one (suc (suc zero)) other less at is =
+      let two_is : 2 ≡ 1 = ap (λ (m : Message). m.number) (same_Some (message 1 2 q) other at) ∙ is in
+      omega (arith, two_is)
+  first_of_one (suc (suc (suc before))) other less at is = omega (arith, less)
+
+  same_before : (before : ℕ) (other : Message) → before < 4 → slice_get came before ≡ Some other → other.number ≡ 1
+      → other.payload ≡ p
+  same_before zero other less at is =
+      absurd (first_of_one zero other (omega arith) at is)
+  same_before (suc zero) other less at is =
+      absurd (first_of_one (suc zero) other (omega arith) at is)
+  same_before (suc (suc zero)) other less at is =
+      absurd (first_of_one (suc (suc zero)) other (omega arith) at is)
+  same_before (suc (suc (suc zero))) other less at is =
+      sym (ap (λ (m : Message). m.payload) (same_Some (message 1 1 p) other at))
+  same_before (suc (suc (suc (suc before)))) other less at is = absurd (omega (arith, less))
+
   abbrev found : List Entry
-  found = Used 0 0 p ∷ Doubtful 1 ∷ Used 2 1 q ∷ []
+  found = Used 0 0 p ∷ Doubtful 1 3 4 ∷ Used 2 1 q ∷ []
 
   abbrev numbers : List ℕ
   numbers = map entry_number found
@@ -58,11 +83,13 @@ module _ (p q : List ℕ) (differ : p ≢ q) where
         record {
           one = message 1 1 p;
           other = message 1 1 q;
-          one_came = contains_of_in came (message 1 1 p) (inr (inr (inr (inl refl))));
-          other_came = contains_of_in came (message 1 1 q) (inr (inr (inr (inr (inl refl)))));
+          one_here = refl;
+          other_here = refl;
           one_number = refl;
           other_number = refl;
           differ = differ;
+          one_first = first_of_one;
+          other_first = same_before;
         },
         (
           record {

@@ -149,9 +149,9 @@ module _ (p0 p1 p2 p3 p4 bad : List ℕ) (r0 : reading p0 ≡ Ok opens) (r1 : re
   )
 
   -- It came with two payloads.
-  address_doubtful : leave (Used 0 0 p0 ∷ Used 1 1 p1 ∷ Doubtful 2 ∷ Used 3 4 p3 ∷ Used 4 5 p4 ∷ [])
+  address_doubtful : leave (Used 0 0 p0 ∷ Used 1 1 p1 ∷ Doubtful 2 2 3 ∷ Used 3 4 p3 ∷ Used 4 5 p4 ∷ [])
       (true ∷ true ∷ false ∷ true ∷ true ∷ [])
-      (Events 0 1 (at 0 ∷ []) ∷ DoubtfulNumber 2 ∷ Missing 1 ∷ last_stretch)
+      (Events 0 1 (at 0 ∷ []) ∷ DoubtfulNumber 2 2 3 ∷ Missing 1 ∷ last_stretch)
   address_doubtful = (
     [],
     refl,
@@ -361,11 +361,11 @@ module _ (p0 p1 p2 p3 p4 bad : List ℕ) (r0 : reading p0 ≡ Ok opens) (r1 : re
   not_announced_by_another : own_mode Full (Used 1 0 p0 ∷ []) ≡ Full
   not_announced_by_another = refl
 
-  not_announced_by_a_doubtful_one : own_mode Full (Doubtful 0 ∷ Used 1 1 p0 ∷ []) ≡ Full
+  not_announced_by_a_doubtful_one : own_mode Full (Doubtful 0 0 1 ∷ Used 1 1 p0 ∷ []) ≡ Full
   not_announced_by_a_doubtful_one = refl
 
   -- The last number that is used closes the hart, or does not.
-  closed : is_closed (Used 3 0 p3 ∷ Used 4 1 p4 ∷ Doubtful 5 ∷ []) ≡ true
+  closed : is_closed (Used 3 0 p3 ∷ Used 4 1 p4 ∷ Doubtful 5 2 3 ∷ []) ≡ true
   closed = ap is_closing_reading r4
 
   not_closed_in_the_middle : is_closed (Used 3 0 p4 ∷ Used 4 1 p3 ∷ []) ≡ false

@@ -22,8 +22,8 @@ AreAlikeParts (Events first last events ∷ left) (Events begun ended stretch �
     (first ≡ begun) × (last ≡ ended) × (events ≡ stretch) × AreAlikeParts left others
 AreAlikeParts (BadNumber one place why ∷ left) (BadNumber other at fault ∷ others) =
     (one ≡ other) × (place ≡ at) × AreAlikeReasons why fault × AreAlikeParts left others
-AreAlikeParts (DoubtfulNumber one ∷ left) (DoubtfulNumber other ∷ others) =
-    (one ≡ other) × AreAlikeParts left others
+AreAlikeParts (DoubtfulNumber one first second ∷ left) (DoubtfulNumber other place at ∷ others) =
+    (one ≡ other) × (first ≡ place) × (second ≡ at) × AreAlikeParts left others
 AreAlikeParts (AloneNumber one place ∷ left) (AloneNumber other at ∷ others) =
     (one ≡ other) × (place ≡ at) × AreAlikeParts left others
 AreAlikeParts left others = ⊥

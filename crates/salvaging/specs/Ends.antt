@@ -16,7 +16,7 @@ use Rattle.salvaging.specs.LeftParts.{LeftPart, BadNumber, DoubtfulNumber, Alone
 abbrev pub BeginsStretch : Words → Mode → Entry → Type 0
 BeginsStretch words mode (Used number place payload) =
     (packet : Packet) × IsSync packet × IsGood words mode (run_of 1 []) payload None packet
-BeginsStretch words mode (Doubtful number) = ⊥
+BeginsStretch words mode (Doubtful number first second) = ⊥
 
 -- A stretch begins at none of these entries.
 abbrev pub NoneBegins : Words → Mode → List Entry → Type 0
@@ -28,7 +28,7 @@ NoneBegins words mode (entry ∷ entries) = (¬ BeginsStretch words mode entry) 
 abbrev pub IsEnd : Words → Mode → Entry → List Entry → Type 0
 IsEnd words mode (Used number place payload) later =
     (is_closing payload ≡ true) × (next_used later ≢ None) × NoneBegins words mode later
-IsEnd words mode (Doubtful number) later = ⊥
+IsEnd words mode (Doubtful number first second) later = ⊥
 
 -- A hart may end at none of these entries, which others follow.
 abbrev pub NoneEnds : Words → Mode → List Entry → List Entry → Type 0
@@ -57,7 +57,8 @@ LeavesBeyond words mode (Used number place payload) following (BadNumber bad at 
     (bad ≡ number) × (at ≡ place) × IsBad words mode (run_of 1 []) payload following why
 LeavesBeyond words mode (Used number place payload) following (AloneNumber alone at) =
     (alone ≡ number) × (at ≡ place) × (packet : Packet) × IsGood words mode (run_of 1 []) payload following packet
-LeavesBeyond words mode (Doubtful number) following (DoubtfulNumber doubtful) = doubtful ≡ number
+LeavesBeyond words mode (Doubtful number first second) following (DoubtfulNumber doubtful at behind) =
+    (doubtful ≡ number) × (at ≡ first) × (behind ≡ second)
 LeavesBeyond words mode entry following part = ⊥
 
 -- What the entries beyond the end leave: each a part, and no gap is counted.

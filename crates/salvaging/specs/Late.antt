@@ -22,4 +22,4 @@ late [] goods = 0
 late (entry ∷ entries) [] = 0
 late (Used number place payload ∷ entries) (good ∷ goods) =
     counted (is_late place entries goods) (late entries goods)
-late (Doubtful number ∷ entries) (good ∷ goods) = late entries goods
+late (Doubtful number first second ∷ entries) (good ∷ goods) = late entries goods

@@ -61,9 +61,9 @@ EntriesLeave words mode run next (Used number place payload ∷ entries) (good �
     × (rest : List LeftPart) × (parts ≡ before ++ rest)
     × UsedLeaves words mode (run_behind (number - next) run) number place payload (next_used entries) good
     (λ behind. EntriesLeave words mode behind (number + 1) entries goods) rest
-EntriesLeave words mode run next (Doubtful number ∷ entries) (good ∷ goods) parts =
+EntriesLeave words mode run next (Doubtful number first second ∷ entries) (good ∷ goods) parts =
     (good ≡ false) × (before : List LeftPart) × RunLeaves words mode run next before
-    × (rest : List LeftPart) × (parts ≡ before ++ (gap (number - next) ++ DoubtfulNumber number ∷ rest))
+    × (rest : List LeftPart) × (parts ≡ before ++ (gap (number - next) ++ DoubtfulNumber number first second ∷ rest))
     × EntriesLeave words mode (run_of 1 []) number entries goods rest
 
 -- The mode that the message with this number announces, where the number is 0 and this was read of it; else this one.
@@ -76,4 +76,4 @@ mode_by number mode read = mode
 abbrev pub own_mode : Mode → List Entry → Mode
 own_mode mode [] = mode
 own_mode mode (Used number place payload ∷ entries) = mode_by number mode (reading payload)
-own_mode mode (Doubtful number ∷ entries) = mode
+own_mode mode (Doubtful number first second ∷ entries) = mode

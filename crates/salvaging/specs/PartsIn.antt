@@ -9,7 +9,7 @@ abbrev pub part_of : {A : Type 0} → Part A → LeftPart
 part_of (Gap missing) = Missing missing
 part_of (Stretch first last events) = Events first last events.items
 part_of (Bad number place why) = BadNumber number place why
-part_of (Doubtful number) = DoubtfulNumber number
+part_of (Doubtful number first second) = DoubtfulNumber number first second
 part_of (Alone number place) = AloneNumber number place
 
 -- The parts that a list of parts of the code represents.

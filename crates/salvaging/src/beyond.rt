@@ -38,7 +38,15 @@ fn part_beyond<A: Allocator + Copy>(
                 Some(why) => Ok(Part::Bad { number, place, why }),
             }
         }
-        Entry::Doubtful { number } => Ok(Part::Doubtful(number)),
+        Entry::Doubtful {
+            number,
+            first,
+            second,
+        } => Ok(Part::Doubtful {
+            number,
+            first,
+            second,
+        }),
     }
 }
 

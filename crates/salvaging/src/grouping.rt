@@ -2,10 +2,10 @@
 
 ghost use Rattle.std.specs.Prelude.{◌≡◌, ◌<◌, ◌≤◌, ◌++◌, [], ◌∷◌, IfNone, IfSome, drop, length, take};
 ghost use Rattle.salvaging.specs.steps.Arrivals.{arrivals_in};
-ghost use Rattle.salvaging.specs.steps.Grouping.{AreOfOne, entries_by, entry_of};
+ghost use Rattle.salvaging.specs.steps.Grouping.{AreOfOne, IsLastGroup, entries_by, entry_of};
 
 use crate::came::Came;
-use crate::entry::{Entry, entry_before, entry_by, entry_with};
+use crate::entry::{Entry, entry_by, entry_with};
 
 /// The entry of the first of these messages' numbers, and how many messages have the number; `None` where there is no
 /// message.
@@ -21,14 +21,30 @@ pub(crate) fn first_entry<'a>(came: &[Came<'a>]) -> Option<(Entry<'a>, usize)>
     }
     let first = &came[0];
     let mut entry = entry_by(first);
+    let mut before = first;
     for at in 1..came.len() {
         let next = &came[at];
         if next.message.number != first.message.number {
             return Some((entry, at));
         }
-        entry = entry_with(entry, next);
+        entry = entry_with(entry, before, next);
+        before = next;
     }
     Some((entry, came.len()))
+}
+
+/// How many of these messages come before those that have the last one's number. There is one at least.
+fn before_last(came: &[Came<'_>]) -> usize
+    requires { 0 < length came.now }
+    ensures { IsLastGroup came.now result }
+{
+    let last = &came[came.len() - 1];
+    for at in (0..came.len() - 1).rev() {
+        if came[at].message.number != last.message.number {
+            return at + 1;
+        }
+    }
+    0
 }
 
 /// The entry of the last of these messages' numbers, and how many messages come before those with the number; `None`
@@ -43,14 +59,9 @@ pub(crate) fn last_entry<'a>(came: &[Came<'a>]) -> Option<(Entry<'a>, usize)>
     if came.is_empty() {
         return None;
     }
-    let last = &came[came.len() - 1];
-    let mut entry = entry_by(last);
-    for at in (0..came.len() - 1).rev() {
-        let before = &came[at];
-        if before.message.number != last.message.number {
-            return Some((entry, at + 1));
-        }
-        entry = entry_before(before, entry);
+    let front = before_last(came);
+    match first_entry(&came[front..]) {
+        Some((entry, _)) => Some((entry, front)),
+        None => None,
     }
-    Some((entry, 0))
 }

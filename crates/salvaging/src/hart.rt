@@ -18,14 +18,16 @@ use crate::used::is_closed;
 use payload::Mode;
 use rvclass::Program;
 use std::alloc::{AllocError, Allocator};
+use watching::Watch;
 
 /// Salvages what is left of a hart, whose messages these are in the order in which they came. They are put in the order
-/// of their numbers, and what came with each number is read from their list as it is needed.
-pub(crate) fn salvage_hart<A: Allocator + Copy>(
+/// of their numbers, and what came with each number is read from their list as it is needed. Each message is told of.
+pub(crate) fn salvage_hart<A: Allocator + Copy, V: Watch>(
     alloc: A,
     program: &Program,
     mode: Mode,
     mut came: Vec<Came<'_>, A>,
+    watch: &V,
 ) -> Result<SalvagedHart<A>, AllocError>
     requires { HaveNumbers (arrivals_in came.items) }
     ensures { (messages : List AnyMessage) → arrivals_in came.entry.items ≡ placed_from 0 messages
@@ -37,9 +39,11 @@ pub(crate) fn salvage_hart<A: Allocator + Copy>(
     let own = own_mode(mode, ordered);
     let end = count_to_end(alloc, program, own, ordered)?;
     let upto = &ordered[..end];
-    let mut trail = take_all(alloc, program, mode, upto)?;
+    let mut trail = take_all(alloc, program, mode, upto, watch)?;
     trail.end_run(alloc, mode)?;
-    take_beyond(alloc, program, own, &ordered[end..], &mut trail)?;
+    let beyond = &ordered[end..];
+    take_beyond(alloc, program, own, beyond, &mut trail)?;
+    watch.note(beyond.len());
     let late = late(ordered, &trail.goods);
     Ok(SalvagedHart {
         parts: trail.parts,

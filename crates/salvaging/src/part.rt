@@ -34,7 +34,14 @@ pub enum Part<A: Allocator = Global> {
         why: Reason,
     },
     /// A doubtful number: it came with two payloads, and none of them is used.
-    Doubtful(u64),
+    Doubtful {
+        /// The number.
+        number: u64,
+        /// The place of its first message among the messages of the hart, as of a bad one.
+        first: usize,
+        /// The place of the first message with the number after it whose payload is another.
+        second: usize,
+    },
     /// A number that stands alone: it is greater than that of the packet at which the hart ends.
     Alone {
         /// The number.

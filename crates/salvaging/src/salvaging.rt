@@ -22,14 +22,16 @@ use payload::Mode;
 use rvclass::Program;
 use std::alloc::{AllocError, Allocator};
 use std::mem;
+use watching::{Unwatched, Watch};
 
 /// Salvages what is left of each hart, whose messages these are. Each list is taken out, so that it is dropped before
 /// the next hart's packets are decoded.
-fn salvage_each<A: Allocator + Copy>(
+fn salvage_each<A: Allocator + Copy, V: Watch>(
     alloc: A,
     program: &Program,
     mode: Mode,
     lists: &mut Vec<Vec<Came<'_>, A>, A>,
+    watch: &V,
 ) -> Result<Vec<SalvagedHart<A>, A>, AllocError>
     requires { All (λ list. HaveNumbers (arrivals_in list.items)) lists.old.items }
     ensures { IfOk result (λ harts. AreSalvagedOf (words_of program.now) mode lists.old.items harts.items) }
@@ -37,7 +39,7 @@ fn salvage_each<A: Allocator + Copy>(
     let mut harts = Vec::with_capacity(alloc, lists.len())?;
     for hart in 0..lists.len() {
         let came = mem::replace(&mut lists[hart], Vec::new(alloc));
-        harts.push_reserved(salvage_hart(alloc, program, mode, came)?);
+        harts.push_reserved(salvage_hart(alloc, program, mode, came, watch)?);
     }
     Ok(harts)
 }
@@ -77,12 +79,40 @@ pub fn salvage<A: Allocator + Copy>(
     // Of any messages.
     ensures salvaged { IfOk result (IsSalvaged (words_of program.now) mode harts messages.now) }
 {
+    salvage_watched(alloc, program, harts, mode, messages, &Unwatched)
+}
+
+/// Salvages what any messages leave of logs as [`salvage`] does, and tells `watch` of each message once it is decoded:
+/// hart after hart, and of the strangers at last.
+pub fn salvage_watched<A: Allocator + Copy, V: Watch>(
+    alloc: A,
+    program: &Program,
+    harts: u16,
+    mode: Mode,
+    messages: &[Message],
+    watch: &V,
+) -> Result<Salvaged<A>, AllocError>
+    // Of messages of legal logs, in any order and each any number of times.
+    ensures logs { (period : ℕ) (own : ℕ → AnyMode) (logs : List ProgramLog)
+        → AreFromLogs program.now period mode own logs messages.now → length logs ≡ harts
+        → IfOk result (λ salvaged. AreLogsSalvaged program.now period own logs messages.now salvaged) }
+
+    // Of messages of which `losses::collect_lossy` returns pieces, with as many harts and the same mode: the same parts,
+    // none of them bad or doubtful, and the same flags. No message is a copy, late or a stranger.
+    ensures collected { (pieces : List (AnyPieces A)) → GivesPieces program.now harts mode messages.now pieces
+        → IfOk result (AreCollectedToo pieces) }
+
+    // Of any messages.
+    ensures salvaged { IfOk result (IsSalvaged (words_of program.now) mode harts messages.now) }
+{
     // From this call the proof learns that the program is sound.
     let _ = program.base();
     let mut lists = distribute(alloc, harts, messages)?;
-    let salvaged = salvage_each(alloc, program, mode, &mut lists)?;
-    Ok(Salvaged {
+    let salvaged = salvage_each(alloc, program, mode, &mut lists, watch)?;
+    let all = Salvaged {
         harts: salvaged,
         strangers: strangers(harts, messages),
-    })
+    };
+    watch.note(all.strangers);
+    Ok(all)
 }

@@ -31,6 +31,7 @@ use retire::Event;
 use rvclass::Program;
 use std::alloc::{AllocError, Allocator};
 use std::mem;
+use watching::Watch;
 
 /// A hart's decoder, the stretch under way, and what is left of the hart's log so far.
 #[derive(Drop)]
@@ -256,21 +257,31 @@ impl<A: Allocator + Copy> Trail<A> {
         Ok(())
     }
 
-    /// Takes a doubtful number.
+    /// Takes a doubtful number, the first two differing messages of which are at these places.
     pub(crate) fn take_doubtful(
         &mut self,
         alloc: A,
         mode: Mode,
         number: u64,
+        first: usize,
+        second: usize,
     ) -> Result<(), AllocError>
         requires { self.old.next ≤ number }
         ensures { (words : Words) (reads : AnyMode) (run : Run) (next : ℕ) (closed : Bool)
             → IsUnderWay words mode reads run next closed self.old
-            → OnOk result (TakesDoubtful words mode reads run next number closed self.old self.new) }
+            → OnOk result (TakesDoubtful words mode reads run next number first second closed self.old
+            self.new) }
     {
         self.end_run(alloc, mode)?;
         push_gap(&mut self.parts, number - self.next)?;
-        push_part(&mut self.parts, Part::Doubtful(number))?;
+        push_part(
+            &mut self.parts,
+            Part::Doubtful {
+                number,
+                first,
+                second,
+            },
+        )?;
         self.next = number;
         self.goods.reserve(1)?;
         self.goods.push_reserved(false);
@@ -297,18 +308,23 @@ impl<A: Allocator + Copy> Trail<A> {
             Entry::Used { place, message } => {
                 self.take_used(alloc, program, mode, place, message, behind)
             }
-            Entry::Doubtful { number } => self.take_doubtful(alloc, mode, number),
+            Entry::Doubtful {
+                number,
+                first,
+                second,
+            } => self.take_doubtful(alloc, mode, number, first, second),
         }
     }
 }
 
-/// Takes the entries of a hart one after the other. Its messages are in the order of their numbers. The last run is not
-/// ended.
-pub(crate) fn take_all<A: Allocator + Copy>(
+/// Takes the entries of a hart one after the other, and tells of the messages of each. The hart's messages are in the
+/// order of their numbers. The last run is not ended.
+pub(crate) fn take_all<A: Allocator + Copy, V: Watch>(
     alloc: A,
     program: &Program,
     mode: Mode,
     came: &[Came<'_>],
+    watch: &V,
 ) -> Result<Trail<A>, AllocError>
     requires rising { AreRising 0 (map entry_number (entries_by (arrivals_in came.now))) }
     requires small { AreSmall (entries_by (arrivals_in came.now)) }
@@ -320,6 +336,7 @@ pub(crate) fn take_all<A: Allocator + Copy>(
     while let Some((entry, count)) = first_entry(rest) {
         let behind = &rest[count..];
         trail.take(alloc, program, mode, entry, behind)?;
+        watch.note(count);
         rest = behind;
     }
     Ok(trail)

@@ -16,6 +16,7 @@ use message::{Header, MessageFault};
 use payload::Mode;
 use retire::WriteFault;
 use std::io::Write;
+use watching::Watch;
 
 /// Writes what is found in a capture that may be damaged. With a valid header its line comes first, as
 /// [`dump_capture`](captures::dump_capture) writes it. Then comes a line for each frame that is taken and for each
@@ -28,15 +29,20 @@ use std::io::Write;
 /// and the lines go on to the end of the capture all the same.
 ///
 /// The only fault is [`WriteFault::Write`], where the writer failed; what was written then is a prefix of the text. The
-/// time is linear in the capture, whatever it holds. No memory is taken, and the writer is not flushed.
-pub fn search_capture<W: Write>(capture: &[u8], sink: &mut W) -> Result<Dumped, WriteFault>
+/// time is linear in the capture, whatever it holds. No memory is taken, and the writer is not flushed. `watch` is told
+/// of each message whose line is written; [`Unwatched`](watching::Unwatched) is for whoever does not want to know.
+pub fn search_capture<W: Write, V: Watch>(
+    capture: &[u8],
+    sink: &mut W,
+    watch: &V,
+) -> Result<Dumped, WriteFault>
     ensures searched { IfOk result (λ dumped. AppendsDump (IsSearched capture.now) dumped.bad dumped.fault
         (W.contents sink.old) (W.contents sink.new)) }
     ensures begun { OnErr result (BeginsDump (IsSearched capture.now) (W.contents sink.old) (W.contents sink.new)) }
     ensures fault { IfErr result (λ fault. fault ≡ WriteFault.Write) }
 {
     let start = start_of(capture);
-    let bad = write_found(capture, start.header, sink)?;
+    let bad = write_found(capture, start.header, sink, watch)?;
     Ok(Dumped {
         bad,
         fault: stop_of(start.fault),
@@ -55,10 +61,11 @@ fn stop_of(fault: Option<MessageFault>) -> Option<(u64, MessageFault)>
 
 /// Writes the line of the header, if there is one, and those of the spans after it. Returns whether one of these is
 /// damaged.
-fn write_found<W: Write>(
+fn write_found<W: Write, V: Watch>(
     capture: &[u8],
     header: Option<Header>,
     sink: &mut W,
+    watch: &V,
 ) -> Result<bool, WriteFault>
     ensures damaged { IfOk result (λ damaged. damaged ≡ list_any is_damaged (spans_of header capture.now)) }
     ensures text { OnOk result (Appends (W.contents sink.old) (W.contents sink.new) (search_text header capture.now)) }
@@ -66,7 +73,7 @@ fn write_found<W: Write>(
     ensures fault { IfErr result (λ fault. fault ≡ WriteFault.Write) }
 {
     write_start(header, sink)?;
-    write_spans(mode_of(header), spans_of(capture, header), sink)
+    write_spans(mode_of(header), spans_of(capture, header), sink, watch)
 }
 
 /// Writes the line of the header, if there is one.
@@ -92,7 +99,12 @@ fn mode_of(header: Option<Header>) -> Mode
 }
 
 /// Writes the lines of spans, and returns whether one of them is damaged.
-fn write_spans<W: Write>(mode: Mode, spans: Spans<'_>, sink: &mut W) -> Result<bool, WriteFault>
+fn write_spans<W: Write, V: Watch>(
+    mode: Mode,
+    spans: Spans<'_>,
+    sink: &mut W,
+    watch: &V,
+) -> Result<bool, WriteFault>
     ensures damaged { IfOk result (λ damaged. damaged ≡ list_any is_damaged spans.entry) }
     ensures text { OnOk result (Appends (W.contents sink.old) (W.contents sink.new) (spans_text mode spans.entry)) }
     ensures begun { AppendsBeginning (spans_text mode spans.entry) (W.contents sink.old) (W.contents sink.new) }
@@ -101,8 +113,16 @@ fn write_spans<W: Write>(mode: Mode, spans: Spans<'_>, sink: &mut W) -> Result<b
     let mut damaged = false;
     for span in spans {
         damaged |= write_span(mode, &span, sink)?;
+        note(watch, &span);
     }
     Ok(damaged)
+}
+
+/// Tells of the message of a span, if there is one.
+fn note<V: Watch>(watch: &V, span: &Span) {
+    if matches!(span, Span::Frame { .. }) {
+        watch.note(1);
+    }
 }
 
 /// Writes the line of a span, and returns whether it is damaged.

@@ -5,7 +5,7 @@
 mod limits;
 mod words;
 
-pub use limits::{LONGEST_PERIOD, SHORTEST_PERIOD, SMALLEST_CAPACITY};
+pub use limits::{GREATEST_FIRST, LONGEST_PERIOD, SHORTEST_PERIOD, SMALLEST_CAPACITY};
 pub use words::{
     Asked, Audit, Bench, Capture, Check, Decode, Dump, Encode, Listing, Measure, Replay, Salvage,
 };

@@ -6,5 +6,8 @@ pub const SHORTEST_PERIOD: u16 = 1;
 /// The most retirements from one periodic synchronisation to the next.
 pub const LONGEST_PERIOD: u16 = 65535;
 
+/// The greatest hart that the first of some logs may be of.
+pub const GREATEST_FIRST: u16 = 1023;
+
 /// The fewest messages that the funnel may hold.
 pub const SMALLEST_CAPACITY: u32 = 1;

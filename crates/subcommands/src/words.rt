@@ -20,8 +20,8 @@ pub struct Check<'a> {
     pub logs: Vec<&'a str>,
 }
 
-/// `encode --base B [--period N] [--full] [--v1] [--hex] [--long] [--progress] IMAGE LOG...`: the messages of the log
-/// of each hart.
+/// `encode --base B [--period N] [--full] [--v1] [--hex] [--first H] [--of N] [--long] [--progress] IMAGE LOG...`: the
+/// messages of the log of each hart.
 #[derive(Debug, Drop)]
 pub struct Encode<'a> {
     /// The address of the image's first byte, not yet read as a number.
@@ -34,6 +34,10 @@ pub struct Encode<'a> {
     pub version: Version,
     /// Whether the messages are wanted as lines of hexadecimal.
     pub hex: bool,
+    /// The hart of the first log, 0 to 1023, where it is given.
+    pub first: Option<u16>,
+    /// Of how many harts the logs are a part, 1 to 1024, where that is given.
+    pub of: Option<u16>,
     /// Whether a log may have up to 4,294,967,295 rows. Where this is false, it may have up to 16,777,216.
     pub long: bool,
     /// Whether a terminal is shown how far the logs are read.
@@ -44,16 +48,18 @@ pub struct Encode<'a> {
     pub logs: Vec<&'a str>,
 }
 
-/// `dump [--search] CAPTURE`: the messages of a capture, as text.
+/// `dump [--search] [--progress] CAPTURE`: the messages of a capture, as text.
 #[derive(Debug, Drop)]
 pub struct Dump<'a> {
     /// Whether messages are looked for where bytes are none.
     pub search: bool,
+    /// Whether a terminal is shown how far the capture is worked through.
+    pub progress: bool,
     /// The path of the capture.
     pub capture: &'a str,
 }
 
-/// `decode --base B [--harts N] [--lossy] IMAGE CAPTURE`: the logs that the messages of a capture describe.
+/// `decode --base B [--harts N] [--lossy] [--progress] IMAGE CAPTURE`: the logs that the messages of a capture describe.
 #[derive(Debug, Drop)]
 pub struct Decode<'a> {
     /// The address of the image's first byte, not yet read as a number.
@@ -62,6 +68,8 @@ pub struct Decode<'a> {
     pub harts: u16,
     /// Whether messages of the capture may be lost.
     pub lossy: bool,
+    /// Whether a terminal is shown how far the capture is worked through.
+    pub progress: bool,
     /// The path of the image.
     pub image: &'a str,
     /// The path of the capture.
@@ -110,14 +118,18 @@ pub struct Bench<'a> {
     pub logs: Vec<&'a str>,
 }
 
-/// `audit [--packets] [--summary] SENT RECEIVED`: what became of the messages of one capture, by another
-/// capture of what arrived.
+/// `audit [--packets] [--unnumbered] [--summary] [--progress] SENT RECEIVED`: what became of the messages of one
+/// capture, by another capture of what arrived.
 #[derive(Debug, Drop)]
 pub struct Audit<'a> {
     /// Whether a message is compared by the packet that its payload unpacks to, and not by its bytes.
     pub packets: bool,
-    /// Whether the lines of single messages and of lost numbers are left out.
+    /// Whether the numbers of what arrived are not looked at.
+    pub unnumbered: bool,
+    /// Whether the lines of single messages, of bytes that are no message and of lost numbers are left out.
     pub summary: bool,
+    /// Whether a terminal is shown how far the capture is worked through.
+    pub progress: bool,
     /// The path of the capture that was sent.
     pub sent: &'a str,
     /// The path of the capture that came.
@@ -144,23 +156,26 @@ pub struct Measure<'a> {
     pub logs: Vec<&'a str>,
 }
 
-/// `list --base B [--harts N] [--symbols FILE] IMAGE CAPTURE`: what each message of a capture says and settles.
+/// `list --base B [--harts N] [--symbols FILE] [--progress] IMAGE CAPTURE`: what each message of a capture
+/// says and settles.
 #[derive(Debug, Drop)]
 pub struct Listing<'a> {
     /// The address of the image's first byte, not yet read as a number.
     pub base: &'a str,
-    /// The count of harts of a capture with no header, 1 to 1024.
-    pub harts: u16,
+    /// The count of harts of a capture with no header, 1 to 1024, where it is given.
+    pub harts: Option<u16>,
     /// The path of the program's symbols, where they are given.
     pub symbols: Option<&'a str>,
+    /// Whether a terminal is shown how far the capture is worked through.
+    pub progress: bool,
     /// The path of the image.
     pub image: &'a str,
     /// The path of the capture.
     pub capture: &'a str,
 }
 
-/// `salvage --base B [--harts N] [--summary] IMAGE CAPTURE`: what is left of the log of each hart after any damage to a
-/// capture.
+/// `salvage --base B [--harts N] [--summary] [--progress] IMAGE CAPTURE`: what is left of the log of each hart after any
+/// damage to a capture.
 #[derive(Debug, Drop)]
 pub struct Salvage<'a> {
     /// The address of the image's first byte, not yet read as a number.
@@ -169,6 +184,8 @@ pub struct Salvage<'a> {
     pub harts: Option<u16>,
     /// Whether the texts of the logs are left out.
     pub summary: bool,
+    /// Whether a terminal is shown how far the capture is worked through.
+    pub progress: bool,
     /// The path of the image.
     pub image: &'a str,
     /// The path of the capture.

@@ -4,13 +4,14 @@ use Rattle.std.proofs.Common.{subst, sym}
 use Rattle.subcommands.specs.declared.words.Asked.{Asked}
 use Rattle.subcommands.specs.declared.words.Asked.TheVariants.{Audit, Bench, Check, Decode, Dump, Encode, Listing}
 use Rattle.subcommands.specs.declared.words.Asked.TheVariants as asked_for
+use Rattle.subcommands.specs.declared.words.Encode.{Encode as AskedEncode}
 use Rattle.subcommands.specs.declared.words.Asked.TheVariants.{Measure, Replay, Salvage}
 use Rattle.log_commands.specs.Benching.{BenchesLogs}
 use Rattle.commands.specs.CarriedOut.{IsCarriedOut}
 use Rattle.log_commands.specs.Checking.{WritesLines}
 use Rattle.capture_commands.specs.Decoded.{WritesLogs}
 use Rattle.capture_commands.specs.Dumping.{WritesDump}
-use Rattle.capture_commands.specs.Listed.{WritesListing}
+use Rattle.capture_commands.specs.Listed.{WritesListing, harts_or_one}
 use Rattle.capture_commands.specs.Salvaging.{WritesSalvaged}
 use Rattle.capture_commands.specs.Symbols.{AreSymbols}
 use Rattle.capture_commands.specs.declared.reason.CaptureReason.TheVariants as capture
@@ -21,7 +22,7 @@ use Rattle.commands.specs.Faults.{Fault, Printed, command_reason_status, final_s
 use Rattle.commands.specs.Joined.{joined_end, joined_printed}
 use Rattle.commands.specs.declared.reason.CommandReason.{CommandReason}
 use Rattle.commands.specs.declared.reason.CommandReason.TheVariants.{Capture, Line, Log, Path, Words}
-use Rattle.log_commands.specs.Encoding.{WritesMessages}
+use Rattle.log_commands.specs.Encoding.{AreLogsOf, ArePartLogs, IsMostLogs, IsPart, WritesMessages}
 use Rattle.command_inputs.specs.Faults.{Path as FilePath}
 use Rattle.command_inputs.specs.Finding.{After, IsFoundFrom}
 use Rattle.command_inputs.specs.Found.{AreFew, IsAskedProgram, IsBase, IsProgramAt, IsRead, program_at}
@@ -32,7 +33,8 @@ use Rattle.log_commands.specs.Measuring.{WritesTable}
 use Rattle.log_commands.specs.Most.{most_of}
 use Rattle.retire.specs.Log.{most_rows}
 use Rattle.log_commands.specs.Replaying.{ReplaysLogs}
-use Rattle.path_commands.specs.Audited.{IsFoundSent, WritesAudit}
+use Rattle.path_commands.specs.Audited.{Writes}
+use Rattle.path_commands.specs.Sides.{IsFoundSent}
 use Rattle.command_inputs.specs.Status.{code_of}
 use Rattle.command_inputs.specs.declared.fault.Fault.{Fault as AnyFault}
 use Rattle.command_inputs.specs.declared.fault.Fault.TheVariants as fault
@@ -87,6 +89,15 @@ no_logs rows most text image paths =
     not_after (IsAskedProgram none most text image paths) (λ program. AreLegalLogsUpTo rows none program paths)
     (λ program is logs legal. no_asked most text image paths program is)
 
+-- No logs of a part are found.
+no_part : (asked : AskedEncode) → NeverFound (ArePartLogs none asked)
+no_part asked =
+    let after_base = λ (base : ℕ). After (IsMostLogs asked) (AreLogsOf none asked) in
+    not_after (IsPart asked) (λ part. After (IsBase asked.base.now) after_base) (λ part is.
+    not_after (IsBase asked.base.now) after_base (λ base based.
+    not_after (IsMostLogs asked) (AreLogsOf none asked) (λ most found.
+    no_logs (most_of asked.long) most asked.base.now asked.image asked.logs.items)))
+
 -- No run ends well whose input, once found, leads to no such end.
 not_going : {W A : Type 0} (Finds : Result A (AnyFault W) → Type 0) (next : A → AnyPrinted W → Type 0)
     (printed : AnyPrinted W) (status : Status) (found : Result A (AnyFault W)) → printed.ended ≡ Ok status
@@ -128,10 +139,8 @@ not_ended (Check asked) status old new done =
 not_ended (Encode asked) status old new done =
     let own = done.prints.own in
     let ends = ends_so Log done.text status own done.prints.is in
-    not_first (AreAskedLogsUpTo (most_of asked.long) none _ asked.base.now asked.image asked.logs.items)
-    (WritesMessages asked) own status ends
-    (λ logs are messages. no_logs (most_of asked.long) _ asked.base.now asked.image asked.logs.items logs are)
-    done.prints.prints
+    not_first (ArePartLogs none asked) (WritesMessages asked) own status ends
+    (λ logs are messages. no_part asked logs are) done.prints.prints
 not_ended (Dump asked) status old new done =
     let own = done.prints.own in
     let ends = ends_so Capture done.text status own done.prints.is in
@@ -161,7 +170,7 @@ not_ended (Audit asked) status old new done =
     let own = done.prints.own in
     let ends = ends_so Path done.text status own done.prints.is in
     not_first (IsRead none asked.sent) (λ bytes. First (IsFoundSent asked.sent bytes) (λ sent.
-    First (IsRead none asked.received) (WritesAudit asked sent))) own status ends
+    First (IsRead none asked.received) (Writes asked.unnumbered asked sent))) own status ends
     (λ bytes read prints. no_bytes asked.sent bytes read) done.prints.prints
 not_ended (Measure asked) status old new done =
     let own = done.prints.own in
@@ -175,10 +184,10 @@ not_ended (Listing asked) status old new done =
     let ends = ends_so Capture done.text status own done.prints.is in
     not_first (IsBase asked.base.now) (λ base. First (IsProgramAt none base asked.image) (λ program.
     First (AreSymbols none asked.symbols) (λ symbols. First (IsRead none asked.capture)
-    (WritesListing asked.harts program symbols)))) own status ends
+    (WritesListing (harts_or_one asked.harts) program symbols)))) own status ends
     (λ base is prints. not_first (IsProgramAt none base asked.image) (λ program.
     First (AreSymbols none asked.symbols) (λ symbols. First (IsRead none asked.capture)
-    (WritesListing asked.harts program symbols))) own status ends
+    (WritesListing (harts_or_one asked.harts) program symbols))) own status ends
     (λ program made listing. no_program base asked.image program made) prints) done.prints.prints
 not_ended (Salvage asked) status old new done =
     let own = done.prints.own in
@@ -201,11 +210,15 @@ reason_faulty : (why : CommandReason) → code_of (command_reason_status why) �
 reason_faulty Words = λ is. omega arith
 reason_faulty (Log (log.Schedule why)) = λ is. omega arith
 reason_faulty (Log (log.Unsent why)) = λ is. omega arith
+reason_faulty (Log log.FirstAlone) = λ is. omega arith
+reason_faulty (Log (log.ManyHarts most)) = λ is. omega arith
+reason_faulty (Log (log.FirstHart harts)) = λ is. omega arith
 reason_faulty (Capture capture.Header) = λ is. omega arith
 reason_faulty (Capture (capture.Message number why)) = λ is. omega arith
 reason_faulty (Capture (capture.Unclosed hart)) = λ is. omega arith
 reason_faulty (Capture (capture.Symbols path why)) = λ is. omega arith
 reason_faulty (Path (audit.Damaged path)) = λ is. omega arith
+reason_faulty (Path (audit.Unread path number why)) = λ is. omega arith
 reason_faulty (Path (audit.Sent sent why)) = λ is. omega arith
 reason_faulty (Line why) = λ is. omega arith
 

@@ -1,24 +1,29 @@
-//! How much of some files is read, in words, and how often that is written.
+//! How much of some files is read, or how many of their messages are worked through, in words, and how often that is
+//! written.
 
 ghost use Rattle.std.specs.Prelude.{◌≡◌, Some};
-ghost use Rattle.tracebench.specs.steps.Progress.{amount_of, amount_text, is_due};
+ghost use Rattle.tracebench.specs.steps.Progress.{amount_of, amount_text, is_due, is_looked_at};
 
 use std::fmt;
+
+/// The clock is looked at once for so many messages, so that most of them do not cost what it takes.
+pub(crate) const MESSAGES_A_LOOK: u64 = 64;
 
 /// At least so many milliseconds are between two writes of the line.
 pub(crate) const PERIOD_MILLIS: u64 = 100;
 
-/// How much of some files is read.
+/// How much of some files is read, or how many of their messages are worked through.
 #[derive(Clone, Copy, Debug, PartialEq, Eq)]
 pub(crate) enum Amount {
-    /// So many hundredths of all their bytes.
+    /// So many hundredths of all their bytes, or of all messages.
     Share(u64),
     /// So many bytes, where it is not known how many there are.
     Bytes(u64),
 }
 
 impl Amount {
-    /// How much is read where so many bytes were read of so many. The total is 0 where it is not known.
+    /// How much it is where so many bytes were read of so many, or so many messages were worked through. The total is 0
+    /// where it is not known.
     pub(crate) fn of(read: u64, total: u64) -> Amount
         ensures { result ≡ amount_of read total }
     {
@@ -42,6 +47,13 @@ impl fmt::Display for Amount {
             Amount::Bytes(bytes) => write!(f, "{bytes} bytes"),
         }
     }
+}
+
+/// Whether the time is looked at where so many messages were worked through, and so many are now.
+pub(crate) fn is_looked_at(before: u64, now: u64) -> bool
+    ensures { result ≡ is_looked_at before now }
+{
+    before / MESSAGES_A_LOOK != now / MESSAGES_A_LOOK
 }
 
 /// Whether the line may be written again at this time, where it was written last at that one. Times are milliseconds.

@@ -1,6 +1,6 @@
-//! A line on a terminal that says how much of some files is read.
+//! A line on a terminal that says how much of some files is read, or how many of their messages are worked through.
 
-use crate::progress::{Amount, is_due};
+use crate::progress::{Amount, is_due, is_looked_at};
 use std::alloc::Global;
 use std::io;
 use std::io::Write;
@@ -10,7 +10,8 @@ use std::sync::atomic::{AtomicBool, AtomicU64, Ordering};
 /// Blanks over the longest line, which has 20 digits and ` bytes`.
 const BLANKS: &[u8] = b"\r                          \r";
 
-/// A line on a terminal that says how much of some files is read. Threads that read the files share it.
+/// A line on a terminal that says how much of some files is read, or how many of their messages are worked through.
+/// Threads that read the files share it.
 #[derive(Drop)]
 pub(crate) struct ProgressLine {
     /// Whether the line may be written.
@@ -21,9 +22,9 @@ pub(crate) struct ProgressLine {
     is_taken: AtomicBool,
     /// When the line was written last, or begun, in milliseconds of the clock.
     written: AtomicU64,
-    /// How many bytes were read.
+    /// How many bytes were read, or messages worked through.
     read: AtomicU64,
-    /// How many bytes there are, or 0 where that is not known.
+    /// How many bytes or messages there are, or 0 where that is not known.
     total: AtomicU64,
 }
 
@@ -47,8 +48,8 @@ impl ProgressLine {
         }
     }
 
-    /// Begins a line about files that have so many bytes; 0 says that this is not known. Nothing is written until bytes
-    /// were read for a while.
+    /// Begins a line about files that have so many bytes or messages; 0 says that this is not known. Nothing is written
+    /// until bytes were read, or messages worked through, for a while.
     pub(crate) fn begin<C: Clock>(&self, clock: &C, total: u64) {
         let Ok(now) = millis(clock) else {
             return;
@@ -76,6 +77,26 @@ impl ProgressLine {
         }
         self.write_if_due(clock, alloc, err);
         self.is_taken.store(false, Ordering::SeqCst);
+    }
+
+    /// Notes that so many messages more were worked through, by one thread at a time, and writes the line again where
+    /// it was begun and that is due. Most calls do not look at the clock.
+    pub(crate) fn add_messages<C: Clock, E: Write>(
+        &self,
+        clock: &C,
+        alloc: Global,
+        err: &mut E,
+        count: u64,
+    ) {
+        if !self.is_begun.load(Ordering::Relaxed) {
+            return;
+        }
+        let before = self.read.load(Ordering::Relaxed);
+        let now = before.saturating_add(count);
+        self.read.store(now, Ordering::Relaxed);
+        if is_looked_at(before, now) {
+            self.add(clock, alloc, err, 0);
+        }
     }
 
     /// Writes the line again where that is due. One call of `write_all` is made, so that no other text parts the line.

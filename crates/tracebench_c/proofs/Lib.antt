@@ -1,5 +1,6 @@
 mod DecodersBack
 mod EventsBack
+mod EventsPassed
 mod HartFound
 mod HeaderMade
 mod Hearing
@@ -7,6 +8,7 @@ mod MapSteps
 mod PacketsBack
 mod PassingBack
 mod StatesBack
+mod StepsJudged
 mod StepsTaken
 mod TextsRead
 mod WorkedNumbers

@@ -5,6 +5,7 @@ use Rattle.decoder.specs.DecoderStands.{DecoderStands}
 use Rattle.decoder.specs.Resuming.{HasMode, IsClosed, IsSync, PassesOver}
 use Rattle.decoder.specs.StateStands.{decoder_of}
 use Rattle.decoder.specs.declared.decoding.Decoder.{Decoder}
+use Rattle.decoder.specs.declared.settling.Waiting.{Waiting}
 use Rattle.decoder.specs.declared.state.DecoderState.{DecoderState}
 use Rattle.decoder.specs.declared.state.Phase.{Phase}
 use Rattle.decoder.specs.declared.state.Phase.TheVariants.{PassingOver, Closed}
@@ -59,6 +60,16 @@ module _ (numbers : DecoderNumbers) (state : DecoderState) (is : IsOfState numbe
     reads = same_mode state.mode mode (sym (ap (λ n. n.mode) is.same) ∙ pass.reads);
     reported = sym (ap (λ n. n.reported) is.same) ∙ pass.reported;
   })
+
+  -- And a state that passes over packets has such numbers.
+  pub passes_numbers : (mode : Mode) → PassesOver mode (decoder_of state) → PassOver mode numbers
+  passes_numbers mode passes = record {
+    phase = ap (λ n. n.phase) is.same ∙ ap number_of_phase passes.phase;
+    waits = ap (λ n. n.waits) is.same ∙ ap (λ (w : Option Waiting). flag (is_some w)) passes.waiting;
+    has_last = ap (λ n. n.has_last) is.same ∙ ap (λ (l : Option Event). flag (is_some l)) passes.last;
+    reads = ap (λ n. n.mode) is.same ∙ ap number_of_mode passes.reads;
+    reported = ap (λ n. n.reported) is.same ∙ passes.reported;
+  }
 
   -- So are those of one that is closed.
   pub closed_back : AreClosed numbers → IsClosed (decoder_of state)

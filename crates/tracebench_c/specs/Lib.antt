@@ -6,10 +6,14 @@ pub mod DecoderKept
 pub mod EncoderKept
 pub mod Packed
 pub mod Checked
+pub mod Followed
+pub mod EventsChecked
 pub mod Decoded
 pub mod Fed
+pub mod Received
 pub mod Audited
 pub mod Dumped
 pub mod Encoded
 pub mod Pushed
+pub mod PushedChecked
 pub mod steps

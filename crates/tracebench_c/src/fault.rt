@@ -1,8 +1,9 @@
 //! Why a call gives no answer.
 
-ghost use Rattle.std.specs.Prelude.{◌≡◌};
+ghost use Rattle.std.specs.Prelude.{◌≡◌, ◌≤◌};
 ghost use Rattle.tracebench_c.specs.Statuses.{fault_row, fault_status, log_row, log_status, program_status, why_status};
 ghost use Rattle.tracebench_c.specs.declared.fault.Fault.TheVariants.{Memory, Program, Log, Illegal};
+ghost use Rattle.tracebench_c.specs.declared.status.TheConstants.{OFF_PROGRAM};
 
 use crate::status::*;
 use legalpath::{PathFault, Why};
@@ -142,8 +143,9 @@ fn log_row(why: LogFault) -> u64
 }
 
 /// Why a row is illegal.
-fn why_status(why: Why) -> u32
-    ensures { result ≡ why_status why }
+pub(crate) fn why_status(why: Why) -> u32
+    ensures value { result ≡ why_status why }
+    ensures above { OFF_PROGRAM ≤ result }
 {
     match why {
         Why::OffProgram => OFF_PROGRAM,

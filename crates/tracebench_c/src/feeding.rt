@@ -55,6 +55,10 @@ pub extern "C" fn tracebench_decoder(state: &mut DecoderNumbers)
 /// An address packet with plain bits is not settled before the next packet, so its events come with that packet's. Hand
 /// in the same image at each call; it is copied each time.
 ///
+/// A decoder that passes over packets, after [`tracebench_resume`](crate::tracebench_resume), takes each packet up to
+/// the next synchronisation, settles nothing, and keeps its numbers; only a packet that closes the trace closes it. The
+/// synchronisation begins a stretch, as if it came right after the packet that opens a trace.
+///
 /// The status is [`DONE`], or one of these, which leave the numbers and the events as they were:
 ///
 /// - [`TOO_SMALL`](crate::status::TOO_SMALL): the buffer is too small for the events, and `count` is how many there

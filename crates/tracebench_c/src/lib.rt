@@ -18,11 +18,13 @@ mod encoding;
 mod events;
 mod fault;
 mod feeding;
+mod following;
 mod handing;
 mod numbers;
 mod packing;
 mod path_audit;
 mod pushing;
+mod receiving;
 pub mod status;
 #[cfg(test)]
 mod tests;
@@ -38,10 +40,14 @@ pub use encoding::{LogPlace, VERSION_ONE, VERSION_TWO, tracebench_encode};
 pub use events::{EventNumbers, RETIREMENT, TRAP_TAKEN};
 pub use fault::Fault;
 pub use feeding::{FedPayload, FeedFault, tracebench_decoder, tracebench_feed};
+pub use following::{EventsFault, StepFault, tracebench_check_events, tracebench_follow};
 pub use numbers::{
     ADDRESS, DIFFERENTIAL, ENDED_NTR, ENDED_REP, FULL, MAP, NOTIFY, OPEN, PLAIN, PacketNumbers,
     SYNC, TRAP, UPDISCON,
 };
 pub use packing::{tracebench_pack, tracebench_unpack};
 pub use path_audit::{AuditEnd, AuditFault, HartAudited, HartTally, tracebench_audit};
-pub use pushing::{tracebench_encoder, tracebench_finish, tracebench_push};
+pub use pushing::{
+    tracebench_encoder, tracebench_finish, tracebench_push, tracebench_push_checked,
+};
+pub use receiving::{HartNumbers, tracebench_receive, tracebench_resume};

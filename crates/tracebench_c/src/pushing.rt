@@ -3,8 +3,10 @@
 ghost use Rattle.std.specs.Prelude.{◌≡◌, ◌≢◌, ◌<◌, ◌⊎◌, ◌++◌, ◌∷◌, [], ℕ, List, Some, length, map};
 ghost use Rattle.encoder.specs.Packets.{packets as packets_of};
 ghost use Rattle.encoder.specs.PacketsSoFar.{packets_so_far};
+ghost use Rattle.encoder.specs.StateStands.{StateStands};
+ghost use Rattle.legalpath.specs.Legal.{Legal};
 ghost use Rattle.payload.specs.declared.mode.Mode.{Mode};
-ghost use Rattle.retire.specs.declared.event.Event.{Event};
+ghost use Rattle.retire.specs.declared.event.Event.{Event as AnyEvent};
 ghost use Rattle.rvclass.specs.Fetch.{words_of};
 ghost use Rattle.rvclass.specs.Image.{Image};
 ghost use Rattle.rvclass.specs.Words.{Words};
@@ -12,16 +14,20 @@ ghost use Rattle.tracebench_c.specs.Encoded.{mode_of};
 ghost use Rattle.tracebench_c.specs.EncoderKept.{AreOfEncoder, NumbersStand};
 ghost use Rattle.tracebench_c.specs.Numbers.{numbers_of};
 ghost use Rattle.tracebench_c.specs.Pushed.{AreFew, AreMore, EndsFinish, EndsPush, IsNext, IsOn, new_status};
+ghost use Rattle.tracebench_c.specs.PushedChecked.{EndsPushChecked, JudgesNext, MayBeNext};
 ghost use Rattle.tracebench_c.specs.declared.status.TheConstants.{DONE, MEMORY, TOO_SMALL};
 
 use crate::checking::program_of;
 use crate::encoder_state::{EncoderNumbers, numbers_of_state, state_of};
 use crate::encoding::mode_of;
 use crate::events::{EventNumbers, event_of};
+use crate::following::{judge_step, step_status};
 use crate::handing::hand_out_packets;
 use crate::numbers::{PacketNumbers, numbers_of};
 use crate::status::{BAD_STATE, DONE, NO_EVENT, OUT_OF_RANGE};
-use encoder::Encoder;
+use encoder::{Encoder, EncoderState};
+use retire::Event;
+use rvclass::Program;
 use std::alloc::Global;
 
 /// Writes the state of an encoder before the first event of a log, and the packet that opens the trace. There is a
@@ -57,8 +63,9 @@ pub extern "C" fn tracebench_encoder(
 }
 
 /// Takes the next event of a log, and writes the packets that it makes due, 0 to 2, and how many they are. `state`
-/// holds what the encoder keeps of the events before, and then of this one too. Whether the log is legal is not checked
-/// here, but by [`tracebench_check`](crate::tracebench_check). If it is legal, the packets are those of the log.
+/// holds what the encoder keeps of the events before, and then of this one too. If the log is legal, the packets are
+/// those of the log. This call does not check whether it is, and is [`DONE`] for illegal events too:
+/// [`tracebench_push_checked`] checks each event, [`tracebench_check`](crate::tracebench_check) a text.
 ///
 /// The status is [`DONE`]; or [`TOO_SMALL`](crate::status::TOO_SMALL) where the buffer is too small for the packets; or
 /// [`BAD_STATE`] where no encoder has this state, [`NO_EVENT`] where no event has these numbers,
@@ -75,10 +82,10 @@ pub extern "C" fn tracebench_push(
     count: &mut u64,
 ) -> u32
     ensures ends { EndsPush base image.now state.old event.now result }
-    ensures stands { (program : Image) (period : ℕ) (mode : Mode) (log : List Event) (next : Event) →
+    ensures stands { (program : Image) (period : ℕ) (mode : Mode) (log : List AnyEvent) (next : AnyEvent) →
         IsNext base image.now program period mode log next state.old event.now → result ≡ DONE →
         NumbersStand (words_of program) period mode (log ++ next ∷ []) state.new }
-    ensures packets { (program : Image) (period : ℕ) (mode : Mode) (log : List Event) (next : Event) →
+    ensures packets { (program : Image) (period : ℕ) (mode : Mode) (log : List AnyEvent) (next : AnyEvent) →
         IsNext base image.now program period mode log next state.old event.now → result ≢ MEMORY →
         AreMore (packets_so_far (words_of program) period mode log)
         (packets_so_far (words_of program) period mode (log ++ next ∷ [])) result count.new packets.old packets.new }
@@ -98,8 +105,93 @@ pub extern "C" fn tracebench_push(
         Ok(program) => program,
         Err(fault) => return fault.status(),
     };
+    push_event(&program, before, event, state, packets, count)
+}
+
+/// As [`tracebench_push`], where the event is legal after the last one of the log. Where it is not, the status says
+/// why, and nothing is written: the next call may hand in another event.
+///
+/// The event is checked after the one that the state holds. That one is taken as legal, and only checked by itself. So
+/// a log whose events are all pushed by this call, over one image from the state of [`tracebench_encoder`] on, is legal.
+/// Events are not counted: a log of more than 16,777,216 is no fault here.
+///
+/// The status is one of those of [`tracebench_push`], [`OFF_PROGRAM`](crate::status::OFF_PROGRAM) to
+/// [`WRONG_EPC`](crate::status::WRONG_EPC) where the event is illegal, or [`BAD_BEFORE`](crate::status::BAD_BEFORE)
+/// where the event that the state holds is not legal as the first either.
+#[unsafe(no_mangle)]
+pub extern "C" fn tracebench_push_checked(
+    alloc: Global,
+    base: u64,
+    image: &[u8],
+    state: &mut EncoderNumbers,
+    event: &EventNumbers,
+    packets: &mut [PacketNumbers],
+    count: &mut u64,
+) -> u32
+    ensures ends { EndsPushChecked base image.now state.old event.now result }
+    ensures judged { (program : Image) (period : ℕ) (mode : Mode) (log : List AnyEvent) (next : AnyEvent) →
+        MayBeNext base image.now program period mode log next state.old event.now → result ≢ MEMORY →
+        JudgesNext (words_of program) log next result }
+    ensures stands { (program : Image) (period : ℕ) (mode : Mode) (log : List AnyEvent) (next : AnyEvent) →
+        MayBeNext base image.now program period mode log next state.old event.now → result ≡ DONE →
+        NumbersStand (words_of program) period mode (log ++ next ∷ []) state.new }
+    ensures packets { (program : Image) (period : ℕ) (mode : Mode) (log : List AnyEvent) (next : AnyEvent) →
+        MayBeNext base image.now program period mode log next state.old event.now →
+        (result ≡ DONE) ⊎ (result ≡ TOO_SMALL) →
+        AreMore (packets_so_far (words_of program) period mode log)
+        (packets_so_far (words_of program) period mode (log ++ next ∷ [])) result count.new packets.old packets.new }
+    ensures refused { result ≢ DONE → (state.new ≡ state.old) × (packets.new ≡ packets.old) }
+    ensures counted { result ≢ DONE → result ≢ TOO_SMALL → count.new ≡ count.old }
+    ensures two { result ≡ TOO_SMALL → length packets.old < 2 }
+    ensures few { (result ≡ DONE) ⊎ (result ≡ TOO_SMALL) → AreFew result count.new packets.old packets.new }
+    ensures again { result ≡ DONE → AreOfEncoder state.new }
+{
+    let before = match state_of(state) {
+        Some(before) => before,
+        None => return BAD_STATE,
+    };
+    let event = match event_of(event) {
+        Some(event) => event,
+        None => return NO_EVENT,
+    };
+    let program = match program_of(alloc, base, image) {
+        Ok(program) => program,
+        Err(fault) => return fault.status(),
+    };
+    match judge_step(&program, before.held, event) {
+        Ok(()) => push_event(&program, before, event, state, packets, count),
+        Err(fault) => step_status(fault),
+    }
+}
+
+/// Pushes an event to the encoder with this state, and hands out its packets. Only where they fit, the state's numbers
+/// change.
+fn push_event(
+    program: &Program,
+    before: EncoderState,
+    event: Event,
+    state: &mut EncoderNumbers,
+    packets: &mut [PacketNumbers],
+    count: &mut u64,
+) -> u32
+    ensures stands { (period : ℕ) (mode : Mode) (log : List AnyEvent) →
+        StateStands (words_of program.now) period mode log before →
+        Legal (words_of program.now) (log ++ event ∷ []) → result ≡ DONE →
+        NumbersStand (words_of program.now) period mode (log ++ event ∷ []) state.new }
+    ensures packets { (period : ℕ) (mode : Mode) (log : List AnyEvent) →
+        StateStands (words_of program.now) period mode log before →
+        Legal (words_of program.now) (log ++ event ∷ []) →
+        AreMore (packets_so_far (words_of program.now) period mode log)
+        (packets_so_far (words_of program.now) period mode (log ++ event ∷ [])) result count.new packets.old
+        packets.new }
+    ensures status { (result ≡ DONE) ⊎ (result ≡ TOO_SMALL) }
+    ensures refused { result ≢ DONE → (state.new ≡ state.old) × (packets.new ≡ packets.old) }
+    ensures two { result ≡ TOO_SMALL → length packets.old < 2 }
+    ensures few { AreFew result count.new packets.old packets.new }
+    ensures again { result ≡ DONE → AreOfEncoder state.new }
+{
     let mut encoder = Encoder::from_state(before);
-    let burst = encoder.push(&program, event);
+    let burst = encoder.push(program, event);
     let status = hand_out_packets(burst.as_slice(), packets, count);
     if status == DONE {
         *state = numbers_of_state(&encoder.state());
@@ -123,7 +215,7 @@ pub extern "C" fn tracebench_finish(
     count: &mut u64,
 ) -> u32
     ensures ends { EndsFinish base image.now state.now result }
-    ensures packets { (program : Image) (period : ℕ) (mode : Mode) (log : List Event) →
+    ensures packets { (program : Image) (period : ℕ) (mode : Mode) (log : List AnyEvent) →
         IsOn base image.now program period mode log state.now → result ≢ MEMORY →
         AreMore (packets_so_far (words_of program) period mode log) (packets_of (words_of program) period mode log)
         result count.new packets.old packets.new }

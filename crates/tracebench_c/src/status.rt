@@ -153,6 +153,9 @@ pub const BAD_STATE: u32 = 128;
 /// No event has these numbers.
 pub const NO_EVENT: u32 = 129;
 
+/// The event before is illegal, whatever comes before it.
+pub const BAD_BEFORE: u32 = 130;
+
 // Each status is above the one before it, so no two of them are the same.
 const _: () = prove!(
     DONE < TOO_SMALL
@@ -205,4 +208,5 @@ const _: () = prove!(
         && WALKS_AT_WRONG_PRIVILEGE < AFTER_CLOSING_PACKET
         && AFTER_CLOSING_PACKET < BAD_STATE
         && BAD_STATE < NO_EVENT
+        && NO_EVENT < BAD_BEFORE
 );

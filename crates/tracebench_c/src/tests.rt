@@ -6,12 +6,14 @@ mod decoded;
 mod encoded;
 mod event_logs;
 mod fed;
+mod followed;
 mod images;
 mod large;
 mod many_steps;
 mod packed;
 mod payload_traces;
 mod pushed;
+mod received;
 mod rows;
 
 use std::fmt::Debug;

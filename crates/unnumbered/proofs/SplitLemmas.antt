@@ -10,7 +10,8 @@ use Rattle.message.specs.declared.message.Message.{Message}
 use Rattle.alike.specs.Same.{known_by}
 use Rattle.alike.specs.declared.by.By.{By}
 use Rattle.unnumbered.specs.Aligned.{known_payloads}
-use Rattle.unnumbered.specs.steps.Splitting.{AreSplit, added, added_found}
+use Rattle.unnumbered.specs.Split.{AreSplit}
+use Rattle.unnumbered.specs.steps.Splitting.{added, added_found}
 
 abbrev Lists : Type 0
 Lists = List (List (List ℕ))

@@ -15,6 +15,6 @@ mod splitting;
 
 pub use arrivals::arrival_lines;
 pub use counting::{AlignedTotal, HartCounts, counts_of, total_of};
-pub use harts::aligned_harts;
+pub use harts::{SentPayloads, aligned_harts};
 pub use laws::{counts_add_up, whole_is_equal};
 pub use line::Line;

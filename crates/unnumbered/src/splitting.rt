@@ -2,7 +2,8 @@
 
 ghost use Rattle.std.specs.Prelude.{◌≡◌, ◌++◌, [], ◌∷◌, ◌<◌, ℕ, List, IfOk, OnOk, replicate};
 ghost use Rattle.alike.specs.Same.{known_by};
-ghost use Rattle.unnumbered.specs.steps.Splitting.{AreSplit, added};
+ghost use Rattle.unnumbered.specs.Split.{AreSplit};
+ghost use Rattle.unnumbered.specs.steps.Splitting.{added};
 
 use alike::{By, known};
 use message::Message;

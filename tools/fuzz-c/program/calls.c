@@ -8,6 +8,7 @@
 #define IMAGE given->base, given->image.at, given->image.length
 #define BYTES given->bytes.at, given->bytes.length
 #define OTHER given->other.at, given->other.length
+#define EVENT(slice) (const struct tracebench_event *)(const void *)given->slice.at
 #define BUFFER answer->buffer.at, answer->buffer.length, (uint64_t *)(void *)answer->wanted.at
 #define FIRST (void *)answer->first.at
 #define SECOND (void *)answer->second.at
@@ -51,8 +52,20 @@ static uint32_t make_encoder(const struct given *given, struct answer *answer) {
 }
 
 static uint32_t make_push(const struct given *given, struct answer *answer) {
-    const struct tracebench_event *event = (const struct tracebench_event *)(const void *)given->other.at;
-    return tracebench_push(IMAGE, FIRST, event, PACKETS);
+    return tracebench_push(IMAGE, FIRST, EVENT(other), PACKETS);
+}
+
+static uint32_t make_push_checked(const struct given *given, struct answer *answer) {
+    return tracebench_push_checked(IMAGE, FIRST, EVENT(other), PACKETS);
+}
+
+static uint32_t make_follow(const struct given *given, struct answer *answer) {
+    (void)answer;
+    return tracebench_follow(IMAGE, given->mode, EVENT(state), EVENT(other));
+}
+
+static uint32_t make_check_events(const struct given *given, struct answer *answer) {
+    return tracebench_check_events(IMAGE, EVENT(bytes), given->bytes.length / sizeof(struct tracebench_event), FIRST);
 }
 
 static uint32_t make_finish(const struct given *given, struct answer *answer) {
@@ -67,6 +80,14 @@ static uint32_t make_decoder(const struct given *given, struct answer *answer) {
 
 static uint32_t make_feed(const struct given *given, struct answer *answer) {
     return tracebench_feed(IMAGE, FIRST, BYTES, EVENTS);
+}
+
+static uint32_t make_receive(const struct given *given, struct answer *answer) {
+    return tracebench_receive(IMAGE, FIRST, given->number, BYTES, EVENTS, SECOND);
+}
+
+static uint32_t make_resume(const struct given *given, struct answer *answer) {
+    return tracebench_resume(FIRST, given->number, given->mode);
 }
 
 struct tracebench_packet packet_of(const struct answer *answer) {
@@ -123,12 +144,26 @@ static const struct span of_audit[] = {ONE(DONE), ONE(NO_HART), ONE(MEMORY), ONE
 static const struct span of_encoder[] = {ONE(DONE), ONE(OUT_OF_RANGE), END};
 static const struct span of_push[] = {ONE(DONE), ONE(TOO_SMALL), ONE(MEMORY), SPAN(ODD_BASE, PAST_END),
                                       ONE(BAD_STATE), ONE(NO_EVENT), END};
+static const struct span of_push_checked[] = {ONE(DONE), ONE(TOO_SMALL), ONE(MEMORY), SPAN(ODD_BASE, PAST_END),
+                                              SPAN(OFF_PROGRAM, WRONG_EPC), ONE(BAD_STATE), ONE(NO_EVENT),
+                                              ONE(BAD_BEFORE), END};
+static const struct span of_follow[] = {ONE(DONE), ONE(MEMORY), ONE(OUT_OF_RANGE), SPAN(ODD_BASE, PAST_END),
+                                        SPAN(OFF_PROGRAM, WRONG_EPC), ONE(NO_EVENT), ONE(BAD_BEFORE), END};
+static const struct span of_check_events[] = {ONE(DONE), ONE(MEMORY), SPAN(ODD_BASE, PAST_END), ONE(TOO_MANY_ROWS),
+                                              SPAN(OFF_PROGRAM, WRONG_EPC), ONE(NO_EVENT), END};
 static const struct span of_finish[] = {ONE(DONE), ONE(TOO_SMALL), ONE(MEMORY), SPAN(ODD_BASE, PAST_END),
                                         ONE(BAD_STATE), END};
 static const struct span of_decoder[] = {ONE(DONE), END};
 static const struct span of_feed[] = {ONE(DONE), ONE(TOO_SMALL), ONE(MEMORY), SPAN(EMPTY, BAD_REPORT),
                                       SPAN(ODD_BASE, PAST_END), SPAN(NOT_OPENED, AFTER_CLOSING_PACKET),
                                       ONE(BAD_STATE), END};
+
+static const struct span of_receive[] = {ONE(DONE), ONE(TOO_SMALL), ONE(MEMORY), ONE(OUT_OF_RANGE), ONE(REPEAT),
+                                         ONE(GAP), ONE(AFTER_CLOSE), SPAN(EMPTY, BAD_REPORT),
+                                         SPAN(ODD_BASE, PAST_END), SPAN(NOT_OPENED, AFTER_CLOSING_PACKET),
+                                         ONE(BAD_STATE), END};
+static const struct span of_resume[] = {ONE(DONE), ONE(OUT_OF_RANGE), ONE(REPEAT), ONE(AFTER_CLOSE), ONE(BAD_STATE),
+                                        END};
 
 /* Why a capture is not read on; and why it is not decoded on. */
 static const struct span unread[] = {ONE(DONE), ONE(SHORT), ONE(BAD_LENGTH), ONE(BAD_HEADER), END};
@@ -176,6 +211,18 @@ const struct call push = {
     .name = "push", .make = make_push, .statuses = of_push, .first = ALL_OF(struct tracebench_encoder_state),
     .unit = sizeof(struct tracebench_packet), .written = WITH_DONE, .goes_on = true,
 };
+const struct call push_checked = {
+    .name = "push_checked", .make = make_push_checked, .statuses = of_push_checked,
+    .first = ALL_OF(struct tracebench_encoder_state), .unit = sizeof(struct tracebench_packet), .written = WITH_DONE,
+    .goes_on = true,
+};
+const struct call follow = {
+    .name = "follow", .make = make_follow, .statuses = of_follow,
+};
+const struct call check_events = {
+    .name = "check_events", .make = make_check_events, .statuses = of_check_events, .first = ALL_OF(uint64_t),
+    .written = WITH_DONE | WITH_REFUSAL,
+};
 const struct call finish = {
     .name = "finish", .make = make_finish, .statuses = of_finish, .unit = sizeof(struct tracebench_packet),
 };
@@ -188,8 +235,19 @@ const struct call feed = {
     .unit = sizeof(struct tracebench_event), .written = WITH_DONE, .goes_on = true,
 };
 
+const struct call receive = {
+    .name = "receive", .make = make_receive, .statuses = of_receive, .first = ALL_OF(struct tracebench_hart_state),
+    .second = {sizeof(uint64_t), 0}, .unit = sizeof(struct tracebench_event), .written = WITH_DONE | WITH_REFUSAL,
+    .goes_on = true,
+};
+const struct call resume = {
+    .name = "resume", .make = make_resume, .statuses = of_resume, .first = ALL_OF(struct tracebench_hart_state),
+    .written = WITH_DONE, .goes_on = true,
+};
+
 const struct call *const calls[CALLS] = {&pack, &unpack, &check, &encode, &dump, &decode,
-                                         &audit, &encoder, &push, &finish, &decoder, &feed};
+                                         &audit, &encoder, &push, &finish, &decoder, &feed,
+                                         &follow, &check_events, &push_checked, &receive, &resume};
 
 bool is_listed(const struct span *spans, uint32_t status) {
     for (; spans->from <= spans->to; spans++)

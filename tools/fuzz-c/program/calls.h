@@ -8,14 +8,15 @@
 /* What a call is given to read; each call takes some of it. */
 struct given {
     uint64_t base;
+    uint64_t number; /* of a message */
     struct slice image;
     struct slice bytes; /* a payload, the text of a log or of several, a capture, or SENT */
     struct slice other; /* RECEIVED, or where each log ends, or the numbers of a packet or an event */
-    struct slice state; /* of an encoder or a decoder, before the call */
+    struct slice state; /* of an encoder or a decoder, before the call; or the numbers of an event before */
     uint16_t harts;
     uint16_t hart;
     uint16_t period;
-    uint32_t mode;
+    uint32_t mode; /* or whether there is an event before */
     uint32_t version;
 };
 
@@ -56,9 +57,10 @@ struct call {
     bool goes_on; /* `first` is a state, which is at first the one that is given */
 };
 
-enum { CALLS = 12, STATUSES = 256 };
+enum { CALLS = 17, STATUSES = 256 };
 
 extern const struct call pack, unpack, check, encode, dump, decode, audit, encoder, push, finish, decoder, feed;
+extern const struct call follow, check_events, push_checked, receive, resume;
 
 /* All of them. */
 extern const struct call *const calls[CALLS];

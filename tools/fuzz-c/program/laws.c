@@ -196,7 +196,7 @@ static void encode_again(const struct encoding *encoding) {
 }
 
 /* The capture of so many logs, each of which may be encoded. */
-static void follow(const struct encoding *encoding) {
+static void follow_up(const struct encoding *encoding) {
     dump_capture(encoding);
     if (encoding->count <= MOST_FOLLOWED) encode_again(encoding);
     for (size_t times = 0; times < MOST_FOLLOWED && times < encoding->count; times++) {
@@ -215,7 +215,7 @@ void try_encode(struct program *program) {
     if (answer.status == TRACEBENCH_DONE) {
         struct encoding encoding = {&given, &answer, given.other.length / sizeof(uint64_t), plain};
         keep(&program->encoded, answer.buffer.at, answer.buffer.length);
-        follow(&encoding);
+        follow_up(&encoding);
     }
     forget(&given, &answer);
 }

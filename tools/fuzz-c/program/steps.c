@@ -1,5 +1,7 @@
 #include "steps.h"
 
+#include <inttypes.h>
+#include <stdio.h>
 #include <string.h>
 
 #include "draft.h"
@@ -33,7 +35,7 @@ static struct answer step(const struct call *call, const struct given *given) {
     bool there = has_state(given->state.at);
     struct answer answer = exercise(call, given);
     require(there == (answer.status != TRACEBENCH_BAD_STATE), call, "a state is refused, or what is none is not");
-    if (call == &push && there)
+    if ((call == &push || call == &push_checked) && there)
         require(has_event(given->other.at) == (answer.status != TRACEBENCH_NO_EVENT), call,
                 "an event is refused, or what is none is not");
     if (call->goes_on && answer.status == TRACEBENCH_DONE)
@@ -79,9 +81,10 @@ static uint64_t put_packets(struct draft *capture, uint64_t number, const struct
 /* Takes an event. Returns the count of packets then. */
 static uint64_t push_event(struct program *program, struct given *given, struct draft *capture, uint64_t number,
                            const struct tracebench_event *event) {
+    const struct call *call = one_in(2) ? &push : &push_checked;
     exchange(&given->other, copy_of(event, sizeof *event));
-    struct answer answer = step(&push, given);
-    require(answer.status == TRACEBENCH_DONE, &push, "an event of a legal log is not taken");
+    struct answer answer = step(call, given);
+    require(answer.status == TRACEBENCH_DONE, call, "an event of a legal log is not taken");
     number = put_packets(capture, number, &answer);
     exchange(&given->state, again(&answer.first));
     keep(&program->encoders, answer.first.at, answer.first.length);
@@ -194,7 +197,96 @@ void try_push(struct program *program) {
     struct given given = given_bytes(room(0));
     exchange(&given.other, drawn_event(&program->logs));
     exchange(&given.state, drawn_encoder(&program->encoders));
-    try_step(&push, program, &program->encoders, given);
+    try_step(one_in(2) ? &push : &push_checked, program, &program->encoders, given);
+}
+
+void try_follow(struct program *program) {
+    struct given given = given_bytes(room(0));
+    exchange(&given.other, drawn_event(&program->logs));
+    exchange(&given.state, drawn_event(&program->logs));
+    given.mode = one_in(16) ? (uint32_t)any_number() : (uint32_t)below(2);
+    draw_program(&given, program);
+    bool there = has_event(given.other.at) && (given.mode != 1 || has_event(given.state.at));
+    struct answer answer = exercise(&follow, &given);
+    require((given.mode > 1) == (answer.status == TRACEBENCH_OUT_OF_RANGE), &follow, "a flag is refused, or is not");
+    require(given.mode > 1 || there == (answer.status != TRACEBENCH_NO_EVENT), &follow,
+            "an event is refused, or what is none is not");
+    give_back_given(&given);
+    give_back_answer(&answer);
+}
+
+/* Makes a log another one, most often an illegal one: an event goes, comes twice, changes places or is changed. */
+static void derange(struct events *events) {
+    if (events->count == 0 || one_in(4)) return;
+    struct tracebench_event *one = &events->at[below(events->count)], *other = &events->at[below(events->count)];
+    const struct tracebench_event was = *one;
+    switch (below(5)) {
+    case 0: *one = *other; break;
+    case 1:
+        *one = *other;
+        *other = was;
+        break;
+    case 2: *one = events->at[--events->count]; break;
+    case 3: one->address += 2 * below(8); break;
+    default: one->privilege = (uint8_t)(one_in(3) ? 3 : below(2));
+    }
+}
+
+/* Puts an event as a row of a text. */
+static void put_row(struct draft *text, const struct tracebench_event *event) {
+    char row[80];
+    const bool trap = event->kind == TRACEBENCH_TRAP_TAKEN;
+    const unsigned type = !trap ? event->itype : event->interrupt ? 2 : 1;
+    int length = snprintf(row, sizeof row, "%" PRIx64 ",%x,%x,", event->address, type, (unsigned)event->privilege);
+    if (trap) length += snprintf(row + length, 40, "%x,%" PRIx64 "\n", (unsigned)event->cause, event->tval);
+    else length += snprintf(row + length, 40, ",\n");
+    put(text, (const uint8_t *)row, (size_t)length);
+}
+
+/* The row that a call writes. */
+static uint64_t row_of(const struct answer *answer) {
+    uint64_t row;
+    memcpy(&row, answer->first.at, sizeof row);
+    return row;
+}
+
+/* Each event of a log follows the one before, up to the row that a check reports. */
+static void follow_on(const struct program *program, const struct events *events, const struct answer *whole) {
+    struct given given = over(program, 0);
+    const bool legal = whole->status == TRACEBENCH_DONE;
+    const uint64_t good = legal ? events->count : row_of(whole) - 1;
+    for (uint64_t place = 0; place < good + !legal; place++) {
+        given.mode = place != 0;
+        exchange(&given.state, copy_of(&events->at[place - (place != 0)], sizeof *events->at));
+        exchange(&given.other, copy_of(&events->at[place], sizeof *events->at));
+        struct answer answer = exercise(&follow, &given);
+        require(answer.status == (place < good ? TRACEBENCH_DONE : whole->status), &follow,
+                "an event is judged otherwise than in its log");
+        give_back_answer(&answer);
+    }
+    give_back_given(&given);
+}
+
+void try_check_events(struct program *program) {
+    static struct draft text;
+    static const char head[] = "addr,itype,priv,cause,tval\n";
+    struct events events = events_of(any_of(&program->logs));
+    if (events.count == MOST_EVENTS) return;
+    derange(&events);
+    text.length = 0;
+    put(&text, (const uint8_t *)head, strlen(head));
+    for (size_t place = 0; place < events.count; place++) put_row(&text, &events.at[place]);
+    struct given array = over(program, 0), log = over(program, 0);
+    exchange(&array.bytes, copy_of(events.at, events.count * sizeof *events.at));
+    exchange(&log.bytes, copy_of(text.at, text.length));
+    struct answer one = exercise(&check_events, &array), other = run(&check, &log, 0);
+    require(one.status == other.status && row_of(&one) == row_of(&other), &check_events,
+            "events are judged otherwise than their text");
+    follow_on(program, &events, &one);
+    give_back_given(&array);
+    give_back_given(&log);
+    give_back_answer(&one);
+    give_back_answer(&other);
 }
 
 void try_finish(struct program *program) {

@@ -14,8 +14,18 @@ void try_log_in_steps(struct program *program);
 void try_push(struct program *program);
 void try_finish(struct program *program);
 
+/* Any event after any other. */
+void try_follow(struct program *program);
+
+/* Events, most often illegal ones, are judged as their text is, and each as the one after the event before it. */
+void try_check_events(struct program *program);
+
 /* Any payload, at any state. */
 void try_feed(struct program *program);
+
+/* Any message at any state of a hart is taken by its number, and fed as its payload is; and a hart goes on anywhere. */
+void try_receive(struct program *program);
+void try_resume(struct program *program);
 
 /* Any period and mode. */
 void try_encoder(struct program *program);

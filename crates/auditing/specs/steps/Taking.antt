@@ -16,7 +16,7 @@ use Rattle.auditing.specs.declared.finding.Finding.TheVariants as finding
 use Rattle.auditing.specs.declared.row.HartRow.{HartRow}
 use Rattle.auditing.specs.declared.tally.Counts.{Counts}
 use Rattle.auditing.specs.declared.tally.Tally.{Tally}
-use Rattle.auditing.specs.steps.Scanning.{lost_in}
+use Rattle.auditing.specs.Unset.{lost_in}
 
 -- The fate of a message of a hart, by the payload that SENT has with its number, if it has one.
 abbrev pub fate_by : By → HartLedger → ℕ → List ℕ → Option (List ℕ) → Fate

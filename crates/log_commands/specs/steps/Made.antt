@@ -5,7 +5,6 @@ use Rattle.std.specs.List.{flat_map}
 use Rattle.std.specs.declared.alloc.Global.{Global}
 use Rattle.std.specs.declared.vec.Vec.{Vec}
 use Rattle.captures.specs.HexLines.{hex_line}
-use Rattle.captures.specs.Versions.{start_bytes}
 use Rattle.encoder.specs.Payloads.{payloads}
 use Rattle.files.specs.Known.{Content}
 use Rattle.legalpath.specs.ProgramLog.{ProgramLog}
@@ -15,6 +14,7 @@ use Rattle.measuring.specs.Measures.{measures_of}
 use Rattle.measuring.specs.declared.measures.Measures.{Measures}
 use Rattle.message.specs.Capture.{message_bytes}
 use Rattle.message.specs.Numbered.{messages_from}
+use Rattle.message.specs.declared.header.Header.{Header}
 use Rattle.message.specs.declared.message.Message.{Message}
 use Rattle.payload.specs.declared.mode.Mode.{Mode}
 use Rattle.rvclass.specs.Image.{Image}
@@ -22,6 +22,7 @@ use Rattle.subcommands.specs.declared.words.Encode.{Encode}
 use Rattle.command_inputs.specs.Faults.{Path, stop_fault}
 use Rattle.command_inputs.specs.FoundLogs.{AreLegalLogsUpTo}
 use Rattle.log_commands.specs.Faults.{Fault}
+use Rattle.log_commands.specs.Parts.{all_harts, first_hart, part_start}
 use Rattle.log_commands.specs.declared.reason.LogReason.{LogReason}
 
 module _ {X : Type 0} (Makes : ℕ → ProgramLog → X → Type 0) where
@@ -32,8 +33,8 @@ module _ {X : Type 0} (Makes : ℕ → ProgramLog → X → Type 0) where
   AreMadeFrom hart (log ∷ logs) [] = ⊥
   AreMadeFrom hart (log ∷ logs) (one ∷ made) = Makes hart log one × AreMadeFrom (hart + 1) logs made
 
-  -- The logs at these paths are legal, of at most so many rows each, and this is made of them. The first is that of
-  -- hart 0.
+  -- The logs at these paths are legal, of at most so many rows each, and this is made of them. The first is at
+  -- place 0.
   pub record AreMadeOfLogs (most : ℕ) (content : Content) (program : Image) (paths : List Path) (made : List X)
       : Type 0 where
     pub logs : List ProgramLog
@@ -51,21 +52,29 @@ abbrev pub form_text : Bool → Message → List ℕ
 form_text true = hex_line
 form_text false = message_bytes
 
--- These bytes are the messages of the log of the hart with this number, each written as `text_of` says.
-abbrev pub AreMessagesOf : (Message → List ℕ) → ℕ → Mode → ℕ → ProgramLog → Vec ℕ Global → Type 0
-AreMessagesOf text_of period mode hart log bytes =
-    bytes.items ≡ flat_map text_of (messages_from hart 0 (payloads period mode log))
+-- These bytes are the messages of the log at this place, each written as `text_of` says. The log at place 0 is that of
+-- the first hart.
+abbrev pub AreMessagesOf : (Message → List ℕ) → ℕ → Mode → ℕ → ℕ → ProgramLog → Vec ℕ Global → Type 0
+AreMessagesOf text_of period mode first place log bytes =
+    bytes.items ≡ flat_map text_of (messages_from (first + place) 0 (payloads period mode log))
 
 -- The bytes that were made of logs, one after the other.
 abbrev pub joined : List (Vec ℕ Global) → List ℕ
 joined made = flat_map (λ bytes. bytes.items) made
 
+-- What the header has that is asked for with this many logs.
+abbrev pub asked_header : Encode → ℕ → Header
+asked_header asked logs = record { mode = asked.mode; period = asked.period; harts = all_harts asked.of logs }
+
+-- What is written before the messages of this many logs: before lines of hexadecimal nothing.
+abbrev pub start_of : Encode → ℕ → List ℕ
+start_of asked logs =
+    if asked.hex then []
+    else part_start asked.version (first_hart asked.first) (asked_header asked logs)
+
 -- What is written of the bytes that were made of logs, in the form that is asked for.
 abbrev pub written_of : Encode → List (Vec ℕ Global) → List ℕ
-written_of asked made =
-    if asked.hex then joined made
-    else start_bytes asked.version (record { mode = asked.mode; period = asked.period; harts = length made })
-    ++ joined made
+written_of asked made = start_of asked (length made) ++ joined made
 
 -- These are the measures of a log, and they can be added up.
 abbrev pub AreMeasuresOf : ℕ → Mode → ℕ → ProgramLog → Measures → Type 0

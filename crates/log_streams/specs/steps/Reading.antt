@@ -11,7 +11,7 @@ use Rattle.retire.specs.declared.log_reader.LogReader.{LogReader}
 use Rattle.rvclass.specs.Fetch.{words_of}
 use Rattle.rvclass.specs.Image.{Image}
 use Rattle.log_streams.specs.Illegal.{IsIllegalRow}
-use Rattle.log_streams.specs.Legal.{IsLegalUpTo}
+use Rattle.legalpath.specs.LegalUpTo.{IsLegalUpTo}
 use Rattle.log_streams.specs.declared.illegal_row.IllegalRow.{IllegalRow}
 use Rattle.log_streams.specs.declared.judging.Judging.{Judging}
 use Rattle.log_streams.specs.steps.Judging.{HasJudged}

@@ -6,7 +6,8 @@ use Rattle.command_inputs.specs.Faults.{Path}
 use Rattle.path_commands.specs.Faults.{Fault}
 use Rattle.command_inputs.specs.declared.fault.Fault.TheVariants as fault
 use Rattle.command_inputs.specs.declared.status.Status.{Status}
-use Rattle.path_commands.specs.Audited.{Came, Sent, behind_findings, end_of_audit, is_whole_result}
+use Rattle.path_commands.specs.Audited.{Came, behind_findings, is_whole_result}
+use Rattle.path_commands.specs.Sides.{Sent, end_of_audit}
 
 -- What follows the lines of the messages is written, and the run ends as it should; or the output failed.
 abbrev pub EndsRest : By → Path → Bool → Sent → Came → Result Status Fault → Option (List ℕ) → Option (List ℕ) → Type 0

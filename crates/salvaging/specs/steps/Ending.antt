@@ -27,12 +27,12 @@ BeginsBy words mode payload = (packet : Packet) × IsSync packet × IsGood words
 -- The entry is used.
 abbrev pub is_used : Entry → Bool
 is_used (Used number place payload) = true
-is_used (Doubtful number) = false
+is_used (Doubtful number first second) = false
 
 -- The entry is used, and its packet closes the trace.
 abbrev pub closes : Entry → Bool
 closes (Used number place payload) = is_closing payload
-closes (Doubtful number) = false
+closes (Doubtful number first second) = false
 
 -- Entries beyond the end of their hart were taken: what they leave was added, and none of them is good.
 pub record TakesBeyond {A : Type 0} (words : Words) (mode : Mode) (entries : List Entry) (old new : Trail A)

@@ -1,16 +1,18 @@
 -- From a hart's messages, in the order of their numbers, to the entries.
-use Rattle.std.specs.Prelude.{ℕ, suc, ◌≡◌, ◌<◌, ◌==◌, ◌&&◌, All, Bool, true, false, List, [], ◌∷◌}
+use Rattle.std.specs.Prelude.{ℕ, suc, nat_lt, ◌≡◌, ◌<◌, ◌++◌, ◌==◌, ◌&&◌, All, Bool, true, false, List, [], ◌∷◌, drop}
+use Rattle.std.specs.Prelude.{length, take}
 use Rattle.std.specs.Str.{bytes_eq}
 use Rattle.message.specs.Harts.{end_of_numbers}
 use Rattle.salvaging.specs.Entries.{Entry, Used, Doubtful, entry_number}
 use Rattle.salvaging.specs.declared.entry.Entry.{Entry as Held}
 use Rattle.salvaging.specs.declared.entry.Entry.TheVariants as held
-use Rattle.salvaging.specs.steps.Arrivals.{Arrival}
+use Rattle.salvaging.specs.declared.came.Came.{Came}
+use Rattle.salvaging.specs.steps.Arrivals.{Arrival, arrivals_in}
 
 -- The entry that an entry of the code represents.
 abbrev pub entry_of : Held → Entry
 entry_of (held.Used place message) = Used message.now.number place message.now.payload
-entry_of (held.Doubtful number) = Doubtful number
+entry_of (held.Doubtful number first second) = Doubtful number first second
 
 -- The numbers of entries are those that a hart may have.
 abbrev pub AreSmall : List Entry → Type 0
@@ -20,37 +22,51 @@ AreSmall entries = All (λ entry. entry_number entry < end_of_numbers) entries
 abbrev pub entry_by : Arrival → Entry
 entry_by first = Used first.message.number first.place first.message.payload
 
--- The entry stays where this is true, and else its number is doubtful.
-abbrev pub kept_or_doubtful : Bool → Entry → Entry
-kept_or_doubtful true entry = entry
-kept_or_doubtful false entry = Doubtful (entry_number entry)
+-- The number came with two payloads, first at these two places: the lower one comes first.
+abbrev pub doubtful_at : Bool → ℕ → ℕ → ℕ → Entry
+doubtful_at true number place other = Doubtful number place other
+doubtful_at false number place other = Doubtful number other place
 
--- The entry of a number with one more message: it stays where the payload is the same.
-abbrev pub entry_with : Entry → List ℕ → Entry
-entry_with (Used number place bytes) payload = kept_or_doubtful (bytes_eq bytes payload) (Used number place bytes)
-entry_with (Doubtful number) payload = Doubtful number
+-- The two lowest of three places, of which two are in order: whether the third is below the first of them, and whether
+-- it is below the second.
+abbrev pub doubtful_with : Bool → Bool → ℕ → ℕ → ℕ → ℕ → Entry
+doubtful_with true below number first second place = Doubtful number place first
+doubtful_with false true number first second place = Doubtful number first place
+doubtful_with false false number first second place = Doubtful number first second
 
--- The entry of a number with one more message before the others: where the payloads are the same, it is the first.
-abbrev pub entry_before : Arrival → Entry → Entry
-entry_before first (Used number place bytes) = kept_or_doubtful (bytes_eq first.message.payload bytes) (entry_by first)
-entry_before first (Doubtful number) = Doubtful number
+-- The entry of a number with one more payload, which came first at this place.
+abbrev pub entry_apart : Entry → ℕ → Entry
+entry_apart (Used number at payload) place = doubtful_at (nat_lt at place) number at place
+entry_apart (Doubtful number first second) place =
+    doubtful_with (nat_lt place first) (nat_lt place second) number first second place
+
+-- The entry stays where this is true, and else there is one more payload, which came first at this place.
+abbrev pub kept_or_apart : Bool → Entry → ℕ → Entry
+kept_or_apart true entry place = entry
+kept_or_apart false entry place = entry_apart entry place
+
+-- The entry of a number with one more message, right after this one: it stays where the payload is the same.
+abbrev pub entry_with : Entry → Arrival → Arrival → Entry
+entry_with entry before next =
+    kept_or_apart (bytes_eq before.message.payload next.message.payload) entry next.place
 
 -- The entries of messages after those of one number, by whether the next one has that number: it joins them, or begins
 -- the next entry.
-abbrev pub join_or_begin : Bool → Entry → Arrival → (Entry → List Entry) → List Entry
-join_or_begin true entry next Later = Later (entry_with entry next.message.payload)
-join_or_begin false entry next Later = entry ∷ Later (entry_by next)
+abbrev pub join_or_begin : Bool → Entry → Arrival → Arrival → (Entry → List Entry) → List Entry
+join_or_begin true entry before next Later = Later (entry_with entry before next)
+join_or_begin false entry before next Later = entry ∷ Later (entry_by next)
 
--- The entries of messages, where this is the entry of those before them.
-abbrev pub entries_on : Entry → List Arrival → List Entry
-entries_on entry [] = entry ∷ []
-entries_on entry (next ∷ arrivals) =
-    join_or_begin (entry_number entry == next.message.number) entry next (λ later. entries_on later arrivals)
+-- The entries of messages, where this is the entry of those before them, and the last of those.
+abbrev pub entries_on : Entry → Arrival → List Arrival → List Entry
+entries_on entry before [] = entry ∷ []
+entries_on entry before (next ∷ arrivals) =
+    join_or_begin (entry_number entry == next.message.number) entry before next
+    (λ later. entries_on later next arrivals)
 
 -- The entries of messages in the order of their numbers.
 abbrev pub entries_by : List Arrival → List Entry
 entries_by [] = []
-entries_by (first ∷ arrivals) = entries_on (entry_by first) arrivals
+entries_by (first ∷ arrivals) = entries_on (entry_by first) first arrivals
 
 -- The messages have the same number and the same payload.
 abbrev pub are_alike : Arrival → Arrival → Bool
@@ -81,3 +97,12 @@ HaveOne number (one ∷ arrivals) = (one.message.number ≡ number) × HaveOne n
 pub record AreOfOne (group : List Arrival) (entry : Entry) : Type 0 where
   pub numbers : HaveOne (entry_number entry) group
   pub one : entries_by group ≡ entry ∷ []
+
+-- So many messages come before those that have the last one's number: the others have one number, and the entries part
+-- there.
+pub record IsLastGroup (came : List Came) (front : ℕ) : Type 0 where
+  pub number : ℕ
+  pub within : front < length came
+  pub have : HaveOne number (arrivals_in (drop front came))
+  pub parted : entries_by (arrivals_in came)
+      ≡ entries_by (arrivals_in (take front came)) ++ entries_by (arrivals_in (drop front came))

@@ -26,7 +26,7 @@ earliest (entry ∷ entries) (good ∷ goods) = earliest entries goods
 -- Whether an entry's message is late, where this is the place of the earliest good message with a greater number.
 abbrev pub is_late_behind : Entry → Option ℕ → Bool
 is_late_behind (Used number place payload) first = comes_before first place
-is_late_behind (Doubtful number) first = false
+is_late_behind (Doubtful number one other) first = false
 
 -- The place of the earliest good message with an entry before the others, which is good where this is true.
 abbrev pub earliest_with : Entry → Bool → Option ℕ → Option ℕ

@@ -132,10 +132,11 @@ pub record TakesUsed {A : Type 0} (words : Words) (mode reads : Mode) (run : Run
   pub goods : new.goods.items ≡ old.goods.items ++ good ∷ []
 
 -- A doubtful number was taken.
-pub record TakesDoubtful {A : Type 0} (words : Words) (mode reads : Mode) (run : Run) (next number : ℕ) (closed : Bool)
-    (old new : Trail A) : Type 0 where
+pub record TakesDoubtful {A : Type 0} (words : Words) (mode reads : Mode) (run : Run)
+    (next number first second : ℕ) (closed : Bool) (old new : Trail A) : Type 0 where
   pub left : List LeftPart
   pub leaves : RunLeaves words reads run next left
-  pub parts : AddsParts (left ++ (gap (number - next) ++ DoubtfulNumber number ∷ [])) old.parts.items new.parts.items
+  pub parts : AddsParts (left ++ (gap (number - next) ++ DoubtfulNumber number first second ∷ []))
+      old.parts.items new.parts.items
   pub under_way : IsUnderWay words mode reads (run_of 1 []) number closed new
   pub goods : new.goods.items ≡ old.goods.items ++ false ∷ []

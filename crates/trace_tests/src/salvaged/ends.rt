@@ -30,13 +30,13 @@ const SECOND: &[u8] = b"\x0a";
 const NO_PACKET: &[u8] = b"\x00";
 
 /// A part that is wanted: a gap; the first and last number of a stretch and how many events it has; a bad number, its
-/// place and why; a doubtful number; a number that stands alone and its place.
+/// place and why; a doubtful number and its two places; a number that stands alone and its place.
 #[derive(Clone, Copy, Debug, PartialEq)]
 enum Wanted {
     Gap(u64),
     Stretch(u64, u64, usize),
     Bad(u64, usize, Reason),
-    Doubtful(u64),
+    Doubtful(u64, usize, usize),
     Alone(u64, usize),
 }
 
@@ -50,7 +50,11 @@ fn said(part: &Part) -> Wanted {
             events,
         } => Wanted::Stretch(*first, *last, events.len()),
         Part::Bad { number, place, why } => Wanted::Bad(*number, *place, *why),
-        Part::Doubtful(number) => Wanted::Doubtful(*number),
+        Part::Doubtful {
+            number,
+            first,
+            second,
+        } => Wanted::Doubtful(*number, *first, *second),
         Part::Alone { number, place } => Wanted::Alone(*number, *place),
     }
 }
@@ -212,7 +216,7 @@ fn numbers_beyond_the_end(rt: HostRuntime) {
     let wanted = [
         Wanted::Stretch(0, 2, 1),
         Wanted::Alone(4, 4),
-        Wanted::Doubtful(5),
+        Wanted::Doubtful(5, 5, 6),
         Wanted::Bad(7, 7, Reason::Packet(PackFault::Unsupported)),
         Wanted::Bad(9, 0, Reason::Decode(DecodeFault::OffProgram)),
         Wanted::Alone(12, 8),
@@ -225,7 +229,7 @@ fn numbers_beyond_the_end(rt: HostRuntime) {
     let wanted = [
         Wanted::Stretch(0, 2, 1),
         Wanted::Gap(1),
-        Wanted::Doubtful(4),
+        Wanted::Doubtful(4, 3, 4),
     ];
     are_left(
         &rt,
@@ -235,4 +239,38 @@ fn numbers_beyond_the_end(rt: HostRuntime) {
         &wanted,
         (0, true),
     );
+}
+
+/// The places of a doubtful number are those of its first message and of the first one after it with another payload,
+/// in whatever order the payloads are, and where copies or a third payload come too.
+#[test]
+fn places_of_a_doubtful_number(rt: HostRuntime) {
+    let program = program_of(&rt, &[NOP; 3]);
+    let stretch = Wanted::Stretch(0, 1, 1);
+    let sent = [(0, OPEN), (1, FIRST), (2, THIRD), (2, SECOND)];
+    let wanted = [stretch, Wanted::Doubtful(2, 2, 3)];
+    are_left(&rt, "greater", &program, &sent, &wanted, (0, false));
+    let sent = [(2, SECOND), (0, OPEN), (2, THIRD), (1, FIRST)];
+    let wanted = [stretch, Wanted::Doubtful(2, 0, 2)];
+    are_left(&rt, "lower", &program, &sent, &wanted, (0, false));
+    let sent = [
+        (2, THIRD),
+        (0, OPEN),
+        (2, THIRD),
+        (1, FIRST),
+        (2, SECOND),
+        (2, THIRD),
+    ];
+    let wanted = [stretch, Wanted::Doubtful(2, 0, 4)];
+    are_left(&rt, "copies", &program, &sent, &wanted, (0, false));
+    let sent = [
+        (0, OPEN),
+        (2, SECOND),
+        (2, NOWHERE),
+        (1, FIRST),
+        (2, CLOSE),
+        (2, NO_PACKET),
+    ];
+    let wanted = [stretch, Wanted::Doubtful(2, 1, 2)];
+    are_left(&rt, "four", &program, &sent, &wanted, (0, false));
 }

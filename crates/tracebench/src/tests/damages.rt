@@ -247,7 +247,7 @@ $ tracebench salvage --base 80000000 image.bin log.capture
 > stretch: 1 events, numbers 0 to 1
 > addr,itype,priv,cause,tval
 > 80000000,0,3,,
-> doubtful: number 2
+> doubtful: number 2 at 0000001c and 00000028
 > gap: 2 messages
 ? 1
 

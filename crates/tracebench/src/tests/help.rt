@@ -90,6 +90,8 @@ $ tracebench encode --help
 !       --full        Report addresses in full, not as differences
 !       --v1          Write a capture of version 1, which has no header, of at most 64 logs
 !       --hex         Write a line of hexadecimal for each message
+!       --first <H>   The hart of the first log, with --of, 0 to 1023; without it, 0
+!       --of <N>      Of how many harts the logs are a part, 1 to 1024, with --v1 to 64; without it, the count of logs
 !       --long        Take logs of up to 4294967295 rows, not 16777216
 !       --progress    Show how far the logs are read, where standard error is a terminal
 !   -h, --help        Print help
@@ -106,8 +108,9 @@ $ tracebench help dump
 !   <CAPTURE>  File of trace messages
 !
 ! Options:
-!       --search  Go on where bytes are no message, and print how many are passed over
-!   -h, --help    Print help
+!       --search    Go on where bytes are no message, and print how many are passed over
+!       --progress  Show how far the capture is worked through, where standard error is a terminal
+!   -h, --help      Print help
 !
 ! Example:
 !   tracebench dump examples/loop/log.capture
@@ -125,6 +128,7 @@ $ tracebench decode -h
 !       --base <B>   Address of the image's first byte, in hexadecimal
 !       --harts <N>  How many harts a capture of version 1 may have, 1 to 1024 [default: 1]
 !       --lossy      Go on where messages are missing, and print how many are
+!       --progress   Show how far the capture is worked through, where standard error is a terminal
 !   -h, --help       Print help
 !
 ! Example:
@@ -183,9 +187,11 @@ $ tracebench audit --help
 !   <RECEIVED>  File of the trace messages that came
 !
 ! Options:
-!       --packets  Compare messages by the packets that they unpack to, not by their bytes
-!       --summary  Leave out the lines of single messages and of lost numbers
-!   -h, --help     Print help
+!       --packets     Compare messages by the packets that they unpack to, not by their bytes
+!       --unnumbered  Do not look at the numbers of RECEIVED: align what came with what was sent
+!       --summary     Leave out the lines of single messages, of bytes and of lost numbers
+!       --progress    Show how far the capture is worked through, where standard error is a terminal
+!   -h, --help        Print help
 !
 ! Example:
 !   tracebench audit examples/two_harts/both.capture examples/two_harts/both.capture
@@ -221,8 +227,9 @@ $ tracebench list --help
 !
 ! Options:
 !       --base <B>        Address of the image's first byte, in hexadecimal
-!       --harts <N>       How many harts a capture of version 1 may have, 1 to 1024 [default: 1]
+!       --harts <N>       How many harts a capture of version 1 may have, 1 to 1024; without it, 1
 !       --symbols <FILE>  File of the program's symbols, as `nm` prints them
+!       --progress        Show how far the capture is worked through, where standard error is a terminal
 !   -h, --help            Print help
 !
 ! Example:
@@ -241,6 +248,7 @@ $ tracebench salvage --help
 !       --base <B>   Address of the image's first byte, in hexadecimal
 !       --harts <N>  How many harts a capture with no valid header has, 1 to 1024; without it, those of its messages
 !       --summary    Leave out the texts of the logs
+!       --progress   Show how far the capture is worked through, where standard error is a terminal
 !   -h, --help       Print help
 !
 ! Example:
@@ -255,9 +263,9 @@ $ tracebench capture --help
 !   <LINES>  File of lines, each of one message: HART NUMBER BYTES, or HART BYTES
 !
 ! Options:
-!       --v1          Write a capture of version 1, which has no header, of at most 64 logs
-!       --full        Report addresses in full, not as differences
-!       --period <N>  Retirements from one periodic synchronisation to the next, 1 to 65535 [default: 1024]
+!       --v1          Write a capture of version 1, which has no header, of at most 64 harts
+!       --full        The header says that packets report addresses in full, not as differences
+!       --period <N>  The period that the header has, 1 to 65535 [default: 1024]
 !       --harts <N>   How many harts the header counts, 1 to 1024, with --v1 to 64; without it, those up to the highest
 !   -h, --help        Print help
 !

@@ -125,6 +125,11 @@ $ tracebench dump log.capture
 > 0 0 open
 >*{1..70000} 0 @ sync addr=80000000 priv=3 branch=0
 > 0 70001 close ended_ntr
+$ tracebench dump --search log.capture
+> capture 2 mode=diff period=1 harts=1
+> 0 0 open
+>*{1..70000} 0 @ sync addr=80000000 priv=3 branch=0
+> 0 70001 close ended_ntr
 $ tracebench decode --base 80000000 branch.bin log.capture
 > hart 0
 >< log.csv

@@ -30,7 +30,7 @@ $ tracebench salvage --base 80000000 image.bin log.capture
 > stretch: 1 events, numbers 0 to 1
 > addr,itype,priv,cause,tval
 > 80000000,0,3,,
-> doubtful: number 2
+> doubtful: number 2 at 0000001c and 00000028
 > gap: 1 messages
 > stretch: 1 events, numbers 3 to 4
 > addr,itype,priv,cause,tval
@@ -48,7 +48,7 @@ $ tracebench salvage --base 80000000 image.bin log.capture
 > stretch: 1 events, numbers 0 to 1
 > addr,itype,priv,cause,tval
 > 80000000,0,3,,
-> doubtful: number 2
+> doubtful: number 2 at 0000001c and 00000028
 > gap: 1 messages
 > stretch: 1 events, numbers 3 to 4
 > addr,itype,priv,cause,tval
@@ -66,7 +66,7 @@ $ tracebench salvage --base 80000000 image.bin log.capture
 > stretch: 1 events, numbers 0 to 1
 > addr,itype,priv,cause,tval
 > 80000000,0,3,,
-> doubtful: number 2
+> doubtful: number 2 at 0000001c and 00000028
 > gap: 1 messages
 > stretch: 1 events, numbers 3 to 4
 > addr,itype,priv,cause,tval
@@ -83,7 +83,7 @@ file log.capture
 |~ 0 4 cf00
 $ tracebench salvage --base 80000000 image.bin log.capture
 > hart 0
-> doubtful: number 0
+> doubtful: number 0 at 00000000 and 00000010
 > gap: 1 messages
 > stretch: 3 events, numbers 1 to 4
 > addr,itype,priv,cause,tval
@@ -105,7 +105,7 @@ $ tracebench salvage --base 80000000 image.bin log.capture
 > 80000000,0,3,,
 > 80000004,0,3,,
 > 80000008,0,3,,
-> doubtful: number 4
+> doubtful: number 4 at 00000038 and 00000045
 ! tracebench: hart 0: no closing packet
 ? 1
 file log.capture
@@ -118,9 +118,9 @@ file log.capture
 |~ 0 4 cf00
 $ tracebench salvage --base 80000000 image.bin log.capture
 > hart 0
-> doubtful: number 1
+> doubtful: number 1 at 0000000c and 00000028
 > gap: 1 messages
-> doubtful: number 2
+> doubtful: number 2 at 0000001c and 00000034
 > gap: 1 messages
 > stretch: 1 events, numbers 3 to 4
 > addr,itype,priv,cause,tval
@@ -134,7 +134,7 @@ file log.capture
 $ tracebench salvage --base 80000000 image.bin log.capture
 > hart 0
 > gap: 1 messages
-> doubtful: number 2
+> doubtful: number 2 at 0000000c and 00000018
 > gap: 2 messages
 ? 1
 
@@ -152,7 +152,7 @@ $ tracebench salvage --base 80000000 image.bin log.capture
 > stretch: 1 events, numbers 0 to 1
 > addr,itype,priv,cause,tval
 > 80000000,0,3,,
-> doubtful: number 2
+> doubtful: number 2 at 0000001c and 00000028
 > gap: 1 messages
 > stretch: 1 events, numbers 3 to 4
 > addr,itype,priv,cause,tval

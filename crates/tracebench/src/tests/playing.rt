@@ -11,6 +11,12 @@ use std::process::Abort;
 use std::sync::Wait;
 use std::thread::Threads;
 
+/// The subcommands that read a capture and show how far they are.
+const READERS: [&str; 5] = ["dump", "decode", "list", "salvage", "audit"];
+
+/// Those of them that work through all messages, also where one of them is not good.
+const TO_THE_END: [&str; 3] = ["dump", "salvage", "audit"];
+
 /// How the runs of a transcript are played.
 #[derive(Clone, Copy)]
 pub(crate) enum Way {
@@ -18,6 +24,8 @@ pub(crate) enum Way {
     Whole,
     /// Over outputs that fail at each of their calls in turn.
     Failing,
+    /// Over outputs that take all, and with `--progress` where a capture is read.
+    Shown,
 }
 
 /// A run, and what it has to print and report.
@@ -138,6 +146,21 @@ pub(crate) fn words_of<R: Abort + AllocGlobal>(rt: &R, line: &str, number: u64) 
     words
 }
 
+/// Adds `--progress` where a capture is read.
+fn add_progress<R: Abort + AllocGlobal>(rt: &R, words: &mut Vec<String>) {
+    if is_among(words.as_slice(), &READERS) {
+        add_word(rt, words, "--progress", 0);
+    }
+}
+
+/// Whether the subcommand of a line is one of these.
+fn is_among(words: &[String], subcommands: &[&str]) -> bool {
+    match words.get(1) {
+        Some(word) => subcommands.contains(&word.as_str()),
+        None => false,
+    }
+}
+
 /// The first and last number of the range in braces of a line, such as `{1..11}`; 0 and 0 where it has none.
 fn range_of(rt: &impl Abort, line: &str) -> (u64, u64) {
     match line.split_once('{') {
@@ -169,10 +192,13 @@ pub(crate) fn is_played<R: Abort + AllocGlobal + Threads + Wait + Sync>(
             let words = words_of(rt, line, number);
             is_asked(rt, words.as_slice(), run);
         } else if let Some(line) = run.line.strip_prefix('$') {
-            let words = words_of(rt, line, number);
+            let mut words = words_of(rt, line, number);
             cut_files(rt, shelf, words.as_slice());
+            if matches!(way, Way::Shown) {
+                add_progress(rt, &mut words);
+            }
             match way {
-                Way::Whole => is_run(rt, shelf, words.as_slice(), run),
+                Way::Whole | Way::Shown => is_run(rt, shelf, words.as_slice(), run),
                 Way::Failing => fails_at_each_call(rt, shelf, words.as_slice(), run),
             }
         }
@@ -217,6 +243,41 @@ fn each_is_read_once(rt: &impl Abort, shelf: &Shelf, words: &[String], line: &st
     }
 }
 
+/// Progress was begun once at most, where the arguments ask for it, and where all is done just once. What was begun was
+/// ended.
+fn progress_is_as_asked(
+    rt: &impl Abort,
+    shelf: &Shelf,
+    words: &[String],
+    line: &str,
+    is_done: bool,
+) {
+    let (begun, ended) = shelf.progress();
+    let asked = times("--progress", words) as u64;
+    assert!(rt; begun == ended, "{line}: progress is not ended");
+    assert!(rt; begun <= asked, "{line}: progress is begun {begun} times");
+    assert!(rt; begun == asked || !is_done, "{line}: progress is not begun");
+}
+
+/// No more messages were noted than were announced, and where all are worked through, as many. Each was noted between
+/// the begin and the end, and the end came once.
+fn messages_are_noted(rt: &impl Abort, shelf: &Shelf, words: &[String], line: &str, status: u8) {
+    let (messages, noted) = shelf.messages();
+    let to_the_end = status == 0 || (status < 2 && is_among(words, &TO_THE_END));
+    assert!(rt;
+        shelf.strays() == 0,
+        "{line}: messages are noted out of time"
+    );
+    assert!(rt;
+        noted <= messages,
+        "{line}: {noted} of {messages} messages are noted"
+    );
+    assert!(rt;
+        noted == messages || !to_the_end,
+        "{line}: not all messages are noted"
+    );
+}
+
 /// The run has the result that it must have, also where what it reports is not taken.
 fn is_run<R: Abort + AllocGlobal + Threads + Wait + Sync>(
     rt: &R,
@@ -232,6 +293,8 @@ fn is_run<R: Abort + AllocGlobal + Threads + Wait + Sync>(
     let wanted = (run.status, run.written.as_slice(), run.reported.as_slice());
     ends(rt, (run.line, 0), found, wanted);
     each_is_read_once(rt, shelf, words, run.line, status < 2);
+    progress_is_as_asked(rt, shelf, words, run.line, status < 2);
+    messages_are_noted(rt, shelf, words, run.line, status);
     line_fails_at(rt, shelf, words, run, (ErrorKind::TimedOut, 1), &[]);
 }
 
@@ -245,9 +308,11 @@ fn output_fails_at<R: Abort + AllocGlobal + Threads + Wait + Sync>(
 ) {
     let mut out = FailsAt::new(rt.alloc(), ErrorKind::TimedOut, call);
     let mut err = Vec::new(rt.alloc());
+    shelf.forget_reads();
     let status = command(rt.alloc(), rt, shelf, words, &mut out, &mut err);
     let found = (status, out.bytes.as_slice(), err.as_slice());
     ends(rt, (line, call), found, wanted);
+    progress_is_as_asked(rt, shelf, words, line, status < 2);
 }
 
 /// The standard error fails at this one of its calls and in this way, so that it takes this much; nothing else changes.

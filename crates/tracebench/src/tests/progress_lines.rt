@@ -1,6 +1,6 @@
 //! The line of `--progress`, over a clock and a terminal in memory.
 
-use crate::progress::{Amount, is_due};
+use crate::progress::{Amount, is_due, is_looked_at};
 use crate::progress_line::ProgressLine;
 use std::alloc::Global;
 use std::io;
@@ -39,6 +39,22 @@ const TIMES: [(u64, u64, bool); 7] = [
     (1000, 1100, true),
     (1000, 5000, true),
     (1000, 0, false),
+];
+
+/// How many messages were worked through, how many are now, and whether the clock is looked at.
+const LOOKS: [(u64, u64, bool); 8] = [
+    (0, 0, false),
+    (0, 63, false),
+    (0, 64, true),
+    (63, 64, true),
+    (64, 127, false),
+    (127, 128, true),
+    (1, 1000, true),
+    (
+        18_446_744_073_709_551_614,
+        18_446_744_073_709_551_615,
+        false,
+    ),
 ];
 
 /// A clock that is set by hand. At time 0 it cannot be read.
@@ -103,6 +119,52 @@ fn times_of_the_line(rt: HostRuntime) {
     for (last, now, wanted) in TIMES {
         assert_eq!(rt; is_due(last, now), wanted, "{last} and {now}");
     }
+}
+
+#[test]
+fn looks_at_the_clock(rt: HostRuntime) {
+    for (before, now, wanted) in LOOKS {
+        assert_eq!(rt; is_looked_at(before, now), wanted, "{before} and {now}");
+    }
+}
+
+#[test]
+fn a_line_of_messages(rt: HostRuntime) {
+    let alloc = rt.alloc();
+    let line = ProgressLine::new();
+    let clock = HandClock::at(5000);
+    let mut screen = Vec::new(alloc);
+    // Nothing is begun.
+    line.add_messages(&clock, alloc, &mut screen, 64);
+    line.begin(&clock, 200);
+    clock.set(5100);
+    for _ in 0..63 {
+        line.add_messages(&clock, alloc, &mut screen, 1);
+    }
+    assert_eq!(rt; screen.as_slice(), b"".as_slice(), "63 messages");
+    line.add_messages(&clock, alloc, &mut screen, 1);
+    assert_eq!(rt;
+        screen.as_slice(),
+        b"\r32 percent".as_slice(),
+        "64 messages"
+    );
+    clock.set(5200);
+    line.add_messages(&clock, alloc, &mut screen, 63);
+    assert_eq!(rt;
+        screen.as_slice(),
+        b"\r32 percent".as_slice(),
+        "127 messages"
+    );
+    line.add_messages(&clock, alloc, &mut screen, 73);
+    let both = b"\r32 percent\r100 percent".as_slice();
+    assert_eq!(rt; screen.as_slice(), both, "200 messages");
+    clock.set(5299);
+    line.add_messages(&clock, alloc, &mut screen, 1000);
+    assert_eq!(rt; screen.as_slice(), both, "too early");
+    screen.clear();
+    line.end(&mut screen);
+    let erased = b"\r                          \r".as_slice();
+    assert_eq!(rt; screen.as_slice(), erased, "erased");
 }
 
 #[test]

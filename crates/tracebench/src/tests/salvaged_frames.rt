@@ -251,7 +251,7 @@ $ tracebench salvage --base 80000000 image.bin log.capture
 > addr,itype,priv,cause,tval
 > 80000000,0,3,,
 > alone: number 4 at 00000045
-> doubtful: number 5
+> doubtful: number 5 at 00000051 and 0000005d
 > bad: number 7 at 00000069: bad packet: Unsupported
 > alone: number 9 at 00000039
 ? 1

@@ -24,6 +24,16 @@ struct File {
 pub(crate) struct Shelf {
     alloc: Global,
     files: Vec<File>,
+    /// How often progress was begun.
+    begun: AtomicU64,
+    /// How often it had been begun when it was last ended.
+    ended: AtomicU64,
+    /// How many messages were announced where progress was begun.
+    messages: AtomicU64,
+    /// How many of them were noted.
+    noted: AtomicU64,
+    /// How often messages were noted, or the progress of messages was ended, where nothing was under way.
+    strays: AtomicU64,
 }
 
 impl Shelf {
@@ -34,6 +44,11 @@ impl Shelf {
         Shelf {
             alloc,
             files: Vec::new(alloc),
+            begun: AtomicU64::new(0),
+            ended: AtomicU64::new(0),
+            messages: AtomicU64::new(0),
+            noted: AtomicU64::new(0),
+            strays: AtomicU64::new(0),
         }
     }
 
@@ -86,8 +101,13 @@ impl Shelf {
         None
     }
 
-    /// Forgets how often files were read.
+    /// Forgets how often files were read, that progress was begun, and of how many messages.
     pub(crate) fn forget_reads(&self) {
+        self.messages.store(0, Ordering::Relaxed);
+        self.noted.store(0, Ordering::Relaxed);
+        self.strays.store(0, Ordering::Relaxed);
+        self.begun.store(0, Ordering::Relaxed);
+        self.ended.store(0, Ordering::Relaxed);
         for file in &self.files {
             file.reads.store(0, Ordering::Relaxed);
         }
@@ -101,6 +121,34 @@ impl Shelf {
             }
         }
         0
+    }
+
+    /// How often progress was begun, and how often it had been begun when it was last ended.
+    pub(crate) fn progress(&self) -> (u64, u64) {
+        (
+            self.begun.load(Ordering::Relaxed),
+            self.ended.load(Ordering::Relaxed),
+        )
+    }
+
+    /// How often messages were noted, or the progress of messages was ended, where nothing was under way.
+    pub(crate) fn strays(&self) -> u64 {
+        self.strays.load(Ordering::Relaxed)
+    }
+
+    /// Counts a stray where nothing is under way.
+    fn count_stray(&self) {
+        if self.ended.load(Ordering::Relaxed) == self.begun.load(Ordering::Relaxed) {
+            self.strays.fetch_add(1, Ordering::Relaxed);
+        }
+    }
+
+    /// How many messages were announced where progress was begun, and how many were noted.
+    pub(crate) fn messages(&self) -> (u64, u64) {
+        (
+            self.messages.load(Ordering::Relaxed),
+            self.noted.load(Ordering::Relaxed),
+        )
     }
 
     /// Counts a read of the file of this name.
@@ -148,6 +196,29 @@ impl Files for Shelf {
             }),
             Err(why) => Err(why),
         }
+    }
+
+    fn begin_progress(&self, paths: &[&str]) {
+        let _ = paths;
+        self.begun.fetch_add(1, Ordering::Relaxed);
+    }
+
+    fn begin_messages(&self, total: u64) {
+        self.begun.fetch_add(1, Ordering::Relaxed);
+        self.messages.fetch_add(total, Ordering::Relaxed);
+    }
+
+    fn note_messages(&self, count: u64) {
+        self.noted.fetch_add(count, Ordering::Relaxed);
+        self.count_stray();
+    }
+
+    fn end_progress(&self) {
+        if self.messages.load(Ordering::Relaxed) > 0 {
+            self.count_stray();
+        }
+        self.ended
+            .store(self.begun.load(Ordering::Relaxed), Ordering::Relaxed);
     }
 }
 

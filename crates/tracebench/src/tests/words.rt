@@ -58,11 +58,11 @@ pub(crate) const TEXT: &str = r#"
 
 # `encode`: its period, mode, version and lines, long logs, and its progress.
 % tracebench encode --base 80000000 --hex image.bin log.csv
-> Encode(Encode { base: "80000000", period: 1024, mode: Differential, version: Two, hex: true, long: false, progress: false, image: "image.bin", logs: ["log.csv"] })
+> Encode(Encode { base: "80000000", period: 1024, mode: Differential, version: Two, hex: true, first: None, of: None, long: false, progress: false, image: "image.bin", logs: ["log.csv"] })
 % tracebench encode --v1 --base 0 image.bin a.csv b.csv
-> Encode(Encode { base: "0", period: 1024, mode: Differential, version: One, hex: false, long: false, progress: false, image: "image.bin", logs: ["a.csv", "b.csv"] })
+> Encode(Encode { base: "0", period: 1024, mode: Differential, version: One, hex: false, first: None, of: None, long: false, progress: false, image: "image.bin", logs: ["a.csv", "b.csv"] })
 % tracebench encode --base 0 --hex --full image.bin log.csv --v1
-> Encode(Encode { base: "0", period: 1024, mode: Full, version: One, hex: true, long: false, progress: false, image: "image.bin", logs: ["log.csv"] })
+> Encode(Encode { base: "0", period: 1024, mode: Full, version: One, hex: true, first: None, of: None, long: false, progress: false, image: "image.bin", logs: ["log.csv"] })
 % tracebench encode --v1 --base 0 --v1 image.bin log.csv
 ! error: the argument '--v1' cannot be used multiple times
 !
@@ -70,13 +70,13 @@ pub(crate) const TEXT: &str = r#"
 !
 ! For more information, try '--help'.
 % tracebench encode image.bin --base=-1 --period 65535 a.csv b.csv
-> Encode(Encode { base: "-1", period: 65535, mode: Differential, version: Two, hex: false, long: false, progress: false, image: "image.bin", logs: ["a.csv", "b.csv"] })
+> Encode(Encode { base: "-1", period: 65535, mode: Differential, version: Two, hex: false, first: None, of: None, long: false, progress: false, image: "image.bin", logs: ["a.csv", "b.csv"] })
 % tracebench encode --base 0 --period 1 image.bin log.csv
-> Encode(Encode { base: "0", period: 1, mode: Differential, version: Two, hex: false, long: false, progress: false, image: "image.bin", logs: ["log.csv"] })
+> Encode(Encode { base: "0", period: 1, mode: Differential, version: Two, hex: false, first: None, of: None, long: false, progress: false, image: "image.bin", logs: ["log.csv"] })
 % tracebench encode --base 0 --full image.bin log.csv
-> Encode(Encode { base: "0", period: 1024, mode: Full, version: Two, hex: false, long: false, progress: false, image: "image.bin", logs: ["log.csv"] })
+> Encode(Encode { base: "0", period: 1024, mode: Full, version: Two, hex: false, first: None, of: None, long: false, progress: false, image: "image.bin", logs: ["log.csv"] })
 % tracebench encode --hex --full image.bin --base 0 log.csv
-> Encode(Encode { base: "0", period: 1024, mode: Full, version: Two, hex: true, long: false, progress: false, image: "image.bin", logs: ["log.csv"] })
+> Encode(Encode { base: "0", period: 1024, mode: Full, version: Two, hex: true, first: None, of: None, long: false, progress: false, image: "image.bin", logs: ["log.csv"] })
 % tracebench encode --full --base 0 --full image.bin log.csv
 ! error: the argument '--full' cannot be used multiple times
 !
@@ -84,11 +84,11 @@ pub(crate) const TEXT: &str = r#"
 !
 ! For more information, try '--help'.
 % tracebench encode --base 0 --long image.bin log.csv
-> Encode(Encode { base: "0", period: 1024, mode: Differential, version: Two, hex: false, long: true, progress: false, image: "image.bin", logs: ["log.csv"] })
+> Encode(Encode { base: "0", period: 1024, mode: Differential, version: Two, hex: false, first: None, of: None, long: true, progress: false, image: "image.bin", logs: ["log.csv"] })
 % tracebench encode --hex --long --full image.bin --base 0 --v1 log.csv
-> Encode(Encode { base: "0", period: 1024, mode: Full, version: One, hex: true, long: true, progress: false, image: "image.bin", logs: ["log.csv"] })
+> Encode(Encode { base: "0", period: 1024, mode: Full, version: One, hex: true, first: None, of: None, long: true, progress: false, image: "image.bin", logs: ["log.csv"] })
 % tracebench encode --progress --base 0 image.bin log.csv
-> Encode(Encode { base: "0", period: 1024, mode: Differential, version: Two, hex: false, long: false, progress: true, image: "image.bin", logs: ["log.csv"] })
+> Encode(Encode { base: "0", period: 1024, mode: Differential, version: Two, hex: false, first: None, of: None, long: false, progress: true, image: "image.bin", logs: ["log.csv"] })
 % tracebench encode --base 0 image.bin --long log.csv --long
 ! error: the argument '--long' cannot be used multiple times
 !
@@ -113,9 +113,9 @@ pub(crate) const TEXT: &str = r#"
 
 # `dump`, and its search.
 % tracebench dump run.capture
-> Dump(Dump { search: false, capture: "run.capture" })
+> Dump(Dump { search: false, progress: false, capture: "run.capture" })
 % tracebench dump run.capture --search
-> Dump(Dump { search: true, capture: "run.capture" })
+> Dump(Dump { search: true, progress: false, capture: "run.capture" })
 % tracebench dump --full run.capture
 ! error: unexpected argument '--full' found
 !
@@ -140,11 +140,11 @@ pub(crate) const TEXT: &str = r#"
 
 # `decode`: its count of harts, and lost messages.
 % tracebench decode --base 80000000 image.bin run.capture
-> Decode(Decode { base: "80000000", harts: 1, lossy: false, image: "image.bin", capture: "run.capture" })
+> Decode(Decode { base: "80000000", harts: 1, lossy: false, progress: false, image: "image.bin", capture: "run.capture" })
 % tracebench decode image.bin --harts 1 run.capture --base 0
-> Decode(Decode { base: "0", harts: 1, lossy: false, image: "image.bin", capture: "run.capture" })
+> Decode(Decode { base: "0", harts: 1, lossy: false, progress: false, image: "image.bin", capture: "run.capture" })
 % tracebench decode --lossy --base 0 image.bin run.capture
-> Decode(Decode { base: "0", harts: 1, lossy: true, image: "image.bin", capture: "run.capture" })
+> Decode(Decode { base: "0", harts: 1, lossy: true, progress: false, image: "image.bin", capture: "run.capture" })
 % tracebench decode --base 0 --lossy --lossy image.bin run.capture
 ! error: the argument '--lossy' cannot be used multiple times
 !
@@ -152,7 +152,7 @@ pub(crate) const TEXT: &str = r#"
 !
 ! For more information, try '--help'.
 % tracebench decode --base 0 --harts=1024 image.bin run.capture
-> Decode(Decode { base: "0", harts: 1024, lossy: false, image: "image.bin", capture: "run.capture" })
+> Decode(Decode { base: "0", harts: 1024, lossy: false, progress: false, image: "image.bin", capture: "run.capture" })
 % tracebench decode --base 0 --harts 0 image.bin run.capture
 ! error: invalid value '0' for '--harts <N>': 0 is not in 1..=1024
 !
@@ -245,13 +245,13 @@ pub(crate) const TEXT: &str = r#"
 
 # `audit`: its packets and its summary.
 % tracebench audit sent.capture received.capture
-> Audit(Audit { packets: false, summary: false, sent: "sent.capture", received: "received.capture" })
+> Audit(Audit { packets: false, unnumbered: false, summary: false, progress: false, sent: "sent.capture", received: "received.capture" })
 % tracebench audit sent.capture --summary received.capture
-> Audit(Audit { packets: false, summary: true, sent: "sent.capture", received: "received.capture" })
+> Audit(Audit { packets: false, unnumbered: false, summary: true, progress: false, sent: "sent.capture", received: "received.capture" })
 % tracebench audit --packets sent.capture received.capture
-> Audit(Audit { packets: true, summary: false, sent: "sent.capture", received: "received.capture" })
+> Audit(Audit { packets: true, unnumbered: false, summary: false, progress: false, sent: "sent.capture", received: "received.capture" })
 % tracebench audit sent.capture received.capture --summary --packets
-> Audit(Audit { packets: true, summary: true, sent: "sent.capture", received: "received.capture" })
+> Audit(Audit { packets: true, unnumbered: false, summary: true, progress: false, sent: "sent.capture", received: "received.capture" })
 % tracebench audit --summary sent.capture received.capture --summary
 ! error: the argument '--summary' cannot be used multiple times
 !
@@ -319,9 +319,9 @@ pub(crate) const TEXT: &str = r#"
 
 # `list`: its count of harts and its symbols.
 % tracebench list --base 80000000 image.bin run.capture
-> Listing(Listing { base: "80000000", harts: 1, symbols: None, image: "image.bin", capture: "run.capture" })
+> Listing(Listing { base: "80000000", harts: None, symbols: None, progress: false, image: "image.bin", capture: "run.capture" })
 % tracebench list --symbols nm.txt --harts 1024 --base 0 image.bin run.capture
-> Listing(Listing { base: "0", harts: 1024, symbols: Some("nm.txt"), image: "image.bin", capture: "run.capture" })
+> Listing(Listing { base: "0", harts: Some(1024), symbols: Some("nm.txt"), progress: false, image: "image.bin", capture: "run.capture" })
 % tracebench list --base 0 --harts 0 image.bin run.capture
 ! error: invalid value '0' for '--harts <N>': 0 is not in 1..=1024
 !
@@ -340,11 +340,11 @@ pub(crate) const TEXT: &str = r#"
 
 # `salvage`: its count of harts, its summary, and what it does not take.
 % tracebench salvage --base 80000000 image.bin run.capture
-> Salvage(Salvage { base: "80000000", harts: None, summary: false, image: "image.bin", capture: "run.capture" })
+> Salvage(Salvage { base: "80000000", harts: None, summary: false, progress: false, image: "image.bin", capture: "run.capture" })
 % tracebench salvage --harts 1024 --base 0 image.bin run.capture
-> Salvage(Salvage { base: "0", harts: Some(1024), summary: false, image: "image.bin", capture: "run.capture" })
+> Salvage(Salvage { base: "0", harts: Some(1024), summary: false, progress: false, image: "image.bin", capture: "run.capture" })
 % tracebench salvage --base 0 image.bin --summary run.capture
-> Salvage(Salvage { base: "0", harts: None, summary: true, image: "image.bin", capture: "run.capture" })
+> Salvage(Salvage { base: "0", harts: None, summary: true, progress: false, image: "image.bin", capture: "run.capture" })
 % tracebench salvage --base 0 --harts 1025 image.bin run.capture
 ! error: invalid value '1025' for '--harts <N>': 1025 is not in 1..=1024
 !

@@ -1,15 +1,6 @@
 -- The payloads of messages, by hart.
 use Rattle.std.specs.Prelude.{ℕ, ◌≡◌, ◌++◌, List, [], ◌∷◌, Option, Some, None, length, slice_get, slice_index_or, slice_set}
-use Rattle.message.specs.declared.message.Message.{Message}
 use Rattle.alignment.specs.Matches.{Flags, Matches, MatchesBeginning}
-use Rattle.alike.specs.declared.by.By.{By}
-use Rattle.unnumbered.specs.Aligned.{known_payloads}
-
--- Of each of so many harts there is what the payloads of its messages are known by.
-pub record AreSplit (by : By) (harts : ℕ) (messages : List Message) (lists : List (List (List ℕ))) : Type 0 where
-  pub count : length lists ≡ harts
-  pub each : (hart : ℕ) (own : List (List ℕ)) → slice_get lists hart ≡ Some own
-      → own ≡ known_payloads by hart messages
 
 -- The lists with one payload more of a hart that has a list, if it has one.
 abbrev pub added_found : List (List (List ℕ)) → ℕ → List ℕ → Option (List (List ℕ)) → List (List (List ℕ))

@@ -1,9 +1,9 @@
 -- The runs are measured one after the other: by lemmas on runs, which no tactic finds.
 use Rattle.std.proofs.Common.{◌+◌, ◌-◌, ◌^◌, ◌<◌, length, refl, sym, subst, ap, ◌∙◌, arith}
 use Rattle.std.specs.Prelude.{max, min}
-use Rattle.auditing.proofs.RunLengths.{HasMeasured, measured_all, measured_more, measured_none}
+use Rattle.auditing.proofs.MeasuredRuns.{HasMeasured, measured_all, measured_more, measured_none}
 use Rattle.auditing.specs.Losing.{runs_of}
-use Rattle.auditing.specs.steps.Scanning.{lost_in}
+use Rattle.auditing.specs.Unset.{lost_in}
 use Rattle.auditing.proofs.lost.run_lengths.Goals as goal
 
 pub loop-run-init : goal.loop-run-init

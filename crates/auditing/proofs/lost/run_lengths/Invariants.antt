@@ -1,8 +1,8 @@
 -- The runs so far are measured.
 use Rattle.std.proofs.Common.{length}
-use Rattle.auditing.proofs.RunLengths.{HasMeasured}
+use Rattle.auditing.proofs.MeasuredRuns.{HasMeasured}
 use Rattle.auditing.specs.Losing.{runs_of}
-use Rattle.auditing.specs.steps.Scanning.{lost_in}
+use Rattle.auditing.specs.Unset.{lost_in}
 use Rattle.auditing.proofs.lost.run_lengths.Given as goal
 
 abbrev pub invariant-loop-run : goal.invariant-loop-run

@@ -13,7 +13,7 @@ returns-clause-printed g c =
     let outcome = c.in_ok-outcome.outcome in
     ends_printed c.args.harts c.args.program.now c.args.bytes.now (events_in outcome.harts.items) outcome.closed.items
     outcome.fault c.write_outcome.result (g.O.Write.contents c.args.out.now)
-    (g.O.Write.contents c.write_outcome.new.out) c.in_ok-outcome.ensures.decoded c.write_outcome.ensures.written
+    (g.O.Write.contents c.write_outcome.new.out) c.in_ok-outcome.ensures c.write_outcome.ensures.written
 
 -- A beginning of the logs was written that a capture decodes to.
 pub returns-clause-cut : goal.returns-clause-cut
@@ -24,4 +24,4 @@ returns-clause-cut g c =
     (end_of_capture outcome.fault outcome.closed.items) (g.O.Write.contents c.args.out.now)
     (g.O.Write.contents c.write_outcome.new.out)
     (decodes c.args.harts c.args.program.now c.args.bytes.now lists outcome.closed.items outcome.fault
-    c.in_ok-outcome.ensures.decoded) c.write_outcome.ensures.begun)
+    c.in_ok-outcome.ensures) c.write_outcome.ensures.begun)

@@ -43,18 +43,18 @@ dump_cut content asked bytes bad stop text old new read dumped begun = inr (reco
 module _ (g : _) (c : After-flush g) where
   -- What was dumped.
   dumped : AppendsDump (IsDumpAsked c.args.asked.now.search c.in_ok-bytes.bytes.items) c.in_ok-dumped.dumped.bad c.in_ok-dumped.dumped.fault
-      (g.O.Write.contents c.args.out.now) (g.O.Write.contents c.write_dump.new.out)
+      (g.O.Write.contents c.args.out.now) (g.O.Write.contents c.show_dump.new.out)
   dumped =
       let dumped = c.in_ok-dumped.dumped in
       subst (λ bytes. AppendsDump (IsDumpAsked c.args.asked.now.search bytes) dumped.bad dumped.fault (g.O.Write.contents c.args.out.now)
-      (g.O.Write.contents c.write_dump.new.out)) c.as_slice.ensures.value c.in_ok-dumped.ensures.dumped
+      (g.O.Write.contents c.show_dump.new.out)) c.as_slice.ensures.value c.in_ok-dumped.ensures.dumped
 
   -- Whatever the flush answers, the whole dump was written.
   cut : IsCutOf (Dumps (g.F.Files.content c.args.files.now) c.args.asked.now) (g.O.Write.contents c.args.out.now)
       (g.O.Write.contents c.flush.new.self)
   cut =
       let old = g.O.Write.contents c.args.out.now in
-      let mid = g.O.Write.contents c.write_dump.new.out in
+      let mid = g.O.Write.contents c.show_dump.new.out in
       let new = g.O.Write.contents c.flush.new.self in
       dump_cut (g.F.Files.content c.args.files.now) c.args.asked.now c.in_ok-bytes.bytes.items
       c.in_ok-dumped.dumped.bad c.in_ok-dumped.dumped.fault dumped.text old new c.in_ok-bytes.ensures.held dumped.dumped
@@ -80,13 +80,13 @@ returns-clause-printed g c =
           ended = c.ended.ensures.value;
         },
       );
-      appended = appends-keeps old (contents c.write_dump.new.out) new is.text is.appended c.flush.ensures.bytes;
+      appended = appends-keeps old (contents c.show_dump.new.out) new is.text is.appended c.flush.ensures.bytes;
     })
 
 pub returns-in_err-dumped-clause-cut : goal.returns-in_err-dumped-clause-cut
 returns-in_err-dumped-clause-cut g c =
     let old = g.O.Write.contents c.args.out.now in
-    let new = g.O.Write.contents c.write_dump.new.out in
+    let new = g.O.Write.contents c.show_dump.new.out in
     let bytes = c.in_ok-bytes.bytes.items in
     let search = c.args.asked.now.search in
     let is : BeginsDump (IsDumpAsked search bytes) old new =

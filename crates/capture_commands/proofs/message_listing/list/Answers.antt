@@ -2,7 +2,7 @@
 use Rattle.std.proofs.Common.{Err, List, Ok, Option, ap, arith, inr, refl, subst, sym, ℕ, ◌≡◌, ◌∙◌, ◌⊎◌}
 use Rattle.std.proofs.lemmas.Grind.{common_steps}
 use Rattle.std.specs.Borrow.{Bor}
-use Rattle.std.specs.Prelude.{IfSome, option_map}
+use Rattle.std.specs.Prelude.{⊤, IfSome, option_map}
 use Rattle.subcommands.specs.declared.words.Listing.{Listing}
 use Rattle.command_inputs.specs.Begun.{IsCutOf}
 use Rattle.command_inputs.specs.Found.{IsBase, IsProgramAt, IsRead}
@@ -12,7 +12,7 @@ use Rattle.command_inputs.specs.Printed.{PrintsUnlessDenied}
 use Rattle.capture_commands.specs.Symbols.{AreSymbols}
 use Rattle.command_inputs.specs.declared.fault.Fault.TheVariants as fault
 use Rattle.command_inputs.proofs.Runs.{ends_silently}
-use Rattle.capture_commands.specs.Listed.{CanList, Lists, ListsInPart, ListsUpToMemory}
+use Rattle.capture_commands.specs.Listed.{CanList, Lists, ListsInPart, ListsUpToMemory, WritesListing, WritesPart}
 use Rattle.capture_commands.specs.declared.reason.CaptureReason.{CaptureReason}
 use Rattle.capture_commands.proofs.ListedRuns.{list_begun, list_cut, list_printed}
 use Rattle.capture_commands.proofs.message_listing.list.Goals.{After-write_listing}
@@ -125,18 +125,22 @@ module _ (g : _) (c : After-write_listing g) where
   printed =
       list_printed content asked c.in_ok-base.base c.in_ok-program.program symbols c.as_slice.result.now
       c.in_ok-base.ensures.found c.in_ok-program.ensures.program named read c.write_listing.result old new
-      c.write_listing.ensures.printed
+      (subst (λ harts. PrintsUnlessDenied (WritesListing harts c.in_ok-program.program symbols c.as_slice.result.now) ⊤
+      c.write_listing.result old new) c.harts_or_one.ensures c.write_listing.ensures.printed)
 
   begun : c.write_listing.result ≡ Err fault.Memory → ListsUpToMemory (Lists content asked) old new
   begun memory =
       list_begun content asked c.in_ok-base.base c.in_ok-program.program symbols c.as_slice.result.now
       c.in_ok-base.ensures.found c.in_ok-program.ensures.program named read old new
-      (c.write_listing.ensures.begun memory)
+      (subst (λ harts. ListsUpToMemory (WritesListing harts c.in_ok-program.program symbols c.as_slice.result.now)
+      old new) c.harts_or_one.ensures (c.write_listing.ensures.begun memory))
 
   cut : IsCutOf (ListsInPart content asked) old new
   cut =
       list_cut content asked c.in_ok-base.base c.in_ok-program.program symbols c.as_slice.result.now
-      c.in_ok-base.ensures.found c.in_ok-program.ensures.program named read old new c.write_listing.ensures.cut
+      c.in_ok-base.ensures.found c.in_ok-program.ensures.program named read old new
+      (subst (λ harts. IsCutOf (WritesPart harts c.in_ok-program.program symbols c.as_slice.result.now) old new)
+      c.harts_or_one.ensures c.write_listing.ensures.cut)
 
 pub returns-clause-printed : goal.returns-clause-printed
 returns-clause-printed g c = printed g (goal.at.returns-clause-printed g c).After-write_listing

@@ -24,7 +24,7 @@ returns-in_err-listed-clause-printed g c =
     let why = c.in_err-listed.field-0.0 in
     let is : c.from_residual.result ≡ Err (write_fault why) = grind (arith, common_steps) in
     subst (λ r. PrintsUnlessDenied (WritesListing c.args.harts c.args.program.now files c.args.bytes.now) ⊤ r
-    (g.O.Write.contents c.args.out.now) (g.O.Write.contents c.list_capture.new.sink)) (sym is) (inl (write_denied why))
+    (g.O.Write.contents c.args.out.now) (g.O.Write.contents c.show_listing.new.out)) (sym is) (inl (write_denied why))
 
 pub returns-in_err-listed-clause-begun : goal.returns-in_err-listed-clause-begun
 returns-in_err-listed-clause-begun g c = λ memory.
@@ -32,13 +32,13 @@ returns-in_err-listed-clause-begun g c = λ memory.
     let is : c.from_residual.result ≡ Err (write_fault why) = grind (arith, common_steps) in
     let refused : why ≡ write.Memory = write_memory why (cc (sym is ∙ memory)) in
     inl (subst (λ out. Keeps (g.O.Write.contents c.args.out.now) (g.O.Write.contents out))
-    (sym (c.list_capture.ensures.memory (c.in_err-listed.was ∙ ap Err refused)))
+    (sym (c.show_listing.ensures.memory (c.in_err-listed.was ∙ ap Err refused)))
     (Keeps-refl (g.O.Write.contents c.args.out.now)))
 
 pub returns-in_err-listed-clause-cut : goal.returns-in_err-listed-clause-cut
 returns-in_err-listed-clause-cut g c =
     part_cut c.args.harts c.args.program.now (option_map (λ (file : Bor (List ℕ)). file.now) c.args.symbols)
-    c.args.bytes.now (g.O.Write.contents c.args.out.now) (g.O.Write.contents c.list_capture.new.sink)
+    c.args.bytes.now (g.O.Write.contents c.args.out.now) (g.O.Write.contents c.show_listing.new.out)
     c.in_err-listed.ensures.begun
 
 module _ (g : _) (c : After-flush g) where
@@ -55,7 +55,7 @@ module _ (g : _) (c : After-flush g) where
   cut : IsCutOf (WritesPart c.args.harts c.args.program.now symbols c.args.bytes.now) old new
   cut =
       whole_cut c.args.harts c.args.program.now symbols c.args.bytes.now c.in_ok-listed.listed.closed.items
-      c.in_ok-listed.listed.fault old (g.O.Write.contents c.list_capture.new.sink) new c.in_ok-listed.ensures.listed
+      c.in_ok-listed.listed.fault old (g.O.Write.contents c.show_listing.new.out) new c.in_ok-listed.ensures.listed
       c.flush.ensures.bytes
 
 pub returns-in_err-flush-clause-printed : goal.returns-in_err-flush-clause-printed
@@ -87,7 +87,7 @@ module _ (g : _) (c : After-ended g) where
   whole =
       whole_printed c.args.harts c.args.program.now (option_map (λ (file : Bor (List ℕ)). file.now) c.args.symbols)
       c.args.bytes.now c.in_ok-listed.listed.closed.items c.in_ok-listed.listed.fault
-      (g.O.Write.contents c.args.out.now) (g.O.Write.contents c.list_capture.new.sink)
+      (g.O.Write.contents c.args.out.now) (g.O.Write.contents c.show_listing.new.out)
       (g.O.Write.contents c.flush.new.self) c.in_ok-listed.ensures.listed c.flush.ensures.bytes c.ended.result ends
 
 pub returns-clause-printed : goal.returns-clause-printed

@@ -1,7 +1,5 @@
 -- Which part is written is read of the match by hand.
-use Rattle.std.proofs.Common.{◌++◌, arith, codes, subst, sym}
-use Rattle.std.proofs.lemmas.Grind.{common_steps}
-use Rattle.std.specs.Fmt.{decimal}
+use Rattle.std.proofs.Common.{subst, sym}
 use Rattle.std.specs.Io.KnownBytes.{Appends}
 use Rattle.std.specs.Prelude.{OnOk}
 use Rattle.output.specs.Begun.{AppendsBeginning}
@@ -30,11 +28,3 @@ returns-in-Stretch-clause-begun g c =
     (subst (λ l. AppendsBeginning
     (left_text c.args.summary offsets (Events c.in-Stretch.first c.in-Stretch.last l)) old new) c.as_slice.ensures.value
     (c.write_stretch.ensures.begun offsets))
-
-pub returns-in_ok-write_text-in-Doubtful-clause-text : goal.returns-in_ok-write_text-in-Doubtful-clause-text
-returns-in_ok-write_text-in-Doubtful-clause-text g c =
-    let old = g.O.Write.contents c.args.out.now in
-    let new = g.O.Write.contents c.write_text.new.out in
-    let line : Appends old new (codes "doubtful: number " ++ (decimal c.in-Doubtful.number ++ codes "\n")) =
-    grind (arith, common_steps) in
-    subst (λ p. Appends old new (left_text c.args.summary c.args.offsets.now (part_of p))) (sym c.in-Doubtful.is) line

@@ -8,7 +8,7 @@ use Rattle.capture_commands.specs.Pieces.{mode_of_header}
 use Rattle.capture_commands.proofs.salvaging_capture.find.Goals as goal
 
 pub returns : goal.returns
-returns c =
+returns g c =
     let program = c.args.program.now in
     let bytes = c.args.bytes.now in
     let header = c.start_of-start.result.header in
@@ -18,12 +18,7 @@ returns c =
     let salvaged = c.in_ok-salvaged.salvaged in
     let harts = c.harts_counted-count.result in
     let mode = c.mode_of_header.result in
-    let known = c.in_ok-salvaged.ensures in
-    let gives : GivesSalvaged program harts mode c.as_slice.result.now salvaged = record {
-      left = known.salvaged;
-      logs = λ period own logs are count. known.logs period own logs are count;
-      collected = λ pieces collected. known.collected pieces collected;
-    } in
+    let gives = c.in_ok-salvaged.ensures in
     let are : AreFrames counted spans frames =
     subst (λ n. AreFrames n spans frames) c.harts_counted-count.ensures
     (subst (λ l. AreFrames harts l frames) c.spans_of.ensures c.in_ok-frames.ensures) in

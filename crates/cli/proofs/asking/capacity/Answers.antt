@@ -16,6 +16,6 @@ returns c =
           let reads = c.get_one.ensures.value text (one_text-rows given (codes "capacity") ∙ value) in
           let same = c.unwrap_or.ensures
           ∙ read_as_spelt 32 (λ t r. ExplainsUnsignedError 10 t r) (λ t r. HasUnsignedDigitsIfOk t r) 65536 text
-          c.get_one.result 16 (omega arith) reads spelt in
+          c.get_one.result 16 (omega arith) reads spelt.0 spelt.2 in
           omega (arith, is, same, spelt.1, spelt.2)),
     )

@@ -17,6 +17,6 @@ returns c =
           let same = c.unwrap_or.ensures
           ∙ read_as_spelt 16 (λ t r. ExplainsUnsignedError 10 t r) (λ t r. HasUnsignedDigitsIfOk t r) 1024 text
           c.get_one.result 1
-          (omega arith) reads spelt in
+          (omega arith) reads spelt.0 spelt.2 in
           omega (arith, is, same, spelt.1, spelt.2)),
     )

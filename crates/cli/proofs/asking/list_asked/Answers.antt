@@ -9,8 +9,9 @@ returns c =
     let found = found_of c.args.given.now in (
       refl,
       c.text.ensures,
-      c.harts.ensures,
+      c.given_harts.ensures,
       c.get_str.ensures ∙ first_value-rows found (codes "symbols"),
+      c.flag.ensures,
       c.text-2.ensures,
       c.text-3.ensures,
     )

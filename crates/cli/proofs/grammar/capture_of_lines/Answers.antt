@@ -7,6 +7,20 @@ use Rattle.cli.proofs.grammar.capture_of_lines.Goals as goal
 
 pub returns : goal.returns
 returns c =
-    with_these c.subcommand.result (new_app (codes "capture")) (version_one_rule ∷ full_rule ∷ period_rule ∷
-    given_harts_rule ∷ lines_rule ∷ []) _ c.in_ok-args.args.items c.in_ok-args.ensures.items c.subcommand.ensures
-    (c.version_one.ensures, (c.full.ensures, (c.period.ensures, (c.counted_harts.ensures, (c.lines.ensures, tt)))))
+    with_these c.subcommand.result (new_app (codes "capture")) (version_one_rule ∷ full_rule ∷ period_rule
+    ∷ given_harts_rule ∷ lines_rule ∷ []) _ c.in_ok-args.args.items c.in_ok-args.ensures.items c.subcommand.ensures (
+      c.headless.ensures,
+      (
+        c.headed_full.ensures,
+        (
+          c.headed_period.ensures,
+          (
+            c.counted_harts.ensures,
+            (
+              c.lines.ensures,
+              tt,
+            ),
+          ),
+        ),
+      ),
+    )

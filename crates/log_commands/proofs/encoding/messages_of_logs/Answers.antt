@@ -13,52 +13,64 @@ pub returns-then-asked-clause-logs : goal.returns-then-asked-clause-logs
 returns-then-asked-clause-logs g c =
     let content = g.F.Files.content c.args.files.now in
     let asked = c.args.asked.now in
+    let first = c.first_hart-first.result in
     let program = c.args.program.now in
     let paths = c.args.paths.now in
     let made = c.made_of_logs-made.result in
-    subst (λ hex. IfOk c.all_made.result (λ made. AreMadeOfLogs
-    (AreMessagesOf (form_text hex) asked.period asked.mode) (most_of asked.long) content program paths made.items))
-    (sym c.if-asked.true)
-    (subst (λ rows. IfOk c.all_made.result (λ made. AreMadeOfLogs
-    (AreMessagesOf hex_line asked.period asked.mode) rows content program paths made.items)) c.most_of-rows.ensures
-    (made_of_legal (AreMessagesOf hex_line asked.period asked.mode) c.most_of-rows.result content program paths
-    made.made
-    made.end c.all_made.result c.made_of_logs-made.ensures.made c.all_made.ensures))
+    let result = c.all_made.result in
+    subst (λ first. IfOk result (λ made. AreMadeOfLogs
+    (AreMessagesOf (form_text asked.hex) asked.period asked.mode first) (most_of asked.long) content program paths
+    made.items)) c.first_hart-first.ensures
+    (subst (λ hex. IfOk result (λ made. AreMadeOfLogs
+    (AreMessagesOf (form_text hex) asked.period asked.mode first) (most_of asked.long) content program paths
+    made.items)) (sym c.if-asked.true)
+    (subst (λ rows. IfOk result (λ made. AreMadeOfLogs
+    (AreMessagesOf hex_line asked.period asked.mode first) rows content program paths made.items))
+    c.most_of-rows.ensures
+    (made_of_legal (AreMessagesOf hex_line asked.period asked.mode first) c.most_of-rows.result content program
+    paths made.made made.end result c.made_of_logs-made.ensures.made c.all_made.ensures)))
 
 pub returns-then-asked-clause-fault : goal.returns-then-asked-clause-fault
 returns-then-asked-clause-fault g c =
     let content = g.F.Files.content c.args.files.now in
     let asked = c.args.asked.now in
+    let first = c.first_hart-first.result in
     let made = c.made_of_logs-made.result in
     subst (λ rows. IfErr c.all_made.result (λ why. (why ≡ fault.Memory)
     ⊎ AreLegalLogsUpTo rows content c.args.program.now c.args.paths.now (Err why))) c.most_of-rows.ensures
-    (made_of_none (AreMessagesOf hex_line asked.period asked.mode) c.most_of-rows.result content c.args.program.now
-    c.args.paths.now made.made made.end c.all_made.result c.made_of_logs-made.ensures.made
+    (made_of_none (AreMessagesOf hex_line asked.period asked.mode first) c.most_of-rows.result content
+    c.args.program.now c.args.paths.now made.made made.end c.all_made.result c.made_of_logs-made.ensures.made
     c.all_made.ensures)
 
 pub returns-else-asked-clause-logs : goal.returns-else-asked-clause-logs
 returns-else-asked-clause-logs g c =
     let content = g.F.Files.content c.args.files.now in
     let asked = c.args.asked.now in
+    let first = c.first_hart-first.result in
     let program = c.args.program.now in
     let paths = c.args.paths.now in
     let made = c.made_of_logs-made-else-asked.result in
-    subst (λ hex. IfOk c.all_made-else-asked.result (λ made. AreMadeOfLogs
-    (AreMessagesOf (form_text hex) asked.period asked.mode) (most_of asked.long) content program paths made.items))
-    (sym c.if-asked.false)
-    (subst (λ rows. IfOk c.all_made-else-asked.result (λ made. AreMadeOfLogs
-    (AreMessagesOf message_bytes asked.period asked.mode) rows content program paths made.items)) c.most_of-rows.ensures
-    (made_of_legal (AreMessagesOf message_bytes asked.period asked.mode) c.most_of-rows.result content program paths
-    made.made
-    made.end c.all_made-else-asked.result c.made_of_logs-made-else-asked.ensures.made c.all_made-else-asked.ensures))
+    let result = c.all_made-else-asked.result in
+    subst (λ first. IfOk result (λ made. AreMadeOfLogs
+    (AreMessagesOf (form_text asked.hex) asked.period asked.mode first) (most_of asked.long) content program paths
+    made.items)) c.first_hart-first.ensures
+    (subst (λ hex. IfOk result (λ made. AreMadeOfLogs
+    (AreMessagesOf (form_text hex) asked.period asked.mode first) (most_of asked.long) content program paths
+    made.items)) (sym c.if-asked.false)
+    (subst (λ rows. IfOk result (λ made. AreMadeOfLogs
+    (AreMessagesOf message_bytes asked.period asked.mode first) rows content program paths made.items))
+    c.most_of-rows.ensures
+    (made_of_legal (AreMessagesOf message_bytes asked.period asked.mode first) c.most_of-rows.result content program
+    paths made.made made.end result c.made_of_logs-made-else-asked.ensures.made c.all_made-else-asked.ensures)))
 
 pub returns-else-asked-clause-fault : goal.returns-else-asked-clause-fault
 returns-else-asked-clause-fault g c =
     let content = g.F.Files.content c.args.files.now in
     let asked = c.args.asked.now in
+    let first = c.first_hart-first.result in
     let made = c.made_of_logs-made-else-asked.result in
     subst (λ rows. IfErr c.all_made-else-asked.result (λ why. (why ≡ fault.Memory)
     ⊎ AreLegalLogsUpTo rows content c.args.program.now c.args.paths.now (Err why))) c.most_of-rows.ensures
-    (made_of_none (AreMessagesOf message_bytes asked.period asked.mode) c.most_of-rows.result content c.args.program.now
-    c.args.paths.now made.made made.end c.all_made-else-asked.result c.made_of_logs-made-else-asked.ensures.made
+    (made_of_none (AreMessagesOf message_bytes asked.period asked.mode first) c.most_of-rows.result content
+    c.args.program.now c.args.paths.now made.made made.end c.all_made-else-asked.result c.made_of_logs-made-else-asked.ensures.made
     c.all_made-else-asked.ensures)

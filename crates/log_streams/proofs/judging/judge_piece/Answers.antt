@@ -5,7 +5,7 @@ use Rattle.std.proofs.lemmas.List.Elements.{All-append}
 use Rattle.legalpath.proofs.FollowOnLemmas.{last_or-append}
 use Rattle.retire.specs.Is64Bit.{Is64Bit}
 use Rattle.retire.specs.Log.{most_long_rows}
-use Rattle.log_streams.specs.Legal.{IsLegalUpTo}
+use Rattle.legalpath.specs.LegalUpTo.{IsLegalUpTo}
 use Rattle.log_streams.proofs.judging.judge_piece.Goals as goal
 
 pub returns : goal.returns

@@ -1,6 +1,6 @@
 use Rattle.std.proofs.Common.{◌≤◌, arith, length}
 use Rattle.retire.specs.Log.{most_long_rows}
-use Rattle.log_streams.specs.Legal.{IsLegalUpTo}
+use Rattle.legalpath.specs.LegalUpTo.{IsLegalUpTo}
 use Rattle.log_streams.proofs.reading.finished.Goals as goal
 
 pub returns-in-Ok-clause-finished : goal.returns-in-Ok-clause-finished

@@ -8,7 +8,8 @@ use Rattle.resuming.specs.Passages.{spans_left}
 use Rattle.auditing.specs.Audits.{Audits}
 use Rattle.auditing.specs.Seen.{sight_of}
 use Rattle.path_commands.specs.AuditText.{span_lines}
-use Rattle.path_commands.specs.Audited.{Came, behind_findings, by_packets}
+use Rattle.path_commands.specs.Audited.{Came, behind_findings}
+use Rattle.path_commands.specs.Sides.{by_packets}
 use Rattle.path_commands.specs.steps.Ending.{EndsRest}
 use Rattle.path_commands.specs.steps.Reading.{HasArrived}
 use Rattle.path_commands.proofs.AuditRuns.{audit_printed, cut_in_lines, cut_in_rest}

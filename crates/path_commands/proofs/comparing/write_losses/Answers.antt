@@ -1,6 +1,8 @@
 -- The lines are written one after the other: by lemmas on parts of a text, which no tactic finds.
 use Rattle.std.proofs.Common.{◌≡◌, ◌-◌, ◌<◌, ◌≤◌, length, subst, arith}
+use Rattle.std.specs.Io.KnownBytes.{Appends}
 use Rattle.std.specs.List.{flat_map, range_with_len}
+use Rattle.output.specs.Begun.{AppendsBeginning}
 use Rattle.output.proofs.Beginnings.{whole_begun}
 use Rattle.auditing.specs.Known.{known_all}
 use Rattle.auditing.specs.Losing.{lost_runs}
@@ -30,7 +32,8 @@ loop-hart-preserved g c = λ own came audits.
     hart_more (λ hart. lost_lines hart (lost_runs sent received hart)) (all_lost_lines sent received count) count
     (g.O.Write.contents c.args.out.now) (g.O.Write.contents c.loop-hart.out) c.loop-hart.hart
     (g.O.Write.contents c.write_lost.new.out) within (c.loop-hart.invariant own came audits)
-    (c.in_ok-write_lost.ensures.text own came audits)
+    (subst (λ runs. Appends (g.O.Write.contents c.loop-hart.out) (g.O.Write.contents c.write_lost.new.out)
+    (lost_lines c.loop-hart.hart runs)) (c.lost.ensures own came audits) c.in_ok-write_lost.ensures.text)
 
 pub returns-in_err-write_lost-clause-begun : goal.returns-in_err-write_lost-clause-begun
 returns-in_err-write_lost-clause-begun g c = λ own came audits.
@@ -41,7 +44,8 @@ returns-in_err-write_lost-clause-begun g c = λ own came audits.
     hart_begun (λ hart. lost_lines hart (lost_runs sent received hart)) (all_lost_lines sent received count) count
     (g.O.Write.contents c.args.out.now) (g.O.Write.contents c.loop-hart.out) c.loop-hart.hart
     (g.O.Write.contents c.write_lost.new.out) within (c.loop-hart.invariant own came audits)
-    (c.write_lost.ensures.begun own came audits)
+    (subst (λ runs. AppendsBeginning (lost_lines c.loop-hart.hart runs) (g.O.Write.contents c.loop-hart.out)
+    (g.O.Write.contents c.write_lost.new.out)) (c.lost.ensures own came audits) c.write_lost.ensures.begun)
 
 pub returns-clause-text : goal.returns-clause-text
 returns-clause-text g c = λ own came audits.

@@ -13,7 +13,8 @@ use Rattle.auditing.specs.Judged.{strangers_in}
 use Rattle.auditing.specs.Known.{known_all}
 use Rattle.command_inputs.proofs.Runs.{appends-keeps}
 use Rattle.path_commands.specs.AuditText.{ending_text, total_of}
-use Rattle.path_commands.specs.Audited.{Came, Sent, behind_findings, end_of_audit, heads_differ, is_whole_result}
+use Rattle.path_commands.specs.Audited.{Came, behind_findings, is_whole_result}
+use Rattle.path_commands.specs.Sides.{Sent, end_of_audit, heads_differ}
 use Rattle.path_commands.specs.steps.Reading.{HasArrived}
 use Rattle.path_commands.proofs.Rests.{all_written, begun_ending, begun_lost, begun_rows, whole_is}
 use Rattle.path_commands.proofs.comparing.write_rest.Goals.{After-write_text}

@@ -17,5 +17,5 @@ pub loop-entry-preserved : goal.loop-entry-preserved
 loop-entry-preserved c =
     let front = entries_by (arrivals_in (take c.in-Some.front c.loop-entry.rest.now)) in
     c.loop-entry.invariant
-    ∙ doubtful_leaves (entries_by (arrivals_in c.loop-entry.rest.now)) front (entry_of c.in-Some.entry) _
+    ∙ doubtful_leaves (entries_by (arrivals_in c.loop-entry.rest.now)) front (entry_of c.in-Some.entry) _ _ _
     c.in-Some.ensures.last (ap entry_of c.in-Doubtful.is)

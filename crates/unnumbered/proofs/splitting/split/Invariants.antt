@@ -1,6 +1,6 @@
 -- The first messages are split.
 use Rattle.std.proofs.Common.{take}
-use Rattle.unnumbered.specs.steps.Splitting.{AreSplit}
+use Rattle.unnumbered.specs.Split.{AreSplit}
 use Rattle.unnumbered.proofs.splitting.split.Given as goal
 
 abbrev pub invariant-loop-message : goal.invariant-loop-message

@@ -6,7 +6,7 @@ use Rattle.auditing.proofs.KnownLemmas.{known-at}
 use Rattle.auditing.specs.Known.{known_all}
 use Rattle.auditing.specs.Ledger.{HartLedger, Ledger, known_own}
 use Rattle.auditing.specs.Losing.{runs_of}
-use Rattle.auditing.specs.steps.Scanning.{lost_in}
+use Rattle.auditing.specs.Unset.{lost_in}
 use Rattle.auditing.proofs.audit.Audit.lost.Goals as goal
 
 pub returns : goal.returns

@@ -35,11 +35,14 @@ returns-in-Doubtful g c = λ all done t.
     let old = c.args.self.now in
     let new = c.take_doubtful.new.self in
     let number = c.in-Doubtful.number in
+    let first = c.in-Doubtful.first in
+    let second = c.in-Doubtful.second in
     let shown = ap entry_of c.in-Doubtful.is in
     let t_shown = subst (λ x. TakesEntries words mode all done (x ∷ rest) old) shown t in
     subst (λ x. OnOk c.take_doubtful.result (TakesEntries words mode all (done ++ x ∷ []) rest new)) (sym shown)
     (on_ok c.take_doubtful.result
-    (TakesDoubtful words mode (own_mode mode done) t_shown.run old.next number t_shown.closed old new)
-    (TakesEntries words mode all (done ++ Doubtful number ∷ []) rest new)
-    (λ k. doubtful_taken words mode all done rest old new number t_shown k)
+    (TakesDoubtful words mode (own_mode mode done) t_shown.run old.next number first second t_shown.closed old
+    new)
+    (TakesEntries words mode all (done ++ Doubtful number first second ∷ []) rest new)
+    (λ k. doubtful_taken words mode all done rest old new number first second t_shown k)
     (c.take_doubtful.ensures words (own_mode mode done) t_shown.run old.next t_shown.closed t_shown.under_way))

@@ -21,8 +21,9 @@ returns g c = λ words reads run next closed u.
     record {
       left = ends.left;
       leaves = ends.leaves;
-      parts = adds_both ends.left (lost ++ DoubtfulNumber number ∷ []) old.parts.items gone.parts.items new ends.added
-          (adds_both lost (DoubtfulNumber number ∷ []) gone.parts.items gapped new
+      parts = adds_both ends.left (lost ++ DoubtfulNumber number c.args.first c.args.second ∷ []) old.parts.items
+          gone.parts.items new ends.added
+          (adds_both lost (DoubtfulNumber number c.args.first c.args.second ∷ []) gone.parts.items gapped new
           (subst (λ n. AddsParts (gap (number - n)) gone.parts.items gapped) at c.in_ok-push_gap.ensures)
           c.in_ok-push_part.ensures);
       under_way = moved_on words mode reads run closed next number 1 gone _ one ends.under_way refl refl refl refl refl;

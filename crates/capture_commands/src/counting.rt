@@ -1,0 +1,34 @@
+//! How many messages there are to work through.
+
+use frames::Span;
+use message::Messages;
+use searching::{spans_of, start_of};
+
+/// How many messages a capture has before the first place where there is no complete message. There are none where its
+/// header is cut short or bad.
+pub(crate) fn messages_in(capture: &[u8]) -> u64 {
+    let mut messages = Messages::new(capture);
+    if messages.header().is_err() {
+        return 0;
+    }
+    // A message has a byte at least.
+    let most = capture.len() as u64;
+    for count in 0..most {
+        match messages.next() {
+            Ok(Some(_)) => {}
+            _ => return count,
+        }
+    }
+    most
+}
+
+/// How many messages are found among the bytes of a capture that may be damaged.
+pub(crate) fn frames_in(capture: &[u8]) -> u64 {
+    let mut count = 0u64;
+    for span in spans_of(capture, start_of(capture).header) {
+        if matches!(span, Span::Frame { .. }) {
+            count = count.saturating_add(1);
+        }
+    }
+    count
+}

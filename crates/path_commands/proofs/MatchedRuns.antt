@@ -1,0 +1,165 @@
+-- What an audit prints of messages that carry no numbers, from what each of its steps found.
+use Rattle.std.proofs.Common.{◌≡◌, ◌⊎◌, inl, inr, ◌∙◌, ℕ, Bool, true, false, List, [], Option, Some, None, Result, Ok, Err}
+use Rattle.std.proofs.Common.{refl, sym, subst, length}
+use Rattle.std.proofs.KnownBytes.{Appends-nil}
+use Rattle.std.specs.Prelude.{⊤, ◌&&◌, ◌==◌, IfErr, IfOk, is_none, is_some, map, not}
+use Rattle.std.specs.Io.KnownBytes.{Appends}
+use Rattle.output.specs.Begun.{AppendsBeginning}
+use Rattle.alignment.specs.Matches.{Flags}
+use Rattle.alike.specs.declared.by.By.{By}
+use Rattle.message.specs.declared.fault.MessageFault.{MessageFault}
+use Rattle.message.specs.declared.header.Header.{Header}
+use Rattle.message.specs.declared.message.Message.{Message}
+use Rattle.captures.proofs.HeaderFaults.{has_header, marked_by}
+use Rattle.captures.specs.NoMessage.{BeginsNoHeader}
+use Rattle.captures.specs.Whole.{BeginsWith, IsFront}
+use Rattle.searching.specs.Start.{IsStart}
+use Rattle.subcommands.specs.declared.words.Audit.{Audit}
+use Rattle.auditing.specs.Sent.{harts_of}
+use Rattle.unnumbered.specs.Aligned.{AreAligned}
+use Rattle.unnumbered.specs.Counted.{total_of}
+use Rattle.unnumbered.specs.Split.{AreSplit, Kept}
+use Rattle.unnumbered.specs.declared.line.Line.{Line}
+use Rattle.command_inputs.proofs.Runs.{prints}
+use Rattle.command_inputs.specs.Begun.{IsCutOf}
+use Rattle.command_inputs.specs.Printed.{PrintsUnlessDenied}
+use Rattle.command_inputs.specs.Faults.{Path}
+use Rattle.command_inputs.specs.Finding.{After}
+use Rattle.command_inputs.specs.Found.{IsRead}
+use Rattle.command_inputs.specs.declared.fault.Fault.TheVariants as fault
+use Rattle.command_inputs.specs.declared.status.Status.{Status}
+use Rattle.files.specs.Known.{Content}
+use Rattle.path_commands.specs.Faults.{Fault}
+use Rattle.path_commands.specs.Sides.{IsFoundSent, Sent, by_packets, heads_differ}
+use Rattle.path_commands.specs.Unnumbered.{IsUnnumberedCame, UnnumberedCame, WritesUnnumbered, end_of_unnumbered}
+use Rattle.path_commands.specs.Unnumbered.{is_read_whole, is_whole_unnumbered, lines_of, strangers_among, unnumbered_audit}
+use Rattle.path_commands.specs.UnnumberedText.{unnumbered_text}
+use Rattle.path_commands.specs.declared.reason.PathReason.{PathReason}
+use Rattle.path_commands.specs.steps.Matching.{EndsUnnumbered, IsKept}
+
+-- A capture that begins with a header, or with none, does not begin with one that is cut or not valid.
+starts_well : (bytes rest : List ℕ) (header : Option Header) (why : MessageFault) → BeginsWith header bytes rest
+    → BeginsNoHeader bytes why → ⊥
+starts_well bytes rest None why begins none = begins.0 (marked_by bytes why none)
+starts_well bytes rest (Some header) why begins none = has_header header rest bytes why begins.0 begins.1 none
+
+module _ (bytes : List ℕ) (header : Option Header) where
+  -- RECEIVED has no valid header.
+  pub is_headless : (fault : Option MessageFault) (messages : List Message) → IsStart bytes header fault
+      → is_some fault ≡ true → messages ≡ []
+      → IsUnnumberedCame bytes (record { header = None; fault = fault; messages = messages; stop = None })
+  is_headless (Some why) messages start is none =
+      record { none = start.1; no_header = refl; no_messages = none; no_stop = refl }
+  is_headless None messages start is none = absurd (never is)
+    where
+      never : false ≡ true → ⊥
+      never e = cc
+
+  -- RECEIVED is read by lengths.
+  pub is_read : (fault : Option MessageFault) (own : Option Header) (messages : List Message)
+      (stop : Option MessageFault) → IsStart bytes header fault → is_some fault ≡ false → IsFront bytes own messages stop
+      → IsUnnumberedCame bytes (record { header = own; fault = None; messages = messages; stop = stop })
+  is_read (Some why) own messages stop start is front = absurd (never is)
+    where
+      never : true ≡ false → ⊥
+      never e = cc
+  is_read None own messages None start is front = front
+  is_read None own messages (Some why) start is (inl cut) = cut
+  is_read None own messages (Some why) start is (inr none) =
+      absurd (starts_well bytes start.0 header why start.1 none.none)
+
+-- The payloads of SENT are kept.
+pub kept_of : (how by : By) (header : Option Header) (harts : ℕ) (messages read : List Message) (own : Kept)
+    → by ≡ how → own.by ≡ by → harts ≡ harts_of header messages → read ≡ messages → AreSplit by harts read own.lists
+    → IsKept how messages (record { header = header; payloads = own })
+kept_of how by header harts messages read own by_is own_is harts_is read_is split = record {
+  by = own_is ∙ by_is;
+  split =
+      subst (λ h. AreSplit h (harts_of header messages) messages own.lists) (sym own_is)
+      (subst (λ n. AreSplit by n messages own.lists) harts_is (subst (λ m. AreSplit by harts m own.lists) read_is split));
+}
+
+-- What holds of a value holds of it in other words.
+pub ok_in_words : {T E : Type 0} (P Q : T → Type 0) → ((x : T) → P x → Q x) → (r : Result T E) → IfOk r P → IfOk r Q
+ok_in_words P Q leads (Ok x) holds = leads x holds
+ok_in_words P Q leads (Err e) holds = tt
+
+pub err_in_words : {T E : Type 0} (P Q : E → Type 0) → ((e : E) → P e → Q e) → (r : Result T E) → IfErr r P → IfErr r Q
+err_in_words P Q leads (Ok x) holds = tt
+err_in_words P Q leads (Err e) holds = leads e holds
+
+-- Nothing was appended: a beginning of any text.
+pub none_begun : (text : List ℕ) (old : Option (List ℕ)) → AppendsBeginning text old old
+none_begun text old = record { text = []; rest = text; parted = refl; appended = Appends-nil old }
+
+module _ (summary : Bool) (header : Option Header) (came : UnnumberedCame) (all : List Flags) (lines : List Line)
+    (strangers : ℕ) (unlike read whole : Bool) (lines_is : lines ≡ lines_of came all)
+    (strangers_is : strangers ≡ strangers_among (length all) came.messages)
+    (unlike_is : unlike ≡ heads_differ header came.header came.fault)
+    (read_is : read ≡ is_read_whole came)
+    (is : whole ≡ ((total_of all).whole && (strangers == 0) && not unlike && read)) where
+  pub whole_is : whole ≡ is_whole_unnumbered header came all
+  whole_is = is ∙ (λ i. (total_of all).whole && (strangers_is i == 0) && not (unlike_is i) && read_is i)
+
+  -- The text is that of the definition.
+  pub text_is : unnumbered_text summary all lines strangers unlike whole ≡ unnumbered_audit summary header came all
+  text_is = λ i. unnumbered_text summary all (lines_is i) (strangers_is i) (unlike_is i) (whole_is i)
+
+module _ (asked : Audit) (sent : Sent) (bytes : List ℕ) (came : UnnumberedCame)
+    (is_came : IsUnnumberedCame bytes came) (all : List Flags)
+    (aligned : AreAligned (by_packets asked.packets) (harts_of sent.header sent.messages) sent.messages came.messages all)
+  where
+    -- What was written, or the failure, is what is printed.
+    pub matched_printed : (ended : Result Status Fault) (old new : Option (List ℕ))
+        → EndsUnnumbered asked sent.header came all ended old new
+        → PrintsUnlessDenied (WritesUnnumbered asked sent bytes) ⊤ ended old new
+    matched_printed ended old new (inl memory) =
+        subst (λ e. PrintsUnlessDenied (WritesUnnumbered asked sent bytes) ⊤ e old new) (sym memory) (inl (inl refl))
+    matched_printed ended old new (inr (inl output)) =
+        subst (λ e. PrintsUnlessDenied (WritesUnnumbered asked sent bytes) ⊤ e old new) (sym output) (inl (inr (refl, tt)))
+    matched_printed ended old new (inr (inr rest)) =
+        prints (WritesUnnumbered asked sent bytes) ⊤ ended old new (record {
+          text = unnumbered_audit asked.summary sent.header came all;
+          prints = record {
+            came = came;
+            is_came = is_came;
+            all = all;
+            aligned = aligned;
+            text = refl;
+            ended = rest.1;
+          };
+          appended = rest.0;
+        })
+
+    -- A beginning of it is a cut.
+    pub matched_cut : (old new : Option (List ℕ))
+        → AppendsBeginning (unnumbered_audit asked.summary sent.header came all) old new
+        → IsCutOf (WritesUnnumbered asked sent bytes) old new
+    matched_cut old new begun = inr (record {
+      printed = record {
+        text = unnumbered_audit asked.summary sent.header came all;
+        ended = end_of_unnumbered asked.received sent.header came all;
+      };
+      prints = record {
+        came = came;
+        is_came = is_came;
+        all = all;
+        aligned = aligned;
+        text = refl;
+        ended = refl;
+      };
+      begun = begun;
+    })
+
+-- SENT is not read, or an allocation failed.
+pub after_first : (content : Content) (path : Path) (why : Fault) → (why ≡ fault.Memory) ⊎ IsRead content path (Err why)
+    → (why ≡ fault.Memory) ⊎ After (IsRead content path) (IsFoundSent path) (Err why)
+after_first content path why (inl memory) = inl memory
+after_first content path why (inr read) = inr (Err why, read, refl)
+
+-- SENT is refused, or an allocation failed.
+pub after_second : (content : Content) (path : Path) (why : Fault) (bytes : List ℕ)
+    → IsRead {W = PathReason} content path (Ok bytes) → (why ≡ fault.Memory) ⊎ IsFoundSent path bytes (Err why)
+    → (why ≡ fault.Memory) ⊎ After (IsRead content path) (IsFoundSent path) (Err why)
+after_second content path why bytes read (inl memory) = inl memory
+after_second content path why bytes read (inr found) = inr (Ok bytes, read, found)

@@ -1,0 +1,10 @@
+-- The lines of the harts so far are written.
+use Rattle.std.proofs.Common.{drop}
+use Rattle.path_commands.proofs.Parts.{HasWritten}
+use Rattle.path_commands.specs.UnnumberedText.{texts_from, unmatched_lines}
+use Rattle.path_commands.proofs.matched_report.write_unmatched.Given as goal
+
+abbrev pub invariant-loop-hart : goal.invariant-loop-hart
+invariant-loop-hart g l =
+    HasWritten (texts_from unmatched_lines 0 l.all) (texts_from unmatched_lines l.hart (drop l.hart l.all))
+    (g.O.Write.contents l.fn.out) (g.O.Write.contents l.out)

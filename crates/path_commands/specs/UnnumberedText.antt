@@ -1,0 +1,95 @@
+-- The text of an audit of messages that carry no numbers.
+use Rattle.std.specs.Prelude.{ℕ, ◌+◌, ◌++◌, nat_lt, Bool, if◌then◌else◌, List, [], ◌∷◌, Option, Some, None, codes, length}
+use Rattle.std.specs.Fmt.{decimal}
+use Rattle.std.specs.List.{flat_map}
+use Rattle.alignment.specs.Matches.{Flags}
+use Rattle.auditing.specs.HartRows.{longest_of}
+use Rattle.auditing.specs.Losing.{runs_of}
+use Rattle.auditing.specs.Unset.{lost_in}
+use Rattle.auditing.specs.declared.lost.Lost.{Lost}
+use Rattle.unnumbered.specs.Counted.{counts_of, total_of}
+use Rattle.unnumbered.specs.declared.counting.AlignedTotal.{AlignedTotal}
+use Rattle.unnumbered.specs.declared.counting.HartCounts.{HartCounts}
+use Rattle.unnumbered.specs.declared.line.Line.{Line}
+use Rattle.unnumbered.specs.declared.line.Line.TheVariants as line
+use Rattle.path_commands.specs.AuditText.{first_line, headers_line, lost_lines, result_line, runs_line, strangers_line}
+use Rattle.path_commands.specs.AuditText.{unless_summary, verdict_text}
+
+-- The line of a message of RECEIVED: its place, its hart and what is to be said of it.
+abbrev pub arrival_text : Line → List ℕ
+arrival_text (line.Stranger place hart) =
+    codes "message " ++ (decimal place ++ (codes ": hart " ++ (decimal hart ++ codes ": stranger\n")))
+arrival_text (line.Extra place hart) =
+    codes "message " ++ (decimal place ++ (codes ": hart " ++ (decimal hart ++ codes ": extra\n")))
+arrival_text (line.Skips place hart number skips) =
+    codes "message " ++ (decimal place ++ (codes ": hart " ++ (decimal hart ++ (codes " number "
+    ++ (decimal number ++ (codes ": skips " ++ (decimal skips ++ codes "\n")))))))
+
+-- The texts of harts, one after the other. The first of them is this hart.
+abbrev pub texts_from : (ℕ → Flags → List ℕ) → ℕ → List Flags → List ℕ
+texts_from text hart [] = []
+texts_from text hart (flags ∷ more) = text hart flags ++ texts_from text (hart + 1) more
+
+-- The longest runs of numbers of a hart that are lost: those of SENT that are matched with nothing.
+abbrev pub unmatched_runs : Flags → List Lost
+unmatched_runs flags = runs_of (lost_in 0 flags.sent)
+
+-- The lines of the numbers of a hart that are lost.
+abbrev pub unmatched_lines : ℕ → Flags → List ℕ
+unmatched_lines hart flags = lost_lines hart (unmatched_runs flags)
+
+-- How many messages were sent and came, how many are lost and extra, and whether all is whole.
+abbrev pub aligned_text : ℕ → ℕ → ℕ → ℕ → Bool → List ℕ
+aligned_text sent came lost extra whole =
+    decimal sent ++ (codes " sent, " ++ (decimal came ++ (codes " came, " ++ (decimal lost ++ (codes " lost, "
+    ++ (decimal extra ++ (codes " extra, " ++ (verdict_text whole ++ codes "\n"))))))))
+
+-- The line of what is counted of a hart.
+abbrev pub aligned_row : ℕ → HartCounts → List ℕ
+aligned_row hart counts =
+    codes "hart " ++ (decimal hart ++ (codes ": "
+    ++ aligned_text counts.sent counts.came counts.lost counts.extra counts.whole))
+
+-- The lines of a hart: its counts, and the runs of its lost numbers.
+abbrev pub aligned_lines : ℕ → Flags → List ℕ
+aligned_lines hart flags =
+    aligned_row hart (counts_of flags)
+    ++ runs_line hart (length (unmatched_runs flags)) (longest_of (unmatched_runs flags))
+
+-- The line of all harts together, where there is more than one.
+abbrev pub aligned_all : ℕ → AlignedTotal → List ℕ
+aligned_all harts total =
+    if nat_lt 1 harts then
+    codes "all: " ++ aligned_text total.sent total.came total.lost total.extra total.whole
+    else []
+
+-- The place of the message that a line is of.
+abbrev pub place_of : Line → ℕ
+place_of (line.Stranger place hart) = place
+place_of (line.Extra place hart) = place
+place_of (line.Skips place hart number skips) = place
+
+-- The place of the message that the first of these lines is of, if there is one.
+abbrev pub first_place_of : List Line → Option ℕ
+first_place_of [] = None
+first_place_of (one ∷ more) = Some (place_of one)
+
+-- What follows the lines of the harts: all of them together, how many strangers came, whether headers differ, the first
+-- message that is a stranger, is extra or skips a number, and the result.
+abbrev pub aligned_ending : ℕ → AlignedTotal → ℕ → Bool → Option ℕ → Bool → List ℕ
+aligned_ending harts total strangers unlike first whole =
+    aligned_all harts total
+    ++ (strangers_line strangers ++ (headers_line unlike ++ (first_line first ++ result_line whole)))
+
+-- The lines of single messages and of the numbers that are lost.
+abbrev pub single_lines : List Flags → List Line → List ℕ
+single_lines all lines = flat_map arrival_text lines ++ texts_from unmatched_lines 0 all
+
+-- The text of an audit, by the alignments of the harts and what is to be said of the messages of RECEIVED. So many
+-- strangers came, headers differ or not, and the result is whole or not. A summary has no lines of single messages and of
+-- numbers that are lost.
+abbrev pub unnumbered_text : Bool → List Flags → List Line → ℕ → Bool → Bool → List ℕ
+unnumbered_text summary all lines strangers unlike whole =
+    unless_summary summary (single_lines all lines)
+    ++ (texts_from aligned_lines 0 all
+    ++ aligned_ending (length all) (total_of all) strangers unlike (first_place_of lines) whole)

@@ -1,0 +1,126 @@
+//! SENT, by the payloads of its harts, and RECEIVED, by the lengths of its messages.
+
+ghost use Rattle.std.specs.Prelude.{◌≡◌, ◌⊎◌, ℕ, Err, IfErr, IfOk, List, Ok};
+ghost use Rattle.message.specs.declared.message.Message.{Message as AnyMessage};
+ghost use Rattle.auditing.specs.Sent.{IsSent, harts_of};
+ghost use Rattle.command_inputs.specs.Finding.{After};
+ghost use Rattle.command_inputs.specs.Found.{IsRead};
+ghost use Rattle.path_commands.specs.Sides.{IsFoundSent, by_packets};
+ghost use Rattle.path_commands.specs.Unnumbered.{IsUnnumberedCame, is_read_whole};
+ghost use Rattle.path_commands.specs.declared.reason.PathReason.{PathReason as AnyReason};
+ghost use Rattle.path_commands.specs.steps.Matching.{KeepsSent, came_in};
+ghost use Rattle.command_inputs.specs.declared.fault.Fault.TheVariants as Fault;
+
+use crate::reason::{Fault, sent_fault};
+use crate::sides::by_packets;
+use auditing::Audit;
+use captures::{read_front, read_messages};
+use command_inputs::{Files, content_of};
+use message::{Header, Message, MessageFault};
+use searching::start_of;
+use std::alloc::{AllocError, Global};
+use subcommands::Audit as Asked;
+use unnumbered::SentPayloads;
+
+/// What is kept of SENT.
+#[derive(Drop)]
+pub(crate) struct KeptSent {
+    /// Its header, if it has one.
+    pub(crate) header: Option<Header>,
+    /// The payloads of each of its harts.
+    pub(crate) payloads: SentPayloads,
+}
+
+/// RECEIVED, read by the lengths of its messages.
+#[derive(Drop)]
+pub(crate) struct Received {
+    /// Its header, if it has a valid one.
+    pub(crate) header: Option<Header>,
+    /// Why it has none, where it begins as a capture of version 2 does.
+    pub(crate) fault: Option<MessageFault>,
+    /// Its messages, up to the first place where there is none.
+    pub(crate) messages: Vec<Message>,
+    /// Why there is none, where that is before the end.
+    pub(crate) stop: Option<MessageFault>,
+}
+
+impl Received {
+    /// Whether it is read to its end.
+    pub(crate) fn is_read_whole(&self) -> bool
+        ensures { result ≡ is_read_whole (came_in self.now) }
+    {
+        self.fault.is_none() && self.stop.is_none()
+    }
+}
+
+/// Reads SENT and checks it, and keeps the payloads of its harts.
+pub(crate) fn read_sent<'a, F: Files>(
+    alloc: Global,
+    files: &mut F,
+    asked: &Asked<'a>,
+) -> Result<KeptSent, Fault<'a>>
+    ensures held { IfOk result (λ own. (bytes : List ℕ)
+        × IsRead {W = AnyReason} (F.content files.old) asked.now.sent (Ok bytes)
+        × KeepsSent (by_packets asked.now.packets) bytes own) }
+    ensures lacked { IfErr result (λ why. (why ≡ Fault.Memory)
+        ⊎ After (IsRead (F.content files.old) asked.now.sent) (IsFoundSent asked.now.sent) (Err why)) }
+    ensures kept { F.content files.new ≡ F.content files.old }
+{
+    let bytes = content_of(files, asked.sent)?;
+    keep_sent(alloc, asked, bytes.as_slice())
+}
+
+/// Checks SENT, which has these bytes, and keeps the payloads of its harts.
+fn keep_sent<'a>(alloc: Global, asked: &Asked<'a>, bytes: &[u8]) -> Result<KeptSent, Fault<'a>>
+    ensures held { IfOk result (KeepsSent (by_packets asked.now.packets) bytes.now) }
+    ensures lacked { IfErr result (λ why. (why ≡ Fault.Memory) ⊎ IsFoundSent asked.now.sent bytes.now (Err why)) }
+{
+    let front = check_sent(alloc, asked.sent, bytes)?;
+    let Ok(whole) = read_messages(alloc, bytes) else {
+        return Err(Fault::Memory);
+    };
+    let by = by_packets(asked.packets);
+    let payloads = SentPayloads::new(alloc, front.1, by, whole.messages.as_slice())?;
+    Ok(KeptSent {
+        header: front.0,
+        payloads,
+    })
+}
+
+/// The header of SENT, which has these bytes, and how many harts it has. It is refused where it is not complete.
+fn check_sent<'a>(
+    alloc: Global,
+    path: &'a str,
+    bytes: &[u8],
+) -> Result<(Option<Header>, usize), Fault<'a>>
+    ensures held { IfOk result (λ found. (messages : List AnyMessage) × IsSent bytes.now found.0 messages
+        × (found.1 ≡ harts_of found.0 messages)) }
+    ensures lacked { IfErr result (λ why. IsFoundSent path.entry bytes.now (Err why)) }
+{
+    match Audit::new(alloc, bytes) {
+        Ok(audit) => Ok((audit.header(), audit.harts())),
+        Err(why) => Err(sent_fault(path, why)),
+    }
+}
+
+/// Reads RECEIVED, which has these bytes, by the lengths of its messages.
+pub(crate) fn read_received(alloc: Global, bytes: &[u8]) -> Result<Received, AllocError>
+    ensures { IfOk result (λ came. IsUnnumberedCame bytes.now (came_in came)) }
+{
+    let fault = start_of(bytes).fault;
+    if fault.is_some() {
+        return Ok(Received {
+            header: None,
+            fault,
+            messages: Vec::new(alloc),
+            stop: None,
+        });
+    }
+    let front = read_front(alloc, bytes)?;
+    Ok(Received {
+        header: front.header,
+        fault: None,
+        messages: front.messages,
+        stop: front.stop,
+    })
+}

@@ -1,0 +1,44 @@
+//! The arguments of subcommands that read captures, and of logs that are a part.
+
+/// The flags of each, alone and together.
+pub(crate) const TEXT: &str = r#"
+# Progress is shown for each capture.
+% tracebench dump --progress run.capture
+> Dump(Dump { search: false, progress: true, capture: "run.capture" })
+% tracebench dump run.capture --progress --search
+> Dump(Dump { search: true, progress: true, capture: "run.capture" })
+% tracebench decode --base 0 --progress image.bin run.capture
+> Decode(Decode { base: "0", harts: 1, lossy: false, progress: true, image: "image.bin", capture: "run.capture" })
+% tracebench list --base 0 image.bin --progress run.capture
+> Listing(Listing { base: "0", harts: None, symbols: None, progress: true, image: "image.bin", capture: "run.capture" })
+% tracebench salvage --base 0 image.bin run.capture --progress
+> Salvage(Salvage { base: "0", harts: None, summary: false, progress: true, image: "image.bin", capture: "run.capture" })
+% tracebench audit --progress sent.capture received.capture
+> Audit(Audit { packets: false, unnumbered: false, summary: false, progress: true, sent: "sent.capture", received: "received.capture" })
+
+# Numbers that came are not looked at.
+% tracebench audit --unnumbered sent.capture received.capture
+> Audit(Audit { packets: false, unnumbered: true, summary: false, progress: false, sent: "sent.capture", received: "received.capture" })
+% tracebench audit --unnumbered --packets sent.capture --summary received.capture
+> Audit(Audit { packets: true, unnumbered: true, summary: true, progress: false, sent: "sent.capture", received: "received.capture" })
+
+# Logs are a part of those of so many harts.
+% tracebench encode --base 0 --of 8 image.bin log.csv
+> Encode(Encode { base: "0", period: 1024, mode: Differential, version: Two, hex: false, first: None, of: Some(8), long: false, progress: false, image: "image.bin", logs: ["log.csv"] })
+% tracebench encode --base 0 --first 0 --of 1024 image.bin log.csv
+> Encode(Encode { base: "0", period: 1024, mode: Differential, version: Two, hex: false, first: Some(0), of: Some(1024), long: false, progress: false, image: "image.bin", logs: ["log.csv"] })
+% tracebench encode --base 0 --first 1023 --v1 image.bin log.csv
+> Encode(Encode { base: "0", period: 1024, mode: Differential, version: One, hex: false, first: Some(1023), of: None, long: false, progress: false, image: "image.bin", logs: ["log.csv"] })
+% tracebench encode --base 0 --first 1024 --of 2 image.bin log.csv
+! error: invalid value '1024' for '--first <H>': 1024 is not in 0..=1023
+!
+! For more information, try '--help'.
+% tracebench encode --base 0 --of 0 image.bin log.csv
+! error: invalid value '0' for '--of <N>': 0 is not in 1..=1024
+!
+! For more information, try '--help'.
+% tracebench encode --base 0 --of 1025 image.bin log.csv
+! error: invalid value '1025' for '--of <N>': 1025 is not in 1..=1024
+!
+! For more information, try '--help'.
+"#;
