@@ -1,0 +1,137 @@
+"""The figures, each drawn for a wide and for a narrow window."""
+import base64
+import io
+
+import matplotlib
+import numpy
+from matplotlib.figure import Figure
+from matplotlib.ticker import FuncFormatter, MaxNLocator, NullLocator
+
+# Colours of Okabe and Ito, which the colour-blind can tell apart.
+BLACK, ORANGE, SKY, GREEN, BLUE, VERMILION, PURPLE = (
+    "#000000", "#e69f00", "#56b4e9", "#009e73", "#0072b2", "#d55e00", "#cc79a7")
+COLOURS = {"lost": VERMILION, "repeated": BLUE, "late": ORANGE, "changed": GREEN, "strange": PURPLE, "extra": SKY}
+OF_LINES = BLUE, VERMILION, GREEN, PURPLE, ORANGE, SKY
+MARKS = "o", "s", "^", "D", "v", "P"
+DASHES = "-", "--", ":", "-."
+MOST_NAMED = 12  # harts with a line and a name of their own
+WIDE, NARROW = 9.0, 4.4  # inches
+SETTINGS = {
+    "svg.hashsalt": "tracebench", "font.size": 9, "axes.spines.top": False, "axes.spines.right": False,
+    "axes.axisbelow": True, "axes.grid": True, "grid.color": "#dddddd", "axes.titlesize": 10, "axes.titlelocation": "left",
+    "axes.titleweight": "bold",
+}
+
+
+def drawn(draw):
+    """A figure as addresses of data, of the wide and of the narrow one."""
+    return {"wide": address(draw, WIDE), "narrow": address(draw, NARROW)}
+
+
+def address(draw, width):
+    out = io.BytesIO()
+    with matplotlib.rc_context(SETTINGS):
+        draw(width).savefig(out, format="svg", metadata={"Date": None, "Creator": None})
+    return "data:image/svg+xml;base64," + base64.b64encode(out.getvalue()).decode()
+
+
+def write_picture(path, draw):
+    """A figure as a file of PNG."""
+    with matplotlib.rc_context(SETTINGS):
+        draw(WIDE).savefig(path, format="png", dpi=100, metadata={"Software": None})
+
+
+def thousands(value, _place=None):
+    return f"{value:,.0f}"
+
+
+def counted(axis, parts=5):
+    """An axis of whole numbers."""
+    axis.set_major_locator(MaxNLocator(parts, integer=True))
+    axis.set_major_formatter(FuncFormatter(thousands))
+
+
+def over_places(rows, width_of_bin, total):
+    """Below one another, of each kind of fault how many messages have it in each bin of places."""
+    def draw(width):
+        figure = Figure(figsize=(width, max(0.7 + 1.35 * len(rows), 2.6)), layout="constrained")
+        panels = figure.subplots(len(rows), 1, sharex=True, squeeze=False)[:, 0]
+        for axes, (name, counts) in zip(panels, rows):
+            edges = numpy.minimum(numpy.arange(len(counts) + 1) * width_of_bin, max(total, 1))
+            axes.stairs(counts, edges, fill=True, color=COLOURS[name])
+            axes.set_title(name)
+            axes.set_xlim(0, max(total, 1))
+            axes.set_ylim(0, None)
+            counted(axes.yaxis, 3)
+        counted(panels[-1].xaxis, 8 if width == WIDE else 4)
+        figure.supylabel("messages for each " + ("place" if width_of_bin == 1 else f"{thousands(width_of_bin)} places"), fontsize=9)
+        panels[-1].set_xlabel("place in RECEIVED (messages)")
+        return figure
+    return draw
+
+
+def bars(names, panels, unit):
+    """A bar for each class, in one panel or in several that have the same classes: (title, unit, counts, colour) each."""
+    def draw(width):
+        is_stacked = width == NARROW and len(panels) > 1
+        rows, columns = (len(panels), 1) if is_stacked else (1, len(panels))
+        height = (0.9 + 0.24 * len(names)) * rows
+        figure = Figure(figsize=(width, max(height, 2.0 * rows)), layout="constrained")
+        found = figure.subplots(rows, columns, sharey=True, squeeze=False).ravel()
+        for place, (axes, (title, counts_of, counts, colour)) in enumerate(zip(found, panels)):
+            axes.barh(names, counts, color=colour)
+            for at, count in enumerate(counts):
+                axes.annotate(thousands(count), (count, at), (3, 0), textcoords="offset points", va="center", fontsize=8)
+            axes.set_title(title)
+            axes.set_xlabel(counts_of)
+            axes.set_xlim(0, max(counts) * (1.18 if width == WIDE else 1.3))
+            axes.grid(axis="y", visible=False)
+            counted(axes.xaxis, 4)
+            if is_stacked or not place:
+                axes.set_ylabel(unit)
+                axes.invert_yaxis() if not place else None
+        return figure
+    return draw
+
+
+def bits(found):
+    """Bits a retirement against the period, a line for each hart."""
+    harts = [hart for hart in found if hart != "all"]
+
+    def draw(width):
+        figure = Figure(figsize=(width, 3.6 if width == WIDE else 4.2), layout="constrained")
+        axes = figure.subplots()
+        many = len(harts) > MOST_NAMED
+        for place, hart in enumerate(harts):
+            line(axes, found[hart], **of_many(place, len(harts)) if many else of_few(place, hart))
+        if "all" in found:
+            line(axes, found["all"], color=BLACK, linewidth=2.4, label="all harts")
+        axes.set_xscale("log", base=2)
+        periods = sorted({period for hart in found.values() for period in hart})
+        axes.set_xticks(periods, [str(period) for period in periods], rotation=0 if len(periods) < 8 else 60)
+        axes.xaxis.set_minor_locator(NullLocator())
+        axes.set_ylim(0, None)
+        axes.set_title("bits a retirement")
+        axes.set_xlabel("period (retirements between two synchronisations)")
+        axes.set_ylabel("payload bits a retirement")
+        if many:
+            axes.annotate(f"{len(harts)} harts, from dark to light; black is all", (1, 1), xycoords="axes fraction", ha="right")
+        elif len(found) > 1:
+            axes.legend(frameon=False, ncols=2 if width == WIDE else 1)
+        return figure
+    return draw
+
+
+def line(axes, points, **how):
+    periods = sorted(points)
+    axes.plot(periods, [points[period] for period in periods], **{"marker": "o", "markersize": 4, **how})
+
+
+def of_few(place, hart):
+    """A line that its colour, its mark and its dashes tell from others."""
+    return {"color": OF_LINES[place % len(OF_LINES)], "marker": MARKS[place % len(MARKS)],
+            "linestyle": DASHES[place // 3 % len(DASHES)], "label": f"hart {hart}", "linewidth": 1.4}
+
+
+def of_many(place, count):
+    return {"color": matplotlib.colormaps["cividis"](place / count), "marker": "", "linewidth": 0.7}

@@ -1,0 +1,57 @@
+"""How many rows of a log one lost message takes away, by the table of `list --format csv`."""
+from dataclasses import dataclass
+
+import numpy
+
+from paging import tables
+from recording.unusable import Unusable
+
+MAKER = "list --format csv"
+PACKET = "packet", "format"  # the column that says which packet a message has
+PACKETS = ("sync",)
+
+
+@dataclass
+class Listed:
+    """Of each message of each hart, in the order of their numbers, the rows that its loss takes away."""
+
+    harts: numpy.ndarray
+    taken: numpy.ndarray
+
+    def mean_of(self, hart):
+        """The mean of a hart, None where it has no message."""
+        start, end = numpy.searchsorted(self.harts, [hart, hart + 1])
+        return float(self.taken[start:end].mean()) if end > start else None
+
+
+def read(path, show=None):
+    """The rows that each message of a list takes away where it alone is lost."""
+    harts, added, syncs = [], [], []
+    packet = tables.column_of(path, PACKET)
+    for block in tables.blocks(path, MAKER, (packet,), ("hart", "number", "added"), show, may_quote=True):
+        columns = {name: block.numbers(name) for name in ("hart", "number", "added")}
+        block.refuse((columns["hart"] < 0) | (columns["number"] < 0), "no hart or no number")
+        harts.append(columns["hart"].astype(numpy.int32))
+        added.append(numpy.maximum(columns["added"], 0))
+        syncs.append(block.words(packet, PACKETS) == 0)
+    if not harts:
+        return Listed(numpy.empty(0, numpy.int32), numpy.empty(0, numpy.int64))
+    if not any(sync.any() for sync in syncs) and any(part.any() for part in added):
+        raise Unusable(f"{path}: no message is a sync, by the column {packet}")
+    return rows_taken(numpy.concatenate(harts), numpy.concatenate(added), numpy.concatenate(syncs))
+
+
+def rows_taken(harts, added, syncs):
+    """What is added from each message on is lost up to the next sync of its hart, or to the hart's end. The sync's own event
+    is kept; what it adds before that, of packets that waited, is lost too. The messages of a hart are in order."""
+    order = numpy.argsort(harts, kind="stable")
+    harts, added, syncs = harts[order], added[order], syncs[order]
+    count = len(harts)
+    before = numpy.concatenate([[0], numpy.cumsum(added)])  # events before each message, over all harts
+    ends = numpy.searchsorted(harts, harts, "right")  # where each message's hart ends
+    at = numpy.where(syncs, numpy.arange(count), count)
+    following = numpy.append(numpy.minimum.accumulate(at[::-1])[::-1], count)[1:]
+    has_sync = following < ends
+    stops = numpy.where(has_sync, following, ends)
+    lost_at_sync = numpy.where(has_sync, numpy.maximum(numpy.append(added, 0)[stops] - 1, 0), 0)
+    return Listed(harts, before[stops] - before[:-1] + lost_at_sync)

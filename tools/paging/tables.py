@@ -1,0 +1,114 @@
+"""Tables of CSV, read in blocks of lines, so that one of any length takes the memory of a block."""
+import csv
+import io
+
+import numpy
+import pandas
+
+from recording.unusable import Unusable
+
+BLOCK = 1 << 24  # bytes read at once
+NONE = -1  # a number where nothing is
+MOST = 1 << 62  # greater numbers count as this
+
+
+class Block:
+    """Some rows of a table, of which the first stands in line `first` of the file."""
+
+    def __init__(self, path, first, frame):
+        self.path, self.first, self.frame = path, first, frame
+
+    def numbers(self, name):
+        """A column of numbers, NONE where nothing is."""
+        found = self.frame[name].to_numpy()
+        empty = numpy.isnan(found)
+        whole = numpy.where(empty, 0, found)
+        self.refuse((whole < 0) | (whole != numpy.floor(whole)), f"{name} is not a number")
+        return numpy.where(empty, NONE, numpy.minimum(whole, MOST)).astype(numpy.int64)
+
+    def words(self, name, known):
+        """A column of words, each as its place in those that are known, NONE where it is none of them."""
+        column = self.frame[name].astype("category").cat
+        places = numpy.array([known.index(word) if word in known else NONE for word in column.categories] + [NONE])
+        return places[column.codes]
+
+    def refuse(self, is_wrong, why):
+        """Says why the first row that is wrong cannot be used, if one is."""
+        if is_wrong.any():
+            raise Unusable(f"{self.path}: line {self.first + int(is_wrong.argmax())}: {why}")
+
+
+def blocks(path, maker, words, numbers, show=None, may_quote=False):
+    """The blocks of a table that `maker` writes, which has to have these columns of words and of numbers. `show` is told of
+    each block how many bytes and rows were read."""
+    with open(path, "rb") as file:
+        header = header_of(path, file.readline(), maker, (*words, *numbers))
+        told = show(file) if show else None
+        columns = [*words, *numbers]
+        types = {name: "category" if name in words else "float64" for name in columns}
+        first = 2
+        while text := file.read(BLOCK):
+            text += file.readline()
+            if not text.endswith(b"\n"):
+                raise Unusable(f"{path}: line {first + text.count(bytes([10]))}: the file ends inside a line")
+            block = Block(path, first, frame(path, first, text, header, columns, types, may_quote))
+            first += len(block.frame)
+            if told:
+                told(len(text), first - 2)
+            yield block
+
+
+def column_of(path, names):
+    """The first of these columns that a table has, else the first name."""
+    with open(path, "rb") as file:
+        header = file.readline().decode("ascii", "replace").rstrip("\r\n").split(",")
+    return next((name for name in names if name in header), names[0])
+
+
+def header_of(path, line, maker, wanted):
+    """The columns of a table."""
+    if not line:
+        raise Unusable(f"{path}: empty: give it what `{maker}` writes")
+    try:
+        header = line.decode("ascii").rstrip("\r\n").split(",")
+    except UnicodeDecodeError:
+        raise Unusable(f"{path}: no text: give it what `{maker}` writes") from None
+    lacking = [name for name in wanted if name not in header]
+    if len(lacking) == len(wanted):
+        raise Unusable(f"{path}: line 1: no table of `{maker}`: it has none of its columns")
+    if lacking:
+        raise Unusable(f"{path}: line 1: the column {lacking[0]} is lacking: give it what `{maker}` writes")
+    return header
+
+
+def frame(path, first, text, header, columns, types, may_quote):
+    """The rows of a block of lines, each with as many fields as the header, and a number or nothing in columns of numbers."""
+    lines = text.count(b"\n")
+    if may_quote or text.count(b",") == lines * (len(header) - 1):
+        try:
+            found = pandas.read_csv(
+                io.BytesIO(text), header=None, names=header, usecols=columns, dtype=types, engine="c", low_memory=False,
+                skip_blank_lines=False, keep_default_na=False, na_values=[""], encoding_errors="replace",
+                index_col=False, quoting=csv.QUOTE_MINIMAL if may_quote else csv.QUOTE_NONE,
+            )
+            if len(found) == lines:
+                return found
+        except (ValueError, OverflowError):
+            pass
+    raise Unusable(f"{path}: {first_fault(first, text, header, types, may_quote)}")
+
+
+def first_fault(first, text, header, types, may_quote):
+    """Which line of a block is the first that is no row, and why."""
+    for place, line in enumerate(text.decode("utf-8", "replace").splitlines(), first):
+        fields = next(csv.reader([line]), []) if may_quote else line.split(",")
+        if len(fields) != len(header):
+            return f"line {place}: {len(fields)} fields, not {len(header)}"
+        for name, field in zip(header, fields):
+            if types.get(name) == "float64" and field and not is_number(field):
+                return f"line {place}: {name} is not a number"
+    return f"lines {first} to {first + text.count(bytes([10])) - 1}: not a table"
+
+
+def is_number(field):
+    return field.isascii() and field.isdigit()
