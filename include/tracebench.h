@@ -17,7 +17,8 @@
  * byte and a length of 0 asks for the size. With packets or events in place of bytes, `*count` is how many there are.
  *
  * Each call returns a status. After a status that says why a call gives no answer, nothing was written but the place
- * that the call names.
+ * that the call names. tracebench_push_all and tracebench_feed_all say how far they came, and what they took until then
+ * is written: also with TRACEBENCH_TOO_SMALL, where `*count` is how many are written.
  *
  * - TRACEBENCH_DONE says that an answer is written, and not that it is a good one: that is in `fault`, `bad`, `closed`
  *   and `whole`. No status says that a hart did what a log has, or that a payload is the one that was sent.
@@ -29,7 +30,8 @@
  * - The library is built for x86-64-v2, 64-bit processors with SSE4.2 and POPCNT, and does not check for them.
  * - A call takes time in proportion to the bytes that it is given and the events that it settles, the same if it only
  *   asks for the size. So a push, a finish, a feed, a tracebench_receive and a tracebench_follow take as long as a copy
- *   of the image, though they look at a few instructions of it. tracebench_decode and tracebench_audit go through all harts to answer for
+ *   of the image, though they look at a few instructions of it. tracebench_push_all and tracebench_feed_all copy it
+ *   once for all their events or payloads. tracebench_decode and tracebench_audit go through all harts to answer for
  *   one.
  */
 #ifndef TRACEBENCH_H
@@ -38,7 +40,7 @@
 #include <stddef.h>
 #include <stdint.h>
 
-/* The version of this header, and of the program whose library it is. */
+/* The version of this header, and of the program whose library it is. tracebench_version says that of the library. */
 #define TRACEBENCH_VERSION "1.0.0"
 
 #ifdef __cplusplus
@@ -268,6 +270,18 @@ static inline const char *tracebench_status_text(uint32_t status) {
     }
 }
 
+/*
+ * Writes the version of the library as text, without a 0 at its end. The status is TRACEBENCH_DONE or
+ * TRACEBENCH_TOO_SMALL. A program that is linked with the library of its header finds TRACEBENCH_VERSION:
+ *
+ *     uint8_t version[16];
+ *     uint64_t length;
+ *     uint32_t status = tracebench_version(version, sizeof version, &length);
+ *     bool is_this = status == TRACEBENCH_DONE && length == sizeof TRACEBENCH_VERSION - 1 &&
+ *                    memcmp(version, TRACEBENCH_VERSION, (size_t)length) == 0;
+ */
+uint32_t tracebench_version(uint8_t *buffer, size_t buffer_length, uint64_t *wanted);
+
 /* Packets. */
 
 /* What a packet is. */
@@ -399,7 +413,8 @@ uint32_t tracebench_encoder(uint16_t period, uint32_t mode, struct tracebench_en
  *
  * The packets are those of the log where it is legal. This call does not check: it is TRACEBENCH_DONE for illegal
  * events too, and for types, privileges, causes, addresses and trap values out of their ranges. tracebench_push_checked
- * checks each event. All events of a log are pushed over one image and base. The image is copied each time, so an event costs as much as a copy of the image at least.
+ * checks each event. All events of a log are pushed over one image and base. The image is copied each time, so an event
+ * costs as much as a copy of the image at least; tracebench_push_all copies it once for many events.
  *
  *     struct tracebench_event event = {TRACEBENCH_RETIREMENT, 0, 3, 0, 0, base, 0};
  *     struct tracebench_packet packets[2];
@@ -456,6 +471,33 @@ uint32_t tracebench_check_events(uint64_t base, const uint8_t *image, size_t ima
 uint32_t tracebench_push_checked(uint64_t base, const uint8_t *image, size_t image_length,
                                  struct tracebench_encoder_state *state, const struct tracebench_event *event,
                                  struct tracebench_packet *packets, size_t packets_length, uint64_t *count);
+
+/*
+ * Takes the next events of a log, one after the other as tracebench_push takes each, and writes the packets that they
+ * make due, the oldest first. `*taken` is how many events were taken, and `*count` how many packets were written: at
+ * most 2 for each event. `*state` is the state after the events that were taken. The image is copied once.
+ *
+ * With TRACEBENCH_DONE all events were taken. Else the status says why the event after those was not:
+ *
+ * - TRACEBENCH_TOO_SMALL where the rest of the buffer has no room for its packets: at most one packet more fits. So a
+ *   buffer for two takes an event at each call. The caller hands in the events from there on again.
+ * - TRACEBENCH_NO_EVENT where no event has its numbers.
+ *
+ * Or no event was taken, nothing was written, and `*taken` and `*count` are 0: TRACEBENCH_BAD_STATE where no encoder
+ * has this state, what is wrong with the image, or TRACEBENCH_MEMORY.
+ *
+ *     uint64_t taken;
+ *     for (size_t at = 0; at < events_length; at += (size_t)taken) {
+ *         status = tracebench_push_all(base, image, image_length, &state, events + at, events_length - at, packets, 64,
+ *                                      &taken, &count);
+ *         send(packets, count);
+ *         if (status != TRACEBENCH_DONE && status != TRACEBENCH_TOO_SMALL) break;
+ *     }
+ */
+uint32_t tracebench_push_all(uint64_t base, const uint8_t *image, size_t image_length,
+                             struct tracebench_encoder_state *state, const struct tracebench_event *events,
+                             size_t events_length, struct tracebench_packet *packets, size_t packets_length,
+                             uint64_t *taken, uint64_t *count);
 
 /*
  * Takes the end of a log, and writes the packets that are left, 1 or 2. The last of them closes the trace. `*state` is
@@ -526,7 +568,8 @@ void tracebench_decoder(struct tracebench_decoder_state *state);
  * - TRACEBENCH_NOT_OPENED to TRACEBENCH_AFTER_CLOSING_PACKET where no log has these packets,
  * - TRACEBENCH_MEMORY, and the payload may be handed in again.
  *
- * The call copies the image each time, so a payload costs as much as a copy of the image at least.
+ * The call copies the image each time, so a payload costs as much as a copy of the image at least. tracebench_feed_all
+ * copies it once for many payloads.
  *
  *     struct tracebench_event events[64];
  *     uint64_t count;
@@ -536,6 +579,33 @@ void tracebench_decoder(struct tracebench_decoder_state *state);
 uint32_t tracebench_feed(uint64_t base, const uint8_t *image, size_t image_length,
                          struct tracebench_decoder_state *state, const uint8_t *payload, size_t payload_length,
                          struct tracebench_event *events, size_t events_length, uint64_t *count);
+
+/*
+ * Takes the next payloads of a trace, one after the other as tracebench_feed takes each, and writes the events that
+ * they settle, the oldest first. `payloads` holds the payloads one after the other, and `ends` where each ends. `*taken`
+ * is how many payloads were taken, and `*count` how many events were written. `*state` is the state after the payloads
+ * that were taken. The image is copied once.
+ *
+ * With TRACEBENCH_DONE all payloads were taken. Else the status says why the payload after those was not:
+ *
+ * - TRACEBENCH_TOO_SMALL where the rest of the buffer has no room for its events. The caller hands in the payloads from
+ *   there on again. Where `*taken` is 0, the buffer is too small for the events of one payload, and tracebench_feed
+ *   says how many they are.
+ * - TRACEBENCH_OUT_OF_RANGE where its end is before its start, or past the payloads,
+ * - TRACEBENCH_EMPTY to TRACEBENCH_BAD_REPORT, TRACEBENCH_NOT_OPENED to TRACEBENCH_AFTER_CLOSING_PACKET, or
+ *   TRACEBENCH_MEMORY, as with tracebench_feed.
+ *
+ * Or no payload was taken, nothing was written, and `*taken` and `*count` are 0: TRACEBENCH_BAD_STATE where no decoder
+ * has this state, what is wrong with the image, or TRACEBENCH_MEMORY.
+ *
+ *     uint64_t ends[] = {1, 6, 7};
+ *     uint32_t status = tracebench_feed_all(base, image, image_length, &state, payloads, 7, ends, 3, events, 64,
+ *                                           &taken, &count);
+ */
+uint32_t tracebench_feed_all(uint64_t base, const uint8_t *image, size_t image_length,
+                             struct tracebench_decoder_state *state, const uint8_t *payloads, size_t payloads_length,
+                             const uint64_t *ends, size_t ends_length, struct tracebench_event *events,
+                             size_t events_length, uint64_t *taken, uint64_t *count);
 
 /* The messages of a hart, where some of them may be lost. */
 

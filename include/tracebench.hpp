@@ -278,6 +278,17 @@ template <class T, class Call> status into(buffer<T> &into, Call call) noexcept 
 
 } // namespace detail
 
+/* The version of the library, that of the header where it is TRACEBENCH_VERSION. */
+inline status version(span<std::uint8_t> room, std::uint64_t &wanted) noexcept {
+    return status{tracebench_version(detail::at(room), room.size(), &wanted)};
+}
+
+inline bool is_this_version() noexcept {
+    few<std::uint8_t, 16> text;
+    const status said = detail::into(text, [](auto room, auto &wanted) { return version(room, wanted); });
+    return said == status::Done && text_of({text.data(), text.size()}) == TRACEBENCH_VERSION;
+}
+
 /* Packets and payloads. */
 
 inline status pack(const packet &given, span<std::uint8_t> room, std::uint64_t &wanted) noexcept {
@@ -318,6 +329,26 @@ inline status push_checked(const program &of, encoder_state &state, const event 
     });
 }
 
+/* Events at once, into so much room, which has the packets of those that are taken. */
+inline status push_all(const program &of, encoder_state &state, span<const event> nexts, span<packet> room,
+                       std::uint64_t &taken, std::uint64_t &count) noexcept {
+    return status{tracebench_push_all(of.base, detail::at(of.image), of.image.size(), &state, detail::at(nexts),
+                                      nexts.size(), detail::at(room), room.size(), &taken, &count)};
+}
+
+/* The same into a buffer, which has room for the packets of all of them. */
+inline status push_all(const program &of, encoder_state &state, span<const event> nexts, buffer<packet> &packets,
+                       std::uint64_t &taken) noexcept {
+    taken = 0;
+    packets.keep(0);
+    if (packets.room().size() / 2 < nexts.size() && !packets.grow(2 * std::uint64_t{nexts.size()}))
+        return status::Memory;
+    std::uint64_t count = 0;
+    const status said = push_all(of, state, nexts, packets.room(), taken, count);
+    packets.keep(count);
+    return said;
+}
+
 /* Whether an event is legal as the first of a log, and whether it is after the event before. */
 inline status follow(const program &of, const event &first) noexcept {
     return status{tracebench_follow(of.base, detail::at(of.image), of.image.size(), 0, &first, &first)};
@@ -352,6 +383,20 @@ inline status feed(const program &of, decoder_state &state, span<const std::uint
 inline status feed(const program &of, decoder_state &state, span<const std::uint8_t> given,
                    buffer<event> &events) noexcept {
     return detail::into(events, [&](auto room, auto &count) { return feed(of, state, given, room, count); });
+}
+
+/* Payloads one after the other, and where each ends. */
+struct payloads {
+    span<const std::uint8_t> bytes;
+    span<const std::uint64_t> ends;
+};
+
+/* Payloads at once, into so much room, which has the events of those that are taken. */
+inline status feed_all(const program &of, decoder_state &state, const payloads &given, span<event> room,
+                       std::uint64_t &taken, std::uint64_t &count) noexcept {
+    return status{tracebench_feed_all(of.base, detail::at(of.image), of.image.size(), &state, detail::at(given.bytes),
+                                      given.bytes.size(), detail::at(given.ends), given.ends.size(), detail::at(room),
+                                      room.size(), &taken, &count)};
 }
 
 /* The messages of a hart, where some of them may be lost. */

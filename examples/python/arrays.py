@@ -5,13 +5,12 @@
     packets = arrays.push(library, 0x80000000, image, state, events)
 """
 import ctypes
-from ctypes import byref, c_uint64
-from typing import Any
+from typing import Any, Sequence
 
 import numpy
 import numpy.typing
 
-from tracebench import DONE, Borrowed, DecoderState, EncoderState, Event, Lender, Library, Packet, Refused
+from tracebench import DONE, TOO_SMALL, DecoderState, EncoderState, Event, Lender, Library, Packet, Refused
 
 Array = numpy.typing.NDArray[Any]
 
@@ -25,19 +24,31 @@ def push(library: Library, base: int, image: Lender, state: EncoderState, events
     `row` of the fault counts it from 1."""
     if events.dtype != EVENT:
         raise TypeError(f"events of {events.dtype}, not arrays.EVENT")
-    of, given, packets = Borrowed(image), Borrowed(events), numpy.zeros(2 * len(events), PACKET)
-    after, made, count = EncoderState.from_buffer_copy(state), 0, c_uint64()
-    for place in range(len(events)):
-        event = Event.from_address(given.slice[0] + place * EVENT.itemsize)
-        room = packets.ctypes.data + made * PACKET.itemsize
-        if status := library.calls["push"](base, *of.slice, byref(after), byref(event), room, 2, byref(count)):
-            raise Refused(status, row=place + 1)
-        made += count.value
+    packets, after = numpy.zeros(2 * len(events), PACKET), EncoderState.from_buffer_copy(state)
+    status, taken, count = library.push_all(base, image, after, events, packets)
+    if status != DONE:
+        raise Refused(status, row=taken + 1)
     ctypes.pointer(state)[0] = after
-    return packets[:made]
+    return packets[:count]
 
 
 def feed(library: Library, base: int, image: Lender, state: DecoderState, payload: Lender) -> Array:
     """The events that the next payload settles. `state` then has taken this payload too."""
     events, count = library.settled(base, image, state, payload)
     return numpy.frombuffer(memoryview(events), EVENT, count)
+
+
+def feed_all(library: Library, base: int, image: Lender, state: DecoderState, payloads: Sequence[Lender]) -> Array:
+    """The events that the next payloads settle, one after the other. Where one is refused, none is taken, and `row` of
+    the fault counts it from 1. If the array is too small, the call is repeated with one that is twice as large."""
+    joined, room = b"".join(payloads), 64 * len(payloads) + 64
+    ends = numpy.cumsum([memoryview(payload).nbytes for payload in payloads], dtype=numpy.uint64)
+    while True:
+        events, after = numpy.zeros(room, EVENT), DecoderState.from_buffer_copy(state)
+        status, taken, count = library.feed_all(base, image, after, joined, ends, events)
+        if status == DONE:
+            ctypes.pointer(state)[0] = after
+            return events[:count]
+        if status != TOO_SMALL:
+            raise Refused(status, row=taken + 1)
+        room *= 2

@@ -176,23 +176,31 @@ class Borrowed:
         ctypes.pythonapi.PyObject_GetBuffer(ctypes.py_object(lender), byref(self.view), 0)
         self.slice: Tuple[int, int] = (self.view.at or ctypes.addressof(self.nowhere), self.view.length)
 
+    def of(self, element: Any) -> Tuple[int, int]:
+        """Where the bytes are, and how many elements they are."""
+        return self.slice[0], self.slice[1] // ctypes.sizeof(element)
+
     def __del__(self) -> None:
         ctypes.pythonapi.PyBuffer_Release(byref(self.view))
 
 
 SLICE = [c_void_p, c_size_t]
 ROOM = [c_void_p, c_size_t, POINTER(c_uint64)]
+TAKEN = [c_void_p, c_size_t, POINTER(c_uint64), POINTER(c_uint64)]
 PARAMETERS = {
+    "version": ROOM,
     "pack": [POINTER(Packet), *ROOM],
     "unpack": [*SLICE, POINTER(Packet)],
     "encoder": [c_uint16, c_uint32, POINTER(EncoderState), POINTER(Packet)],
     "push": [c_uint64, *SLICE, POINTER(EncoderState), POINTER(Event), *ROOM],
     "push_checked": [c_uint64, *SLICE, POINTER(EncoderState), POINTER(Event), *ROOM],
+    "push_all": [c_uint64, *SLICE, POINTER(EncoderState), *SLICE, *TAKEN],
     "follow": [c_uint64, *SLICE, c_uint32, POINTER(Event), POINTER(Event)],
     "check_events": [c_uint64, *SLICE, c_void_p, c_size_t, POINTER(c_uint64)],
     "finish": [c_uint64, *SLICE, POINTER(EncoderState), *ROOM],
     "decoder": [POINTER(DecoderState)],
     "feed": [c_uint64, *SLICE, POINTER(DecoderState), *SLICE, *ROOM],
+    "feed_all": [c_uint64, *SLICE, POINTER(DecoderState), *SLICE, *SLICE, *TAKEN],
     "receive": [c_uint64, *SLICE, POINTER(HartState), c_uint64, *SLICE, *ROOM, POINTER(c_uint64)],
     "resume": [POINTER(HartState), c_uint64, c_uint32],
     "check": [c_uint64, *SLICE, *SLICE, POINTER(c_uint64)],
@@ -229,6 +237,13 @@ class Library:
         call = getattr(shared, f"tracebench_{name}")
         call.argtypes, call.restype = PARAMETERS[name], None if name == "decoder" else c_uint32
         return call  # type: ignore[no-any-return]
+
+    def version(self) -> str:
+        """The version of the library."""
+        status, text = handed_out(self.calls["version"])
+        if status != DONE:
+            raise Refused(status)
+        return text.decode()
 
     def pack(self, packet: Packet) -> bytes:
         """The shortest payload of a packet."""
@@ -267,6 +282,28 @@ class Library:
             raise Refused(status)
         return packets[: count.value]
 
+    def push_all(self, base: int, image: Lender, state: EncoderState, events: Lender,
+                 packets: Lender) -> Tuple[int, int, int]:
+        """Pushes events, which lend their bytes, as long as their packets fit into what lends the bytes of packets: the
+        status, which is not 0 where an event has no room or is refused, how many events were taken, and how many
+        packets were written. `state` then has taken those events."""
+        of, given, room, taken, count = Borrowed(image), Borrowed(events), Borrowed(packets), c_uint64(), c_uint64()
+        status = self.calls["push_all"](base, *of.slice, byref(state), *given.of(Event), *room.of(Packet), byref(taken),
+                                        byref(count))
+        return status, taken.value, count.value
+
+    def feed_all(self, base: int, image: Lender, state: DecoderState, payloads: Lender, ends: Lender,
+                 events: Lender) -> Tuple[int, int, int]:
+        """Feeds payloads, which are one after the other and end there, as long as their events fit into what lends the
+        bytes of events: the status, which is not 0 where a payload has no room or is refused, how many payloads were
+        taken, and how many events were written. `ends` lends numbers of 64 bits. `state` then has taken those
+        payloads."""
+        of, given, to, room = Borrowed(image), Borrowed(payloads), Borrowed(ends), Borrowed(events)
+        taken, count = c_uint64(), c_uint64()
+        status = self.calls["feed_all"](base, *of.slice, byref(state), *given.slice, *to.of(c_uint64), *room.of(Event),
+                                        byref(taken), byref(count))
+        return status, taken.value, count.value
+
     def follow(self, base: int, image: Lender, before: Optional[Event], event: Event) -> int:
         """The status of an event after the event before, or as the first of a log: 0 where it is legal, and else why it
         is not."""
@@ -279,8 +316,7 @@ class Library:
     def check_events(self, base: int, image: Lender, events: Lender) -> int:
         """How many events a legal log has, whose events lend their bytes: an array of `Event`, or one of NumPy."""
         of, given, row = Borrowed(image), Borrowed(events), c_uint64()
-        at, length = given.slice
-        if status := self.calls["check_events"](base, *of.slice, at, length // ctypes.sizeof(Event), byref(row)):
+        if status := self.calls["check_events"](base, *of.slice, *given.of(Event), byref(row)):
             raise Refused(status, row=row.value)
         return row.value
 

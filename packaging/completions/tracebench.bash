@@ -20,7 +20,7 @@ _tracebench() {
     decode) options="--base --harts --lossy --progress --help" ;;
     replay) options="--base --period --full --capacity --progress --help" ;;
     bench) options="--base --period --full --capacity --progress --help" ;;
-    audit) options="--packets --unnumbered --summary --progress --help" ;;
+    audit) options="--packets --unnumbered --summary --format --progress --help" ;;
     measure) options="--base --period --full --long --progress --help" ;;
     list) options="--base --harts --symbols --progress --help" ;;
     salvage) options="--base --harts --summary --progress --help" ;;
@@ -38,7 +38,7 @@ _tracebench() {
         previous=${COMP_WORDS[COMP_CWORD - 2]}
     fi
     case $previous in
-    --base | --capacity | --first | --harts | --of | --period) return ;;
+    --base | --capacity | --first | --format | --harts | --of | --period) return ;;
     esac
     case $current in
     -*) mapfile -t COMPREPLY < <(compgen -W "$options" -- "$current") ;;

@@ -68,6 +68,7 @@ complete -c tracebench -n '__tracebench_given audit' -F
 complete -c tracebench -n '__tracebench_given audit' -l packets -d 'Compare messages by the packets that they unpack to, not by their bytes'
 complete -c tracebench -n '__tracebench_given audit' -l unnumbered -d 'Do not look at the numbers of RECEIVED: align what came with what was sent'
 complete -c tracebench -n '__tracebench_given audit' -l summary -d 'Leave out the lines of single messages, of bytes and of lost numbers'
+complete -c tracebench -n '__tracebench_given audit' -l format -x -d 'What is printed: text, or csv, a table'
 complete -c tracebench -n '__tracebench_given audit' -l progress -d 'Show how far the capture is worked through, where standard error is a terminal'
 
 complete -c tracebench -n '__tracebench_given measure' -F

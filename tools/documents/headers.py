@@ -16,6 +16,9 @@ PACKAGE = "include/tracebench.sv"
 OF_PACKAGE = "include/tracebench_dpi.c"
 STATUSES = "crates/tracebench_c/src/status.rt"
 FAULTS = "crates/tracebench_c/specs/Statuses.antt"
+# Where the library for C has its version, and how.
+OF_LIBRARY = {"crates/tracebench_c/src/version.rt": r'VERSION: \[u8; \d+\] = \*b"(.*)";',
+              "crates/tracebench_c/specs/VersionText.antt": r'^version_text = codes "(.*)"$'}
 # What the program says before the name of a fault of a payload.
 BEFORE = {"pack": "bad packet: "}
 # Constants of captures, which the package for SystemVerilog does not have.
@@ -31,6 +34,9 @@ def of_version():
     told = re.search(r'^#define TRACEBENCH_VERSION "(.*)"$', grammar.content(HEADER), re.MULTILINE)
     if not told or told[1] != version():
         yield f"{HEADER}: TRACEBENCH_VERSION is not {version()}"
+    for path, form in OF_LIBRARY.items():
+        if re.findall(form, grammar.content(path), re.MULTILINE) != [version()]:
+            yield f"{path}: the version is not {version()}"
 
 
 def of_source():

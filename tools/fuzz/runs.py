@@ -13,6 +13,7 @@ import lists
 import measures
 import reading
 import salvages
+import tables
 
 # What a run has to print, or a function that returns status, output and error by what it printed.
 Run = collections.namedtuple("Run", "words status out error")
@@ -113,6 +114,42 @@ def of_unnumbered(maker, _, pair):
     yield Run([*words, "--summary"], None, lambda _: aligned(pair, said[0], True, bool(packets)), None)
 
 
+def of_table(maker, _, pair):
+    """What an audit of a pair of captures prints as a table, whole and in a summary: the rows of its lines of text. Its
+    numbers are looked at or not."""
+    packets = maker.random.choice(([], ["--packets"]))
+    words = ["audit", *packets, audits.SENT, audits.RECEIVED, "--format"]
+    for summary in ([], ["--summary"]):
+        whole, text = (audits.audit(*pair, it, bool(packets)) for it in (False, bool(summary)))
+        yield Run([*words, "text", *summary], text[0], text[1].encode(), text[2])
+        yield Run([*words, "csv", *summary], None, table_of(text, whole, False), None)
+    said = []
+
+    def aligned_text(answer):
+        said.append(answer)
+        return aligned(pair, answer, False, bool(packets))
+
+    yield Run([*words, "text", "--unnumbered"], None, aligned_text, None)
+    for summary in ([], ["--summary"]):
+        whole, text = (aligned(pair, said[0], it, bool(packets)) for it in (False, bool(summary)))
+        decoded = [(status, lines.decode(), error) for status, lines, error in (text, whole)]
+        yield Run([*words, "csv", "--unnumbered", *summary], None, table_of(*decoded, True), None)
+
+
+def table_of(text, whole, unnumbered):
+    """What a run has to be that prints the table of a run in text, by what it prints: the status and the error are those
+    of the text. The whole text, which is no summary, says how many messages are taken. Where it is empty, SENT is
+    refused."""
+    def wanted(answer):
+        try:
+            if text[1] or answer:
+                tables.check(answer, tables.rows_of(text[1], unnumbered, tables.taken(whole[1])))
+        except tables.NoRows as why:
+            return text[0], f"{why}\n".encode(), text[2]
+        return text[0], answer, text[2]
+    return wanted
+
+
 def aligned(pair, answer, summary, packets):
     """The status, output and error line of an audit without numbers, by the output without a summary."""
     try:
@@ -198,7 +235,7 @@ def of_lines(_, __, case):
 
 def files_of(kind, case):
     """The files that the runs over a case read, but for the image."""
-    if kind in ("audits", "unnumbered"):
+    if kind in ("audits", "unnumbered", "tables"):
         return {audits.SENT: case[0], audits.RECEIVED: case[1]}
     if kind == "lists":
         return {lists.CAPTURE: case[0]} | ({} if case[1] is None else {lists.SYMBOLS: case[1]})
@@ -217,6 +254,7 @@ def answer(binary, folder, words):
 OF_CASE = {
     "captures": of_capture, "logs": of_log, "audits": of_pair, "measures": of_measured, "lists": of_listed,
     "salvages": of_salvaged, "lines": of_lines, "dumps": of_searched, "unnumbered": of_unnumbered, "parts": of_parts,
+    "tables": of_table,
 }
 
 

@@ -69,7 +69,7 @@ BODIES = [
         "use crate::status::{BAD_STATE, DONE, NO_EVENT, OUT_OF_RANGE};",
         "use crate::status::{BAD_STATE, DONE, MEMORY, NO_EVENT, OUT_OF_RANGE};"),
     ("tracebench_feed MEMORY past 65,536 events", "tracebench_c", "feeding.rt",
-        "        Ok(()) => Ok(FedPayload {\n",
-        "        Ok(()) if events.len() > 65_536 => Err(FeedFault::Decode(DecodeFault::Memory)),\n"
-        "        Ok(()) => Ok(FedPayload {\n"),
+        "        Ok(numbers) => Ok(FedPayload { numbers, events }),\n",
+        "        Ok(_) if events.len() > 65_536 => Err(FeedFault::Decode(DecodeFault::Memory)),\n"
+        "        Ok(numbers) => Ok(FedPayload { numbers, events }),\n"),
 ]

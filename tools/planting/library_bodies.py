@@ -39,7 +39,7 @@ BODIES = [
     ("write_log always Write", "retire", "write.rt",
         "    put(sink, room.as_slice())?;\n    Ok(())\n",
         "    put(sink, room.as_slice())?;\n    Err(WriteFault::Write)\n"),
-    ("feed always Memory", "decoder", "decoding.rt",
+    ("feed always Memory", "decoder", "feeding.rt",
         "        if log.reserve(settled.left() + of_packet.left()).is_err() {",
         "        if log.reserve(settled.left() + of_packet.left()).is_err() || log.len() < 1 << 40 {"),
     ("read_schedule always Memory", "schedule", "reading.rt",

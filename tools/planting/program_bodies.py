@@ -110,7 +110,7 @@ BODIES = [
     ("audit tells of a message twice", "path_commands", "received.rt",
         "        watch.note(1);\n", "        watch.note(2);\n"),
     ("audit --unnumbered tells of no stranger", "path_commands", "matching.rt",
-        "        progress.note(strangers_among(all.len(), came) as usize);\n", "        let _ = all;\n"),
+        "        progress.note(strangers_among(all.len(), came.harts.as_slice()) as usize);\n", "        let _ = all;\n"),
     ("salvage tells of no copy", "salvaging", "trail.rt", "        watch.note(count);\n", "        watch.note(1);\n"),
     ("salvage tells of nothing after an end", "salvaging", "hart.rt", "    watch.note(beyond.len());\n", ""),
     ("salvage tells of no stranger", "salvaging", "salvaging.rt", "    watch.note(all.strangers);\n", ""),

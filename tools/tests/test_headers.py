@@ -8,6 +8,8 @@ from documents import grammar, headers
 # A change, and the line that it makes, as it begins.
 CHANGES = (
     ('VERSION: &str = "1.0.0', 'VERSION: &str = "1.0.1', "include/tracebench.h: TRACEBENCH_VERSION is not 1.0.1"),
+    ('*b"1.0.0"', '*b"1.0.1"', "crates/tracebench_c/src/version.rt: the version is not 1.0.0"),
+    ('text = codes "1.0.0"', 'text = codes "1.0.1"', "crates/tracebench_c/specs/VersionText.antt: the version is not"),
     ("#define TRACEBENCH_GAP 98u", "#define TRACEBENCH_GAP 95u", "include/tracebench.h: GAP is ("),
     ("/* A payload is empty. */", "/* No payload. */", "include/tracebench.h: EMPTY is ("),
     ("/// A payload is empty.", "/// No payload.", "include/tracebench.h: EMPTY is ("),

@@ -6,7 +6,7 @@ import unittest
 
 from support import TOOLS
 
-NEED_WORDS = ["examples", "fuzz/fuzz", "fuzz-c/fuzz-c", "let-through", "record", "side-by-side", "verdict"]
+NEED_WORDS = ["examples", "fuzz/fuzz", "fuzz-c/fuzz-c", "let-through", "page", "record", "side-by-side", "verdict"]
 SCRIPTS = NEED_WORDS + [
     "at-scale",
     "check-docs",

@@ -6,7 +6,8 @@
  * BASE is hexadecimal. Each call is made nine times, into a buffer that is large enough. A line has the least time in
  * nanoseconds: for each event, of an audit for each message, of `pack` and `unpack` for each packet. Captures are of
  * version 1, in differential mode, at period 1,024, and of an audit at period 64, as in `timing`. `push` and `feed` go
- * step by step over the first 1,000 events of the log, since each call copies the image.
+ * step by step over the first 1,000 events of the log, since each call copies the image. `push_all` and `feed_all` go
+ * over the whole log in one call; `push and pack` packs what the former gives, as the phase of that name does.
  */
 #define _POSIX_C_SOURCE 199309L
 #include "tracebench.h"
@@ -35,6 +36,9 @@ struct input {
     struct bytes steps; /* the capture of the first events */
     struct tracebench_event *first;
     size_t count_of_first;
+    struct bytes joined; /* the payloads of the capture, one after the other, and where each ends */
+    uint64_t *ends;
+    struct tracebench_event *all;
 };
 
 static void stop(const char *what, uint32_t status) {
@@ -180,6 +184,53 @@ static uint64_t run_push(const struct input *input) {
     return all + count;
 }
 
+/* Feeds the payloads of the capture at once. Returns how many events come out. */
+static uint64_t run_feed_all(const struct input *input) {
+    struct tracebench_decoder_state state;
+    uint64_t taken = 0, count = 0;
+    tracebench_decoder(&state);
+    uint32_t status = tracebench_feed_all(input->base, input->image.at, input->image.length, &state, input->joined.at,
+                                          input->joined.length, input->ends, input->messages, input->all,
+                                          input->events, &taken, &count);
+    if (status != TRACEBENCH_DONE) stop("feed_all", status);
+    return count;
+}
+
+/* Pushes all events at once. Returns how many packets come out. */
+static uint64_t run_push_all(const struct input *input) {
+    struct tracebench_encoder_state state;
+    uint64_t taken = 0, count = 0, last = 0;
+    uint32_t status = tracebench_encoder(PERIOD, TRACEBENCH_DIFFERENTIAL, &state, input->packets);
+    if (status != TRACEBENCH_DONE) stop("encoder", status);
+    status = tracebench_push_all(input->base, input->image.at, input->image.length, &state, input->all, input->events,
+                                 input->packets + 1, input->messages - 1, &taken, &count);
+    if (status != TRACEBENCH_DONE) stop("push_all", status);
+    status = tracebench_finish(input->base, input->image.at, input->image.length, &state, input->packets + 1 + count,
+                               input->messages - 1 - (size_t)count, &last);
+    if (status != TRACEBENCH_DONE) stop("finish", status);
+    return 1 + count + last;
+}
+
+static uint64_t run_push_and_pack(const struct input *input) {
+    uint64_t packets = run_push_all(input);
+    run_pack(input);
+    return packets;
+}
+
+/* The payloads of the capture, one after the other, and where each ends. */
+static void join_payloads(struct input *input) {
+    const uint8_t *at = input->capture.at;
+    input->joined.at = room(input->capture.length);
+    input->ends = room(input->messages * sizeof *input->ends);
+    for (size_t place = 0; place < input->messages; place++) {
+        memcpy(input->joined.at + input->joined.length, at + HEAD, at[HEAD - 1]);
+        input->joined.length += at[HEAD - 1];
+        input->ends[place] = input->joined.length;
+        at += HEAD + at[HEAD - 1];
+    }
+    input->all = room(input->events * sizeof *input->all);
+}
+
 /* Makes a call several times, and prints the least time for each of so many items, and the number that it gives. */
 static void measure(const char *name, uint64_t (*call)(const struct input *), const struct input *input, size_t items) {
     double least = 1e300;
@@ -218,12 +269,16 @@ int main(int count, char **words) {
     input.packets = room(input.messages * sizeof *input.packets);
     input.payloads = room(input.messages * sizeof *input.payloads);
     input.lengths = room(input.messages * sizeof *input.lengths);
+    join_payloads(&input);
     measure("check", run_check, &input, input.events);
     measure("encode", run_encode, &input, input.events);
     measure("decode", run_decode, &input, input.events);
     measure("audit", run_audit, &input, input.dense_messages);
     measure("unpack", run_unpack, &input, input.messages);
     measure("pack", run_pack, &input, input.messages);
+    measure("feed_all", run_feed_all, &input, input.events);
+    measure("push_all", run_push_all, &input, input.events);
+    measure("push and pack", run_push_and_pack, &input, input.events);
     measure("push", run_push, &input, input.count_of_first);
     measure("feed", run_feed, &input, input.count_of_first);
     return 0;

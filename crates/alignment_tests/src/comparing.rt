@@ -5,8 +5,10 @@ use message::Message;
 use payload::Payload;
 use std::process::Abort;
 use unnumbered::{
-    AlignedTotal, HartCounts, Line, aligned_harts, arrival_lines, counts_of, total_of,
+    AlignedTotal, HartCounts, Line, SentPayloads, aligned_harts, arrival_lines, counts_of,
+    lines_by_hart, total_of,
 };
+use watching::Unwatched;
 
 /// What is said of a message of RECEIVED.
 #[derive(Clone, Copy, Debug)]
@@ -102,6 +104,38 @@ fn has_total(rt: &impl Abort, name: &str, total: AlignedTotal, wanted: Counts) {
     assert_eq!(rt; sent.checked_sub(lost), came.checked_sub(extra), "{name}");
 }
 
+/// The payloads of messages, added one after the other.
+fn split(
+    rt: &(impl Abort + AllocGlobal),
+    harts: usize,
+    by: By,
+    messages: &[Message],
+) -> SentPayloads {
+    let mut own = SentPayloads::with_space(rt.alloc(), harts, by, &[1]).expect(rt, "memory");
+    for message in messages {
+        own.add(message).expect(rt, "memory");
+    }
+    own
+}
+
+/// What is said of the messages that came, where they are split and aligned by hart alone.
+fn said_by_hart(rt: &(impl Abort + AllocGlobal), path: &Path<'_>) -> Vec<Line> {
+    let alloc = rt.alloc();
+    let own = split(rt, path.harts.len(), path.by, path.sent);
+    let came = split(rt, path.harts.len(), path.by, path.came);
+    let mut harts = Vec::new(alloc);
+    for message in path.came {
+        harts.push(message.hart).expect(rt, "memory");
+    }
+    if came.harts() != own.harts() {
+        return Vec::new(alloc);
+    }
+    let all = own
+        .align_lists(alloc, &Unwatched, &came)
+        .expect(rt, "memory");
+    lines_by_hart(alloc, all.as_slice(), harts.as_slice()).expect(rt, "memory")
+}
+
 /// Aligns a path, compares what is counted, and returns what is said of the messages that came.
 pub(crate) fn compared(rt: &(impl Abort + AllocGlobal), name: &str, path: &Path<'_>) -> Vec<Line> {
     let alloc = rt.alloc();
@@ -113,7 +147,13 @@ pub(crate) fn compared(rt: &(impl Abort + AllocGlobal), name: &str, path: &Path<
         has_counts(rt, name, counts_of(own), *wanted);
     }
     has_total(rt, name, total_of(all.as_slice()), path.all);
-    arrival_lines(alloc, all.as_slice(), path.came).expect(rt, "memory")
+    let lines = arrival_lines(alloc, all.as_slice(), path.came).expect(rt, "memory");
+    assert_eq!(rt;
+        lines.as_slice(),
+        said_by_hart(rt, path).as_slice(),
+        "{name}"
+    );
+    lines
 }
 
 /// Ends the test unless this is counted and said of a path.

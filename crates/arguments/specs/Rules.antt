@@ -71,6 +71,15 @@ abbrev pub summary_rule : Rule
 summary_rule =
     record (new_rule (codes "summary")) { long = Some (codes "summary"); action = Some SetTrue }
 
+-- `--format FORMAT`. Where it is not given, FORMAT is `text`.
+abbrev pub format_rule : Rule
+format_rule = record (new_rule (codes "format")) {
+  long = Some (codes "format");
+  action = Some Set;
+  value_names = 1;
+  defaults = codes "text" ∷ [];
+}
+
 -- `--explain`.
 abbrev pub explain_rule : Rule
 explain_rule =

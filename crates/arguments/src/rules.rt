@@ -1,7 +1,7 @@
 //! One function for each argument.
 
 ghost use Rattle.arguments.specs.Rules.{IsReadBy, base_rule, capacity_rule, capture_rule, explain_rule, first_rule};
-ghost use Rattle.arguments.specs.Rules.{full_rule, given_harts_rule, harts_rule, hex_rule, image_rule, lines_rule};
+ghost use Rattle.arguments.specs.Rules.{format_rule, full_rule, given_harts_rule, harts_rule, hex_rule, image_rule, lines_rule};
 ghost use Rattle.arguments.specs.Rules.{logs_rule, long_rule, lossy_rule, of_rule, packets_rule};
 ghost use Rattle.arguments.specs.Rules.{period_rule, progress_rule, received_rule, schedule_rule};
 ghost use Rattle.arguments.specs.Rules.{search_rule, sent_rule, summary_rule, symbols_rule, unnumbered_rule};
@@ -90,6 +90,18 @@ pub fn first<'a>(alloc: Global) -> Arg<'a>
         .action(ArgAction::Set)
         .help("The hart of the first log, with --of, 0 to 1023; without it, 0")
         .value_parser(value_parser!(u16).range(0..=i64::from(GREATEST_FIRST)))
+}
+
+/// `--format FORMAT`, which asks for lines of text or for a table, and for text where it is not given.
+pub fn format<'a>(alloc: Global) -> Arg<'a>
+    ensures { IsReadBy format_rule result }
+{
+    Arg::new(alloc, "format")
+        .long("format")
+        .value_name("FORMAT")
+        .default_value("text")
+        .action(ArgAction::Set)
+        .help("What is printed: text, or csv, a table")
 }
 
 /// `--full`, which asks for full addresses in the packets, not differences.

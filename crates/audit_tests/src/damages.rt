@@ -156,6 +156,35 @@ fn is_passage(span: &Span, at: usize, wanted: Passage) -> bool {
     }
 }
 
+/// Whether a passage is the one that a span is of.
+fn is_borrowed(span: &Span, passage: Option<resuming::Passage<'_>>) -> bool {
+    match span {
+        Span::Frame { offset, message } => match passage {
+            Some(
+                resuming::Passage::Message {
+                    offset: at,
+                    message: own,
+                },
+            ) => {
+                *offset == at
+                    && message.hart == own.hart
+                    && message.number == own.number
+                    && message.payload.bytes() == own.payload
+            }
+            _ => false,
+        },
+        Span::Bytes { offset, count } => match passage {
+            Some(
+                resuming::Passage::Bytes {
+                    offset: at,
+                    count: own,
+                },
+            ) => *offset == at && *count == own,
+            _ => false,
+        },
+    }
+}
+
 /// Up to 12 messages of up to 3 harts, each the next of its hart. Their bytes may be lengths of payloads.
 fn draw_sent(alloc: Global, draw: &mut Draw) -> Result<Vec<Sent>, AllocError> {
     let mut sent: Vec<Sent> = Vec::new(alloc);
@@ -204,19 +233,25 @@ fn reads_a_damage(rt: &impl Abort, alloc: Global, draw: &mut Draw) -> Result<(),
     let second = damaged(alloc, draw, first.as_slice())?;
     let came = damaged(alloc, draw, second.as_slice())?;
     let mut left = Resuming::new(came.as_slice(), 0);
+    let mut again = Resuming::new(came.as_slice(), 0);
     let mut at = 0;
     for _ in 0..came.len() {
         if at >= came.len() {
             break;
         }
         let wanted = passage_at(sent.as_slice(), came.as_slice(), at);
+        let passage = again.next_passage(&audit);
         match left.next(&audit) {
-            Some(span) => assert!(rt; is_passage(&span, at, wanted), "place {at}"),
+            Some(span) => {
+                assert!(rt; is_passage(&span, at, wanted), "place {at}");
+                assert!(rt; is_borrowed(&span, passage), "place {at}");
+            }
             None => assert!(rt; false, "place {at}"),
         }
         at = wanted.after;
     }
     assert!(rt; left.next(&audit).is_none());
+    assert!(rt; again.next_passage(&audit).is_none());
     Ok(())
 }
 

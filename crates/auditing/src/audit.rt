@@ -5,6 +5,7 @@ ghost use Rattle.message.specs.Capture.{capture};
 ghost use Rattle.message.specs.Cut.{IsMessage};
 ghost use Rattle.message.specs.declared.header.Header.{Header as AnyHeader};
 ghost use Rattle.message.specs.declared.message.Message.{Message as AnyMessage};
+ghost use Rattle.resuming.specs.Borrowed.{message_of};
 ghost use Rattle.auditing.specs.Audits.{Audits};
 ghost use Rattle.auditing.specs.Fates.{fate_of};
 ghost use Rattle.auditing.specs.Findings.{finding_of, first_found};
@@ -31,7 +32,7 @@ use crate::row::HartRow;
 use crate::tally::Tally;
 use alike::By;
 use message::{Header, MOST_HARTS, Message, Messages};
-use resuming::{Sent, Sight};
+use resuming::{BorrowedMessage, Sent, Sight};
 use std::alloc::{Allocator, Global};
 use std::marker::Model;
 
@@ -207,13 +208,40 @@ impl<'a, A: Allocator> Audit<'a, A> {
         self.take_by_hart(message)
     }
 
+    /// As [`Audit::examine`], of a message whose payload is left where it is. Nothing is copied.
+    pub fn examine_borrowed(&mut self, message: BorrowedMessage<'_>) -> Finding
+        ensures finding { (sent received : List AnyMessage) → Audits sent received self.old
+            → result ≡ finding_of (known_all self.old.by sent) (known_all self.old.by received)
+            (known_one self.old.by (message_of message.entry)) }
+        ensures taken { (sent received : List AnyMessage) → Audits sent received self.old
+            → Audits sent (received ++ message_of message.entry ∷ []) self.new }
+        ensures by { self.new.by ≡ self.old.by }
+        ensures header { self.new.header ≡ self.old.header }
+        ensures harts { length self.new.harts ≡ length self.old.harts }
+    {
+        self.take_borrowed(message)
+    }
+
     /// As [`Audit::examine`], by what is kept.
     fn take_by_hart(&mut self, message: &Message) -> Finding
         ensures finding { result ≡ finding_from self.old.by self.old message.now }
         ensures after { self.new ≡ ledger_after self.old.by self.old message.now }
     {
+        self.take_borrowed(BorrowedMessage {
+            hart: message.hart,
+            number: message.number,
+            payload: message.payload.bytes(),
+        })
+    }
+
+    /// As [`Audit::examine_borrowed`], by what is kept.
+    #[inline(always)]
+    fn take_borrowed(&mut self, message: BorrowedMessage<'_>) -> Finding
+        ensures finding { result ≡ finding_from self.old.by self.old (message_of message.entry) }
+        ensures after { self.new ≡ ledger_after self.old.by self.old (message_of message.entry) }
+    {
         let finding = match self.harts.get_mut(usize::from(message.hart)) {
-            Some(hart) => hart.take(message.number, message.payload.bytes(), self.by),
+            Some(hart) => hart.take(message.number, message.payload, self.by),
             None => Finding::Stranger,
         };
         if let Finding::Stranger = finding {

@@ -1,5 +1,5 @@
 -- Logs that come back complete.
-use Rattle.std.specs.Prelude.{ℕ, ◌≡◌, ◌≤◌, All, Bool, true, List, Option, Some, None, length, map, replicate}
+use Rattle.std.specs.Prelude.{ℕ, ◌≡◌, All, Bool, true, List, Option, Some, None, length, map, replicate}
 use Rattle.retire.specs.Log.{most_long_rows}
 use Rattle.retire.specs.declared.event.Event.{Event}
 use Rattle.rvclass.specs.Image.{Image}
@@ -13,7 +13,7 @@ use Rattle.captures.specs.Versions.{MayStart, capture_of, header_of}
 use Rattle.captures.specs.declared.outcome.CaptureFault.{CaptureFault}
 use Rattle.captures.specs.declared.outcome.CaptureFault.TheVariants as fault
 
--- The log is legal for its program and has at most 4294967295 events.
+-- The log is legal for its program and has at most 4294967295 events, as `IsLegalUpTo` has it.
 abbrev pub IsLongLegalLog : ProgramLog → Type 0
 IsLongLegalLog log = IsLegalUpTo most_long_rows log.program log.events
 

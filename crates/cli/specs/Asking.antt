@@ -13,6 +13,8 @@ use Rattle.payload.specs.declared.mode.Mode.TheVariants.{Differential, Full}
 use Rattle.subcommands.specs.Kind.{IsCheck}
 use Rattle.subcommands.specs.Limits.{greatest_first, longest_period}
 use Rattle.subcommands.specs.declared.words.Asked.{Asked}
+use Rattle.subcommands.specs.declared.words.Format.{Format}
+use Rattle.subcommands.specs.declared.words.Format.TheVariants as format
 use Rattle.subcommands.specs.declared.words.Asked.TheVariants.{Audit, Bench, Capture, Check, Decode, Dump, Encode}
 use Rattle.subcommands.specs.declared.words.Asked.TheVariants.{Listing, Measure, Replay, Salvage}
 
@@ -46,6 +48,12 @@ is_one Two = false
 -- The version is the first exactly when the flag is set.
 abbrev pub IsVersion : Option Text → Version → Type 0
 IsVersion value version = IsFlag value (is_one version)
+
+-- The format is the one of this name, or another where the name is that of none.
+pub record IsFormat (name : Text) (its : Format) : Type 0 where
+  pub text : name ≡ codes "text" → its ≡ format.Text
+  pub csv : name ≡ codes "csv" → its ≡ format.Csv
+  pub other : name ≢ codes "text" → name ≢ codes "csv" → its ≡ format.Other
 
 -- The number that a decimal text spells, which may begin with a plus sign.
 abbrev pub decimal : Text → ℕ
@@ -127,7 +135,8 @@ Asks name rows (Bench asked) = (name ≡ codes "bench")
     × (map (λ log. log.now) asked.logs.items ≡ texts_of (codes "LOG") rows)
 Asks name rows (Audit asked) = (name ≡ codes "audit") × IsFlag (one_of (codes "packets") rows) asked.packets
     × IsFlag (one_of (codes "unnumbered") rows) asked.unnumbered
-    × IsFlag (one_of (codes "summary") rows) asked.summary × IsFlag (one_of (codes "progress") rows) asked.progress
+    × IsFlag (one_of (codes "summary") rows) asked.summary
+    × IsFormat (text_of (codes "format") rows) asked.format × IsFlag (one_of (codes "progress") rows) asked.progress
     × (asked.sent.now ≡ text_of (codes "SENT") rows) × (asked.received.now ≡ text_of (codes "RECEIVED") rows)
 Asks name rows (Measure asked) = (name ≡ codes "measure")
     × (asked.base.now ≡ text_of (codes "base") rows) × IsPeriod (one_of (codes "period") rows) asked.period

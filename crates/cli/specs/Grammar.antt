@@ -6,8 +6,8 @@ use Rattle.clap.specs.Words.{with_rule, with_subcommand}
 use Rattle.clap.specs.Simple.{on_top}
 use Rattle.clap.specs.declared.builder.command.Command.{Command}
 use Rattle.clap.specs.declared.builder.command.Command.TheViews.{out-Command as fields_of}
-use Rattle.arguments.specs.Rules.{base_rule, capacity_rule, capture_rule, explain_rule, first_rule, full_rule}
-use Rattle.arguments.specs.Rules.{given_harts_rule, harts_rule, hex_rule, image_rule, lines_rule, logs_rule, long_rule}
+use Rattle.arguments.specs.Rules.{base_rule, capacity_rule, capture_rule, explain_rule, first_rule, format_rule}
+use Rattle.arguments.specs.Rules.{full_rule, given_harts_rule, harts_rule, hex_rule, image_rule, lines_rule, logs_rule, long_rule}
 use Rattle.arguments.specs.Rules.{lossy_rule, of_rule, packets_rule, period_rule, progress_rule, received_rule}
 use Rattle.arguments.specs.Rules.{schedule_rule, search_rule, sent_rule, summary_rule, symbols_rule}
 use Rattle.arguments.specs.Rules.{unnumbered_rule, version_one_rule}
@@ -47,10 +47,10 @@ bench_app = with_arguments (codes "bench") (base_rule ∷ period_rule ∷ full_r
     image_rule ∷
     logs_rule ∷ [])
 
--- `audit [--packets] [--unnumbered] [--summary] [--progress] SENT RECEIVED`.
+-- `audit [--packets] [--unnumbered] [--summary] [--format FORMAT] [--progress] SENT RECEIVED`.
 abbrev pub audit_app : App
-audit_app = with_arguments (codes "audit") (packets_rule ∷ unnumbered_rule ∷ summary_rule ∷ progress_rule ∷
-    sent_rule ∷ received_rule ∷ [])
+audit_app = with_arguments (codes "audit") (packets_rule ∷ unnumbered_rule ∷ summary_rule ∷ format_rule ∷
+    progress_rule ∷ sent_rule ∷ received_rule ∷ [])
 
 -- `measure --base B [--period N] [--full] [--long] [--progress] IMAGE LOG...`.
 abbrev pub measure_app : App

@@ -3,8 +3,8 @@
 ghost use Rattle.std.specs.Prelude.{◌≡◌, ◌⊎◌, IfErr, IfOk, [], codes, map, string_bytes, unwrap_or};
 ghost use Rattle.clap.specs.Words.{FailsBy, fault_of, first_value, found_of, kind_of, one_of, rows_of};
 ghost use Rattle.clap.specs.declared.error.kind.ErrorKind.TheVariants as kind;
-ghost use Rattle.cli.specs.Asking.{AreRefused, Asks, IsCapacity, IsFlag, IsGivenFirst, IsGivenHarts, IsHarts, IsMode};
-ghost use Rattle.cli.specs.Asking.{IsPeriod, IsVersion};
+ghost use Rattle.cli.specs.Asking.{AreRefused, Asks, IsCapacity, IsFlag, IsFormat, IsGivenFirst, IsGivenHarts, IsHarts};
+ghost use Rattle.cli.specs.Asking.{IsMode, IsPeriod, IsVersion};
 ghost use Rattle.cli.specs.Asking.{WordsAsk, text_of, texts_of};
 ghost use Rattle.cli.specs.Grammar.{IsSubcommand, program_app};
 ghost use Rattle.subcommands.specs.Limits.{IsWithinLimits};
@@ -15,8 +15,8 @@ use message::{MOST_CAPACITY, MOST_HARTS, Version};
 use payload::Mode;
 use std::alloc::{AllocError, Global};
 use subcommands::{
-    Asked, Audit, Bench, Capture, Check, Decode, Dump, Encode, GREATEST_FIRST, Listing, Measure,
-    Replay, SHORTEST_PERIOD, SMALLEST_CAPACITY, Salvage,
+    Asked, Audit, Bench, Capture, Check, Decode, Dump, Encode, Format, GREATEST_FIRST, Listing,
+    Measure, Replay, SHORTEST_PERIOD, SMALLEST_CAPACITY, Salvage,
 };
 
 /// The period where the arguments give none.
@@ -221,6 +221,17 @@ fn bench_asked<'a>(alloc: Global, given: &ArgMatches<'a>) -> Result<Asked<'a>, A
     }))
 }
 
+/// The format, which is text where the arguments give none.
+fn format<'a>(given: &ArgMatches<'a>) -> Format
+    ensures { IsFormat (text_of (codes "format") (rows_of (found_of given.now))) result }
+{
+    match text(given, "format") {
+        "text" => Format::Text,
+        "csv" => Format::Csv,
+        _ => Format::Other,
+    }
+}
+
 /// What was asked of `audit`.
 fn audit_asked<'a>(given: &ArgMatches<'a>) -> Asked<'a>
     ensures { Asks (codes "audit") (rows_of (found_of given.now)) result }
@@ -229,6 +240,7 @@ fn audit_asked<'a>(given: &ArgMatches<'a>) -> Asked<'a>
         packets: flag(given, "packets"),
         unnumbered: flag(given, "unnumbered"),
         summary: flag(given, "summary"),
+        format: format(given),
         progress: flag(given, "progress"),
         sent: text(given, "SENT"),
         received: text(given, "RECEIVED"),

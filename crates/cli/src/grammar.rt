@@ -15,7 +15,7 @@ use crate::help::{
     VERSION,
 };
 use arguments::{
-    base, capacity, capture, capture_progress, counted_harts, explain, first, full, harts,
+    base, capacity, capture, capture_progress, counted_harts, explain, first, format, full, harts,
     headed_full, headed_period, headless, hex, image, lines, listed_harts, logs, long, lossy, of,
     packets, period, progress, received, salvaged_harts, schedule, search, sent, summary, symbols,
     unnumbered, version_one, without_logs,
@@ -175,6 +175,7 @@ fn audit<'a>(alloc: Global) -> Result<Command<'a>, AllocError>
         packets(alloc),
         unnumbered(alloc),
         summary(alloc),
+        format(alloc),
         capture_progress(alloc),
         sent(alloc),
         received(alloc),

@@ -3,6 +3,7 @@ pub mod OutcomesLeft
 pub mod OnOneWord
 pub mod WalkFinding
 pub mod PassesByStep
+pub mod AlongLines
 pub mod Retraces
 pub mod WritesAsFound
 pub mod WalkBound

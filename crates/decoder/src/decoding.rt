@@ -5,7 +5,7 @@ ghost use Rattle.std.specs.Prelude.{Some, Ok, Err, length, vec_len, vec_capacity
 ghost use Rattle.std.specs.Option.{unwrap_or};
 ghost use Rattle.retire.specs.declared.event.Event.{Event};
 ghost use Rattle.rvclass.specs.Fetch.{words_of};
-ghost use Rattle.rvclass.specs.Words.{Words, IsProgram};
+ghost use Rattle.rvclass.specs.Words.{Words};
 ghost use Rattle.payload.specs.Closing.{is_closing_packet};
 ghost use Rattle.payload.specs.ClosedTrace.{last_is_closing};
 ghost use Rattle.payload.specs.declared.mode.Mode.{Mode as AnyMode};
@@ -13,23 +13,17 @@ ghost use Rattle.payload.specs.declared.packet.Packet.{Packet};
 ghost use Rattle.decoder.specs.Describes.{Describes};
 ghost use Rattle.decoder.specs.Order.{IsOpen, open_packet};
 ghost use Rattle.decoder.specs.Resuming.{IsSync, PassesOver, IsClosed, HasMode};
-ghost use Rattle.decoder.specs.steps.Stretches.{stretch_count, Suits, SuitsNone, AddsSoFar, AddsBoth};
-ghost use Rattle.decoder.specs.steps.Planning.{MayCome, FitsWaiting, Plans, PlansNone, admitted, decoder_after};
-ghost use Rattle.decoder.specs.steps.Planning.{passed_over};
 ghost use Rattle.decoder.specs.DecoderStands.{DecoderStands};
 ghost use Rattle.decoder.specs.StateStands.{StateStands, decoder_of};
 ghost use Rattle.decoder.specs.declared.state.DecoderState.{DecoderState as AnyState};
 ghost use Rattle.decoder.specs.declared.fault.DecodeFault.TheVariants.{NotOpened, AfterClose, Memory};
 
 use crate::fault::DecodeFault;
-use crate::kinds::{is_open, is_sync};
-use crate::paths::Paths;
-use crate::remembering::{announced_past, mode_past, phase_after, reported_past, waiting_after};
-use crate::settling::{Waiting, events_of_packet, settle};
+use crate::leaps::end_of;
+use crate::paths::{Paths, longest};
+use crate::settling::Waiting;
 use crate::state::{DecoderState, Phase};
-use crate::stretch::Stretch;
-use crate::walking::Progress;
-use payload::{Mode, Packet, Support};
+use payload::{Mode, Packet};
 use retire::Event;
 use rvclass::Program;
 use std::alloc::Allocator;
@@ -44,14 +38,14 @@ use std::alloc::Allocator;
 /// synchronisation comes. From there on it decodes as if the trace began with this synchronisation.
 #[derive(Clone, Copy, Debug)]
 pub struct Decoder {
-    phase: Phase,
-    waiting: Option<Waiting>,
-    last: Option<Event>,
+    pub(crate) phase: Phase,
+    pub(crate) waiting: Option<Waiting>,
+    pub(crate) last: Option<Event>,
     /// The mode in which address fields are read.
-    mode: Mode,
+    pub(crate) mode: Mode,
     /// The mode that the packet announced which opened the trace, where that packet came.
-    announced: Option<Mode>,
-    reported: u64,
+    pub(crate) announced: Option<Mode>,
+    pub(crate) reported: u64,
 }
 
 impl Decoder {
@@ -216,168 +210,13 @@ impl Decoder {
             × (vec_capacity log.old < vec_len log.old + length other) }
         ensures never_unopened { (mode : AnyMode) → PassesOver mode self.old → ¬ (result ≡ Err NotOpened) }
     {
-        if self.phase == Phase::PassingOver && !is_sync(packet) {
-            self.pass_over(packet);
-            return Ok(());
-        }
-        let count = log.len();
-        let mut settled = Stretch::Nothing;
-        let mut of_packet = Stretch::Nothing;
-        if let Err(fault) = self.plan(program, packet, &mut settled, &mut of_packet, log) {
-            log.truncate(count);
-            return Err(fault);
-        }
-        if log.reserve(settled.left() + of_packet.left()).is_err() {
-            log.truncate(count);
-            return Err(DecodeFault::Memory);
-        }
-        settled.write(program, log);
-        of_packet.write(program, log);
-        *self = self.after(packet, &settled, &of_packet);
-        Ok(())
-    }
-
-    /// Passes over a packet that is no synchronisation: one that closes the trace closes the decoder.
-    fn pass_over(&mut self, packet: &Packet)
-        ensures { self.new ≡ passed_over self.old packet.now }
-    {
-        if packet.is_closing() {
-            self.phase = Phase::Closed;
-        }
-    }
-
-    /// Finds what the next packet adds to a log: first the events of the packet that waits, if one does, then those of
-    /// the packet itself. Walks are written as they are found, as far as the list's capacity goes, and are not taken
-    /// back at a fault.
-    #[inline]
-    fn plan<A: Allocator>(
-        &self,
-        program: &Program,
-        packet: &Packet,
-        first: &mut Stretch,
-        second: &mut Stretch,
-        log: &mut Vec<Event, A>,
-    ) -> Result<(), DecodeFault>
-        ensures found { OnOk result (Plans (words_of program.now) self.now packet.now first.new second.new) }
-        ensures none { IfErr result (λ fault. PlansNone (words_of program.now) self.now packet.now fault) }
-        ensures admitted { OnOk result (admitted self.now.phase packet.now ≡ Ok tt) }
-        ensures short { OnOk result (stretch_count first.new + stretch_count second.new
-            ≤ 2 * (32 * (length program.now.bytes / 2)) + 2) }
-        ensures written { OnOk result
-            (AddsBoth (words_of program.now) first.new second.new log.old.items log.new.items) }
-        ensures behind { (rest : List Event) × (log.new.items ≡ log.old.items ++ rest) }
-        ensures room { vec_capacity log.new ≡ vec_capacity log.old }
-        ensures words { IsProgram (words_of program.now) }
-        ensures small { length program.now.bytes ≤ 2 ^ 24 }
-    {
-        let paths = Paths::of(program);
-        self.admit(packet)?;
-        self.settled(paths, packet, first, log)?;
-        if !self.may_come(packet) {
-            return Err(DecodeFault::WrongPlace);
-        }
-        let last = first.last(&self.last);
-        let reported = first.place(self.reported);
-        events_of_packet(
-            paths,
-            self.mode,
-            &last,
-            reported,
-            packet,
-            first.progress(),
-            second,
-            log,
-        )
-    }
-
-    /// Tests that the packet comes neither before the one that opens the trace nor after the one that closes it.
-    #[inline]
-    fn admit(&self, packet: &Packet) -> Result<(), DecodeFault>
-        ensures { result ≡ admitted self.now.phase packet.now }
-    {
-        match self.phase {
-            Phase::Unopened => {
-                if is_open(packet) {
-                    Ok(())
-                } else {
-                    Err(DecodeFault::NotOpened)
-                }
-            }
-            Phase::Running | Phase::PassingOver => Ok(()),
-            Phase::Closed => Err(DecodeFault::AfterClose),
-        }
-    }
-
-    /// Whether the packet may come next by its kind. The packet that opens the trace comes only first. The packet
-    /// `EndedRep`, which says that the last instruction was reported, follows only an address packet that waits.
-    #[inline]
-    fn may_come(&self, packet: &Packet) -> bool
-        ensures { IsTrue result ↔ MayCome self.now.phase self.now.waiting packet.now }
-    {
-        match packet {
-            Packet::Support(Support::Open(_)) => self.phase == Phase::Unopened,
-            Packet::Support(Support::EndedRep) => self.waiting.is_some(),
-            _ => true,
-        }
-    }
-
-    /// The events of the packet that waits, if one does, where this packet follows it.
-    #[inline]
-    fn settled<A: Allocator>(
-        &self,
-        paths: Paths,
-        packet: &Packet,
-        stretch: &mut Stretch,
-        log: &mut Vec<Event, A>,
-    ) -> Result<(), DecodeFault>
-        ensures found { OnOk result (Suits (words_of paths.entry.program.now) self.now.last
-            (FitsWaiting (words_of paths.entry.program.now) self.now.mode self.now.last self.now.reported
-            self.now.waiting packet.now)
-            stretch.new) }
-        ensures none { IfErr result (λ fault. SuitsNone (words_of paths.entry.program.now) self.now.last
-            (FitsWaiting (words_of paths.entry.program.now) self.now.mode self.now.last self.now.reported
-            self.now.waiting packet.now)
-            fault) }
-        ensures short { OnOk result (stretch_count stretch.new ≤ 32 * (length paths.entry.program.now.bytes / 2)) }
-        ensures written { OnOk result (AddsSoFar (words_of paths.entry.program.now) Progress.Written stretch.new
-            log.old.items log.new.items) }
-        ensures behind { (rest : List Event) × (log.new.items ≡ log.old.items ++ rest) }
-        ensures room { vec_capacity log.new ≡ vec_capacity log.old }
-    {
-        match &self.waiting {
-            Some(waiting) => {
-                let addr = self.mode.aim(self.reported, waiting.delta);
-                settle(
-                    paths,
-                    &self.last,
-                    &waiting.outcomes,
-                    addr,
-                    packet,
-                    stretch,
-                    log,
-                )
-            }
-            None => {
-                *stretch = Stretch::Nothing;
-                Ok(())
-            }
-        }
-    }
-
-    /// The decoder after the packet, where it adds these events.
-    #[inline]
-    fn after(&self, packet: &Packet, settled: &Stretch, of_packet: &Stretch) -> Decoder
-        ensures { result ≡ decoder_after self.now packet.now settled.now of_packet.now }
-    {
-        let reported = settled.place(self.reported);
-        Decoder {
-            phase: phase_after(packet),
-            waiting: waiting_after(packet),
-            last: of_packet.last(&settled.last(&self.last)),
-            mode: mode_past(packet, self.mode),
-            announced: announced_past(packet, self.announced),
-            reported: reported_past(packet, reported, of_packet.place(reported)),
-        }
+        let paths = Paths {
+            program,
+            longest: longest(program),
+            end: end_of(program),
+            leaps: &[],
+        };
+        self.feed_by(paths, packet, log)
     }
 }
 

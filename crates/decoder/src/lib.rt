@@ -4,8 +4,12 @@
 
 mod decoding;
 mod fault;
+mod feeding;
+mod finding;
 mod kinds;
 mod laws;
+mod leaps;
+mod lines;
 mod paths;
 mod remembering;
 mod reporting;
@@ -18,10 +22,12 @@ mod walking;
 
 pub use decoding::Decoder;
 pub use fault::DecodeFault;
+pub use finding::Lines;
 pub use laws::{
     closed_where_last_closes, first_packets_describe_a_beginning,
     more_packets_describe_a_longer_log, one_log_is_described, passing_over_stands_for_nothing,
     walks_are_short,
 };
+pub use paths::Paths;
 pub use settling::Waiting;
 pub use state::{DecoderState, Phase};

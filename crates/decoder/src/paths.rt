@@ -1,29 +1,48 @@
 //! The walks that a program has.
 
 ghost use Rattle.std.specs.Prelude.{◌≡◌};
+ghost use Rattle.rvclass.specs.Fetch.{words_of};
 ghost use Rattle.decoder.specs.steps.Longest.{IsLongest};
+ghost use Rattle.decoder.specs.steps.StraightLines.{AreLeaps, end_of};
 
+use crate::leaps::{Leap, end_of};
 use rvclass::Program;
 
-/// A program, and how many retirements a walk in it has at most.
+/// A program, how many retirements a walk in it has at most, and the leaps along its straight lines, where these were
+/// found.
 #[derive(Clone, Copy)]
 pub struct Paths<'p> {
     /// The program.
-    pub program: &'p Program,
+    pub(crate) program: &'p Program,
     /// How many retirements a walk has at most.
-    pub longest: usize,
+    pub(crate) longest: usize,
+    /// The address from which the places of leaps are counted.
+    pub(crate) end: u64,
+    /// The leaps from all places; none where they were not found.
+    pub(crate) leaps: &'p [Leap],
     ghost bound: { IsLongest program.now longest },
+    ghost lead: { AreLeaps (words_of program.now) end leaps.now },
+}
+
+/// How many retirements a walk in this program has at most.
+#[inline]
+pub fn longest(program: &Program) -> usize
+    ensures { IsLongest program.now result }
+{
+    32 * (program.byte_count() / 2)
 }
 
 impl<'p> Paths<'p> {
-    /// The walks of this program.
+    /// The walks of this program, with no leaps. Takes no memory.
     #[inline]
     pub fn of(program: &'p Program) -> Paths<'p>
         ensures { result.program.now ≡ program.now }
     {
         Paths {
             program,
-            longest: 32 * (program.byte_count() / 2),
+            longest: longest(program),
+            end: end_of(program),
+            leaps: &[],
         }
     }
 }

@@ -224,7 +224,7 @@ pub fn may_stay(class: Class, privilege: u8) -> bool
 
 /// Whether all outcomes are used.
 #[inline]
-fn are_used(used: usize, course: &Course) -> bool
+pub fn are_used(used: usize, course: &Course) -> bool
     requires { steps.IsCourse course.now }
     ensures { result ≡ steps.is_empty (drop used course.now.outcomes) }
 {

@@ -14,9 +14,11 @@ ghost use Rattle.decoder.specs.steps.WritingAsFound.{ReturnsSummary, ShortReturn
 ghost use Rattle.decoder.specs.steps.Walks.{event_of, goal_end, Carries, IsHere, Finds, FindsNone, HasRoom, Adds};
 
 use crate::fault::DecodeFault;
+use crate::lines::line_ahead;
 use crate::paths::Paths;
 use crate::retracing::retrace;
 use crate::stepping::{Course, Goal, Here, Step, step_from};
+use legalpath::Next;
 use payload::Outcomes;
 use retire::Event;
 use rvclass::Program;
@@ -43,8 +45,8 @@ pub struct Walked {
 }
 
 /// Writes the walk from a retirement as it is found. Where there is no such walk, the fault is the first on the way,
-/// and the events that were written before it remain. Where the capacity is too small, the call returns no walk, and
-/// the list is as it was.
+/// and the events that were written before it remain. Where the capacity is too small, or leaps were found along which
+/// to measure the walk first, the call returns no walk, and the list is as it was.
 #[inline(always)]
 pub fn write_found<A: Allocator>(
     paths: Paths,
@@ -64,6 +66,9 @@ pub fn write_found<A: Allocator>(
     ensures behind { (rest : List AnyEvent) × (log.new.items ≡ log.old.items ++ rest) }
     ensures room { vec_capacity log.new ≡ vec_capacity log.old }
 {
+    if !paths.leaps.is_empty() {
+        return Ok(None);
+    }
     let course = Course::new(outcomes, goal);
     write_found_within(paths.program, paths.longest, from, &course, log)
 }
@@ -86,12 +91,7 @@ pub fn measure(
         (λ fault. FindsNone (words_of paths.entry.program.now) from outcomes.now (goal_end goal)) }
     ensures named { IfErr result IsOnTheWay }
 {
-    measure_within(
-        paths.program,
-        paths.longest,
-        from,
-        &Course::new(outcomes, goal),
-    )
+    measure_within(paths, from, &Course::new(outcomes, goal))
 }
 
 /// Writes a walk of `count` retirements, which was measured, into capacity that was reserved.
@@ -114,28 +114,37 @@ pub fn write<A: Allocator>(
     write_within(program, count, from, &Course::new(outcomes, goal), log);
 }
 
-/// Measures a walk of at most `limit` steps.
+/// Measures a walk. Once it is long, it goes along straight lines by leaps, where these were found.
 #[inline]
-fn measure_within(
-    program: &Program,
-    limit: usize,
-    from: Here,
-    course: &Course,
-) -> Result<Walked, DecodeFault>
-    requires program { IsProgram (words_of program.now) }
-    requires from { Carries (words_of program.now) from }
+fn measure_within(paths: Paths, from: Here, course: &Course) -> Result<Walked, DecodeFault>
+    requires from { Carries (words_of paths.program.now) from }
     requires course { steps.IsCourse course.now }
     ensures summary { steps.summary_of result ≡ steps.summary (event_of from)
-        (steps.walk_within (words_of program.now) limit (event_of from) course.now.outcomes
+        (steps.walk_within (words_of paths.entry.program.now) paths.entry.longest (event_of from) course.now.outcomes
         (goal_end course.now.goal)) }
     ensures pending { IfOk result (λ walked. walked.progress ≡ Progress.Pending) }
     ensures named { IfErr result IsOnTheWay }
 {
     let mut here = from;
     let mut used = 0;
-    for done in 0..limit {
-        match step_from(program, &mut here, &mut used, course) {
-            Step::Goes => {}
+    let mut done = 0;
+    for _ in 0..paths.longest {
+        if done >= paths.longest {
+            return Err(DecodeFault::WrongPlace);
+        }
+        if let Some(line) = line_ahead(paths, &here, used, course, done) {
+            here = Here {
+                addr: line.to,
+                itype: here.itype,
+                privilege: here.privilege,
+                next: Next::One(line.next),
+                stays: true,
+            };
+            done += line.steps;
+            continue;
+        }
+        match step_from(paths.program, &mut here, &mut used, course) {
+            Step::Goes => done += 1,
             Step::Ends => {
                 return Ok(Walked {
                     count: done + 1,

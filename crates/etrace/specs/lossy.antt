@@ -37,4 +37,5 @@ pub use Rattle.alike.specs.Same
 pub use Rattle.resuming.specs.Taken as ResumingTaken
 pub use Rattle.resuming.specs.Passages
 pub use Rattle.resuming.specs.Counted as ResumingCounted
+pub use Rattle.resuming.specs.Borrowed
 pub use Rattle.resuming.specs.Amid

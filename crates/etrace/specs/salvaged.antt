@@ -8,6 +8,8 @@ pub use Rattle.salvaging.specs.ReasonText
 pub use Rattle.salvaging.specs.Leaving
 pub use Rattle.salvaging.specs.Ends
 pub use Rattle.salvaging.specs.Late
+pub use Rattle.salvaging.specs.Shares
+pub use Rattle.salvaging.specs.Treatments
 pub use Rattle.salvaging.specs.PartsIn
 pub use Rattle.salvaging.specs.Salvaged
 pub use Rattle.salvaging.specs.FromLogs

@@ -6,7 +6,8 @@ pub use auditing::{
     Audit, Fate, Finding, HartRow, Lost, LostRuns, RunLengths, SentFault, Tally, run_lengths,
 };
 pub use losses::{HartPieces, LossyFault, Part, collect_lossy, collect_watched};
-pub use resuming::{Resuming, Sent, Sight};
+pub use resuming::{BorrowedMessage, Passage, Resuming, Sent, Sight};
 pub use unnumbered::{
-    AlignedTotal, HartCounts, Line, SentPayloads, aligned_harts, arrival_lines, counts_of, total_of,
+    AlignedTotal, HartCounts, Line, SentPayloads, aligned_harts, arrival_lines, counts_of,
+    lines_by_hart, total_of,
 };

@@ -2,5 +2,8 @@
 //! bytes.
 
 pub use frames::{END_OF_FRAMES, Span, Spans, begins_frame, message_in, message_size};
-pub use salvaging::{Part, Reason, Salvaged, SalvagedHart, salvage, salvage_watched};
+pub use salvaging::{
+    Added, Part, Reason, Salvaged, SalvagedHart, Treated, Treatment, salvage, salvage_watched,
+    treat_watched,
+};
 pub use searching::{CaptureStart, first_place, harts_counted, search_capture, spans_of, start_of};

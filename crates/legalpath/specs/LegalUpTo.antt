@@ -1,4 +1,4 @@
--- A log that is legal for a program, of any length.
+-- A log that is legal for a program, of at most so many events.
 use Rattle.std.specs.Prelude.{◌≤◌, All, ℕ, List, length}
 use Rattle.retire.specs.Is64Bit.{Is64Bit}
 use Rattle.retire.specs.declared.event.Event.{Event}

@@ -14,6 +14,6 @@ pub record ProgramLog : Type 0 where
 abbrev pub program_log : Image → List Event → ProgramLog
 program_log program events = record { program = program; events = events }
 
--- The log is legal for its program and has at most 2^24 events.
+-- The log is legal for its program and has at most 2^24 events, as `IsLegalUpTo` has it.
 abbrev pub IsLegalLog : ProgramLog → Type 0
 IsLegalLog log = IsLegalUpTo most_rows log.program log.events

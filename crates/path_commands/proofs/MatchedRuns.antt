@@ -15,10 +15,11 @@ use Rattle.captures.specs.NoMessage.{BeginsNoHeader}
 use Rattle.captures.specs.Whole.{BeginsWith, IsFront}
 use Rattle.searching.specs.Start.{IsStart}
 use Rattle.subcommands.specs.declared.words.Audit.{Audit}
+use Rattle.subcommands.specs.declared.words.Format.{Format}
+use Rattle.subcommands.specs.declared.words.Format.TheVariants.{Csv, Other, Text}
 use Rattle.auditing.specs.Sent.{harts_of}
 use Rattle.unnumbered.specs.Aligned.{AreAligned}
 use Rattle.unnumbered.specs.Counted.{total_of}
-use Rattle.unnumbered.specs.Split.{AreSplit, Kept}
 use Rattle.unnumbered.specs.declared.line.Line.{Line}
 use Rattle.command_inputs.proofs.Runs.{prints}
 use Rattle.command_inputs.specs.Begun.{IsCutOf}
@@ -29,13 +30,15 @@ use Rattle.command_inputs.specs.Found.{IsRead}
 use Rattle.command_inputs.specs.declared.fault.Fault.TheVariants as fault
 use Rattle.command_inputs.specs.declared.status.Status.{Status}
 use Rattle.files.specs.Known.{Content}
+use Rattle.path_commands.specs.AlignedRows.{aligned_table}
+use Rattle.path_commands.specs.Audited.{WritesAligned}
 use Rattle.path_commands.specs.Faults.{Fault}
 use Rattle.path_commands.specs.Sides.{IsFoundSent, Sent, by_packets, heads_differ}
-use Rattle.path_commands.specs.Unnumbered.{IsUnnumberedCame, UnnumberedCame, WritesUnnumbered, end_of_unnumbered}
-use Rattle.path_commands.specs.Unnumbered.{is_read_whole, is_whole_unnumbered, lines_of, strangers_among, unnumbered_audit}
+use Rattle.path_commands.specs.Unnumbered.{IsUnnumberedCame, UnnumberedCame, end_of_unnumbered}
+use Rattle.path_commands.specs.Unnumbered.{is_read_whole, is_whole_unnumbered, lines_of, strangers_among}
 use Rattle.path_commands.specs.UnnumberedText.{unnumbered_text}
 use Rattle.path_commands.specs.declared.reason.PathReason.{PathReason}
-use Rattle.path_commands.specs.steps.Matching.{EndsUnnumbered, IsKept}
+use Rattle.path_commands.specs.steps.Matching.{EndsUnnumbered, audit_in, report_in}
 
 -- A capture that begins with a header, or with none, does not begin with one that is cut or not valid.
 starts_well : (bytes rest : List ℕ) (header : Option Header) (why : MessageFault) → BeginsWith header bytes rest
@@ -68,17 +71,6 @@ module _ (bytes : List ℕ) (header : Option Header) where
   is_read None own messages (Some why) start is (inr none) =
       absurd (starts_well bytes start.0 header why start.1 none.none)
 
--- The payloads of SENT are kept.
-pub kept_of : (how by : By) (header : Option Header) (harts : ℕ) (messages read : List Message) (own : Kept)
-    → by ≡ how → own.by ≡ by → harts ≡ harts_of header messages → read ≡ messages → AreSplit by harts read own.lists
-    → IsKept how messages (record { header = header; payloads = own })
-kept_of how by header harts messages read own by_is own_is harts_is read_is split = record {
-  by = own_is ∙ by_is;
-  split =
-      subst (λ h. AreSplit h (harts_of header messages) messages own.lists) (sym own_is)
-      (subst (λ n. AreSplit by n messages own.lists) harts_is (subst (λ m. AreSplit by harts m own.lists) read_is split));
-}
-
 -- What holds of a value holds of it in other words.
 pub ok_in_words : {T E : Type 0} (P Q : T → Type 0) → ((x : T) → P x → Q x) → (r : Result T E) → IfOk r P → IfOk r Q
 ok_in_words P Q leads (Ok x) holds = leads x holds
@@ -102,52 +94,56 @@ module _ (summary : Bool) (header : Option Header) (came : UnnumberedCame) (all 
   whole_is = is ∙ (λ i. (total_of all).whole && (strangers_is i == 0) && not (unlike_is i) && read_is i)
 
   -- The text is that of the definition.
-  pub text_is : unnumbered_text summary all lines strangers unlike whole ≡ unnumbered_audit summary header came all
-  text_is = λ i. unnumbered_text summary all (lines_is i) (strangers_is i) (unlike_is i) (whole_is i)
+  pub text_is : (format : Format)
+      → report_in format summary all lines (length came.messages) strangers unlike whole ≡ audit_in format summary header came all
+  text_is Csv = λ i.
+      aligned_table summary all (lines_is i) (length came.messages) (strangers_is i) (unlike_is i) (whole_is i)
+  text_is Text = λ i. unnumbered_text summary all (lines_is i) (strangers_is i) (unlike_is i) (whole_is i)
+  text_is Other = λ i. unnumbered_text summary all (lines_is i) (strangers_is i) (unlike_is i) (whole_is i)
 
 module _ (asked : Audit) (sent : Sent) (bytes : List ℕ) (came : UnnumberedCame)
     (is_came : IsUnnumberedCame bytes came) (all : List Flags)
     (aligned : AreAligned (by_packets asked.packets) (harts_of sent.header sent.messages) sent.messages came.messages all)
   where
+    -- The text in a format, and how the run ends, are what is written in it.
+    writes : (format : Format) → WritesAligned format asked sent bytes (record {
+      text = audit_in format asked.summary sent.header came all;
+      ended = end_of_unnumbered asked.received sent.header came all;
+    })
+    writes Csv = record { came = came; is_came = is_came; all = all; aligned = aligned; text = refl; ended = refl }
+    writes Text = record { came = came; is_came = is_came; all = all; aligned = aligned; text = refl; ended = refl }
+    writes Other = record { came = came; is_came = is_came; all = all; aligned = aligned; text = refl; ended = refl }
+
     -- What was written, or the failure, is what is printed.
     pub matched_printed : (ended : Result Status Fault) (old new : Option (List ℕ))
         → EndsUnnumbered asked sent.header came all ended old new
-        → PrintsUnlessDenied (WritesUnnumbered asked sent bytes) ⊤ ended old new
+        → PrintsUnlessDenied (WritesAligned asked.format asked sent bytes) ⊤ ended old new
     matched_printed ended old new (inl memory) =
-        subst (λ e. PrintsUnlessDenied (WritesUnnumbered asked sent bytes) ⊤ e old new) (sym memory) (inl (inl refl))
+        subst (λ e. PrintsUnlessDenied (WritesAligned asked.format asked sent bytes) ⊤ e old new) (sym memory) (inl (inl refl))
     matched_printed ended old new (inr (inl output)) =
-        subst (λ e. PrintsUnlessDenied (WritesUnnumbered asked sent bytes) ⊤ e old new) (sym output) (inl (inr (refl, tt)))
+        subst (λ e. PrintsUnlessDenied (WritesAligned asked.format asked sent bytes) ⊤ e old new) (sym output)
+        (inl (inr (refl, tt)))
     matched_printed ended old new (inr (inr rest)) =
-        prints (WritesUnnumbered asked sent bytes) ⊤ ended old new (record {
-          text = unnumbered_audit asked.summary sent.header came all;
-          prints = record {
-            came = came;
-            is_came = is_came;
-            all = all;
-            aligned = aligned;
-            text = refl;
-            ended = rest.1;
-          };
+        prints (WritesAligned asked.format asked sent bytes) ⊤ ended old new (record {
+          text = audit_in asked.format asked.summary sent.header came all;
+          prints =
+              subst (λ e. WritesAligned asked.format asked sent bytes (record {
+                text = audit_in asked.format asked.summary sent.header came all;
+                ended = e;
+              })) (sym rest.1) (writes asked.format);
           appended = rest.0;
         })
 
     -- A beginning of it is a cut.
     pub matched_cut : (old new : Option (List ℕ))
-        → AppendsBeginning (unnumbered_audit asked.summary sent.header came all) old new
-        → IsCutOf (WritesUnnumbered asked sent bytes) old new
+        → AppendsBeginning (audit_in asked.format asked.summary sent.header came all) old new
+        → IsCutOf (WritesAligned asked.format asked sent bytes) old new
     matched_cut old new begun = inr (record {
       printed = record {
-        text = unnumbered_audit asked.summary sent.header came all;
+        text = audit_in asked.format asked.summary sent.header came all;
         ended = end_of_unnumbered asked.received sent.header came all;
       };
-      prints = record {
-        came = came;
-        is_came = is_came;
-        all = all;
-        aligned = aligned;
-        text = refl;
-        ended = refl;
-      };
+      prints = writes asked.format;
       begun = begun;
     })
 

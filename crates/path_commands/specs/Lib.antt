@@ -2,7 +2,13 @@ pub mod Faults
 pub mod FaultText
 pub mod AuditText
 pub mod Sides
+pub mod Came
+pub mod AuditRows
+pub mod AuditTable
 pub mod UnnumberedText
 pub mod Unnumbered
+pub mod AlignedRows
+pub mod AlignedTable
+pub mod ReadBack
 pub mod Audited
 pub mod steps

@@ -2,3 +2,4 @@ pub mod Ending
 pub mod Reading
 pub mod Summing
 pub mod Matching
+pub mod Tabling

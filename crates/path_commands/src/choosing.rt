@@ -1,19 +1,19 @@
 //! The subcommand `audit`.
 
-ghost use Rattle.std.specs.Prelude.{◌≡◌, Err};
+ghost use Rattle.std.specs.Prelude.{◌≡◌, Err, IfSome};
 ghost use Rattle.command_inputs.specs.Begun.{IsCutOf};
 ghost use Rattle.command_inputs.specs.Printed.{PrintsUnlessDenied};
-ghost use Rattle.path_commands.specs.Audited.{Audits, CanAudit};
+ghost use Rattle.path_commands.specs.Audited.{Audits, CanAudit, IsFormat, format_fault};
 ghost use Rattle.path_commands.specs.Faults.{final_status};
 ghost use Rattle.command_inputs.specs.declared.fault.Fault.TheVariants as Fault;
 
 use crate::comparing::audit_numbered;
 use crate::matching::audit_unnumbered;
-use crate::reason::Fault;
+use crate::reason::{Fault, PathReason};
 use command_inputs::{Files, Status};
 use std::alloc::Global;
 use std::io::Write;
-use subcommands::Audit as Asked;
+use subcommands::{Audit as Asked, Format};
 
 /// Writes what became of the messages of SENT in RECEIVED: a line for each message of RECEIVED that is not in order or
 /// skips a number and for each run of bytes of no message, one for each longest run of numbers of a hart that were lost,
@@ -24,6 +24,8 @@ use subcommands::Audit as Asked;
 /// damage, by what was sent. Where its header is cut or not valid, it is read from its first byte on, and the fault is
 /// returned after all is written.
 ///
+/// The format is looked at first. As CSV the same is written as a table, whose rows are of the same definitions.
+///
 /// Where the numbers of RECEIVED are not to be looked at, its messages are compared with those of SENT by an alignment of
 /// the payloads of each hart ([`unnumbered`]). RECEIVED is read by the lengths of its messages then. Where no message
 /// follows before its last byte, or its header is cut or not valid, that fault is returned after all is written.
@@ -33,6 +35,7 @@ pub fn audit<'a, F: Files, O: Write>(
     asked: &Asked<'a>,
     out: &mut O,
 ) -> Result<Status, Fault<'a>>
+    ensures early { IfSome (format_fault asked.now.format) (λ fault. result ≡ Err fault) }
     ensures refused { final_status result ≡ Status.Refused → out.new ≡ out.old }
     ensures untouched { result ≡ Err Fault.Memory → out.new ≡ out.old }
     ensures printed { PrintsUnlessDenied (Audits (F.content files.old) asked.now)
@@ -40,8 +43,19 @@ pub fn audit<'a, F: Files, O: Write>(
         (O.contents out.old) (O.contents out.new) }
     ensures cut { IsCutOf (Audits (F.content files.old) asked.now) (O.contents out.old) (O.contents out.new) }
 {
+    check_format(asked.format)?;
     if asked.unnumbered {
         return audit_unnumbered(alloc, files, asked, out);
     }
     audit_numbered(alloc, files, asked, out)
+}
+
+/// Refuses an argument that names no format.
+fn check_format<'a>(format: Format) -> Result<(), Fault<'a>>
+    ensures { IsFormat format result }
+{
+    match format {
+        Format::Text | Format::Csv => Ok(()),
+        Format::Other => Err(Fault::Own(PathReason::Format)),
+    }
 }

@@ -11,7 +11,7 @@ ghost use Rattle.command_inputs.specs.Begun.{IsCutOf};
 ghost use Rattle.command_inputs.specs.Printed.{PrintsUnlessDenied};
 ghost use Rattle.path_commands.specs.Faults.{final_status};
 ghost use Rattle.path_commands.specs.AuditText.{all_lost_lines, row_lines, total_of, unless_summary};
-ghost use Rattle.path_commands.specs.Audited.{AuditsBy, Came, CanAudit, WritesAudit, behind_findings};
+ghost use Rattle.path_commands.specs.Audited.{AuditsBy, Came, CanAudit, WritesAudit, WritesNumbered, behind_findings};
 ghost use Rattle.path_commands.specs.Sides.{by_packets};
 ghost use Rattle.path_commands.specs.steps.Ending.{EndsRest};
 ghost use Rattle.path_commands.specs.steps.Reading.{HasArrived};
@@ -23,6 +23,7 @@ use crate::lost_lines::write_lost;
 use crate::reason::{Fault, sent_fault};
 use crate::received::{Arrived, begin_spans, write_spans};
 use crate::sides::{are_unlike, by_packets, ended, is_whole};
+use crate::tabling::write_table;
 use crate::total::Total;
 use auditing::Audit;
 use command_inputs::{Files, MessageProgress, Status, content_of};
@@ -32,7 +33,7 @@ use searching::{first_place, start_of};
 use std::alloc::Global;
 use std::io;
 use std::io::Write;
-use subcommands::Audit as Asked;
+use subcommands::{Audit as Asked, Format};
 
 /// As [`crate::audit`], by the numbers of the messages.
 pub(crate) fn audit_numbered<'a, F: Files, O: Write>(
@@ -43,10 +44,11 @@ pub(crate) fn audit_numbered<'a, F: Files, O: Write>(
 ) -> Result<Status, Fault<'a>>
     ensures refused { final_status result ≡ Status.Refused → out.new ≡ out.old }
     ensures untouched { result ≡ Err Fault.Memory → out.new ≡ out.old }
-    ensures printed { PrintsUnlessDenied (AuditsBy (WritesAudit asked.now) (F.content files.old) asked.now)
+    ensures printed { PrintsUnlessDenied
+        (AuditsBy (WritesNumbered asked.now.format asked.now) (F.content files.old) asked.now)
         (CanAudit (F.content files.old) asked.now) result
         (O.contents out.old) (O.contents out.new) }
-    ensures cut { IsCutOf (AuditsBy (WritesAudit asked.now) (F.content files.old) asked.now)
+    ensures cut { IsCutOf (AuditsBy (WritesNumbered asked.now.format asked.now) (F.content files.old) asked.now)
         (O.contents out.old) (O.contents out.new) }
 {
     let sent = content_of(files, asked.sent)?;
@@ -56,7 +58,32 @@ pub(crate) fn audit_numbered<'a, F: Files, O: Write>(
     };
     let received = content_of(files, asked.received)?;
     let progress = MessageProgress::new(&*files, asked.progress);
-    write_audit(&progress, &mut path, asked, received.as_slice(), out)
+    write_numbered(&progress, &mut path, asked, received.as_slice(), out)
+}
+
+/// Writes what became of the messages of SENT in these bytes of RECEIVED, in the format that is asked for.
+fn write_numbered<'a, F: Files, O: Write>(
+    progress: &MessageProgress<'_, F>,
+    path: &mut Audit<'_>,
+    asked: &Asked<'a>,
+    bytes: &[u8],
+    out: &mut O,
+) -> Result<Status, Fault<'a>>
+    ensures ended { final_status result ≢ Status.Refused }
+    ensures memory { result ≢ Err Fault.Memory }
+    ensures printed { (sent : List AnyMessage) → IsAudit sent [] path.old → path.old.by ≡ by_packets asked.now.packets
+        → PrintsUnlessDenied (WritesNumbered asked.now.format asked.now
+        (record { header = path.old.header; messages = sent }) bytes.now) ⊤ result
+        (O.contents out.old) (O.contents out.new) }
+    ensures cut { (sent : List AnyMessage) → IsAudit sent [] path.old → path.old.by ≡ by_packets asked.now.packets
+        → IsCutOf (WritesNumbered asked.now.format asked.now (record { header = path.old.header; messages = sent }) bytes.now)
+        (O.contents out.old) (O.contents out.new) }
+{
+    match asked.format {
+        Format::Csv => write_table(progress, path, asked, bytes, out),
+        Format::Text => write_audit(progress, path, asked, bytes, out),
+        Format::Other => write_audit(progress, path, asked, bytes, out),
+    }
 }
 
 /// Writes what became of the messages of SENT in these bytes of RECEIVED.

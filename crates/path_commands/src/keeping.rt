@@ -1,6 +1,6 @@
 //! SENT, by the payloads of its harts, and RECEIVED, by the lengths of its messages.
 
-ghost use Rattle.std.specs.Prelude.{◌≡◌, ◌⊎◌, ℕ, Err, IfErr, IfOk, List, Ok};
+ghost use Rattle.std.specs.Prelude.{◌≡◌, ◌⊎◌, ℕ, Err, IfErr, IfOk, List, Ok, length};
 ghost use Rattle.message.specs.declared.message.Message.{Message as AnyMessage};
 ghost use Rattle.auditing.specs.Sent.{IsSent, harts_of};
 ghost use Rattle.command_inputs.specs.Finding.{After};
@@ -8,15 +8,16 @@ ghost use Rattle.command_inputs.specs.Found.{IsRead};
 ghost use Rattle.path_commands.specs.Sides.{IsFoundSent, by_packets};
 ghost use Rattle.path_commands.specs.Unnumbered.{IsUnnumberedCame, is_read_whole};
 ghost use Rattle.path_commands.specs.declared.reason.PathReason.{PathReason as AnyReason};
-ghost use Rattle.path_commands.specs.steps.Matching.{KeepsSent, came_in};
+ghost use Rattle.path_commands.specs.steps.Matching.{IsByHart, KeepsSent, came_with};
 ghost use Rattle.command_inputs.specs.declared.fault.Fault.TheVariants as Fault;
 
+use crate::by_hart::{ByHart, read_by_hart};
 use crate::reason::{Fault, sent_fault};
 use crate::sides::by_packets;
+use alike::By;
 use auditing::Audit;
-use captures::{read_front, read_messages};
 use command_inputs::{Files, content_of};
-use message::{Header, Message, MessageFault};
+use message::{Header, MessageFault};
 use searching::start_of;
 use std::alloc::{AllocError, Global};
 use subcommands::Audit as Asked;
@@ -38,8 +39,8 @@ pub(crate) struct Received {
     pub(crate) header: Option<Header>,
     /// Why it has none, where it begins as a capture of version 2 does.
     pub(crate) fault: Option<MessageFault>,
-    /// Its messages, up to the first place where there is none.
-    pub(crate) messages: Vec<Message>,
+    /// Its messages by hart, up to the first place where there is none.
+    pub(crate) lists: ByHart,
     /// Why there is none, where that is before the end.
     pub(crate) stop: Option<MessageFault>,
 }
@@ -47,7 +48,7 @@ pub(crate) struct Received {
 impl Received {
     /// Whether it is read to its end.
     pub(crate) fn is_read_whole(&self) -> bool
-        ensures { result ≡ is_read_whole (came_in self.now) }
+        ensures { (messages : List AnyMessage) → result ≡ is_read_whole (came_with self.now messages) }
     {
         self.fault.is_none() && self.stop.is_none()
     }
@@ -76,14 +77,10 @@ fn keep_sent<'a>(alloc: Global, asked: &Asked<'a>, bytes: &[u8]) -> Result<KeptS
     ensures lacked { IfErr result (λ why. (why ≡ Fault.Memory) ⊎ IsFoundSent asked.now.sent bytes.now (Err why)) }
 {
     let front = check_sent(alloc, asked.sent, bytes)?;
-    let Ok(whole) = read_messages(alloc, bytes) else {
-        return Err(Fault::Memory);
-    };
-    let by = by_packets(asked.packets);
-    let payloads = SentPayloads::new(alloc, front.1, by, whole.messages.as_slice())?;
+    let whole = read_by_hart(alloc, front.1, by_packets(asked.packets), bytes)?;
     Ok(KeptSent {
         header: front.0,
-        payloads,
+        payloads: whole.lists.payloads,
     })
 }
 
@@ -103,24 +100,33 @@ fn check_sent<'a>(
     }
 }
 
-/// Reads RECEIVED, which has these bytes, by the lengths of its messages.
-pub(crate) fn read_received(alloc: Global, bytes: &[u8]) -> Result<Received, AllocError>
-    ensures { IfOk result (λ came. IsUnnumberedCame bytes.now (came_in came)) }
+/// Reads RECEIVED, which has these bytes, by the lengths of its messages. The payloads of so many harts are kept, as they
+/// are compared by these.
+pub(crate) fn read_received(
+    alloc: Global,
+    harts: usize,
+    by: By,
+    bytes: &[u8],
+) -> Result<Received, AllocError>
+    ensures came { IfOk result (λ came. (messages : List AnyMessage)
+        × IsUnnumberedCame bytes.now (came_with came messages) × IsByHart messages came.lists) }
+    ensures by { IfOk result (λ came. came.lists.payloads.by ≡ by) }
+    ensures harts { IfOk result (λ came. length came.lists.payloads.lists ≡ harts) }
 {
     let fault = start_of(bytes).fault;
+    let front = read_by_hart(alloc, harts, by, bytes)?;
     if fault.is_some() {
         return Ok(Received {
             header: None,
             fault,
-            messages: Vec::new(alloc),
+            lists: front.lists,
             stop: None,
         });
     }
-    let front = read_front(alloc, bytes)?;
     Ok(Received {
         header: front.header,
         fault: None,
-        messages: front.messages,
+        lists: front.lists,
         stop: front.stop,
     })
 }

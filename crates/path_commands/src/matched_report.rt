@@ -69,7 +69,7 @@ pub(crate) fn write_report<O: Write>(
 }
 
 /// The place of the message that the first line is of, if there is one.
-fn first_of(lines: &[Line]) -> Option<u64>
+pub(crate) fn first_of(lines: &[Line]) -> Option<u64>
     ensures { result ≡ first_place_of lines.now }
 {
     match lines.first() {

@@ -1,30 +1,35 @@
 //! The subcommand `audit`, by the payloads of the messages alone.
 
-ghost use Rattle.std.specs.Prelude.{⊤, ◌≡◌, ◌≢◌, ℕ, Err, IfOk, List};
+ghost use Rattle.std.specs.Prelude.{⊤, ◌≡◌, ◌≢◌, ℕ, Err, IfOk, List, OnOk, length};
+ghost use Rattle.std.specs.Io.KnownBytes.{Appends};
 ghost use Rattle.message.specs.declared.message.Message.{Message as AnyMessage};
 ghost use Rattle.output.specs.Begun.{AppendsBeginning};
 ghost use Rattle.unnumbered.specs.Aligned.{AreAligned};
 ghost use Rattle.unnumbered.specs.Split.{AreSplit};
 ghost use Rattle.command_inputs.specs.Begun.{IsCutOf};
 ghost use Rattle.command_inputs.specs.Printed.{PrintsUnlessDenied};
-ghost use Rattle.path_commands.specs.Audited.{AuditsBy, CanAudit};
+ghost use Rattle.path_commands.specs.Audited.{AuditsBy, CanAudit, WritesAligned};
 ghost use Rattle.path_commands.specs.Faults.{final_status};
 ghost use Rattle.path_commands.specs.Sides.{by_packets};
-ghost use Rattle.path_commands.specs.Unnumbered.{WritesUnnumbered, end_of_reading, strangers_among, unnumbered_audit};
-ghost use Rattle.path_commands.specs.steps.Matching.{EndsUnnumbered, IsKept, came_in};
+ghost use Rattle.path_commands.specs.Unnumbered.{end_of_reading};
+ghost use Rattle.path_commands.specs.steps.Matching.{EndsUnnumbered, IsByHart, IsKept, audit_in, came_with, report_in};
+ghost use Rattle.path_commands.specs.steps.Matching.{strangers_of};
 ghost use Rattle.command_inputs.specs.declared.fault.Fault.TheVariants as Fault;
 
+use crate::aligned_tabling::write_aligned_table;
+use crate::by_hart::ByHart;
 use crate::keeping::{KeptSent, Received, read_received, read_sent};
 use crate::matched_report::{Matched, write_report};
 use crate::reason::{Fault, unread_fault};
-use crate::sides::{are_unlike, ended, is_whole};
+use crate::sides::{are_unlike, by_packets, ended, is_whole};
 use alignment::Alignment;
 use command_inputs::{Files, MessageProgress, Status, content_of};
-use message::{Header, Message, MessageFault};
+use message::{Header, MessageFault};
 use std::alloc::{AllocError, Global};
+use std::io;
 use std::io::Write;
-use subcommands::Audit as Asked;
-use unnumbered::{arrival_lines, total_of};
+use subcommands::{Audit as Asked, Format};
+use unnumbered::{lines_by_hart, total_of};
 use watching::Watch;
 
 /// As [`crate::audit`], by the payloads of the messages alone.
@@ -36,10 +41,11 @@ pub(crate) fn audit_unnumbered<'a, F: Files, O: Write>(
 ) -> Result<Status, Fault<'a>>
     ensures refused { final_status result ≡ Status.Refused → out.new ≡ out.old }
     ensures untouched { result ≡ Err Fault.Memory → out.new ≡ out.old }
-    ensures printed { PrintsUnlessDenied (AuditsBy (WritesUnnumbered asked.now) (F.content files.old) asked.now)
+    ensures printed { PrintsUnlessDenied
+        (AuditsBy (WritesAligned asked.now.format asked.now) (F.content files.old) asked.now)
         (CanAudit (F.content files.old) asked.now) result
         (O.contents out.old) (O.contents out.new) }
-    ensures cut { IsCutOf (AuditsBy (WritesUnnumbered asked.now) (F.content files.old) asked.now)
+    ensures cut { IsCutOf (AuditsBy (WritesAligned asked.now.format asked.now) (F.content files.old) asked.now)
         (O.contents out.old) (O.contents out.new) }
 {
     let sent = read_sent(alloc, files, asked)?;
@@ -61,14 +67,17 @@ fn write_matched<'a, F: Files, O: Write>(
     ensures untouched { result ≡ Err Fault.Memory → out.new ≡ out.old }
     ensures printed { (messages : List AnyMessage) → IsKept (by_packets asked.now.packets) messages sent.now
         → PrintsUnlessDenied
-        (WritesUnnumbered asked.now (record { header = sent.now.header; messages = messages }) bytes.now) ⊤ result
+        (WritesAligned asked.now.format asked.now (record { header = sent.now.header; messages = messages }) bytes.now) ⊤
+        result
         (O.contents out.old) (O.contents out.new) }
     ensures cut { (messages : List AnyMessage) → IsKept (by_packets asked.now.packets) messages sent.now
-        → IsCutOf (WritesUnnumbered asked.now (record { header = sent.now.header; messages = messages }) bytes.now)
+        → IsCutOf
+        (WritesAligned asked.now.format asked.now (record { header = sent.now.header; messages = messages }) bytes.now)
         (O.contents out.old) (O.contents out.new) }
 {
-    let came = read_received(alloc, bytes)?;
-    let all = align_shown(alloc, progress, sent, came.messages.as_slice())?;
+    let harts = sent.payloads.harts();
+    let came = read_received(alloc, harts, by_packets(asked.packets), bytes)?;
+    let all = align_shown(alloc, progress, sent, &came.lists)?;
     write_found(alloc, sent.header, asked, &came, all.as_slice(), out)
 }
 
@@ -77,16 +86,18 @@ fn align_shown<F: Files>(
     alloc: Global,
     progress: &MessageProgress<'_, F>,
     sent: &KeptSent,
-    came: &[Message],
+    came: &ByHart,
 ) -> Result<Vec<Alignment>, AllocError>
-    ensures { (harts : ℕ) (messages : List AnyMessage)
+    requires harts { length came.now.payloads.lists ≡ length sent.now.payloads.lists }
+    ensures { (harts : ℕ) (messages received : List AnyMessage)
         → AreSplit sent.now.payloads.by harts messages sent.now.payloads.lists
-        → IfOk result (λ all. AreAligned sent.now.payloads.by harts messages came.now all.items) }
+        → AreSplit sent.now.payloads.by harts received came.now.payloads.lists
+        → IfOk result (λ all. AreAligned sent.now.payloads.by harts messages received all.items) }
 {
-    progress.begin(came.len() as u64);
-    let all = sent.payloads.align(alloc, progress, came);
+    progress.begin(came.harts.len() as u64);
+    let all = sent.payloads.align_lists(alloc, progress, &came.payloads);
     if let Ok(all) = &all {
-        progress.note(strangers_among(all.len(), came) as usize);
+        progress.note(strangers_among(all.len(), came.harts.as_slice()) as usize);
     }
     progress.end();
     all
@@ -103,14 +114,17 @@ fn write_found<'a, O: Write>(
 ) -> Result<Status, Fault<'a>>
     ensures ended { final_status result ≢ Status.Refused }
     ensures untouched { result ≡ Err Fault.Memory → out.new ≡ out.old }
-    ensures written { EndsUnnumbered asked.now header (came_in came.now) all.now result
+    ensures written { (messages : List AnyMessage) → IsByHart messages came.now.lists
+        → EndsUnnumbered asked.now header (came_with came.now messages) all.now result
         (O.contents out.old) (O.contents out.new) }
-    ensures begun { AppendsBeginning (unnumbered_audit asked.now.summary header (came_in came.now) all.now)
+    ensures begun { (messages : List AnyMessage) → IsByHart messages came.now.lists
+        → AppendsBeginning
+        (audit_in asked.now.format asked.now.summary header (came_with came.now messages) all.now)
         (O.contents out.old) (O.contents out.new) }
 {
-    let messages = came.messages.as_slice();
-    let lines = arrival_lines(alloc, all, messages)?;
-    let strangers = strangers_among(all.len(), messages);
+    let harts = came.lists.harts.as_slice();
+    let lines = lines_by_hart(alloc, all, harts)?;
+    let strangers = strangers_among(all.len(), harts);
     let unlike = are_unlike(header, came.header, came.fault);
     let whole = is_whole(total_of(all).whole, strangers, unlike, came.is_read_whole());
     let found = Matched {
@@ -120,18 +134,39 @@ fn write_found<'a, O: Write>(
         unlike,
         whole,
     };
-    write_report(found, asked.summary, out)?;
-    let count = messages.len() as u64;
+    let count = harts.len() as u64;
+    write_report_in(asked.format, found, count, asked.summary, out)?;
     ended_reading(asked.received, came.stop, count, came.fault, whole)
 }
 
-/// How many of these messages are strangers: of no hart of so many.
-fn strangers_among(harts: usize, messages: &[Message]) -> u64
-    ensures { result ≡ strangers_among harts messages.now }
+/// Writes the report on so many messages in this format.
+fn write_report_in<O: Write>(
+    format: Format,
+    found: Matched<'_>,
+    messages: u64,
+    summary: bool,
+    out: &mut O,
+) -> io::Result<()>
+    ensures text { OnOk result (Appends (O.contents out.old) (O.contents out.new)
+        (report_in format summary found.entry.all.now found.entry.lines.now messages found.entry.strangers
+        found.entry.unlike found.entry.whole)) }
+    ensures begun { AppendsBeginning
+        (report_in format summary found.entry.all.now found.entry.lines.now messages found.entry.strangers
+        found.entry.unlike found.entry.whole)
+        (O.contents out.old) (O.contents out.new) }
 {
-    messages
-        .iter()
-        .filter(|message| !(usize::from(message.hart) < harts))
+    match format {
+        Format::Csv => write_aligned_table(found, messages, summary, out),
+        Format::Text | Format::Other => write_report(found, summary, out),
+    }
+}
+
+/// How many messages of these harts are strangers: of no hart of so many.
+fn strangers_among(harts: usize, own: &[u16]) -> u64
+    ensures { result ≡ strangers_of harts own.now }
+{
+    own.iter()
+        .filter(|hart| !(usize::from(**hart) < harts))
         .count() as u64
 }
 

@@ -7,9 +7,10 @@ ghost use Rattle.captures.specs.Offsets.{bytes_line};
 ghost use Rattle.message.specs.declared.message.Message.{Message as AnyMessage};
 ghost use Rattle.auditing.specs.Audits.{Audits as IsAudit};
 ghost use Rattle.auditing.specs.Seen.{sight_of};
+ghost use Rattle.resuming.specs.Borrowed.{message_of, span_of};
 ghost use Rattle.resuming.specs.Counted.{bytes_in, messages_in, runs_in};
 ghost use Rattle.resuming.specs.Passages.{spans_left};
-ghost use Rattle.path_commands.specs.AuditText.{line_or_none, span_line, span_lines, unless_summary};
+ghost use Rattle.path_commands.specs.AuditText.{finding_line, span_line, span_lines, unless_summary};
 ghost use Rattle.path_commands.specs.steps.Reading.{progress_after};
 
 use crate::lines::FindingText;
@@ -17,10 +18,9 @@ use auditing::{Audit, Finding};
 use captures::write_bytes_line;
 use command_inputs::MessageProgress;
 use files::Files;
-use frames::Span;
-use message::{Header, Message, MessageFault};
+use message::{Header, MessageFault};
 use output::write_text;
-use resuming::Resuming;
+use resuming::{BorrowedMessage, Passage, Resuming};
 use retire::WriteFault;
 use std::io::Write;
 use watching::Watch;
@@ -45,18 +45,19 @@ impl Progress {
     };
 
     /// After one span more.
-    fn after(self, span: &Span) -> Progress
-        ensures { result ≡ progress_after self span.now }
+    #[inline(always)]
+    pub(crate) fn after(self, passage: Passage<'_>) -> Progress
+        ensures { result ≡ progress_after self (span_of passage.entry) }
     {
-        match span {
-            Span::Frame { .. } => Progress {
+        match passage {
+            Passage::Message { .. } => Progress {
                 messages: self.messages.saturating_add(1),
                 bytes: self.bytes,
                 runs: self.runs,
             },
-            Span::Bytes { count, .. } => Progress {
+            Passage::Bytes { count, .. } => Progress {
                 messages: self.messages,
-                bytes: self.bytes.saturating_add(*count as u64),
+                bytes: self.bytes.saturating_add(count as u64),
                 runs: self.runs.saturating_add(1),
             },
         }
@@ -104,8 +105,8 @@ fn messages_in(path: &Audit<'_>, bytes: &[u8], from: usize) -> u64 {
     let mut read = Progress::START;
     // A span has a byte at least.
     for _ in 0..bytes.len() {
-        match left.next(path) {
-            Some(span) => read = read.after(&span),
+        match left.next_passage(path) {
+            Some(passage) => read = read.after(passage),
             None => return read.messages,
         }
     }
@@ -167,48 +168,52 @@ fn take_spans<V: Watch, O: Write>(
 {
     let mut left = spans;
     let mut progress = Progress::START;
-    while let Some(span) = left.next(&*path) {
-        write_span(path, &span, progress.messages, summary, out)?;
-        progress = progress.after(&span);
-        note(watch, &span);
+    while let Some(passage) = left.next_passage(&*path) {
+        write_passage(path, passage, progress.messages, summary, out)?;
+        progress = progress.after(passage);
+        note(watch, passage);
     }
     Ok(progress)
 }
 
-/// Tells of the message of a span, if there is one.
-fn note<V: Watch>(watch: &V, span: &Span) {
-    if matches!(span, Span::Frame { .. }) {
+/// Tells of the message of a passage, if there is one.
+pub(crate) fn note<V: Watch>(watch: &V, passage: Passage<'_>) {
+    if matches!(passage, Passage::Message { .. }) {
         watch.note(1);
     }
 }
 
-/// Takes the message of a span, and writes its line or that of the span's bytes, where it has one. So many messages were
-/// taken before.
-fn write_span<O: Write>(
+/// Takes the message of a passage, and writes its line or that of the passage's bytes, where it has one. So many messages
+/// were taken before.
+#[inline(always)]
+fn write_passage<O: Write>(
     path: &mut Audit<'_>,
-    span: &Span,
+    passage: Passage<'_>,
     place: u64,
     summary: bool,
     out: &mut O,
 ) -> Result<(), WriteFault>
     ensures audits { (sent received : List AnyMessage) → IsAudit sent received path.old
-        → IsAudit sent (received ++ messages_in (span.now ∷ [])) path.new }
+        → IsAudit sent (received ++ messages_in (span_of passage.entry ∷ [])) path.new }
     ensures by { path.new.by ≡ path.old.by }
     ensures header { path.new.header ≡ path.old.header }
     ensures text { (sent received : List AnyMessage) → IsAudit sent received path.old → place ≡ length received
         → OnOk result (Appends (O.contents out.old) (O.contents out.new)
-        (span_line path.old.by summary sent received span.now)) }
+        (span_line path.old.by summary sent received (span_of passage.entry))) }
     ensures begun { (sent received : List AnyMessage) → IsAudit sent received path.old → place ≡ length received
-        → AppendsBeginning (span_line path.old.by summary sent received span.now)
+        → AppendsBeginning (span_line path.old.by summary sent received (span_of passage.entry))
         (O.contents out.old) (O.contents out.new) }
     ensures fault { IfErr result (λ fault. fault ≡ WriteFault.Write) }
 {
-    match span {
-        Span::Frame { message, .. } => {
-            let finding = path.examine(message);
-            write_finding(path, place, message, finding, summary, out)
+    match passage {
+        Passage::Message { message, .. } => {
+            let finding = path.examine_borrowed(message);
+            if summary || finding.is_plain() {
+                return Ok(());
+            }
+            write_finding(path, place, message, finding, out)
         }
-        Span::Bytes { offset, count } => { write_run(*offset as u64, *count as u64, summary, out) }
+        Passage::Bytes { offset, count } => write_run(offset as u64, count as u64, summary, out),
     }
 }
 
@@ -231,32 +236,29 @@ fn write_run<O: Write>(
     write_bytes_line(out, offset, count)
 }
 
-/// Writes the line of a message at this place, where it is not in order or skips a number, but none in a summary.
+/// Writes the line of a message at this place.
+#[inline(never)]
 fn write_finding<O: Write>(
     path: &Audit<'_>,
     place: u64,
-    message: &Message,
+    message: BorrowedMessage<'_>,
     finding: Finding,
-    summary: bool,
     out: &mut O,
 ) -> Result<(), WriteFault>
     ensures text { (sent received : List AnyMessage) → IsAudit sent received path.now
         → OnOk result (Appends (O.contents out.old) (O.contents out.new)
-        (line_or_none summary sent place (record { message = message.now; finding = finding }))) }
+        (finding_line sent place (record { message = message_of message.entry; finding = finding }))) }
     ensures begun { (sent received : List AnyMessage) → IsAudit sent received path.now
-        → AppendsBeginning (line_or_none summary sent place (record { message = message.now; finding = finding }))
+        → AppendsBeginning (finding_line sent place (record { message = message_of message.entry; finding = finding }))
         (O.contents out.old) (O.contents out.new) }
     ensures fault { IfErr result (λ fault. fault ≡ WriteFault.Write) }
 {
-    if summary || finding.is_plain() {
-        return Ok(());
-    }
     let hart = message.hart;
     let number = message.number;
     let text = FindingText {
         finding,
         sent: path.sent(hart, number),
-        came: message.payload.bytes(),
+        came: message.payload,
     };
     write_text(
         out,

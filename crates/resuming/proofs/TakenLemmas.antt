@@ -1,54 +1,57 @@
 -- The message that is taken.
-use Rattle.std.proofs.Common.{◌≡◌, ◌≤◌, ◌+◌, ◌∙◌, Bool, true, false, if◌then◌else◌, ℕ, List, ◌∷◌, Some, None, length, drop}
-use Rattle.std.proofs.Common.{refl, ap, arith, length-take-le}
+use Rattle.std.proofs.Common.{◌≡◌, ◌≤◌, ◌+◌, ◌∙◌, Bool, true, false, if◌then◌else◌, ℕ, List, ◌∷◌, Option, Some, None, length, drop}
+use Rattle.std.proofs.Common.{refl, ap, arith, length-take-le, sym}
 use Rattle.std.proofs.lemmas.List.{length-drop}
-use Rattle.frames.proofs.FrameLemmas.{complete}
-use Rattle.frames.specs.Frame.{frame_in, frame_size, is_complete, length_in, message_in}
+use Rattle.frames.proofs.FrameLemmas.{Complete, complete}
+use Rattle.frames.specs.Frame.{frame_in, frame_size, is_complete, length_in, message_size}
 use Rattle.frames.specs.declared.span.Span.TheVariants.{Frame}
-use Rattle.message.specs.declared.message.Message.{Message}
+use Rattle.message.specs.Capture.{message_bytes}
 use Rattle.resuming.proofs.PassageLemmas.{next-frame}
 use Rattle.resuming.specs.Passages.{spans_from}
 use Rattle.resuming.specs.Taken.{Sees, is_taken_first}
 
--- A message that begins bytes is the complete one there.
-module _ (bytes : List ℕ) (m : Message) (begins : Some m ≡ message_in bytes) where
-  same_some : (a b : Message) → Some a ≡ Some b → a ≡ b
+-- Bytes that begin with a message of so many bytes begin with a complete one.
+module _ (bytes : List ℕ) (count : ℕ) (begins : Some count ≡ message_size bytes) where
+  same_some : (a b : ℕ) → Some a ≡ Some b → a ≡ b
   same_some a b e = cc
 
-  never : Some m ≡ None → ⊥
+  never : Some count ≡ None → ⊥
   never e = cc
 
-  both : (c : Bool) → is_complete bytes ≡ c → Some m ≡ (if c then Some (frame_in bytes) else None)
-      → (is_complete bytes ≡ true) × (m ≡ frame_in bytes)
-  both true is e = (is, same_some m (frame_in bytes) e)
+  both : (c : Bool) → is_complete bytes ≡ c → Some count ≡ (if c then Some (frame_size bytes) else None)
+      → (is_complete bytes ≡ true) × (count ≡ frame_size bytes)
+  both true is e = (is, same_some count (frame_size bytes) e)
   both false is e = absurd (never e)
 
-  its : (is_complete bytes ≡ true) × (m ≡ frame_in bytes)
+  its : (is_complete bytes ≡ true) × (count ≡ frame_size bytes)
   its = both (is_complete bytes) refl begins
 
-  size : 11 + length m.payload ≡ frame_size bytes
+  -- It is within the bytes, and its payload within its range.
+  pub whole : Complete bytes
+  whole = complete bytes its.0
+
+  -- It has as many bytes.
+  pub size : length (message_bytes (frame_in bytes)) ≡ count
   size =
-      let whole = complete bytes its.0 in
       let fits = whole.fits in
       let left = length-drop 11 bytes in
       let long = length-take-le (length_in bytes) (drop 11 bytes) (omega (arith, left, fits)) in
-      let same = ap (λ (n : Message). length n.payload) its.1 in
-      omega (arith, long, same)
+      let bytes_of : length (message_bytes (frame_in bytes)) ≡ 11 + length (frame_in bytes).payload = omega arith in
+      let same = its.1 in
+      omega (arith, bytes_of, long, same)
 
 -- Where it is taken, it is the first span from its place on.
-pub next_taken : (sees : Sees) (at count : ℕ) (bytes rest : List ℕ) (m : Message) → rest ≡ drop at bytes
-    → Some m ≡ message_in rest → is_taken_first sees rest ≡ true → count ≡ 11 + length m.payload
-    → spans_from sees at (drop at bytes) ≡ Frame at m ∷ spans_from sees (at + count) (drop (at + count) bytes)
-next_taken sees at count bytes rest m here begins taken long =
-    next-frame sees at count bytes rest m here taken (long ∙ size rest m begins) (its rest m begins).1
+pub next_taken : (sees : Sees) (at count : ℕ) (bytes rest : List ℕ) → rest ≡ drop at bytes
+    → Some count ≡ message_size rest → is_taken_first sees rest ≡ true
+    → spans_from sees at (drop at bytes)
+    ≡ Frame at (frame_in rest) ∷ spans_from sees (at + count) (drop (at + count) bytes)
+next_taken sees at count bytes rest here begins taken =
+    next-frame sees at count bytes rest (frame_in rest) here taken (its rest count begins).1 refl
 
 -- It ends within the bytes.
-pub ends_within : (at count : ℕ) (bytes rest : List ℕ) (m : Message) → rest ≡ drop at bytes
-    → Some m ≡ message_in rest → at ≤ length bytes → count ≡ 11 + length m.payload → at + count ≤ length bytes
-ends_within at count bytes rest m here begins some long =
-    let whole = complete rest (its rest m begins).0 in
-    let fits = whole.fits in
-    let sized = size rest m begins in
+pub ends_within : (at count : ℕ) (bytes rest : List ℕ) → rest ≡ drop at bytes → at ≤ length bytes
+    → count ≤ length rest → at + count ≤ length bytes
+ends_within at count bytes rest here some within =
     let left = length-drop at bytes in
     let same = ap length here in
-    omega (arith, fits, sized, left, same, some, long)
+    omega (arith, left, same, some, within)

@@ -1,18 +1,26 @@
 //! Bytes to the messages among them.
 
-ghost use Rattle.std.specs.Prelude.{◌≡◌, ◌≤◌, ◌+◌, ◌++◌, ℕ, All, IfSome, List, [], None, drop, length};
+ghost use Rattle.std.specs.Prelude.{◌≡◌, ◌≤◌, ◌+◌, ◌++◌, ℕ, All, IfSome, List, [], None, drop, length, option_map};
 ghost use Rattle.std.specs.Option.{option_to_list};
+ghost use Rattle.frames.specs.Frame.{frame_in, frame_size, length_in};
+ghost use Rattle.frames.specs.declared.span.Span.TheVariants as Span;
+ghost use Rattle.payload.specs.Limits.{most_bytes};
 ghost use Rattle.frames.specs.Written.{Scattered, frames_from, scattered_bytes, scattered_from};
 ghost use Rattle.message.specs.Capture.{capture};
 ghost use Rattle.message.specs.Cut.{IsMessage};
 ghost use Rattle.message.specs.declared.message.Message.{Message as AnyMessage};
 ghost use Rattle.resuming.specs.Counted.{span_size};
+ghost use Rattle.resuming.specs.Borrowed.{HasPayload, span_of};
 ghost use Rattle.resuming.specs.Amid.{IsSentMessage, NoneBegins};
 ghost use Rattle.resuming.specs.Passages.{Left, Sees, spans_from, spans_left};
 
+use crate::passage::{BorrowedMessage, Passage};
 use crate::sent::Sent;
 use crate::taking::{bytes_to_next, is_taken};
-use frames::{Span, message_in};
+use byteorder::{ByteOrder, LittleEndian};
+use frames::{Span, message_size};
+use message::{HEAD, Message};
+use payload::Payload;
 use std::marker::Model;
 
 /// The messages among the bytes that came, and the longest runs of bytes between them, one at a time and in order. A
@@ -74,33 +82,93 @@ impl<'a> Resuming<'a> {
         ensures sizes { IfSome result (λ span. (1 ≤ span_size span)
             × (span_size span + length self.new.bytes ≡ length self.old.bytes)) }
     {
+        match self.next_passage(sent) {
+            Some(passage) => Some(span_of(passage)),
+            None => None,
+        }
+    }
+
+    /// As [`Resuming::next`], where it is in the bytes: nothing is copied.
+    #[inline(always)]
+    pub fn next_passage<S: Sent>(&mut self, sent: &S) -> Option<Passage<'a>>
+        ensures spans { (sees : Sees) → ((message : AnyMessage) → S.sees sent.now message ≡ sees message)
+            → spans_left sees self.old ≡ option_to_list (option_map span_of result) ++ spans_left sees self.new }
+        ensures end { result ≡ None → self.old.bytes ≡ [] }
+        ensures sizes { IfSome result (λ passage. (1 ≤ span_size (span_of passage))
+            × (span_size (span_of passage) + length self.new.bytes ≡ length self.old.bytes)) }
+        ensures payload { IfSome result HasPayload }
+    {
         self.pass(sent)
     }
 
     /// The same, by what is seen of each message.
-    fn pass<S: Sent>(&mut self, sent: &S) -> Option<Span>
+    #[inline(always)]
+    fn pass<S: Sent>(&mut self, sent: &S) -> Option<Passage<'a>>
         ensures spans { spans_left (S.sees sent.now) self.old
-            ≡ option_to_list result ++ spans_left (S.sees sent.now) self.new }
+            ≡ option_to_list (option_map span_of result) ++ spans_left (S.sees sent.now) self.new }
         ensures end { result ≡ None → self.old.bytes ≡ [] }
-        ensures sizes { IfSome result (λ span. (1 ≤ span_size span)
-            × (span_size span + length self.new.bytes ≡ length self.old.bytes)) }
+        ensures sizes { IfSome result (λ passage. (1 ≤ span_size (span_of passage))
+            × (span_size (span_of passage) + length self.new.bytes ≡ length self.old.bytes)) }
+        ensures payload { IfSome result HasPayload }
     {
         let offset = self.at;
-        let rest = &self.bytes[offset..];
+        let bytes = self.bytes;
+        let rest = &bytes[offset..];
         if !is_taken(rest, sent) {
             if rest.is_empty() {
                 return None;
             }
             let count = bytes_to_next(rest, sent);
             self.at = offset + count;
-            return Some(Span::Bytes { offset, count });
+            return Some(Passage::Bytes { offset, count });
         }
-        match message_in(rest) {
-            Some(message) => {
-                self.at = offset + message.size();
-                Some(Span::Frame { offset, message })
+        match message_size(rest) {
+            Some(size) => {
+                self.at = offset + size;
+                Some(message_at(offset, rest))
             }
             None => unreachable!(),
         }
+    }
+}
+
+/// The complete message that bytes begin with, at this offset.
+#[inline(always)]
+fn message_at(offset: usize, bytes: &[u8]) -> Passage<'_>
+    requires enough { frame_size bytes.now ≤ length bytes.now }
+    requires some { 1 ≤ length_in bytes.now }
+    requires few { length_in bytes.now ≤ most_bytes }
+    ensures span { span_of result ≡ Span.Frame offset (frame_in bytes.now) }
+    ensures payload { HasPayload result }
+{
+    let size = HEAD + usize::from(bytes[10]);
+    Passage::Message {
+        offset,
+        message: BorrowedMessage {
+            hart: LittleEndian::read_u16(bytes),
+            number: LittleEndian::read_u64(&bytes[2..]),
+            payload: &bytes[HEAD..size],
+        },
+    }
+}
+
+/// The span of a passage.
+fn span_of(passage: Passage<'_>) -> Span
+    requires payload { HasPayload passage }
+    ensures { result ≡ span_of passage.entry }
+{
+    match passage {
+        Passage::Message { offset, message } => match Payload::new(message.payload) {
+            Ok(payload) => Span::Frame {
+                offset,
+                message: Message {
+                    hart: message.hart,
+                    number: message.number,
+                    payload,
+                },
+            },
+            Err(_) => unreachable!(),
+        },
+        Passage::Bytes { offset, count } => Span::Bytes { offset, count },
     }
 }

@@ -19,18 +19,18 @@ use Rattle.salvaging.specs.steps.Arrivals.{arrival_of, arrivals_in, placed_from}
 use Rattle.salvaging.specs.steps.Distributing.{AddsArrival, Distributes}
 
 -- Whether one message is a hart's own.
-own_one : (hart : ℕ) (message : Message) → message.hart ≡ hart → has_number message ≡ true
+pub own_one : (hart : ℕ) (message : Message) → message.hart ≡ hart → has_number message ≡ true
     → own_messages hart (message ∷ []) ≡ message ∷ []
 own_one hart message is has =
     let test : (message.hart == hart) ≡ true = grind (arith, nat_tests) in
     ap (λ b. filter has_number (cond b (message ∷ []) [])) test ∙ ap (λ b. cond b (message ∷ []) []) has
 
-own_other : (hart : ℕ) (message : Message) → message.hart ≢ hart → own_messages hart (message ∷ []) ≡ []
+pub own_other : (hart : ℕ) (message : Message) → message.hart ≢ hart → own_messages hart (message ∷ []) ≡ []
 own_other hart message other =
     let test : (message.hart == hart) ≡ false = grind (arith, nat_tests) in
     ap (λ b. filter has_number (cond b (message ∷ []) [])) test
 
-own_none : (hart : ℕ) (message : Message) → has_number message ≡ false → own_messages hart (message ∷ []) ≡ []
+pub own_none : (hart : ℕ) (message : Message) → has_number message ≡ false → own_messages hart (message ∷ []) ≡ []
 own_none hart message none = by_hart (message.hart == hart)
   where
     by_hart : (b : Bool) → filter has_number (cond b (message ∷ []) []) ≡ []

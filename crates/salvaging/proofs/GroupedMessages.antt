@@ -40,7 +40,7 @@ at_place from (message ∷ messages) one (inr there) =
     (suc found.0, omega (arith, place), found.2)
 
 -- And what stands at a place is placed there.
-placed_at : (from : ℕ) (messages : List Message) (k : ℕ) (message : Message) → slice_get messages k ≡ Some message
+pub placed_at : (from : ℕ) (messages : List Message) (k : ℕ) (message : Message) → slice_get messages k ≡ Some message
     → IsIn (placed (from + k) message) (placed_from from messages)
 placed_at from [] k message at = cc
 placed_at from (first ∷ messages) zero message at =
@@ -81,7 +81,7 @@ same_payload one other not_apart = by_test (bytes_eq one other) refl
 module _ (messages : List Message) (arrivals : List Arrival)
     (permuted : IsPermutation (placed_from 0 messages) arrivals) (ordered : AreOrdered arrivals) where
   -- All arrivals are placed, and what is placed is among them.
-  stands : (one : Arrival) → IsIn one arrivals → slice_get messages one.place ≡ Some one.message
+  pub stands : (one : Arrival) → IsIn one arrivals → slice_get messages one.place ≡ Some one.message
   stands one there =
       let contained = Contains-permutation arrivals (placed_from 0 messages) one
       (IsPermutation-sym (placed_from 0 messages) arrivals permuted) (contains_of_in arrivals one there) in
@@ -90,7 +90,7 @@ module _ (messages : List Message) (arrivals : List Arrival)
       let here : found.0 ≡ one.place = omega (arith, place) in
       subst (λ n. slice_get messages n ≡ Some one.message) here found.2
 
-  is_there : (one : Arrival) → IsIn one (placed_from 0 messages) → IsIn one arrivals
+  pub is_there : (one : Arrival) → IsIn one (placed_from 0 messages) → IsIn one arrivals
   is_there one there =
       in_of_contains arrivals one (Contains-permutation (placed_from 0 messages) arrivals one permuted
       (contains_of_in (placed_from 0 messages) one there))

@@ -32,7 +32,7 @@ late_one (Used number place payload) entries good goods =
     ap (λ b. counted b (late entries goods)) (late_by_earliest place entries goods)
 late_one (Doubtful number one other) entries good goods = refl
 
-earliest_one : (entry : Entry) (entries : List Entry) (good : Bool) (goods : List Bool)
+pub earliest_one : (entry : Entry) (entries : List Entry) (good : Bool) (goods : List Bool)
     → earliest (entry ∷ entries) (good ∷ goods) ≡ earliest_with entry good (earliest entries goods)
 earliest_one (Used number place payload) entries true goods = refl
 earliest_one (Used number place payload) entries false goods = refl

@@ -47,3 +47,14 @@ pub mod DistributedAll
 pub mod EntriesOnce
 pub mod CutOnce
 pub mod OneWay
+pub mod SharedSteps
+pub mod SharedSoFar
+pub mod SharedBeyond
+pub mod AddedOf
+pub mod RowSteps
+pub mod FirstLike
+pub mod RowFound
+pub mod TreatedAt
+pub mod SortedOut
+pub mod TreatedAll
+pub mod SortedEach

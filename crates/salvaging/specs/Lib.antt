@@ -7,6 +7,8 @@ pub mod Bad
 pub mod Leaving
 pub mod Ends
 pub mod Late
+pub mod Shares
+pub mod Treatments
 pub mod PartsIn
 pub mod Salvaged
 pub mod FromLogs

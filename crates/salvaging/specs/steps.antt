@@ -4,5 +4,9 @@ pub mod Grouping
 pub mod UnderWay
 pub mod Ending
 pub mod Trails
+pub mod Sharing
+pub mod Rows
+pub mod Looking
+pub mod SortedOut
 pub mod Lateness
 pub mod Distributing

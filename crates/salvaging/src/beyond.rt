@@ -20,7 +20,7 @@ use rvclass::Program;
 use std::alloc::{AllocError, Allocator};
 
 /// The part that an entry beyond the end of its hart leaves. `behind` are the messages with greater numbers.
-fn part_beyond<A: Allocator + Copy>(
+pub(crate) fn part_beyond<A: Allocator + Copy>(
     alloc: A,
     program: &Program,
     mode: Mode,

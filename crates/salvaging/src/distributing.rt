@@ -20,7 +20,7 @@ fn has_number(message: &Message) -> bool
 }
 
 /// Whether a message is a stranger among so many harts.
-fn is_stranger(harts: u16, message: &Message) -> bool
+pub(crate) fn is_stranger(harts: u16, message: &Message) -> bool
     ensures { result ≡ is_stranger harts message.now }
 {
     !(message.hart < harts && has_number(message))

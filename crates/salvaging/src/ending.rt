@@ -14,6 +14,7 @@ use crate::entry::Entry;
 use crate::grouping::last_entry;
 use crate::reason::Reason;
 use crate::trail::{Trail, is_sync};
+use decoder::Paths;
 use payload::{Mode, Payload, unpack};
 use rvclass::Program;
 use std::alloc::{AllocError, Allocator};
@@ -32,7 +33,7 @@ pub(crate) fn reason_alone<A: Allocator + Copy>(
 {
     let mut trail = Trail::new(alloc);
     trail.end_run(alloc, mode)?;
-    trail.judge(program, payload, behind)
+    trail.judge(Paths::of(program), payload, behind)
 }
 
 /// Whether a stretch begins at an entry, where a synchronisation is looked for.

@@ -15,6 +15,7 @@ use crate::own_mode::own_mode;
 use crate::salvaged::SalvagedHart;
 use crate::trail::take_all;
 use crate::used::is_closed;
+use decoder::Lines;
 use payload::Mode;
 use rvclass::Program;
 use std::alloc::{AllocError, Allocator};
@@ -25,13 +26,16 @@ use watching::Watch;
 pub(crate) fn salvage_hart<A: Allocator + Copy, V: Watch>(
     alloc: A,
     program: &Program,
+    lines: &mut Lines<'_, A>,
     mode: Mode,
     mut came: Vec<Came<'_>, A>,
     watch: &V,
 ) -> Result<SalvagedHart<A>, AllocError>
-    requires { HaveNumbers (arrivals_in came.items) }
-    ensures { (messages : List AnyMessage) → arrivals_in came.entry.items ≡ placed_from 0 messages
+    requires lines { lines.old.program.now ≡ program.now }
+    requires numbers { HaveNumbers (arrivals_in came.items) }
+    ensures salvaged { (messages : List AnyMessage) → arrivals_in came.entry.items ≡ placed_from 0 messages
         → IfOk result (IsSalvagedHart (words_of program.now) mode messages) }
+    ensures lines { lines.new.program ≡ lines.old.program }
 {
     put_in_order(came.as_mut_slice());
     let ordered = came.as_slice();
@@ -39,7 +43,7 @@ pub(crate) fn salvage_hart<A: Allocator + Copy, V: Watch>(
     let own = own_mode(mode, ordered);
     let end = count_to_end(alloc, program, own, ordered)?;
     let upto = &ordered[..end];
-    let mut trail = take_all(alloc, program, mode, upto, watch)?;
+    let mut trail = take_all(alloc, program, lines, mode, upto, watch)?;
     trail.end_run(alloc, mode)?;
     let beyond = &ordered[end..];
     take_beyond(alloc, program, own, beyond, &mut trail)?;

@@ -21,7 +21,7 @@ fn comes_before(first: Option<usize>, place: usize) -> bool
 }
 
 /// Whether an entry's message is late, where `first` is the place of the earliest good message with a greater number.
-fn is_late_behind(entry: Entry<'_>, first: Option<usize>) -> bool
+pub(crate) fn is_late_behind(entry: Entry<'_>, first: Option<usize>) -> bool
     ensures { result ≡ is_late_behind (entry_of entry.entry) first }
 {
     match entry {
@@ -31,7 +31,7 @@ fn is_late_behind(entry: Entry<'_>, first: Option<usize>) -> bool
 }
 
 /// The place of the earliest good message, with that of an entry which is good or not.
-fn earliest_with(entry: Entry<'_>, good: bool, first: Option<usize>) -> Option<usize>
+pub(crate) fn earliest_with(entry: Entry<'_>, good: bool, first: Option<usize>) -> Option<usize>
     ensures { result ≡ earliest_with (entry_of entry.entry) good first }
 {
     match entry {

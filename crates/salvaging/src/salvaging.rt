@@ -17,6 +17,7 @@ use crate::came::Came;
 use crate::distributing::{distribute, strangers};
 use crate::hart::salvage_hart;
 use crate::salvaged::{Salvaged, SalvagedHart};
+use decoder::Lines;
 use message::Message;
 use payload::Mode;
 use rvclass::Program;
@@ -36,10 +37,11 @@ fn salvage_each<A: Allocator + Copy, V: Watch>(
     requires { All (λ list. HaveNumbers (arrivals_in list.items)) lists.old.items }
     ensures { IfOk result (λ harts. AreSalvagedOf (words_of program.now) mode lists.old.items harts.items) }
 {
+    let mut lines = Lines::new(alloc, program);
     let mut harts = Vec::with_capacity(alloc, lists.len())?;
     for hart in 0..lists.len() {
         let came = mem::replace(&mut lists[hart], Vec::new(alloc));
-        harts.push_reserved(salvage_hart(alloc, program, mode, came, watch)?);
+        harts.push_reserved(salvage_hart(alloc, program, &mut lines, mode, came, watch)?);
     }
     Ok(harts)
 }
@@ -55,9 +57,10 @@ fn salvage_each<A: Allocator + Copy, V: Watch>(
 /// number that came there is no gap. Where a packet that closes the trace has used numbers above it, and no stretch
 /// begins there, the hart ends at the lowest such packet, and what is above it stands alone or is bad.
 ///
-/// An error is returned only where an allocation fails, and then nothing is kept. The time grows with the messages,
-/// their events, and the steps of walks that come to nothing: a bad message may ask for as many as 32 times half of the
-/// image's bytes. Where messages did not come in the order of their numbers, it also grows with the logarithm of how
+/// An error is returned only where an allocation fails, and then nothing is kept. The time grows with the messages and
+/// their events. Once the decoder refuses a packet, it also grows with the image, by a table of 4 bytes for each of its
+/// bytes, which lets a walk of which nothing comes take few steps: before that one may take as many as 32 times half of
+/// the image's bytes. Where messages did not come in the order of their numbers, it also grows with the logarithm of how
 /// many a hart has.
 pub fn salvage<A: Allocator + Copy>(
     alloc: A,

@@ -2,6 +2,7 @@
 
 ghost use Rattle.std.specs.Prelude.{ℕ, ◌≡◌, ◌≢◌, ◌≤◌, ◌<◌, Bool, false, List, [], ◌∷◌, ◌++◌, IfOk, None, OnOk, Some};
 ghost use Rattle.std.specs.Prelude.{map};
+ghost use Rattle.retire.specs.declared.event.Event.{Event as AnyEvent};
 ghost use Rattle.rvclass.specs.Fetch.{words_of};
 ghost use Rattle.rvclass.specs.Words.{Words};
 ghost use Rattle.payload.specs.Closing.{is_closing_packet};
@@ -24,7 +25,7 @@ use crate::grouping::first_entry;
 use crate::part::{Part, push_gap, push_part};
 use crate::reason::Reason;
 use crate::used::next_used;
-use decoder::{DecodeFault, Decoder};
+use decoder::{DecodeFault, Decoder, Lines, Paths};
 use message::Message;
 use payload::{Mode, Packet, Payload, unpack};
 use retire::Event;
@@ -38,13 +39,13 @@ use watching::Watch;
 pub(crate) struct Trail<A: Allocator> {
     decoder: Decoder,
     /// The events so far of the stretch that is under way.
-    events: Vec<Event, A>,
+    pub(crate) events: Vec<Event, A>,
     /// Whether a run after lost numbers is under way, whose stretch begins at a synchronisation.
     looking: bool,
     /// The number of the packet that begins the stretch, once it came.
-    begun: Option<u64>,
+    pub(crate) begun: Option<u64>,
     /// The number after the last one of the run under way.
-    next: u64,
+    pub(crate) next: u64,
     /// What is left of the log so far.
     pub(crate) parts: Vec<Part<A>, A>,
     /// Of each entry so far, whether it is used and not bad.
@@ -158,7 +159,7 @@ impl<A: Allocator + Copy> Trail<A> {
 
     /// Goes on to a used number. Where numbers are lost before it, the run under way is over, and a gap is added after
     /// it.
-    fn go_on(&mut self, alloc: A, mode: Mode, number: u64) -> Result<(), AllocError>
+    pub(crate) fn go_on(&mut self, alloc: A, mode: Mode, number: u64) -> Result<(), AllocError>
         requires { self.old.next ≤ number }
         ensures goes_on { (words : Words) (reads : AnyMode) (run : Run) (next : ℕ)
             → IsUnderWay words mode reads run next false self.old
@@ -179,17 +180,18 @@ impl<A: Allocator + Copy> Trail<A> {
     /// the messages with greater numbers.
     pub(crate) fn judge(
         &mut self,
-        program: &Program,
+        paths: Paths<'_>,
         payload: &Payload,
         behind: &[Came<'_>],
     ) -> Result<Option<Reason>, AllocError>
         requires { self.old.next < end_of_numbers }
         ensures judged { (mode reads : AnyMode) (run : Run) (next : ℕ)
-            → IsUnderWay (words_of program.now) mode reads run next false self.old
-            → IfOk result (λ judged. Judged (words_of program.now) mode reads run next payload.now
+            → IsUnderWay (words_of paths.entry.program.now) mode reads run next false self.old
+            → IfOk result (λ judged. Judged (words_of paths.entry.program.now) mode reads run next payload.now
             (next_used (entries_by (arrivals_in behind.now))) judged self.new) }
         ensures parts { self.new.parts ≡ self.old.parts }
         ensures goods { self.new.goods ≡ self.old.goods }
+        ensures appended { (rest : List AnyEvent) × (self.new.events.items ≡ self.old.events.items ++ rest) }
     {
         let packet = match unpack(payload.bytes()) {
             Ok(packet) => packet,
@@ -199,7 +201,7 @@ impl<A: Allocator + Copy> Trail<A> {
             Some(next) => return Ok(Some(Reason::Closing { next })),
             None => {}
         }
-        match self.decoder.feed(program, &packet, &mut self.events) {
+        match self.decoder.feed_by(paths, &packet, &mut self.events) {
             Ok(()) => {}
             Err(fault) => return reason_of(fault),
         }
@@ -212,7 +214,7 @@ impl<A: Allocator + Copy> Trail<A> {
     pub(crate) fn take_used(
         &mut self,
         alloc: A,
-        program: &Program,
+        paths: Paths<'_>,
         mode: Mode,
         place: usize,
         message: &Message,
@@ -221,12 +223,12 @@ impl<A: Allocator + Copy> Trail<A> {
         requires next { self.old.next ≤ message.now.number }
         requires small { message.now.number < end_of_numbers }
         ensures { (reads : AnyMode) (run : Run) (next : ℕ)
-            → IsUnderWay (words_of program.now) mode reads run next false self.old
-            → OnOk result (TakesUsed (words_of program.now) mode reads run next message.now.number place
+            → IsUnderWay (words_of paths.entry.program.now) mode reads run next false self.old
+            → OnOk result (TakesUsed (words_of paths.entry.program.now) mode reads run next message.now.number place
             message.now.payload (next_used (entries_by (arrivals_in behind.now))) self.old self.new) }
     {
         self.go_on(alloc, mode, message.number)?;
-        match self.judge(program, &message.payload, behind)? {
+        match self.judge(paths, &message.payload, behind)? {
             None => {
                 self.goods.reserve(1)?;
                 self.goods.push_reserved(true);
@@ -292,21 +294,21 @@ impl<A: Allocator + Copy> Trail<A> {
     pub(crate) fn take(
         &mut self,
         alloc: A,
-        program: &Program,
+        paths: Paths<'_>,
         mode: Mode,
         entry: Entry<'_>,
         behind: &[Came<'_>],
     ) -> Result<(), AllocError>
         requires next { self.old.next ≤ entry_number (entry_of entry) }
         requires small { entry_number (entry_of entry) < end_of_numbers }
-        ensures { (all done : List AnyEntry) → TakesEntries (words_of program.now) mode all done
+        ensures { (all done : List AnyEntry) → TakesEntries (words_of paths.entry.program.now) mode all done
             (entry_of entry.entry ∷ entries_by (arrivals_in behind.now)) self.old
-            → OnOk result (TakesEntries (words_of program.now) mode all (done ++ entry_of entry.entry ∷ [])
+            → OnOk result (TakesEntries (words_of paths.entry.program.now) mode all (done ++ entry_of entry.entry ∷ [])
             (entries_by (arrivals_in behind.now)) self.new) }
     {
         match entry {
             Entry::Used { place, message } => {
-                self.take_used(alloc, program, mode, place, message, behind)
+                self.take_used(alloc, paths, mode, place, message, behind)
             }
             Entry::Doubtful {
                 number,
@@ -317,25 +319,57 @@ impl<A: Allocator + Copy> Trail<A> {
     }
 }
 
+/// Whether the last of these parts is a message whose packet the decoder refused, maybe at the end of a long walk.
+fn walked_in_vain<A: Allocator>(parts: &[Part<A>]) -> bool {
+    match parts.last() {
+        Some(Part::Bad { why, .. }) => match why {
+            Reason::Decode(fault) => match fault {
+                DecodeFault::NotOpened | DecodeFault::AfterClose | DecodeFault::Memory => false,
+                _ => true,
+            },
+            _ => false,
+        },
+        _ => false,
+    }
+}
+
+/// Finds the program's leaps where the last of these parts is such a message.
+fn find_after<A: Allocator + Copy>(
+    alloc: A,
+    parts: &[Part<A>],
+    lines: &mut Lines<'_, A>,
+) -> Result<(), AllocError>
+    ensures { lines.new.program ≡ lines.old.program }
+{
+    if walked_in_vain(parts) {
+        return lines.find(alloc);
+    }
+    Ok(())
+}
+
 /// Takes the entries of a hart one after the other, and tells of the messages of each. The hart's messages are in the
-/// order of their numbers. The last run is not ended.
+/// order of their numbers. The last run is not ended. The program's leaps are found once a packet was refused.
 pub(crate) fn take_all<A: Allocator + Copy, V: Watch>(
     alloc: A,
     program: &Program,
+    lines: &mut Lines<'_, A>,
     mode: Mode,
     came: &[Came<'_>],
     watch: &V,
 ) -> Result<Trail<A>, AllocError>
+    requires lines { lines.old.program.now ≡ program.now }
     requires rising { AreRising 0 (map entry_number (entries_by (arrivals_in came.now))) }
     requires small { AreSmall (entries_by (arrivals_in came.now)) }
-    ensures { IfOk result (TakesEntries (words_of program.now) mode (entries_by (arrivals_in came.now))
+    ensures taken { IfOk result (TakesEntries (words_of program.now) mode (entries_by (arrivals_in came.now))
         (entries_by (arrivals_in came.now)) []) }
+    ensures lines { lines.new.program ≡ lines.old.program }
 {
     let mut trail = Trail::new(alloc);
     let mut rest = came;
     while let Some((entry, count)) = first_entry(rest) {
         let behind = &rest[count..];
-        trail.take(alloc, program, mode, entry, behind)?;
+        trail.take(alloc, lines.paths(), mode, entry, behind)?;
+        find_after(alloc, &trail.parts, lines)?;
         watch.note(count);
         rest = behind;
     }

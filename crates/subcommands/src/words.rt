@@ -118,8 +118,19 @@ pub struct Bench<'a> {
     pub logs: Vec<&'a str>,
 }
 
-/// `audit [--packets] [--unnumbered] [--summary] [--progress] SENT RECEIVED`: what became of the messages of one
-/// capture, by another capture of what arrived.
+/// The form in which a subcommand prints what it found.
+#[derive(Clone, Copy, Debug, PartialEq, Eq)]
+pub enum Format {
+    /// Lines of text.
+    Text,
+    /// A table, as CSV.
+    Csv,
+    /// The argument is the name of neither.
+    Other,
+}
+
+/// `audit [--packets] [--unnumbered] [--summary] [--format FORMAT] [--progress] SENT RECEIVED`: what became of the messages
+/// of one capture, by another capture of what arrived.
 #[derive(Debug, Drop)]
 pub struct Audit<'a> {
     /// Whether a message is compared by the packet that its payload unpacks to, and not by its bytes.
@@ -128,6 +139,8 @@ pub struct Audit<'a> {
     pub unnumbered: bool,
     /// Whether the lines of single messages, of bytes that are no message and of lost numbers are left out.
     pub summary: bool,
+    /// Whether lines of text or a table are wanted.
+    pub format: Format,
     /// Whether a terminal is shown how far the capture is worked through.
     pub progress: bool,
     /// The path of the capture that was sent.

@@ -2,6 +2,7 @@
 //! that go on after a loss.
 
 mod faults;
+mod leaps;
 mod longest_walk;
 mod order;
 mod resumed;

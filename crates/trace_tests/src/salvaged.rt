@@ -4,3 +4,4 @@ mod ends;
 mod orders;
 mod random;
 mod rows;
+mod treated;

@@ -33,7 +33,7 @@ use Rattle.log_commands.specs.Measuring.{WritesTable}
 use Rattle.log_commands.specs.Most.{most_of}
 use Rattle.retire.specs.Log.{most_rows}
 use Rattle.log_commands.specs.Replaying.{ReplaysLogs}
-use Rattle.path_commands.specs.Audited.{Writes}
+use Rattle.path_commands.specs.Audited.{AuditsBy, IsFormat, Writes}
 use Rattle.path_commands.specs.Sides.{IsFoundSent}
 use Rattle.command_inputs.specs.Status.{code_of}
 use Rattle.command_inputs.specs.declared.fault.Fault.{Fault as AnyFault}
@@ -169,9 +169,11 @@ not_ended (Bench asked) status old new done =
 not_ended (Audit asked) status old new done =
     let own = done.prints.own in
     let ends = ends_so Path done.text status own done.prints.is in
-    not_first (IsRead none asked.sent) (λ bytes. First (IsFoundSent asked.sent bytes) (λ sent.
-    First (IsRead none asked.received) (Writes asked.unnumbered asked sent))) own status ends
-    (λ bytes read prints. no_bytes asked.sent bytes read) done.prints.prints
+    not_first (IsFormat asked.format) (λ _. AuditsBy (Writes asked.format asked.unnumbered asked) none asked) own status
+    ends
+    (λ _ is prints. not_first (IsRead none asked.sent) (λ bytes. First (IsFoundSent asked.sent bytes) (λ sent.
+    First (IsRead none asked.received) (Writes asked.format asked.unnumbered asked sent))) own status ends
+    (λ bytes read written. no_bytes asked.sent bytes read) prints) done.prints.prints
 not_ended (Measure asked) status old new done =
     let own = done.prints.own in
     let ends = ends_so Log done.text status own done.prints.is in
@@ -217,6 +219,7 @@ reason_faulty (Capture capture.Header) = λ is. omega arith
 reason_faulty (Capture (capture.Message number why)) = λ is. omega arith
 reason_faulty (Capture (capture.Unclosed hart)) = λ is. omega arith
 reason_faulty (Capture (capture.Symbols path why)) = λ is. omega arith
+reason_faulty (Path audit.Format) = λ is. omega arith
 reason_faulty (Path (audit.Damaged path)) = λ is. omega arith
 reason_faulty (Path (audit.Unread path number why)) = λ is. omega arith
 reason_faulty (Path (audit.Sent sent why)) = λ is. omega arith

@@ -1,12 +1,15 @@
 mod DecodersBack
 mod EventsBack
 mod EventsPassed
+mod FedInTurn
 mod HartFound
 mod HeaderMade
 mod Hearing
 mod MapSteps
 mod PacketsBack
 mod PassingBack
+mod PushedInTurn
+mod PushesReported
 mod StatesBack
 mod StepsJudged
 mod StepsTaken

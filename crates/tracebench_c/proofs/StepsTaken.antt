@@ -26,14 +26,14 @@ use Rattle.tracebench_c.specs.declared.following.StepFault.{StepFault}
 use Rattle.tracebench_c.specs.declared.following.StepFault.TheVariants as step
 
 -- An image makes one program.
-one_program : (made program : Image) (answer : Result Image ProgramFault) → answer ≡ Ok made → answer ≡ Ok program
+pub one_program : (made program : Image) (answer : Result Image ProgramFault) → answer ≡ Ok made → answer ≡ Ok program
     → made ≡ program
 one_program made program answer is found =
     let same : Ok made ≡ Ok program = sym is ∙ found in
     cc
 
 -- Numbers of which this state is read stand for what the state stands for.
-state_stands : (words : Words) (period : ℕ) (mode : Mode) (log : List Event) (numbers : EncoderNumbers)
+pub state_stands : (words : Words) (period : ℕ) (mode : Mode) (log : List Event) (numbers : EncoderNumbers)
     (read : EncoderState) → ((state : EncoderState) → IsOfState numbers state → Some read ≡ Some state)
     → NumbersStand words period mode log numbers → StateStands words period mode log read
 state_stands words period mode log numbers read only stand =

@@ -1,4 +1,5 @@
 pub mod Handed
+pub mod VersionText
 pub mod Statuses
 pub mod Numbers
 pub mod Events
@@ -10,10 +11,12 @@ pub mod Followed
 pub mod EventsChecked
 pub mod Decoded
 pub mod Fed
+pub mod FedAll
 pub mod Received
 pub mod Audited
 pub mod Dumped
 pub mod Encoded
 pub mod Pushed
+pub mod PushedAll
 pub mod PushedChecked
 pub mod steps

@@ -3,3 +3,5 @@ pub mod ReadingEvents
 pub mod ReadingDecoders
 pub mod ReadingStates
 pub mod Hearing
+pub mod PushingAll
+pub mod FeedingAll

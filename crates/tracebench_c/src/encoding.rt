@@ -188,7 +188,7 @@ fn read_logs<'p>(
 }
 
 /// The bytes from one place up to another.
-fn text_between(logs: &[u8], from: u64, end: u64) -> Option<&[u8]>
+pub(crate) fn text_between(logs: &[u8], from: u64, end: u64) -> Option<&[u8]>
     ensures { option_map (λ text. text.now) result ≡ text_between logs.now from end }
 {
     logs.get(from as usize..end as usize)

@@ -1,9 +1,11 @@
 //! Decoding step by step: one payload in, its events out.
 
-ghost use Rattle.std.specs.Prelude.{◌≡◌, [], None};
+ghost use Rattle.std.specs.Prelude.{◌≡◌, [], None, ℕ, List};
 ghost use Rattle.rvclass.specs.Words.{Words};
 ghost use Rattle.tracebench_c.specs.DecoderKept.{HaveMode, NumbersStand};
 ghost use Rattle.tracebench_c.specs.Fed.{GoesOnIfDone, IsFed, ReportsFeed, feed_status};
+ghost use Rattle.tracebench_c.specs.declared.decoder_state.DecoderNumbers.{DecoderNumbers as AnyNumbers};
+ghost use Rattle.tracebench_c.specs.steps.FeedingAll.{IsPacketFed, IsToFeed};
 
 use crate::checking::program_of;
 use crate::decoder_state::{DecoderNumbers, numbers_of_state, state_of};
@@ -13,9 +15,10 @@ use crate::fault::Fault;
 use crate::handing::hand_out_events;
 use crate::packing::pack_status;
 use crate::status::{BAD_STATE, DONE};
-use decoder::{DecodeFault, Decoder};
-use payload::{PackFault, unpack};
+use decoder::{DecodeFault, Decoder, DecoderState};
+use payload::{PackFault, Packet, unpack};
 use retire::Event;
+use rvclass::Program;
 use std::alloc::Global;
 
 /// What a payload gives that a decoder takes.
@@ -122,14 +125,33 @@ fn feed_payload(
         Ok(program) => program,
         Err(why) => return Err(FeedFault::Image(why)),
     };
-    let mut decoder = Decoder::from_state(state);
     let mut events = Vec::new(alloc);
-    match decoder.feed(&program, &packet, &mut events) {
-        Ok(()) => Ok(FedPayload {
-            numbers: numbers_of_state(&decoder.state()),
-            events,
-        }),
+    let mut next = state;
+    match feed_packet(&program, &mut next, &packet, &mut events) {
+        Ok(numbers) => Ok(FedPayload { numbers, events }),
         Err(why) => Err(FeedFault::Decode(why)),
+    }
+}
+
+/// Feeds a packet to the decoder with this state, and adds the events that it settles to a list, which has none. The
+/// state is the decoder's then, of which these are the numbers.
+pub(crate) fn feed_packet(
+    program: &Program,
+    state: &mut DecoderState,
+    packet: &Packet,
+    events: &mut Vec<Event>,
+) -> Result<DecoderNumbers, DecodeFault>
+    ensures { (base : ℕ) (image payload : List ℕ) (numbers : AnyNumbers) →
+        IsToFeed base image payload numbers program.now packet.now state.old → events.old.items ≡ [] →
+        IsPacketFed base image payload numbers events.new.items state.new result }
+{
+    let mut decoder = Decoder::from_state(*state);
+    match decoder.feed(program, packet, events) {
+        Ok(()) => {
+            *state = decoder.state();
+            Ok(numbers_of_state(state))
+        }
+        Err(why) => Err(why),
     }
 }
 

@@ -18,16 +18,19 @@ mod encoding;
 mod events;
 mod fault;
 mod feeding;
+mod feeding_all;
 mod following;
 mod handing;
 mod numbers;
 mod packing;
 mod path_audit;
 mod pushing;
+mod pushing_all;
 mod receiving;
 pub mod status;
 #[cfg(test)]
 mod tests;
+mod version;
 
 pub use checking::tracebench_check;
 pub use decoder_state::{CLOSED, DecoderNumbers, PASSING_OVER, RUNNING, UNOPENED};
@@ -40,6 +43,7 @@ pub use encoding::{LogPlace, VERSION_ONE, VERSION_TWO, tracebench_encode};
 pub use events::{EventNumbers, RETIREMENT, TRAP_TAKEN};
 pub use fault::Fault;
 pub use feeding::{FedPayload, FeedFault, tracebench_decoder, tracebench_feed};
+pub use feeding_all::tracebench_feed_all;
 pub use following::{EventsFault, StepFault, tracebench_check_events, tracebench_follow};
 pub use numbers::{
     ADDRESS, DIFFERENTIAL, ENDED_NTR, ENDED_REP, FULL, MAP, NOTIFY, OPEN, PLAIN, PacketNumbers,
@@ -50,4 +54,6 @@ pub use path_audit::{AuditEnd, AuditFault, HartAudited, HartTally, tracebench_au
 pub use pushing::{
     tracebench_encoder, tracebench_finish, tracebench_push, tracebench_push_checked,
 };
+pub use pushing_all::tracebench_push_all;
 pub use receiving::{HartNumbers, tracebench_receive, tracebench_resume};
+pub use version::tracebench_version;

@@ -1,6 +1,7 @@
 //! Each call by values that were worked by hand, with every refusal, and at its largest. Statuses, kinds and other
 //! numbers are written out as `include/tracebench.h` has them.
 
+mod all_at_once;
 mod audited;
 mod decoded;
 mod encoded;
@@ -15,6 +16,7 @@ mod payload_traces;
 mod pushed;
 mod received;
 mod rows;
+mod versions;
 
 use std::fmt::Debug;
 use std::process::Abort;

@@ -3,6 +3,7 @@ use Rattle.std.proofs.Common.{◌≡◌, ◌≢◌, ◌⊎◌, inl, inr, ℕ, �
 use Rattle.std.proofs.Common.{get_or, map, replicate, slice_get, take, refl, sym, ap, subst, ◌∙◌, arith}
 use Rattle.std.proofs.lemmas.List.{length-replicate, length-set, get_or-replicate, map-append, take_all, take_more}
 use Rattle.std.proofs.lemmas.Option.{slice_get-get_or, slice_get_within}
+use Rattle.std.specs.Prelude.{OnOk, Result, Ok, Err}
 use Rattle.message.proofs.AcceptedLemmas.{slice_get-set}
 use Rattle.message.proofs.OfHartLemmas.{of_hart-next, of_hart-other}
 use Rattle.message.specs.OfHart.{of_hart}
@@ -85,3 +86,12 @@ module _ (by : By) (harts : ℕ) where
   pub split_all : (messages : List Message) (place : ℕ) (lists : Lists) → length messages ≤ place
       → AreSplit by harts (take place messages) lists → AreSplit by harts messages lists
   split_all messages place lists past has = subst (λ ms. AreSplit by harts ms lists) (take_all place messages past) has
+
+  -- One more, where it was added.
+  pub split_if : {T E : Type 0} (messages : List Message) (m : Message) (lists new : Lists) (payload : List ℕ)
+      (r : Result T E) → payload ≡ known_by by m.payload → AreSplit by harts messages lists
+      → OnOk r (new ≡ added lists m.hart payload) → OnOk r (AreSplit by harts (messages ++ m ∷ []) new)
+  split_if messages m lists new payload (Ok x) same has is =
+      subst (AreSplit by harts (messages ++ m ∷ [])) (sym (is ∙ ap (added lists m.hart) same))
+      (split_more messages m lists has)
+  split_if messages m lists new payload (Err e) same has is = tt

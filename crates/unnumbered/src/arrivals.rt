@@ -108,3 +108,20 @@ pub fn arrival_lines<A: Allocator + Copy>(
     }
     Ok(lines)
 }
+
+/// As [`arrival_lines`], of messages of these harts.
+pub fn lines_by_hart<A: Allocator + Copy>(
+    alloc: A,
+    all: &[Alignment<A>],
+    harts: &[u16],
+) -> Result<Vec<Line, A>, AllocError>
+    ensures { IfOk result (λ lines. lines.items ≡ arrival_lines all.now harts.now) }
+{
+    let mut states = cursors(alloc, all)?;
+    let mut lines = Vec::new(alloc);
+    for (place, hart) in harts.iter().enumerate() {
+        let arrival = take(&mut states, *hart);
+        add_line(&mut lines, place as u64, *hart, arrival)?;
+    }
+    Ok(lines)
+}

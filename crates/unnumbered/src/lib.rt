@@ -13,7 +13,7 @@ mod laws;
 mod line;
 mod splitting;
 
-pub use arrivals::arrival_lines;
+pub use arrivals::{arrival_lines, lines_by_hart};
 pub use counting::{AlignedTotal, HartCounts, counts_of, total_of};
 pub use harts::{SentPayloads, aligned_harts};
 pub use laws::{counts_add_up, whole_is_equal};

@@ -66,7 +66,7 @@ fn counts<A: Allocator + Copy>(
 }
 
 /// No payloads of so many harts, with capacities for these counts.
-fn empty<A: Allocator + Copy>(
+pub(crate) fn empty<A: Allocator + Copy>(
     alloc: A,
     harts: usize,
     counts: &[usize],
@@ -85,7 +85,7 @@ fn empty<A: Allocator + Copy>(
 }
 
 /// Adds a payload of a hart, if the hart has a list.
-fn add_payload<A: Allocator>(
+pub(crate) fn add_payload<A: Allocator>(
     lists: &mut Vec<HartPayloads<A>, A>,
     hart: u16,
     payload: Payload,

@@ -59,6 +59,26 @@ static uint32_t make_push_checked(const struct given *given, struct answer *answ
     return tracebench_push_checked(IMAGE, FIRST, EVENT(other), PACKETS);
 }
 
+/* How far a call of many steps came, and the elements that it wrote, all in one slice. */
+#define AT_ONCE(type) (type *)(void *)(answer->second.at + 16), given->harts, \
+                      (uint64_t *)(void *)answer->second.at, (uint64_t *)(void *)(answer->second.at + 8)
+
+static uint32_t make_push_all(const struct given *given, struct answer *answer) {
+    return tracebench_push_all(IMAGE, FIRST, EVENT(bytes), given->bytes.length / sizeof(struct tracebench_event),
+                               AT_ONCE(struct tracebench_packet));
+}
+
+static uint32_t make_feed_all(const struct given *given, struct answer *answer) {
+    const uint64_t *ends = (const uint64_t *)(const void *)given->other.at;
+    return tracebench_feed_all(IMAGE, FIRST, BYTES, ends, given->other.length / sizeof *ends,
+                               AT_ONCE(struct tracebench_event));
+}
+
+static uint32_t make_version(const struct given *given, struct answer *answer) {
+    (void)given;
+    return tracebench_version(BUFFER);
+}
+
 static uint32_t make_follow(const struct given *given, struct answer *answer) {
     (void)answer;
     return tracebench_follow(IMAGE, given->mode, EVENT(state), EVENT(other));
@@ -165,6 +185,13 @@ static const struct span of_receive[] = {ONE(DONE), ONE(TOO_SMALL), ONE(MEMORY),
 static const struct span of_resume[] = {ONE(DONE), ONE(OUT_OF_RANGE), ONE(REPEAT), ONE(AFTER_CLOSE), ONE(BAD_STATE),
                                         END};
 
+static const struct span of_push_all[] = {ONE(DONE), ONE(TOO_SMALL), ONE(MEMORY), SPAN(ODD_BASE, PAST_END),
+                                          ONE(BAD_STATE), ONE(NO_EVENT), END};
+static const struct span of_feed_all[] = {ONE(DONE), ONE(TOO_SMALL), ONE(MEMORY), ONE(OUT_OF_RANGE),
+                                          SPAN(EMPTY, BAD_REPORT), SPAN(ODD_BASE, PAST_END),
+                                          SPAN(NOT_OPENED, AFTER_CLOSING_PACKET), ONE(BAD_STATE), END};
+static const struct span of_version[] = {ONE(DONE), ONE(TOO_SMALL), END};
+
 /* Why a capture is not read on; and why it is not decoded on. */
 static const struct span unread[] = {ONE(DONE), ONE(SHORT), ONE(BAD_LENGTH), ONE(BAD_HEADER), END};
 static const struct span undecoded[] = {ONE(DONE), ONE(MEMORY), ONE(SHORT), ONE(BAD_LENGTH), ONE(BAD_HEADER),
@@ -245,9 +272,26 @@ const struct call resume = {
     .written = WITH_DONE, .goes_on = true,
 };
 
+const struct call push_all = {
+    .name = "push_all", .make = make_push_all, .statuses = of_push_all,
+    .first = ALL_OF(struct tracebench_encoder_state),
+    .second = {16 + MOST_AT_ONCE * sizeof(struct tracebench_packet), 16},
+    .written = WITH_DONE | WITH_TOO_SMALL | WITH_REFUSAL, .goes_on = true,
+};
+const struct call feed_all = {
+    .name = "feed_all", .make = make_feed_all, .statuses = of_feed_all,
+    .first = ALL_OF(struct tracebench_decoder_state),
+    .second = {16 + MOST_AT_ONCE * sizeof(struct tracebench_event), 16},
+    .written = WITH_DONE | WITH_TOO_SMALL | WITH_REFUSAL, .goes_on = true,
+};
+const struct call version = {
+    .name = "version", .make = make_version, .statuses = of_version, .unit = 1,
+};
+
 const struct call *const calls[CALLS] = {&pack, &unpack, &check, &encode, &dump, &decode,
                                          &audit, &encoder, &push, &finish, &decoder, &feed,
-                                         &follow, &check_events, &push_checked, &receive, &resume};
+                                         &follow, &check_events, &push_checked, &receive, &resume,
+                                         &push_all, &feed_all, &version};
 
 bool is_listed(const struct span *spans, uint32_t status) {
     for (; spans->from <= spans->to; spans++)

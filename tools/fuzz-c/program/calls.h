@@ -13,7 +13,7 @@ struct given {
     struct slice bytes; /* a payload, the text of a log or of several, a capture, or SENT */
     struct slice other; /* RECEIVED, or where each log ends, or the numbers of a packet or an event */
     struct slice state; /* of an encoder or a decoder, before the call; or the numbers of an event before */
-    uint16_t harts;
+    uint16_t harts; /* or for how many elements there is room */
     uint16_t hart;
     uint16_t period;
     uint32_t mode; /* or whether there is an event before */
@@ -57,10 +57,13 @@ struct call {
     bool goes_on; /* `first` is a state, which is at first the one that is given */
 };
 
-enum { CALLS = 17, STATUSES = 256 };
+enum { CALLS = 20, STATUSES = 256 };
+
+/* The most elements that a call of many steps is given room for. */
+enum { MOST_AT_ONCE = 16 };
 
 extern const struct call pack, unpack, check, encode, dump, decode, audit, encoder, push, finish, decoder, feed;
-extern const struct call follow, check_events, push_checked, receive, resume;
+extern const struct call follow, check_events, push_checked, receive, resume, push_all, feed_all, version;
 
 /* All of them. */
 extern const struct call *const calls[CALLS];

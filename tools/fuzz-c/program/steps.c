@@ -215,8 +215,7 @@ void try_follow(struct program *program) {
     give_back_answer(&answer);
 }
 
-/* Makes a log another one, most often an illegal one: an event goes, comes twice, changes places or is changed. */
-static void derange(struct events *events) {
+void derange(struct events *events) {
     if (events->count == 0 || one_in(4)) return;
     struct tracebench_event *one = &events->at[below(events->count)], *other = &events->at[below(events->count)];
     const struct tracebench_event was = *one;

@@ -1,17 +1,25 @@
 -- How messages that carry no numbers are read and written.
-use Rattle.std.specs.Prelude.{ℕ, ◌≡◌, ◌⊎◌, List, Option, Result, Err}
+use Rattle.std.specs.Prelude.{ℕ, ◌≡◌, ◌⊎◌, Bool, List, Option, Result, Err, length, map, nat_lt, not}
+use Rattle.std.specs.List.{count_by}
 use Rattle.std.specs.Io.KnownBytes.{Appends}
 use Rattle.alike.specs.declared.by.By.{By}
 use Rattle.alignment.specs.Matches.{Flags}
 use Rattle.message.specs.declared.header.Header.{Header}
 use Rattle.message.specs.declared.message.Message.{Message}
 use Rattle.subcommands.specs.declared.words.Audit.{Audit}
+use Rattle.subcommands.specs.declared.words.Format.{Format}
+use Rattle.subcommands.specs.declared.words.Format.TheVariants.{Csv}
 use Rattle.auditing.specs.Sent.{IsSent, harts_of}
 use Rattle.unnumbered.specs.Split.{AreSplit}
+use Rattle.unnumbered.specs.declared.line.Line.{Line}
 use Rattle.command_inputs.specs.declared.fault.Fault.TheVariants as fault
 use Rattle.command_inputs.specs.declared.status.Status.{Status}
+use Rattle.path_commands.specs.AlignedRows.{aligned_table}
+use Rattle.path_commands.specs.AlignedTable.{aligned_audit}
 use Rattle.path_commands.specs.Faults.{Fault}
 use Rattle.path_commands.specs.Unnumbered.{UnnumberedCame, end_of_unnumbered, unnumbered_audit}
+use Rattle.path_commands.specs.UnnumberedText.{unnumbered_text}
+use Rattle.path_commands.specs.declared.by_hart.ByHart.{ByHart}
 use Rattle.path_commands.specs.declared.keeping.KeptSent.{KeptSent}
 use Rattle.path_commands.specs.declared.keeping.Received.{Received}
 
@@ -26,9 +34,30 @@ pub record KeepsSent (how : By) (bytes : List ℕ) (own : KeptSent) : Type 0 whe
   pub sent : IsSent bytes own.header messages
   pub kept : IsKept how messages own
 
--- RECEIVED, as it was read.
-abbrev pub came_in : Received → UnnumberedCame
-came_in own = record { header = own.header; fault = own.fault; messages = own.messages.items; stop = own.stop }
+-- What is kept of messages by hart: the hart of each, and of each hart what its payloads are known by.
+pub record IsByHart (messages : List Message) (own : ByHart) : Type 0 where
+  pub harts : own.harts.items ≡ map (λ (message : Message). message.hart) messages
+  pub split : AreSplit own.payloads.by (length own.payloads.lists) messages own.payloads.lists
+
+-- RECEIVED, as it was read, with these messages.
+abbrev pub came_with : Received → List Message → UnnumberedCame
+came_with own messages = record { header = own.header; fault = own.fault; messages = messages; stop = own.stop }
+
+-- How many messages of these harts are of no hart of so many.
+abbrev pub strangers_of : ℕ → List ℕ → ℕ
+strangers_of harts own = count_by (λ hart. not (nat_lt hart harts)) own
+
+-- The report of an audit in this format, by the alignments of the harts and what is to be said of so many messages.
+abbrev pub report_in : Format → Bool → List Flags → List Line → ℕ → ℕ → Bool → Bool → List ℕ
+report_in Csv summary all lines messages strangers unlike whole =
+    aligned_table summary all lines messages strangers unlike whole
+report_in _ summary all lines messages strangers unlike whole =
+    unnumbered_text summary all lines strangers unlike whole
+
+-- What is written of RECEIVED in this format, by SENT's header and the alignments of the harts.
+abbrev pub audit_in : Format → Bool → Option Header → UnnumberedCame → List Flags → List ℕ
+audit_in Csv summary header came all = aligned_audit summary header came all
+audit_in _ summary header came all = unnumbered_audit summary header came all
 
 -- Allocation or the output failed; or all is written, and the run ends as it should.
 abbrev pub EndsUnnumbered : Audit → Option Header → UnnumberedCame → List Flags → Result Status Fault
@@ -36,5 +65,5 @@ abbrev pub EndsUnnumbered : Audit → Option Header → UnnumberedCame → List 
 EndsUnnumbered asked header came all ended old new =
     (ended ≡ Err fault.Memory)
     ⊎ ((ended ≡ Err fault.Output)
-    ⊎ (Appends old new (unnumbered_audit asked.summary header came all)
+    ⊎ (Appends old new (audit_in asked.format asked.summary header came all)
     × (ended ≡ end_of_unnumbered asked.received header came all)))

@@ -14,13 +14,31 @@ pub(crate) const TEXT: &str = r#"
 % tracebench salvage --base 0 image.bin run.capture --progress
 > Salvage(Salvage { base: "0", harts: None, summary: false, progress: true, image: "image.bin", capture: "run.capture" })
 % tracebench audit --progress sent.capture received.capture
-> Audit(Audit { packets: false, unnumbered: false, summary: false, progress: true, sent: "sent.capture", received: "received.capture" })
+> Audit(Audit { packets: false, unnumbered: false, summary: false, format: Text, progress: true, sent: "sent.capture", received: "received.capture" })
 
 # Numbers that came are not looked at.
 % tracebench audit --unnumbered sent.capture received.capture
-> Audit(Audit { packets: false, unnumbered: true, summary: false, progress: false, sent: "sent.capture", received: "received.capture" })
+> Audit(Audit { packets: false, unnumbered: true, summary: false, format: Text, progress: false, sent: "sent.capture", received: "received.capture" })
 % tracebench audit --unnumbered --packets sent.capture --summary received.capture
-> Audit(Audit { packets: true, unnumbered: true, summary: true, progress: false, sent: "sent.capture", received: "received.capture" })
+> Audit(Audit { packets: true, unnumbered: true, summary: true, format: Text, progress: false, sent: "sent.capture", received: "received.capture" })
+
+# A table is asked for, or lines of text. Whether the format is one of both is not yet known.
+% tracebench audit --format csv sent.capture received.capture
+> Audit(Audit { packets: false, unnumbered: false, summary: false, format: Csv, progress: false, sent: "sent.capture", received: "received.capture" })
+% tracebench audit sent.capture received.capture --summary --format=text --unnumbered
+> Audit(Audit { packets: false, unnumbered: true, summary: true, format: Text, progress: false, sent: "sent.capture", received: "received.capture" })
+% tracebench audit --format CSV sent.capture received.capture
+> Audit(Audit { packets: false, unnumbered: false, summary: false, format: Other, progress: false, sent: "sent.capture", received: "received.capture" })
+% tracebench audit sent.capture received.capture --format
+! error: a value is required for '--format <FORMAT>' but none was supplied
+!
+! For more information, try '--help'.
+% tracebench audit --format csv --format text sent.capture received.capture
+! error: the argument '--format <FORMAT>' cannot be used multiple times
+!
+! Usage: tracebench audit [OPTIONS] <SENT> <RECEIVED>
+!
+! For more information, try '--help'.
 
 # Logs are a part of those of so many harts.
 % tracebench encode --base 0 --of 8 image.bin log.csv

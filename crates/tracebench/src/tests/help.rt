@@ -187,11 +187,12 @@ $ tracebench audit --help
 !   <RECEIVED>  File of the trace messages that came
 !
 ! Options:
-!       --packets     Compare messages by the packets that they unpack to, not by their bytes
-!       --unnumbered  Do not look at the numbers of RECEIVED: align what came with what was sent
-!       --summary     Leave out the lines of single messages, of bytes and of lost numbers
-!       --progress    Show how far the capture is worked through, where standard error is a terminal
-!   -h, --help        Print help
+!       --packets          Compare messages by the packets that they unpack to, not by their bytes
+!       --unnumbered       Do not look at the numbers of RECEIVED: align what came with what was sent
+!       --summary          Leave out the lines of single messages, of bytes and of lost numbers
+!       --format <FORMAT>  What is printed: text, or csv, a table [default: text]
+!       --progress         Show how far the capture is worked through, where standard error is a terminal
+!   -h, --help             Print help
 !
 ! Example:
 !   tracebench audit examples/two_harts/both.capture examples/two_harts/both.capture

@@ -245,13 +245,13 @@ pub(crate) const TEXT: &str = r#"
 
 # `audit`: its packets and its summary.
 % tracebench audit sent.capture received.capture
-> Audit(Audit { packets: false, unnumbered: false, summary: false, progress: false, sent: "sent.capture", received: "received.capture" })
+> Audit(Audit { packets: false, unnumbered: false, summary: false, format: Text, progress: false, sent: "sent.capture", received: "received.capture" })
 % tracebench audit sent.capture --summary received.capture
-> Audit(Audit { packets: false, unnumbered: false, summary: true, progress: false, sent: "sent.capture", received: "received.capture" })
+> Audit(Audit { packets: false, unnumbered: false, summary: true, format: Text, progress: false, sent: "sent.capture", received: "received.capture" })
 % tracebench audit --packets sent.capture received.capture
-> Audit(Audit { packets: true, unnumbered: false, summary: false, progress: false, sent: "sent.capture", received: "received.capture" })
+> Audit(Audit { packets: true, unnumbered: false, summary: false, format: Text, progress: false, sent: "sent.capture", received: "received.capture" })
 % tracebench audit sent.capture received.capture --summary --packets
-> Audit(Audit { packets: true, unnumbered: false, summary: true, progress: false, sent: "sent.capture", received: "received.capture" })
+> Audit(Audit { packets: true, unnumbered: false, summary: true, format: Text, progress: false, sent: "sent.capture", received: "received.capture" })
 % tracebench audit --summary sent.capture received.capture --summary
 ! error: the argument '--summary' cannot be used multiple times
 !

@@ -1,7 +1,7 @@
 -- A command's grammar is too large to be searched in: the rules of its arguments are handed over.
 use Rattle.std.proofs.Common.{codes, [], ◌∷◌}
 use Rattle.clap.specs.Words.{new_app}
-use Rattle.arguments.specs.Rules.{packets_rule, progress_rule, received_rule, sent_rule, summary_rule}
+use Rattle.arguments.specs.Rules.{format_rule, packets_rule, progress_rule, received_rule, sent_rule, summary_rule}
 use Rattle.arguments.specs.Rules.{unnumbered_rule}
 use Rattle.cli.proofs.GrammarLemmas.{with_these}
 use Rattle.cli.proofs.grammar.audit.Goals as goal
@@ -9,7 +9,7 @@ use Rattle.cli.proofs.grammar.audit.Goals as goal
 pub returns : goal.returns
 returns c =
     with_these c.subcommand.result (new_app (codes "audit")) (packets_rule ∷ unnumbered_rule ∷ summary_rule
-    ∷ progress_rule ∷ sent_rule ∷ received_rule ∷ []) _ c.in_ok-args.args.items c.in_ok-args.ensures.items
+    ∷ format_rule ∷ progress_rule ∷ sent_rule ∷ received_rule ∷ []) _ c.in_ok-args.args.items c.in_ok-args.ensures.items
     c.subcommand.ensures (
       c.packets.ensures,
       (
@@ -17,10 +17,13 @@ returns c =
         (
           c.summary.ensures,
           (
-            c.capture_progress.ensures,
+            c.format.ensures,
             (
-              c.sent.ensures,
-              (c.received.ensures, tt),
+              c.capture_progress.ensures,
+              (
+                c.sent.ensures,
+                (c.received.ensures, tt),
+              ),
             ),
           ),
         ),

@@ -1,8 +1,8 @@
 -- The prover makes no record by itself: what is said of the subcommand's run is handed to it, with the joined reasons.
 use Rattle.std.proofs.Common.{◌∙◌, sym}
-use Rattle.path_commands.specs.Audited.{Audits, CanAudit}
+use Rattle.path_commands.specs.Audited.{Audits, CanAudit, audit_meaning}
 use Rattle.commands.specs.declared.reason.CommandReason.TheVariants.{Path}
-use Rattle.commands.proofs.JoinedRuns.{joined_cut, joined_prints, keeps_same}
+use Rattle.commands.proofs.JoinedRuns.{joined_cut, joined_early, joined_prints, keeps_same}
 use Rattle.commands.proofs.capture_runs.run_audit.Goals as goal
 
 pub returns : goal.returns
@@ -13,7 +13,7 @@ returns g c =
     let out = c.args.out.now in
     let value = c.joined_end.ensures.value in record {
       cut = joined_cut Path (Audits content asked) (contents out) (contents c.audit.new.out) c.audit.ensures.cut;
-      early = tt;
+      early = joined_early Path (audit_meaning asked).early c.audit.result c.joined_end.result value c.audit.ensures.early;
       printed = joined_prints Path (Audits content asked) (CanAudit content asked) c.audit.result c.joined_end.result
           (contents out) (contents c.audit.new.out) value c.audit.ensures.printed;
       begun = λ memory. keeps_same contents out c.audit.new.out

@@ -7,9 +7,8 @@ use Rattle.command_inputs.specs.Found.{IsRead}
 use Rattle.command_inputs.specs.Printed.{PrintsUnlessDenied}
 use Rattle.command_inputs.specs.declared.fault.Fault.TheVariants as fault
 use Rattle.path_commands.proofs.AuditSteps.{both_cut, both_printed, not_kept, received_lacked}
-use Rattle.path_commands.specs.Audited.{AuditsBy, CanAudit}
+use Rattle.path_commands.specs.Audited.{AuditsBy, CanAudit, WritesAligned}
 use Rattle.path_commands.specs.Sides.{Sent}
-use Rattle.path_commands.specs.Unnumbered.{WritesUnnumbered}
 use Rattle.path_commands.specs.declared.reason.PathReason.{PathReason}
 use Rattle.path_commands.proofs.matching.audit_unnumbered.Goals as goal
 
@@ -21,8 +20,8 @@ returns-in_err-sent-clause-printed g c =
     let why = c.in_err-sent.field-0.0 in
     let is : c.from_residual.result ≡ Err why = grind (arith, common_steps) in
     subst
-    (λ result. PrintsUnlessDenied (AuditsBy (WritesUnnumbered asked) content asked) (CanAudit content asked) result old
-    old) (sym is) (not_kept (WritesUnnumbered asked) content asked why old c.in_err-sent.ensures.lacked)
+    (λ result. PrintsUnlessDenied (AuditsBy (WritesAligned asked.format asked) content asked) (CanAudit content asked) result old
+    old) (sym is) (not_kept (WritesAligned asked.format asked) content asked why old c.in_err-sent.ensures.lacked)
 
 pub returns-in_err-received-clause-printed : goal.returns-in_err-received-clause-printed
 returns-in_err-received-clause-printed g c =
@@ -34,9 +33,9 @@ returns-in_err-received-clause-printed g c =
     let held = c.in_ok-sent.ensures.held in
     let sent : Sent = record { header = c.in_ok-sent.sent.header; messages = held.2.messages } in
     subst
-    (λ result. PrintsUnlessDenied (AuditsBy (WritesUnnumbered asked) content asked) (CanAudit content asked) result old
+    (λ result. PrintsUnlessDenied (AuditsBy (WritesAligned asked.format asked) content asked) (CanAudit content asked) result old
     old) (sym is)
-    (received_lacked (WritesUnnumbered asked) content asked held.0 held.1 sent held.2.sent why old
+    (received_lacked (WritesAligned asked.format asked) content asked held.0 held.1 sent held.2.sent why old
     (subst (λ known. (why ≡ fault.Memory) ⊎ IsRead known asked.received (Err why)) c.in_ok-sent.ensures.kept
     c.in_err-received.ensures.lacked))
 
@@ -48,11 +47,11 @@ returns-clause-printed g c =
     let received = c.in_ok-received.received.items in
     let old = g.O.Write.contents c.args.out.now in
     let new = g.O.Write.contents c.write_matched.new.out in
-    both_printed (WritesUnnumbered asked) (g.F.Files.content c.args.files.now) asked held.0 held.1 sent held.2.sent
+    both_printed (WritesAligned asked.format asked) (g.F.Files.content c.args.files.now) asked held.0 held.1 sent held.2.sent
     received
     (subst (λ known. IsRead {W = PathReason} known asked.received (Ok received)) c.in_ok-sent.ensures.kept
     c.in_ok-received.ensures.held) c.write_matched.result old new
-    (subst (λ bytes. PrintsUnlessDenied (WritesUnnumbered asked sent bytes) ⊤ c.write_matched.result old new)
+    (subst (λ bytes. PrintsUnlessDenied (WritesAligned asked.format asked sent bytes) ⊤ c.write_matched.result old new)
     c.as_slice.ensures.value (c.write_matched.ensures.printed held.2.messages held.2.kept))
 
 pub returns-clause-cut : goal.returns-clause-cut
@@ -63,8 +62,8 @@ returns-clause-cut g c =
     let received = c.in_ok-received.received.items in
     let old = g.O.Write.contents c.args.out.now in
     let new = g.O.Write.contents c.write_matched.new.out in
-    both_cut (WritesUnnumbered asked) (g.F.Files.content c.args.files.now) asked held.0 held.1 sent held.2.sent received
+    both_cut (WritesAligned asked.format asked) (g.F.Files.content c.args.files.now) asked held.0 held.1 sent held.2.sent received
     (subst (λ known. IsRead {W = PathReason} known asked.received (Ok received)) c.in_ok-sent.ensures.kept
     c.in_ok-received.ensures.held) old new
-    (subst (λ bytes. IsCutOf (WritesUnnumbered asked sent bytes) old new) c.as_slice.ensures.value
+    (subst (λ bytes. IsCutOf (WritesAligned asked.format asked sent bytes) old new) c.as_slice.ensures.value
     (c.write_matched.ensures.cut held.2.messages held.2.kept))

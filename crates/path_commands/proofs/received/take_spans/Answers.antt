@@ -4,6 +4,7 @@ use Rattle.std.specs.Io.KnownBytes.{Appends}
 use Rattle.output.specs.Begun.{AppendsBeginning}
 use Rattle.output.proofs.Beginnings.{whole_begun}
 use Rattle.message.specs.declared.message.Message.{Message}
+use Rattle.resuming.specs.Borrowed.{span_of}
 use Rattle.resuming.specs.Passages.{Left, spans_from, spans_left}
 use Rattle.auditing.proofs.Sights.{sight_kept}
 use Rattle.auditing.specs.Seen.{sight_of}
@@ -11,8 +12,8 @@ use Rattle.path_commands.proofs.SpanLines.{HasRead, read_all, read_begun, read_m
 use Rattle.path_commands.specs.AuditText.{span_line, span_lines}
 use Rattle.path_commands.proofs.received.take_spans.Goals as goal
 
-pub loop-span-init : goal.loop-span-init
-loop-span-init g c = (
+pub loop-passage-init : goal.loop-passage-init
+loop-passage-init g c = (
   λ sent audits short.
       read_none c.args.path.now.by c.args.summary sent (spans_left (sight_of c.args.path.now.by sent) c.args.spans)
       c.args.path.now _ (length c.args.spans.bytes) (g.O.Write.contents c.args.out.now) refl audits,
@@ -20,102 +21,102 @@ loop-span-init g c = (
   refl,
 )
 
-pub loop-span-preserved : goal.loop-span-preserved
-loop-span-preserved g c =
+pub loop-passage-preserved : goal.loop-passage-preserved
+loop-passage-preserved g c =
     let how = c.args.path.now.by in
-    let path = c.loop-span.path in
-    let left = c.loop-span.left in
-    let next = c.next.new.self in
-    let span = c.in-Some.span in
+    let path = c.loop-passage.path in
+    let left = c.loop-passage.left in
+    let next = c.next_passage.new.self in
+    let span = span_of c.in-Some.passage in
     let old = g.O.Write.contents c.args.out.now in
-    let mid = g.O.Write.contents c.loop-span.out in
-    let new = g.O.Write.contents c.write_span.new.out in
-    let by_is = c.loop-span.invariant.1 in (
+    let mid = g.O.Write.contents c.loop-passage.out in
+    let new = g.O.Write.contents c.write_passage.new.out in
+    let by_is = c.loop-passage.invariant.1 in (
       λ sent audits short.
           let sees = sight_of how sent in
           let all = spans_left sees c.args.spans in
-          let has = c.loop-span.invariant.0 sent audits short in
+          let has = c.loop-passage.invariant.0 sent audits short in
           let step = c.in-Some.ensures.spans sees
           (λ message. sight_kept sent has.taken path message has.audits ∙ ap (λ h. sight_of h sent message) by_is) in
           subst
-          (λ progress. HasRead how c.args.summary sent all (spans_left sees next) c.write_span.new.path progress
+          (λ progress. HasRead how c.args.summary sent all (spans_left sees next) c.write_passage.new.path progress
           (length next.bytes) (length c.args.spans.bytes) old new) (sym c.after-progress.ensures)
-          (read_more how c.args.summary sent all (spans_left sees next) path c.loop-span.progress (length left.bytes)
+          (read_more how c.args.summary sent all (spans_left sees next) path c.loop-passage.progress (length left.bytes)
           (length c.args.spans.bytes) old mid span
           (subst
-          (λ rest. HasRead how c.args.summary sent all rest path c.loop-span.progress (length left.bytes)
-          (length c.args.spans.bytes) old mid) step has) c.write_span.new.path (length next.bytes) new short
-          c.in-Some.ensures.sizes.0 c.in-Some.ensures.sizes.1 (c.write_span.ensures.audits sent)
+          (λ rest. HasRead how c.args.summary sent all rest path c.loop-passage.progress (length left.bytes)
+          (length c.args.spans.bytes) old mid) step has) c.write_passage.new.path (length next.bytes) new short
+          c.in-Some.ensures.sizes.0 c.in-Some.ensures.sizes.1 (c.write_passage.ensures.audits sent)
           (λ received is place.
           subst (λ h. Appends mid new (span_line h c.args.summary sent received span)) by_is
-          (c.in_ok-write_span.ensures.text sent received is place))),
-      c.write_span.ensures.by ∙ by_is,
-      c.write_span.ensures.header ∙ c.loop-span.invariant.2,
+          (c.in_ok-write_passage.ensures.text sent received is place))),
+      c.write_passage.ensures.by ∙ by_is,
+      c.write_passage.ensures.header ∙ c.loop-passage.invariant.2,
     )
 
-pub returns-in_err-write_span-clause-begun : goal.returns-in_err-write_span-clause-begun
-returns-in_err-write_span-clause-begun g c = λ sent audits short.
+pub returns-in_err-write_passage-clause-begun : goal.returns-in_err-write_passage-clause-begun
+returns-in_err-write_passage-clause-begun g c = λ sent audits short.
     let how = c.args.path.now.by in
-    let path = c.loop-span.path in
-    let left = c.loop-span.left in
-    let next = c.next.new.self in
-    let span = c.in-Some.span in
+    let path = c.loop-passage.path in
+    let left = c.loop-passage.left in
+    let next = c.next_passage.new.self in
+    let span = span_of c.in-Some.passage in
     let old = g.O.Write.contents c.args.out.now in
-    let mid = g.O.Write.contents c.loop-span.out in
-    let new = g.O.Write.contents c.write_span.new.out in
-    let by_is = c.loop-span.invariant.1 in
+    let mid = g.O.Write.contents c.loop-passage.out in
+    let new = g.O.Write.contents c.write_passage.new.out in
+    let by_is = c.loop-passage.invariant.1 in
     let sees = sight_of how sent in
     let all = spans_left sees c.args.spans in
-    let has = c.loop-span.invariant.0 sent audits short in
+    let has = c.loop-passage.invariant.0 sent audits short in
     let step = c.in-Some.ensures.spans sees
     (λ message. sight_kept sent has.taken path message has.audits ∙ ap (λ h. sight_of h sent message) by_is) in
-    read_begun how c.args.summary sent all (spans_left sees next) path c.loop-span.progress (length left.bytes)
+    read_begun how c.args.summary sent all (spans_left sees next) path c.loop-passage.progress (length left.bytes)
     (length c.args.spans.bytes) old mid span
     (subst
-    (λ rest. HasRead how c.args.summary sent all rest path c.loop-span.progress (length left.bytes)
+    (λ rest. HasRead how c.args.summary sent all rest path c.loop-passage.progress (length left.bytes)
     (length c.args.spans.bytes) old mid) step has) new
     (λ received is place.
     subst (λ h. AppendsBeginning (span_line h c.args.summary sent received span) mid new) by_is
-    (c.write_span.ensures.begun sent received is place))
+    (c.write_passage.ensures.begun sent received is place))
 
-pub returns-in_err-write_span-clause-by : goal.returns-in_err-write_span-clause-by
-returns-in_err-write_span-clause-by g c = c.write_span.ensures.by ∙ c.loop-span.invariant.1
+pub returns-in_err-write_passage-clause-by : goal.returns-in_err-write_passage-clause-by
+returns-in_err-write_passage-clause-by g c = c.write_passage.ensures.by ∙ c.loop-passage.invariant.1
 
-pub returns-in_err-write_span-clause-header : goal.returns-in_err-write_span-clause-header
-returns-in_err-write_span-clause-header g c = c.write_span.ensures.header ∙ c.loop-span.invariant.2
+pub returns-in_err-write_passage-clause-header : goal.returns-in_err-write_passage-clause-header
+returns-in_err-write_passage-clause-header g c = c.write_passage.ensures.header ∙ c.loop-passage.invariant.2
 
 pub returns-clause-audits : goal.returns-clause-audits
 returns-clause-audits g c = λ sent audits short.
     let how = c.args.path.now.by in
     let sees = sight_of how sent in
-    let left = c.loop-span.left in
-    let has = c.loop-span.invariant.0 sent audits short in
+    let left = c.loop-passage.left in
+    let has = c.loop-passage.invariant.0 sent audits short in
     let none = ap (spans_from sees left.offset) (c.in_default.ensures.end refl) in
-    read_all how c.args.summary sent (spans_left sees c.args.spans) c.loop-span.path c.loop-span.progress
+    read_all how c.args.summary sent (spans_left sees c.args.spans) c.loop-passage.path c.loop-passage.progress
     (length left.bytes) (length c.args.spans.bytes) (g.O.Write.contents c.args.out.now)
-    (g.O.Write.contents c.loop-span.out)
+    (g.O.Write.contents c.loop-passage.out)
     (subst
-    (λ rest. HasRead how c.args.summary sent (spans_left sees c.args.spans) rest c.loop-span.path c.loop-span.progress
+    (λ rest. HasRead how c.args.summary sent (spans_left sees c.args.spans) rest c.loop-passage.path c.loop-passage.progress
     (length left.bytes) (length c.args.spans.bytes) (g.O.Write.contents c.args.out.now)
-    (g.O.Write.contents c.loop-span.out)) none has)
+    (g.O.Write.contents c.loop-passage.out)) none has)
 
 pub returns-clause-text : goal.returns-clause-text
 returns-clause-text g c = λ sent audits short.
     let how = c.args.path.now.by in
     let sees = sight_of how sent in
-    let left = c.loop-span.left in
-    let has = c.loop-span.invariant.0 sent audits short in
+    let left = c.loop-passage.left in
+    let has = c.loop-passage.invariant.0 sent audits short in
     let none = ap (spans_from sees left.offset) (c.in_default.ensures.end refl) in
-    read_text how c.args.summary sent (spans_left sees c.args.spans) c.loop-span.path c.loop-span.progress
+    read_text how c.args.summary sent (spans_left sees c.args.spans) c.loop-passage.path c.loop-passage.progress
     (length left.bytes) (length c.args.spans.bytes) (g.O.Write.contents c.args.out.now)
-    (g.O.Write.contents c.loop-span.out)
+    (g.O.Write.contents c.loop-passage.out)
     (subst
-    (λ rest. HasRead how c.args.summary sent (spans_left sees c.args.spans) rest c.loop-span.path c.loop-span.progress
+    (λ rest. HasRead how c.args.summary sent (spans_left sees c.args.spans) rest c.loop-passage.path c.loop-passage.progress
     (length left.bytes) (length c.args.spans.bytes) (g.O.Write.contents c.args.out.now)
-    (g.O.Write.contents c.loop-span.out)) none has)
+    (g.O.Write.contents c.loop-passage.out)) none has)
 
 pub returns-clause-begun : goal.returns-clause-begun
 returns-clause-begun g c = λ sent audits short.
     whole_begun
     (span_lines c.args.path.now.by c.args.summary sent [] (spans_left (sight_of c.args.path.now.by sent) c.args.spans))
-    (g.O.Write.contents c.args.out.now) (g.O.Write.contents c.loop-span.out) (returns-clause-text g c sent audits short)
+    (g.O.Write.contents c.args.out.now) (g.O.Write.contents c.loop-passage.out) (returns-clause-text g c sent audits short)

@@ -7,8 +7,8 @@ use Rattle.auditing.specs.Seen.{sight_of}
 use Rattle.path_commands.proofs.SpanLines.{HasRead}
 use Rattle.path_commands.proofs.received.take_spans.Given as goal
 
-abbrev pub invariant-loop-span : goal.invariant-loop-span
-invariant-loop-span g l =
+abbrev pub invariant-loop-passage : goal.invariant-loop-passage
+invariant-loop-passage g l =
     ((sent : List Message) → Audits sent [] l.fn.path → length l.fn.spans.bytes < 2 ^ 64
     → HasRead l.fn.path.by l.summary sent (spans_left (sight_of l.fn.path.by sent) l.fn.spans)
     (spans_left (sight_of l.fn.path.by sent) l.left) l.path l.progress (length l.left.bytes) (length l.fn.spans.bytes)
@@ -16,5 +16,5 @@ invariant-loop-span g l =
     × (l.path.by ≡ l.fn.path.by)
     × (l.path.header ≡ l.fn.path.header)
 
-abbrev pub decreases-loop-span : goal.decreases-loop-span
-decreases-loop-span g l = length l.left.bytes
+abbrev pub decreases-loop-passage : goal.decreases-loop-passage
+decreases-loop-passage g l = length l.left.bytes

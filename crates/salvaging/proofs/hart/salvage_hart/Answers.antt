@@ -53,7 +53,7 @@ module _ (g : _) (c : After-as_slice-ordered g) where
   small =
       let have : HaveNumbers (arrivals_in c.as_slice-ordered.result.now) =
       All-permutation (λ (one : Arrival). one.message.number < end_of_numbers) (arrivals_in c.args.came.items)
-      (arrivals_in c.as_slice-ordered.result.now) moved c.requires in
+      (arrivals_in c.as_slice-ordered.result.now) moved c.requires.numbers in
       entries_small (arrivals_in c.as_slice-ordered.result.now) have
 
 pub count_to_end-requires : goal.count_to_end-requires
@@ -81,7 +81,7 @@ late-late-requires g c =
     let upto = entries_by (arrivals_in (take end ordered)) in
     let old = c.in_ok-trail.trail in
     let gone = c.end_run.new.self in
-    let t = c.in_ok-trail.ensures in
+    let t = c.in_ok-trail.ensures.taken in
     let ends = c.in_ok-end_run.ensures.ends words (own_mode mode upto) t.run old.next t.closed t.under_way in
     let left = all_taken words mode upto old gone t ends (ap (λ (v : _). v.items) c.in_ok-end_run.ensures.goods) in
     ap length c.deref.ensures.value
@@ -91,8 +91,8 @@ late-late-requires g c =
     (subst (λ l. TakesBeyond words c.own_mode-own.result (entries_by (arrivals_in l)) gone c.take_beyond.new.trail)
     (behind-is ordered end) c.in_ok-take_beyond.ensures)
 
-pub returns : goal.returns
-returns g c = λ messages placed.
+pub returns-clause-salvaged : goal.returns-clause-salvaged
+returns-clause-salvaged g c = λ messages placed.
     let words = words_of c.args.program.now in
     let mode = c.args.mode in
     let ordered_list = c.as_slice-ordered.result.now in
@@ -104,11 +104,11 @@ returns g c = λ messages placed.
     let old = c.in_ok-trail.trail in
     let gone = c.end_run.new.self in
     let new = c.take_beyond.new.trail in
-    let t = c.in_ok-trail.ensures in
+    let t = c.in_ok-trail.ensures.taken in
     let ends = c.in_ok-end_run.ensures.ends words (own_mode mode upto) t.run old.next t.closed t.under_way in
     let left = all_taken words mode upto old gone t ends (ap (λ (v : _). v.items) c.in_ok-end_run.ensures.goods) in
     let own = c.own_mode-own.ensures in
-    let at = (goal.at.returns g c).After-as_slice-ordered in
+    let at = (goal.at.returns-clause-salvaged g c).After-as_slice-ordered in
     let in_order = ordered g at in
     let permuted = subst (λ l. IsPermutation l came) placed (moved g at) in
     record {

@@ -1,11 +1,11 @@
 -- Which harts are salvaged is found by lemmas on lists.
-use Rattle.std.proofs.Common.{◌<◌, ◌+◌, length, refl, ap, ◌∙◌, arith}
+use Rattle.std.proofs.Common.{◌≡◌, ◌<◌, ◌+◌, Some, length, refl, sym, subst, ap, ◌∙◌, arith, slice_get}
 use Rattle.std.proofs.lemmas.List.{length-set, length_push}
-use Rattle.std.proofs.lemmas.Option.{slice_get_read}
+use Rattle.std.proofs.lemmas.Option.{get_or_from_slice_get, slice_get_read, slice_get_within}
 use Rattle.std.specs.declared.vec.Vec.{Vec}
 use Rattle.rvclass.specs.Fetch.{words_of}
 use Rattle.losses.proofs.Ending.{left_behind}
-use Rattle.salvaging.specs.steps.Arrivals.{arrivals_in}
+use Rattle.salvaging.specs.steps.Arrivals.{HaveNumbers, arrivals_in}
 use Rattle.salvaging.specs.declared.came.Came.{Came}
 use Rattle.salvaging.proofs.SalvagedEach.{salvaged_more}
 use Rattle.salvaging.proofs.salvaging.salvage_each.Goals as goal
@@ -32,11 +32,31 @@ loop-hart-preserved g c =
     c.index_mut.ensures.value) in
     let pushed = c.push_reserved.ensures.items in
     record {
+      lines = ap (λ (p : _). p.now) c.salvage_hart.ensures.lines ∙ inv.lines;
       lists_count = length-set lists i _ ∙ inv.lists_count;
       count = ap length pushed ∙ length_push harts own ∙ ap (λ n. n + 1) inv.count;
       room = omega (arith, room, kept);
       left = left_behind first lists i _ inv.left;
       done = salvaged_more (words_of c.args.program.now) c.args.mode first harts new i list own inv.count at pushed
-          (λ messages placed. c.in_ok-salvage_hart.ensures messages
+          (λ messages placed. c.in_ok-salvage_hart.ensures.salvaged messages
           (ap (λ (v : Vec Came _). arrivals_in v.items) c.replace-came.ensures.value ∙ placed)) inv.done;
     }
+
+pub salvage_hart-requires-clause-numbers : goal.salvage_hart-requires-clause-numbers
+salvage_hart-requires-clause-numbers g c =
+    let i = c.loop-hart.hart in
+    let inv = c.loop-hart.invariant in
+    let first = c.args.lists.now.items in
+    let lists = c.loop-hart.lists.items in
+    let list = c.index_mut.result.now in
+    let test = c.loop-hart-test.true in
+    let end = c.loop-hart.auto.hart-end in
+    let lists_count = inv.lists_count in
+    let counted = c.args.lists.now.ok.0 in
+    let within : i < length lists = omega (arith, test, end, lists_count, counted) in
+    let at : slice_get first i ≡ Some list = inv.left i list (omega arith)
+    (slice_get_read lists (length lists) i list refl within c.index_mut.ensures.value) in
+    let before : HaveNumbers (arrivals_in list.items) =
+    subst (λ (v : Vec Came _). HaveNumbers (arrivals_in v.items)) (get_or_from_slice_get first i list list at)
+    (c.requires i list (slice_get_within first i list at)) in
+    subst (λ (v : Vec Came _). HaveNumbers (arrivals_in v.items)) (sym c.replace-came.ensures.value) before

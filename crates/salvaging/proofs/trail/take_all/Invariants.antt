@@ -1,11 +1,12 @@
 -- The messages before these are taken.
-use Rattle.std.proofs.Common.{length}
+use Rattle.std.proofs.Common.{◌≡◌, length}
 use Rattle.rvclass.specs.Fetch.{words_of}
 use Rattle.salvaging.proofs.TakenSoFar.{TakenSo}
 use Rattle.salvaging.proofs.trail.take_all.Given as goal
 
 abbrev pub invariant-loop-entry : goal.invariant-loop-entry
-invariant-loop-entry g l = TakenSo (words_of l.program) l.mode l.came l.rest l.trail
+invariant-loop-entry g l =
+    (l.lines.program ≡ l.initial.lines.program) × TakenSo (words_of l.program) l.mode l.came l.rest l.trail
 
 abbrev pub decreases-loop-entry : goal.decreases-loop-entry
 decreases-loop-entry g l = length l.rest

@@ -5,12 +5,12 @@ use Rattle.rvclass.specs.Fetch.{words_of}
 use Rattle.decoder.proofs.PlanFollows.{plans, plans_none}
 use Rattle.decoder.specs.Fits.{Fits}
 use Rattle.decoder.specs.steps.Stretches.{stretch_last, Suits, SuitsNone}
-use Rattle.decoder.specs.steps.Planning.{Plans, PlansNone, admitted}
+use Rattle.decoder.specs.steps.Planning.{admitted}
 use Rattle.decoder.proofs.decoding.Decoder.plan.Goals as goal
 
 pub returns-clause-found : goal.returns-clause-found
 returns-clause-found g c =
-    let w = words_of c.of-paths.result.program.now in
+    let w = words_of c.args.paths.program.now in
     let d = c.args.self.now in
     let p = c.args.packet.now in
     let first = c.settled.new.stretch in
@@ -22,13 +22,12 @@ returns-clause-found g c =
     (Suits w (stretch_last d.last first) (Fits w d.mode (stretch_last d.last first) r p None) second))
     c.place-reported.ensures of_packet in
     let admits : admitted d.phase p ≡ Ok tt = sym c.in_ok-admit.ensures in
-    subst (λ q. OnOk c.events_of_packet.result (Plans (words_of q) d p first second)) c.of-paths.ensures
-    (plans w d p first second c.events_of_packet.result admits (c.if-not-may_come.ensures.0 cc)
-    c.in_ok-settled.ensures.found of_packet')
+    plans w d p first second c.events_of_packet.result admits (c.if-not-may_come.ensures.0 cc)
+    c.in_ok-settled.ensures.found of_packet'
 
 pub returns-clause-none : goal.returns-clause-none
 returns-clause-none g c =
-    let w = words_of c.of-paths.result.program.now in
+    let w = words_of c.args.paths.program.now in
     let d = c.args.self.now in
     let first = c.settled.new.stretch in
     let none = subst (λ l. IfErr c.events_of_packet.result
@@ -38,6 +37,5 @@ returns-clause-none g c =
     (SuitsNone w (stretch_last d.last first) (Fits w d.mode (stretch_last d.last first) r c.args.packet.now None)))
     c.place-reported.ensures none in
     let admits : admitted d.phase c.args.packet.now ≡ Ok tt = sym c.in_ok-admit.ensures in
-    subst (λ q. IfErr c.events_of_packet.result (PlansNone (words_of q) d c.args.packet.now)) c.of-paths.ensures
-    (plans_none w d c.args.packet.now c.of-paths.result.bound.words first c.events_of_packet.result admits
-    c.in_ok-settled.ensures.found none')
+    plans_none w d c.args.packet.now c.args.paths.bound.words first c.events_of_packet.result admits
+    c.in_ok-settled.ensures.found none'

@@ -1,14 +1,10 @@
--- What every program keeps are laws of the crate of programs, which no search looks up.
-use Rattle.std.proofs.Common.{ℕ, ◌*◌, ◌/◌, ap}
-use Rattle.rvclass.proofs.WordsLemmas.{words_of-IsProgram, words_of-LiesIn}
+-- That no leaps lead nowhere else is a lemma about lists.
+use Rattle.rvclass.specs.Fetch.{words_of}
+use Rattle.decoder.proofs.AlongLines.{no_leaps}
 use Rattle.decoder.proofs.paths.Paths.of.Goals as goal
 
 pub invariant_of-result : goal.invariant_of-result
 invariant_of-result c = record {
-  bound = record {
-    value = ap (λ (n : ℕ). 32 * (n / 2)) c.byte_count.ensures.count;
-    small = c.byte_count.ensures.kept.small;
-    words = words_of-IsProgram c.args.program.now c.byte_count.ensures.kept;
-    within = words_of-LiesIn c.args.program.now;
-  };
+  bound = c.longest.ensures;
+  lead = no_leaps (words_of c.args.program.now) c.end_of.result;
 }

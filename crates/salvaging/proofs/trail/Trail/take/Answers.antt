@@ -15,7 +15,7 @@ use Rattle.salvaging.proofs.trail.Trail.take.Goals as goal
 pub returns-in-Used : goal.returns-in-Used
 returns-in-Used g c = λ all done t.
     let rest = entries_by (arrivals_in c.args.behind.now) in
-    let words = words_of c.args.program.now in
+    let words = words_of c.args.paths.program.now in
     let mode = c.args.mode in
     let old = c.args.self.now in
     let new = c.take_used.new.self in
@@ -30,7 +30,7 @@ returns-in-Used g c = λ all done t.
 pub returns-in-Doubtful : goal.returns-in-Doubtful
 returns-in-Doubtful g c = λ all done t.
     let rest = entries_by (arrivals_in c.args.behind.now) in
-    let words = words_of c.args.program.now in
+    let words = words_of c.args.paths.program.now in
     let mode = c.args.mode in
     let old = c.args.self.now in
     let new = c.take_doubtful.new.self in

@@ -15,7 +15,7 @@ judge-requires g c = subst (λ n. n < end_of_numbers) (sym c.in_ok-go_on.ensures
 
 pub returns-in_ok-reserve-in-None : goal.returns-in_ok-reserve-in-None
 returns-in_ok-reserve-in-None g c = λ reads run next u.
-    let words = words_of c.args.program.now in
+    let words = words_of c.args.paths.program.now in
     let mode = c.args.mode in
     let number = c.args.message.now.number in
     let place = c.args.place in
@@ -34,7 +34,7 @@ returns-in_ok-reserve-in-None g c = λ reads run next u.
 
 pub returns-in-Some : goal.returns-in-Some
 returns-in-Some g c = λ reads run next u.
-    let words = words_of c.args.program.now in
+    let words = words_of c.args.paths.program.now in
     let mode = c.args.mode in
     let number = c.args.message.now.number in
     let place = c.args.place in

@@ -1,8 +1,9 @@
 -- What sees each message in the same way takes the same messages: by a lemma, which no tactic finds.
 use Rattle.std.proofs.Common.{◌∙◌, ◌++◌, false, sym, ap}
-use Rattle.std.specs.Option.{option_to_list}
+use Rattle.std.specs.Option.{option_map, option_to_list}
+use Rattle.resuming.specs.Borrowed.{span_of}
 use Rattle.resuming.proofs.Seeing.{spans_alike}
-use Rattle.resuming.proofs.reading.Resuming.next.Goals as goal
+use Rattle.resuming.proofs.reading.Resuming.next_passage.Goals as goal
 
 pub returns-clause-spans : goal.returns-clause-spans
 returns-clause-spans g c = λ sees alike.
@@ -10,4 +11,4 @@ returns-clause-spans g c = λ sees alike.
     let old = c.args.self.now in
     let new = c.pass.new.self in
     sym (spans_alike own sees false 0 old.offset old.bytes alike) ∙ c.pass.ensures.spans
-    ∙ ap (λ l. option_to_list c.pass.result ++ l) (spans_alike own sees false 0 new.offset new.bytes alike)
+    ∙ ap (λ l. option_to_list (option_map span_of c.pass.result) ++ l) (spans_alike own sees false 0 new.offset new.bytes alike)

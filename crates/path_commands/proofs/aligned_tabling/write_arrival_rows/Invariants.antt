@@ -1,0 +1,11 @@
+-- The rows of the messages so far are written.
+use Rattle.std.proofs.Common.{drop}
+use Rattle.std.specs.List.{flat_map}
+use Rattle.path_commands.proofs.Parts.{HasWritten}
+use Rattle.path_commands.specs.AlignedRows.{arrival_row}
+use Rattle.path_commands.proofs.aligned_tabling.write_arrival_rows.Given as goal
+
+abbrev pub invariant-loop-line : goal.invariant-loop-line
+invariant-loop-line g l =
+    HasWritten (flat_map arrival_row l.lines) (flat_map arrival_row (drop l.line-index l.lines))
+    (g.O.Write.contents l.fn.out) (g.O.Write.contents l.out)

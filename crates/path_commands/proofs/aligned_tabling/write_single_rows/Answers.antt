@@ -1,0 +1,43 @@
+-- The rows are written one after the other: by lemmas on parts of a text, which no tactic finds.
+use Rattle.std.proofs.Common.{sym, subst}
+use Rattle.std.specs.Io.KnownBytes.{Appends}
+use Rattle.std.specs.List.{flat_map}
+use Rattle.std.specs.Prelude.{OnOk}
+use Rattle.output.specs.Begun.{AppendsBeginning}
+use Rattle.output.proofs.Beginnings.{begun_behind, begun_in_front}
+use Rattle.path_commands.proofs.MatchedLines.{ok_behind}
+use Rattle.path_commands.specs.AlignedRows.{arrival_row, single_rows, unmatched_rows}
+use Rattle.path_commands.specs.AuditText.{unless_summary}
+use Rattle.path_commands.specs.UnnumberedText.{texts_from}
+use Rattle.path_commands.proofs.aligned_tabling.write_single_rows.Goals as goal
+
+pub returns-in_err-write_arrival_rows-clause-begun : goal.returns-in_err-write_arrival_rows-clause-begun
+returns-in_err-write_arrival_rows-clause-begun g c =
+    let old = g.O.Write.contents c.args.out.now in
+    let new = g.O.Write.contents c.write_arrival_rows.new.out in
+    subst (λ summary. AppendsBeginning (unless_summary summary (single_rows c.args.all.now c.args.lines.now)) old new)
+    (sym c.if-summary.false)
+    (begun_in_front (flat_map arrival_row c.args.lines.now) (texts_from unmatched_rows 0 c.args.all.now) old new
+    c.write_arrival_rows.ensures.begun)
+
+pub returns-clause-text : goal.returns-clause-text
+returns-clause-text g c =
+    let old = g.O.Write.contents c.args.out.now in
+    let mid = g.O.Write.contents c.write_arrival_rows.new.out in
+    let new = g.O.Write.contents c.write_unmatched_rows.new.out in
+    subst
+    (λ summary. OnOk c.write_unmatched_rows.result
+    (Appends old new (unless_summary summary (single_rows c.args.all.now c.args.lines.now))))
+    (sym c.if-summary.false)
+    (ok_behind (flat_map arrival_row c.args.lines.now) (texts_from unmatched_rows 0 c.args.all.now) old mid new
+    c.write_unmatched_rows.result c.in_ok-write_arrival_rows.ensures.text c.write_unmatched_rows.ensures.text)
+
+pub returns-clause-begun : goal.returns-clause-begun
+returns-clause-begun g c =
+    let old = g.O.Write.contents c.args.out.now in
+    let mid = g.O.Write.contents c.write_arrival_rows.new.out in
+    let new = g.O.Write.contents c.write_unmatched_rows.new.out in
+    subst (λ summary. AppendsBeginning (unless_summary summary (single_rows c.args.all.now c.args.lines.now)) old new)
+    (sym c.if-summary.false)
+    (begun_behind (flat_map arrival_row c.args.lines.now) (texts_from unmatched_rows 0 c.args.all.now) old mid new
+    c.in_ok-write_arrival_rows.ensures.text c.write_unmatched_rows.ensures.begun)

@@ -1,0 +1,18 @@
+-- What was read behind a header or without one: by laws on captures, which no tactic finds.
+use Rattle.std.proofs.Common.{Ok, ap, subst}
+use Rattle.captures.proofs.WholeCaptures.{begins_with, front_of}
+use Rattle.captures.specs.Whole.{BeginsWith}
+use Rattle.path_commands.proofs.by_hart.read_by_hart.Goals as goal
+
+pub returns-clause-front : goal.returns-clause-front
+returns-clause-front c =
+    let ensured = c.in-Ok.ensures in
+    let begins =
+    subst (λ bytes. BeginsWith c.in-Ok.header bytes c.header.new.self) c.new-left.ensures
+    (begins_with c.new-left.result c.header.new.self c.in-Ok.header ensured.header
+    (λ is. ensured.none.0 (ap (λ h. Ok h) is)) (λ is. ensured.stays (ap (λ h. Ok h) is))) in
+    let read = c.in_ok-stop.ensures.read in (
+      read.0,
+      front_of c.args.bytes.now c.header.new.self c.in-Ok.header read.0 c.in_ok-stop.stop begins read.1,
+      read.2,
+    )

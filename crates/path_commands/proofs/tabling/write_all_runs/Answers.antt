@@ -1,0 +1,65 @@
+-- The rows are written one after the other: by lemmas on parts of a text, which no tactic finds.
+use Rattle.std.proofs.Common.{◌≡◌, ◌-◌, ◌<◌, ◌≤◌, length, subst, arith}
+use Rattle.std.specs.Io.KnownBytes.{Appends}
+use Rattle.std.specs.List.{flat_map, range_with_len}
+use Rattle.output.specs.Begun.{AppendsBeginning}
+use Rattle.output.proofs.Beginnings.{whole_begun}
+use Rattle.auditing.specs.Known.{known_all}
+use Rattle.auditing.specs.Losing.{lost_runs}
+use Rattle.path_commands.proofs.HartLines.{hart_begun, hart_more, harts_all}
+use Rattle.path_commands.proofs.Parts.{HasWritten, part_none}
+use Rattle.path_commands.specs.AuditRows.{all_run_rows, run_rows}
+use Rattle.path_commands.proofs.tabling.write_all_runs.Goals as goal
+
+pub loop-hart-init : goal.loop-hart-init
+loop-hart-init g c = λ own came audits.
+    let sent = known_all c.args.path.now.by own in
+    let received = known_all c.args.path.now.by came in
+    let count = length c.args.path.now.harts in
+    let whole = all_run_rows sent received count in
+    let out = g.O.Write.contents c.args.out.now in
+    let all : count ≡ count - 0 = omega arith in
+    subst (λ n. HasWritten whole (flat_map (λ hart. run_rows hart (lost_runs sent received hart)) (range_with_len 0
+    n))
+    out out) all (part_none whole out)
+
+pub loop-hart-preserved : goal.loop-hart-preserved
+loop-hart-preserved g c = λ own came audits.
+    let sent = known_all c.args.path.now.by own in
+    let received = known_all c.args.path.now.by came in
+    let count = length c.args.path.now.harts in
+    let within : c.loop-hart.hart < count = omega arith in
+    hart_more (λ hart. run_rows hart (lost_runs sent received hart)) (all_run_rows sent received count) count
+    (g.O.Write.contents c.args.out.now) (g.O.Write.contents c.loop-hart.out) c.loop-hart.hart
+    (g.O.Write.contents c.write_runs_of.new.out) within (c.loop-hart.invariant own came audits)
+    (subst (λ runs. Appends (g.O.Write.contents c.loop-hart.out) (g.O.Write.contents c.write_runs_of.new.out)
+    (run_rows c.loop-hart.hart runs)) (c.lost.ensures own came audits) c.in_ok-write_runs_of.ensures.text)
+
+pub returns-in_err-write_runs_of-clause-begun : goal.returns-in_err-write_runs_of-clause-begun
+returns-in_err-write_runs_of-clause-begun g c = λ own came audits.
+    let sent = known_all c.args.path.now.by own in
+    let received = known_all c.args.path.now.by came in
+    let count = length c.args.path.now.harts in
+    let within : c.loop-hart.hart < count = omega arith in
+    hart_begun (λ hart. run_rows hart (lost_runs sent received hart)) (all_run_rows sent received count) count
+    (g.O.Write.contents c.args.out.now) (g.O.Write.contents c.loop-hart.out) c.loop-hart.hart
+    (g.O.Write.contents c.write_runs_of.new.out) within (c.loop-hart.invariant own came audits)
+    (subst (λ runs. AppendsBeginning (run_rows c.loop-hart.hart runs) (g.O.Write.contents c.loop-hart.out)
+    (g.O.Write.contents c.write_runs_of.new.out)) (c.lost.ensures own came audits) c.write_runs_of.ensures.begun)
+
+pub returns-clause-text : goal.returns-clause-text
+returns-clause-text g c = λ own came audits.
+    let sent = known_all c.args.path.now.by own in
+    let received = known_all c.args.path.now.by came in
+    let count = length c.args.path.now.harts in
+    let past : count ≤ c.loop-hart.hart = omega arith in
+    harts_all (λ hart. run_rows hart (lost_runs sent received hart)) (all_run_rows sent received count) count
+    (g.O.Write.contents c.args.out.now) (g.O.Write.contents c.loop-hart.out) c.loop-hart.hart past
+    (c.loop-hart.invariant own came audits)
+
+pub returns-clause-begun : goal.returns-clause-begun
+returns-clause-begun g c = λ own came audits.
+    let sent = known_all c.args.path.now.by own in
+    let received = known_all c.args.path.now.by came in
+    whole_begun (all_run_rows sent received (length c.args.path.now.harts)) (g.O.Write.contents c.args.out.now)
+    (g.O.Write.contents c.loop-hart.out) (returns-clause-text g c own came audits)

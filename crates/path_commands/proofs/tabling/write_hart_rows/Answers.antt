@@ -1,0 +1,91 @@
+-- The rows are written one after the other: by lemmas on parts of a text, which no tactic finds.
+use Rattle.std.proofs.Common.{◌≡◌, ◌+◌, ◌-◌, ◌^◌, ◌<◌, ◌≤◌, ◌∙◌, length, ap, subst, sym, arith}
+use Rattle.std.specs.Io.KnownBytes.{Appends}
+use Rattle.std.specs.List.{flat_map, range_with_len}
+use Rattle.output.specs.Begun.{AppendsBeginning}
+use Rattle.output.proofs.Beginnings.{whole_begun}
+use Rattle.auditing.specs.Known.{known_all}
+use Rattle.auditing.specs.HartRows.{row_of}
+use Rattle.path_commands.proofs.HartLines.{hart_begun, hart_more, harts_all}
+use Rattle.path_commands.proofs.Parts.{HasWritten, part_none}
+use Rattle.path_commands.proofs.Sums.{AreFew, IsTotal, few_by, total_all, total_more, total_none}
+use Rattle.path_commands.specs.AuditRows.{fields_line, hart_fields, hart_rows}
+use Rattle.path_commands.specs.steps.Summing.{added}
+use Rattle.path_commands.proofs.tabling.write_hart_rows.Goals as goal
+
+pub loop-hart-init : goal.loop-hart-init
+loop-hart-init g c = λ own came audits few.
+    let sent = known_all c.args.path.now.by own in
+    let received = known_all c.args.path.now.by came in
+    let count = length c.args.path.now.harts in
+    let whole = hart_rows sent received count in
+    let out = g.O.Write.contents c.args.out.now in
+    let all : count ≡ count - 0 = omega arith in (
+      subst (λ n. HasWritten whole (flat_map (λ hart. fields_line (hart_fields hart (row_of sent received hart))) (range_with_len 0 n))
+          out out) all (part_none whole out),
+      subst (λ total. IsTotal sent received total 0 count) (sym c.new-total.ensures) (total_none sent received count),
+    )
+
+pub loop-hart-preserved : goal.loop-hart-preserved
+loop-hart-preserved g c = λ own came audits few.
+    let sent = known_all c.args.path.now.by own in
+    let received = known_all c.args.path.now.by came in
+    let count = length c.args.path.now.harts in
+    let hart = c.loop-hart.hart in
+    let row = c.row-row.result in
+    let within : hart < count = omega arith in
+    let most : count < 2 ^ 64 = omega arith in
+    let is = c.row-row.ensures own came audits few in
+    let mid = g.O.Write.contents c.loop-hart.out in
+    let new = g.O.Write.contents c.write_text.new.out in
+    let line = subst (λ row. Appends mid new (fields_line (hart_fields hart row))) is c.in_ok-write_text.ensures.whole in
+    let rows : AreFew row =
+    few_by row (omega arith) (omega arith) (omega arith) (omega arith) (omega arith) (omega arith) (omega arith) in
+    let has = c.loop-hart.invariant own came audits few in (
+      hart_more (λ hart. fields_line (hart_fields hart (row_of sent received hart))) (hart_rows sent received count) count
+          (g.O.Write.contents c.args.out.now) mid hart new within has.0 line,
+      subst (λ total. IsTotal sent received total (hart + 1) count)
+          (sym (c.add-total.ensures ∙ ap (added c.loop-hart.total) is))
+          (total_more sent received c.loop-hart.total hart count within most (subst AreFew is rows) has.1),
+    )
+
+pub returns-in_err-write_text-clause-begun : goal.returns-in_err-write_text-clause-begun
+returns-in_err-write_text-clause-begun g c = λ own came audits few.
+    let sent = known_all c.args.path.now.by own in
+    let received = known_all c.args.path.now.by came in
+    let count = length c.args.path.now.harts in
+    let hart = c.loop-hart.hart in
+    let within : hart < count = omega arith in
+    let is = c.row-row.ensures own came audits few in
+    let mid = g.O.Write.contents c.loop-hart.out in
+    let new = g.O.Write.contents c.write_text.new.out in
+    let line = subst (λ row. AppendsBeginning (fields_line (hart_fields hart row)) mid new) is c.write_text.ensures.begun in
+    let has = c.loop-hart.invariant own came audits few in
+    hart_begun (λ hart. fields_line (hart_fields hart (row_of sent received hart))) (hart_rows sent received count) count
+    (g.O.Write.contents c.args.out.now) mid hart new within has.0 line
+
+pub returns-clause-text : goal.returns-clause-text
+returns-clause-text g c = λ own came audits few.
+    let sent = known_all c.args.path.now.by own in
+    let received = known_all c.args.path.now.by came in
+    let count = length c.args.path.now.harts in
+    let past : count ≤ c.loop-hart.hart = omega arith in
+    let has = c.loop-hart.invariant own came audits few in
+    harts_all (λ hart. fields_line (hart_fields hart (row_of sent received hart))) (hart_rows sent received count) count
+    (g.O.Write.contents c.args.out.now) (g.O.Write.contents c.loop-hart.out) c.loop-hart.hart past has.0
+
+pub returns-clause-total : goal.returns-clause-total
+returns-clause-total g c = λ own came audits few.
+    let sent = known_all c.args.path.now.by own in
+    let received = known_all c.args.path.now.by came in
+    let count = length c.args.path.now.harts in
+    let past : count ≤ c.loop-hart.hart = omega arith in
+    let has = c.loop-hart.invariant own came audits few in
+    total_all sent received c.loop-hart.total c.loop-hart.hart count past has.1
+
+pub returns-clause-begun : goal.returns-clause-begun
+returns-clause-begun g c = λ own came audits few.
+    let sent = known_all c.args.path.now.by own in
+    let received = known_all c.args.path.now.by came in
+    whole_begun (hart_rows sent received (length c.args.path.now.harts)) (g.O.Write.contents c.args.out.now)
+    (g.O.Write.contents c.loop-hart.out) (returns-clause-text g c own came audits few)

@@ -1,0 +1,20 @@
+-- The rows of the harts so far are written, and what their rows count is summed up.
+use Rattle.std.proofs.Common.{◌<◌, ◌^◌, List, length, ◌-◌}
+use Rattle.std.specs.List.{flat_map, range_with_len}
+use Rattle.message.specs.declared.message.Message.{Message}
+use Rattle.auditing.specs.Known.{known_all}
+use Rattle.auditing.specs.Audits.{Audits}
+use Rattle.auditing.specs.HartRows.{row_of}
+use Rattle.path_commands.proofs.Parts.{HasWritten}
+use Rattle.path_commands.proofs.Sums.{IsTotal}
+use Rattle.path_commands.specs.AuditRows.{fields_line, hart_fields, hart_rows}
+use Rattle.path_commands.proofs.tabling.write_hart_rows.Given as goal
+
+abbrev pub invariant-loop-hart : goal.invariant-loop-hart
+invariant-loop-hart g l =
+    (own came : List Message) → Audits own came l.path → length came < 2 ^ 64
+    → HasWritten (hart_rows (known_all l.path.by own) (known_all l.path.by came) (length l.path.harts))
+    (flat_map (λ hart. fields_line (hart_fields hart (row_of (known_all l.path.by own) (known_all l.path.by came) hart)))
+    (range_with_len l.hart (length l.path.harts - l.hart)))
+    (g.O.Write.contents l.fn.out) (g.O.Write.contents l.out)
+    × IsTotal (known_all l.path.by own) (known_all l.path.by came) l.total l.hart (length l.path.harts)

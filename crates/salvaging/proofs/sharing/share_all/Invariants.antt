@@ -1,0 +1,11 @@
+-- The messages before these are taken.
+use Rattle.std.proofs.Common.{length}
+use Rattle.rvclass.specs.Fetch.{words_of}
+use Rattle.salvaging.proofs.SharedSoFar.{SharedSo}
+use Rattle.salvaging.proofs.sharing.share_all.Given as goal
+
+abbrev pub invariant-loop-entry : goal.invariant-loop-entry
+invariant-loop-entry g l = SharedSo (words_of l.program) l.mode l.came l.rest l.treatments.items l.trail
+
+abbrev pub decreases-loop-entry : goal.decreases-loop-entry
+decreases-loop-entry g l = length l.rest

@@ -1,0 +1,77 @@
+//! Walks along leaps: with them a packet gives what it gives without.
+
+use super::traces::{ENDED_REP, OPEN, START, Sent, packet_of};
+use crate::fixtures::{BASE, add};
+use crate::same::same_at;
+use decoder::{Decoder, Lines};
+use payload::Report;
+use rvclass::Program;
+use std::alloc::Global;
+use std::process::Abort;
+
+/// An image of so many halfwords: C.NOP, at each 37th C.J over the next halfword, and at each 500th C.BEQZ over it.
+fn image<R: Abort + AllocGlobal>(rt: &R, count: u16) -> Program {
+    let mut bytes = Vec::new(rt.alloc());
+    for at in 0..count {
+        let half: u16 = if at % 500 == 499 {
+            0xc011
+        } else if at % 37 == 36 {
+            0xa011
+        } else {
+            0x0001
+        };
+        add(rt, &mut bytes, &half.to_le_bytes());
+    }
+    Program::new(BASE, bytes).expect(rt, "a program")
+}
+
+/// Two decoders take the same packets, one along leaps. All that they return and add is the same.
+fn take_alike<R: Abort + AllocGlobal>(
+    rt: &R,
+    row: usize,
+    program: &Program,
+    lines: &Lines<'_, Global>,
+    packets: &[Sent],
+) {
+    let (mut decoder, mut twin) = (Decoder::new(), Decoder::new());
+    let mut log = Vec::new(rt.alloc());
+    let mut copy = Vec::new(rt.alloc());
+    for sent in packets {
+        let packet = packet_of(*sent);
+        let wanted = decoder.feed(program, &packet, &mut log);
+        same_at(
+            rt,
+            ("leaps", row),
+            twin.feed_by(lines.paths(), &packet, &mut copy),
+            wanted,
+        );
+    }
+    same_at(rt, ("leaps", row), copy.as_slice(), log.as_slice());
+}
+
+/// Walks to each of 1,100 places, by packets that wait, that report a target, and that notify; so to places on lines, at
+/// their ends, at jumps, behind branches and outside of the image.
+#[test]
+fn each_place(rt: HostRuntime) {
+    let program = image(&rt, 1_000);
+    let mut lines = Lines::new(rt.alloc(), &program);
+    lines.find(rt.alloc()).expect(&rt, "memory");
+    for place in 0..1_100u16 {
+        let offset = 2 * u64::from(place);
+        for sent in [
+            Sent::Plain(offset),
+            Sent::Updiscon(offset),
+            Sent::Notify(offset),
+            Sent::Walk(&[false], offset, Report::Notify),
+            Sent::Walk(&[true, false], offset, Report::Notify),
+        ] {
+            take_alike(
+                &rt,
+                usize::from(place),
+                &program,
+                &lines,
+                &[OPEN, START, sent, ENDED_REP],
+            );
+        }
+    }
+}
