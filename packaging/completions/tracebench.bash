@@ -8,7 +8,7 @@ _tracebench_files() {
 
 _tracebench() {
     local current=${COMP_WORDS[COMP_CWORD]} previous=${COMP_WORDS[COMP_CWORD - 1]}
-    local subcommands="check encode dump decode replay bench audit measure list salvage capture" options=""
+    local subcommands="check encode dump decode replay bench audit measure list salvage capture compare" options=""
     if ((COMP_CWORD == 1)); then
         mapfile -t COMPREPLY < <(compgen -W "$subcommands help --help --version" -- "$current")
         return
@@ -25,6 +25,7 @@ _tracebench() {
     list) options="--base --harts --symbols --progress --help" ;;
     salvage) options="--base --harts --summary --progress --help" ;;
     capture) options="--v1 --full --period --harts --help" ;;
+    compare) options="--base --harts --long --progress --help" ;;
     help)
         mapfile -t COMPREPLY < <(compgen -W "$subcommands" -- "$current")
         return

@@ -20,8 +20,9 @@ complete -c tracebench -n '__tracebench_given' -a measure -d 'Count the packets 
 complete -c tracebench -n '__tracebench_given' -a list -d 'List what each message of a capture says and settles'
 complete -c tracebench -n '__tracebench_given' -a salvage -d 'Write what is left of the log of each hart after any damage to a capture'
 complete -c tracebench -n '__tracebench_given' -a capture -d 'Write the capture of lines, each of one message, as `encode --hex` prints them'
+complete -c tracebench -n '__tracebench_given' -a compare -d 'Say whether a capture describes just these logs'
 complete -c tracebench -n '__tracebench_given' -a help -d 'Print this message or the help of the given subcommand(s)'
-complete -c tracebench -n '__tracebench_given help' -a 'check encode dump decode replay bench audit measure list salvage capture'
+complete -c tracebench -n '__tracebench_given help' -a 'check encode dump decode replay bench audit measure list salvage capture compare'
 
 complete -c tracebench -n '__tracebench_given check' -F
 complete -c tracebench -n '__tracebench_given check' -l base -x -d 'Address of the image'\''s first byte, in hexadecimal'
@@ -95,3 +96,9 @@ complete -c tracebench -n '__tracebench_given capture' -l v1 -d 'Write a capture
 complete -c tracebench -n '__tracebench_given capture' -l full -d 'The header says that packets report addresses in full, not as differences'
 complete -c tracebench -n '__tracebench_given capture' -l period -x -d 'The period that the header has, 1 to 65535'
 complete -c tracebench -n '__tracebench_given capture' -l harts -x -d 'How many harts the header counts, 1 to 1024, with --v1 to 64; without it, those up to the highest'
+
+complete -c tracebench -n '__tracebench_given compare' -F
+complete -c tracebench -n '__tracebench_given compare' -l base -x -d 'Address of the image'\''s first byte, in hexadecimal'
+complete -c tracebench -n '__tracebench_given compare' -l harts -x -d 'How many harts a capture of version 1 may have, 1 to 1024'
+complete -c tracebench -n '__tracebench_given compare' -l long -d 'Take logs of up to 4294967295 rows, not 16777216'
+complete -c tracebench -n '__tracebench_given compare' -l progress -d 'Show how far the logs are read, where standard error is a terminal'

@@ -7,7 +7,7 @@ use Rattle.message.specs.declared.fault.MessageFault.TheVariants.{BadHeader}
 use Rattle.symbols.specs.FaultText.{symbols_fault_text}
 use Rattle.command_inputs.specs.FaultText.{at_path}
 use Rattle.capture_commands.specs.declared.reason.CaptureReason.{CaptureReason}
-use Rattle.capture_commands.specs.declared.reason.CaptureReason.TheVariants.{Header, Message, Symbols, Unclosed}
+use Rattle.capture_commands.specs.declared.reason.CaptureReason.TheVariants.{Header, Logs, Message, Symbols, Unclosed}
 
 -- A reason of a subcommand that reads a capture, as a line of text.
 abbrev pub capture_reason_text : CaptureReason → List ℕ
@@ -16,3 +16,4 @@ capture_reason_text (Message number why) =
     codes "message " ++ (decimal number ++ (codes ": " ++ capture_fault_text why))
 capture_reason_text (Unclosed hart) = codes "hart " ++ (decimal hart ++ codes ": no closing packet")
 capture_reason_text (Symbols path why) = at_path path (symbols_fault_text why)
+capture_reason_text (Logs logs harts) = decimal logs ++ (codes " logs for " ++ (decimal harts ++ codes " harts"))

@@ -20,7 +20,7 @@ use Rattle.command_inputs.specs.declared.fault.Fault.TheVariants as fault
 use Rattle.command_inputs.specs.declared.status.Status.{Status}
 use Rattle.command_inputs.specs.declared.status.Status.TheVariants.{NotWhole, Refused}
 use Rattle.capture_commands.specs.declared.reason.CaptureReason.{CaptureReason}
-use Rattle.capture_commands.specs.declared.reason.CaptureReason.TheVariants.{Header, Message, Symbols}
+use Rattle.capture_commands.specs.declared.reason.CaptureReason.TheVariants.{Header, Logs, Message, Symbols}
 
 -- A fault of a subcommand that reads a capture.
 abbrev pub Fault : Type 0
@@ -39,9 +39,10 @@ abbrev pub Once : {A : Type 0} → (Result A Fault → Type 0) → (A → Type 0
 Once Finds Holds = finding.Once Finds Holds
 
 -- The status at a reason of such a subcommand's own. At faults of a capture's header, of its messages and of a hart
--- that is not closed, the capture is not good. A file of symbols is refused.
+-- that is not closed, the capture is not good. A file of symbols is refused, and so is another count of logs than of harts.
 abbrev pub capture_reason_status : CaptureReason → Status
 capture_reason_status (Symbols path why) = Refused
+capture_reason_status (Logs logs harts) = Refused
 capture_reason_status _ = NotWhole
 
 -- The status at a fault.

@@ -82,7 +82,7 @@ fn decode_whole<'a, F: Files, O: Write>(
 }
 
 /// What the messages of these bytes decode to. How far they are worked through is shown, where that is asked for.
-fn outcome_of<F: Files>(
+pub fn outcome_of<F: Files>(
     alloc: Global,
     progress: &MessageProgress<'_, F>,
     program: &Program,

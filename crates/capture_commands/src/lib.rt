@@ -17,8 +17,9 @@ mod salvaging_capture;
 mod stopping;
 mod symbols_input;
 
-pub use decoding::decode;
+pub use decoding::{decode, outcome_of};
 pub use dumping::dump;
 pub use message_listing::list;
 pub use reason::{CaptureReason, Fault};
 pub use salvaging_capture::salvage;
+pub use stopping::capture_fault;

@@ -24,6 +24,8 @@ pub enum CaptureReason<'a> {
     Unclosed(usize),
     /// The file at this path has no symbols that are read.
     Symbols(&'a str, SymbolsFault),
+    /// So many logs are given for a capture of so many harts.
+    Logs(usize, usize),
 }
 
 impl fmt::Display for CaptureReason<'_> {
@@ -35,6 +37,7 @@ impl fmt::Display for CaptureReason<'_> {
             CaptureReason::Message(number, why) => write!(f, "message {number}: {why}"),
             CaptureReason::Unclosed(hart) => write!(f, "hart {hart}: no closing packet"),
             CaptureReason::Symbols(path, why) => write!(f, "{path}: {why}"),
+            CaptureReason::Logs(logs, harts) => write!(f, "{logs} logs for {harts} harts"),
         }
     }
 }
@@ -49,7 +52,7 @@ impl Reason for CaptureReason<'_> {
             CaptureReason::Header | CaptureReason::Message(..) | CaptureReason::Unclosed(_) => {
                 Status::NotWhole
             }
-            CaptureReason::Symbols(..) => Status::Refused,
+            CaptureReason::Symbols(..) | CaptureReason::Logs(..) => Status::Refused,
         }
     }
 

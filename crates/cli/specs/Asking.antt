@@ -16,7 +16,7 @@ use Rattle.subcommands.specs.declared.words.Asked.{Asked}
 use Rattle.subcommands.specs.declared.words.Format.{Format}
 use Rattle.subcommands.specs.declared.words.Format.TheVariants as format
 use Rattle.subcommands.specs.declared.words.Asked.TheVariants.{Audit, Bench, Capture, Check, Decode, Dump, Encode}
-use Rattle.subcommands.specs.declared.words.Asked.TheVariants.{Listing, Measure, Replay, Salvage}
+use Rattle.subcommands.specs.declared.words.Asked.TheVariants.{Compare, Listing, Measure, Replay, Salvage}
 
 -- The first value of an argument, or no text where it has none.
 abbrev pub text_of : Text → List Row → Text
@@ -157,6 +157,11 @@ Asks name rows (Capture asked) = (name ≡ codes "capture")
     × IsVersion (one_of (codes "v1") rows) asked.version × IsMode (one_of (codes "full") rows) asked.mode
     × IsPeriod (one_of (codes "period") rows) asked.period
     × IsGivenHarts (one_of (codes "harts") rows) asked.harts × (asked.lines.now ≡ text_of (codes "LINES") rows)
+Asks name rows (Compare asked) = (name ≡ codes "compare")
+    × (asked.base.now ≡ text_of (codes "base") rows) × IsHarts (one_of (codes "harts") rows) asked.harts
+    × IsFlag (one_of (codes "long") rows) asked.long × IsFlag (one_of (codes "progress") rows) asked.progress
+    × (asked.image.now ≡ text_of (codes "IMAGE") rows) × (asked.capture.now ≡ text_of (codes "CAPTURE") rows)
+    × (map (λ log. log.now) asked.logs.items ≡ texts_of (codes "LOG") rows)
 
 -- A subcommand with its rows was found, and it is what is asked.
 abbrev pub AsksFound : Option (Text × List Row) → Asked → Type 0

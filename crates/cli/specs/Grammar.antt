@@ -72,10 +72,15 @@ abbrev pub capture_app : App
 capture_app = with_arguments (codes "capture") (version_one_rule ∷ full_rule ∷ period_rule ∷ given_harts_rule ∷
     lines_rule ∷ [])
 
+-- `compare --base B [--harts N] [--long] [--progress] IMAGE CAPTURE LOG...`.
+abbrev pub compare_app : App
+compare_app = with_arguments (codes "compare") (base_rule ∷ harts_rule ∷ long_rule ∷ progress_rule ∷ image_rule ∷
+    capture_rule ∷ logs_rule ∷ [])
+
 -- The program's subcommands, in the order in which help lists them.
 abbrev pub all_apps : List App
 all_apps = check_app ∷ encode_app ∷ dump_app ∷ decode_app ∷ replay_app ∷ bench_app ∷ audit_app ∷ measure_app ∷
-    list_app ∷ salvage_app ∷ capture_app ∷ []
+    list_app ∷ salvage_app ∷ capture_app ∷ compare_app ∷ []
 
 -- The program without its subcommands, one of which has to be there. It has a version.
 abbrev pub bare_program : App

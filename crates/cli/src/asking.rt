@@ -15,8 +15,8 @@ use message::{MOST_CAPACITY, MOST_HARTS, Version};
 use payload::Mode;
 use std::alloc::{AllocError, Global};
 use subcommands::{
-    Asked, Audit, Bench, Capture, Check, Decode, Dump, Encode, Format, GREATEST_FIRST, Listing,
-    Measure, Replay, SHORTEST_PERIOD, SMALLEST_CAPACITY, Salvage,
+    Asked, Audit, Bench, Capture, Check, Compare, Decode, Dump, Encode, Format, GREATEST_FIRST,
+    Listing, Measure, Replay, SHORTEST_PERIOD, SMALLEST_CAPACITY, Salvage,
 };
 
 /// The period where the arguments give none.
@@ -303,6 +303,21 @@ fn capture_asked<'a>(given: &ArgMatches<'a>) -> Asked<'a>
     })
 }
 
+/// What was asked of `compare`.
+fn compare_asked<'a>(alloc: Global, given: &ArgMatches<'a>) -> Result<Asked<'a>, AllocError>
+    ensures { IfOk result (Asks (codes "compare") (rows_of (found_of given.now))) }
+{
+    Ok(Asked::Compare(Compare {
+        base: text(given, "base"),
+        harts: harts(given),
+        long: flag(given, "long"),
+        progress: flag(given, "progress"),
+        image: text(given, "IMAGE"),
+        capture: text(given, "CAPTURE"),
+        logs: texts(alloc, given, "LOG")?,
+    }))
+}
+
 /// What was asked of the subcommand with this name.
 fn asked_of<'a>(alloc: Global, name: &str, given: &ArgMatches<'a>) -> Result<Asked<'a>, AllocError>
     requires { IsSubcommand name.now }
@@ -320,6 +335,7 @@ fn asked_of<'a>(alloc: Global, name: &str, given: &ArgMatches<'a>) -> Result<Ask
         "list" => Ok(list_asked(given)),
         "salvage" => Ok(salvage_asked(given)),
         "capture" => Ok(capture_asked(given)),
+        "compare" => compare_asked(alloc, given),
         _ => unreachable!("clap knows no other subcommand"),
     }
 }
@@ -329,8 +345,8 @@ fn asked_of<'a>(alloc: Global, name: &str, given: &ArgMatches<'a>) -> Result<Ask
 /// `Ok` comes where `clap` finds no fault in them by the program's grammar. It holds the texts of the subcommand's
 /// arguments as they are given: a base is not yet a number, and no file was looked at. A period is a number from 1 to
 /// 65535, a count of harts one from 1 to 1024, a first hart one from 0 to 1023, and a capacity one from 1 to 65536. Where
-/// no such number is given, a period is 1024, the count of harts of `decode` 1, and a capacity 16; other counts and a
-/// first hart are none then. A capture is of version 1 with `--v1`, and else of version 2.
+/// no such number is given, a period is 1024, the count of harts of `decode` and `compare` 1, and a capacity 16; other
+/// counts and a first hart are none then. A capture is of version 1 with `--v1`, and else of version 2.
 ///
 /// An error is `clap`'s own. A call for help or for the version is one. Its `Display` is the text for the user, and its
 /// kind is `ErrorKind::OutOfMemory` where an allocation failed.

@@ -5,14 +5,15 @@ ghost use Rattle.std.specs.List.{AllZip};
 ghost use Rattle.arguments.specs.Rules.{IsReadBy};
 ghost use Rattle.clap.specs.Words.{Rule};
 ghost use Rattle.cli.specs.Grammar.{HasGrammar, all_apps, audit_app, bench_app, capture_app, check_app};
+ghost use Rattle.cli.specs.Grammar.{compare_app};
 ghost use Rattle.cli.specs.Grammar.{decode_app, dump_app, encode_app, list_app, measure_app, program_app, replay_app};
 ghost use Rattle.cli.specs.Grammar.{salvage_app};
 ghost use Rattle.cli.specs.Grammar.{with_arguments};
 
 use crate::help::{
-    AUDIT_EXAMPLE, BENCH_EXAMPLE, CAPTURE_EXAMPLE, CHECK_EXAMPLE, DECODE_EXAMPLE, DUMP_EXAMPLE,
-    ENCODE_EXAMPLE, EXIT_STATUSES, LIST_EXAMPLE, MEASURE_EXAMPLE, REPLAY_EXAMPLE, SALVAGE_EXAMPLE,
-    VERSION,
+    AUDIT_EXAMPLE, BENCH_EXAMPLE, CAPTURE_EXAMPLE, CHECK_EXAMPLE, COMPARE_EXAMPLE, DECODE_EXAMPLE,
+    DUMP_EXAMPLE, ENCODE_EXAMPLE, EXIT_STATUSES, LIST_EXAMPLE, MEASURE_EXAMPLE, REPLAY_EXAMPLE,
+    SALVAGE_EXAMPLE, VERSION,
 };
 use arguments::{
     base, capacity, capture, capture_progress, counted_harts, explain, first, format, full, harts,
@@ -273,6 +274,28 @@ fn capture_of_lines<'a>(alloc: Global) -> Result<Command<'a>, AllocError>
     )
 }
 
+/// The arguments that `compare` takes.
+fn compare<'a>(alloc: Global) -> Result<Command<'a>, AllocError>
+    ensures { IfOk result (HasGrammar compare_app) }
+{
+    let args = vec![in alloc;
+        base(alloc),
+        harts(alloc),
+        long(alloc),
+        progress(alloc),
+        image(alloc),
+        capture(alloc),
+        logs(alloc),
+    ]?;
+    subcommand(
+        alloc,
+        "compare",
+        "Say whether a capture describes just these logs",
+        COMPARE_EXAMPLE,
+        args,
+    )
+}
+
 /// The program's subcommands, in the order in which help lists them.
 fn all_subcommands<'a>(alloc: Global) -> Result<Vec<Command<'a>>, AllocError>
     ensures { IfOk result (λ commands. AllZip HasGrammar all_apps commands.items) }
@@ -289,6 +312,7 @@ fn all_subcommands<'a>(alloc: Global) -> Result<Vec<Command<'a>>, AllocError>
         list(alloc)?,
         salvage(alloc)?,
         capture_of_lines(alloc)?,
+        compare(alloc)?,
     ]?;
     Ok(subcommands)
 }

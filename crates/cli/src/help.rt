@@ -67,6 +67,11 @@ pub(crate) const CAPTURE_EXAMPLE: &str = "\
 Example:
   tracebench capture examples/first/hex.txt >log.capture";
 
+/// What the help of `compare` ends with.
+pub(crate) const COMPARE_EXAMPLE: &str = "\
+Example:
+  tracebench compare --base 80000000 examples/loop/image.bin examples/loop/log.capture examples/loop/log.csv";
+
 /// What the help of `salvage` ends with.
 pub(crate) const SALVAGE_EXAMPLE: &str = "\
 Example:

@@ -7,10 +7,12 @@ use crate::joining::joined_end;
 use crate::reason::Fault;
 use capture_commands::{decode, dump, list, salvage};
 use command_inputs::{Files, Status};
+use compare_commands::compare;
 use path_commands::audit;
 use std::alloc::Global;
 use std::io::Write;
-use subcommands::{Audit, Decode, Dump, Listing, Salvage};
+use std::thread::Threads;
+use subcommands::{Audit, Compare, Decode, Dump, Listing, Salvage};
 
 /// A run of `dump`.
 pub(crate) fn run_dump<'a, F: Files, O: Write>(
@@ -69,4 +71,19 @@ pub(crate) fn run_audit<'a, F: Files, O: Write>(
     ensures { IsRun (F.content files.old) (Asked.Audit asked.now) O.contents result out.old out.new }
 {
     joined_end(audit(alloc, files, asked, out))
+}
+
+/// A run of `compare`.
+pub(crate) fn run_compare<'a, F: Files + Sync, O: Write, R: Threads + Sync>(
+    alloc: Global,
+    rt: &R,
+    files: &mut F,
+    asked: &Compare<'a>,
+    out: &mut O,
+) -> Result<Status, Fault<'a>>
+where
+    F::Reader: Send,
+    ensures { IsRun (F.content files.old) (Asked.Compare asked.now) O.contents result out.old out.new }
+{
+    joined_end(compare(alloc, rt, files, asked, out))
 }

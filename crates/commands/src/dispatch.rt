@@ -10,7 +10,7 @@ ghost use Rattle.commands.specs.Faults.{final_status};
 ghost use Rattle.commands.specs.Order.{early_fault};
 ghost use Rattle.commands.specs.steps.Running.{IsRun};
 
-use crate::capture_runs::{run_audit, run_decode, run_dump, run_list, run_salvage};
+use crate::capture_runs::{run_audit, run_compare, run_decode, run_dump, run_list, run_salvage};
 use crate::line_runs::run_capture;
 use crate::log_runs::{run_bench, run_check, run_encode, run_measure, run_replay};
 use crate::reason::Fault;
@@ -22,7 +22,8 @@ use std::thread::Threads;
 use subcommands::Asked;
 
 /// Does what is asked, and returns how that ended: with a status, or at the first fault in the order base, count of
-/// logs or harts, image, symbols, each log in turn, schedule, capture or lines.
+/// logs or harts, image, symbols, each log in turn, schedule, capture or lines; of `compare` base, image, capture, count
+/// of logs, each log in turn.
 ///
 /// Illegal logs are no fault of `check`, which has a line for each log on `out`.
 pub fn carry_out<'a, F: Files + Sync, O: Write, R: Threads + Wait + Sync>(
@@ -75,5 +76,6 @@ where
         Asked::Listing(asked) => run_list(alloc, files, asked, out),
         Asked::Salvage(asked) => run_salvage(alloc, files, asked, out),
         Asked::Capture(asked) => run_capture(files, asked, out),
+        Asked::Compare(asked) => run_compare(alloc, rt, files, asked, out),
     }
 }

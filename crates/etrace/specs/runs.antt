@@ -1,4 +1,4 @@
--- What the contracts of the funnel, of replays and of runs cite.
+-- What the contracts of the funnel, of replays, of runs and of comparisons cite.
 pub use Rattle.funnel.specs.Order
 pub use Rattle.funnel.specs.Limits
 pub use Rattle.funnel.specs.Held
@@ -21,3 +21,7 @@ pub use Rattle.bench.specs.Setting
 pub use Rattle.bench.specs.Working
 pub use Rattle.bench.specs.Stopping
 pub use Rattle.bench.specs.SetupText
+pub use Rattle.comparing.specs.Counts as ComparedCounts
+pub use Rattle.comparing.specs.Compared
+pub use Rattle.comparing.specs.Lines as ComparedLines
+pub use Rattle.comparing.specs.Whole as ComparedWhole

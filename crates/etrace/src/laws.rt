@@ -6,6 +6,7 @@ pub use auditing::{
 };
 pub use bench::turns_let_beginnings_through;
 pub use capture_lines::{hex_lines_become_the_capture, hex_lines_say_their_messages};
+pub use comparing::{whole_is_decoded, whole_is_these_logs};
 pub use decoder::{
     closed_where_last_closes, first_packets_describe_a_beginning,
     more_packets_describe_a_longer_log, one_log_is_described, passing_over_stands_for_nothing,

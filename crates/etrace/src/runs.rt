@@ -1,9 +1,11 @@
-//! The funnel between harts and decoder, replays by a schedule and runs over threads through it, and their report.
+//! The funnel between harts and decoder, replays by a schedule and runs over threads through it, and their report; a
+//! capture that is compared with logs.
 
 pub use bench::{
     CollectFault, Collector, Config, Gate, HartOutcome, Open, Outcome, Setup, Stop, Verdict,
     compare, is_whole, replay, report, run, run_in_rooms, run_on, write_report,
 };
+pub use comparing::{ComparedHart, Comparing, HartCount, counts_of, write_comparison};
 pub use funnel::{
     Core, Ended, MOST_PORTS, OpenFault, Outlet, Port, Receipt, SendFault, Settled, Turn, open,
     opening_fault,

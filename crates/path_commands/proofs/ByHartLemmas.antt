@@ -78,7 +78,7 @@ same_front bytes h k some others (Some why) is front =
     never e = cc
 
 -- A capture that begins with a header, or with none, does not begin with one that is cut or not valid.
-starts_well : (bytes rest : List ℕ) (header : Option Header) (why : MessageFault) → BeginsWith header bytes rest
+pub starts_well : (bytes rest : List ℕ) (header : Option Header) (why : MessageFault) → BeginsWith header bytes rest
     → BeginsNoHeader bytes why → ⊥
 starts_well bytes rest None why begins none = begins.0 (marked_by bytes why none)
 starts_well bytes rest (Some header) why begins none = has_header header rest bytes why begins.0 begins.1 none

@@ -10,9 +10,7 @@ use Rattle.alike.specs.declared.by.By.{By}
 use Rattle.message.specs.declared.fault.MessageFault.{MessageFault}
 use Rattle.message.specs.declared.header.Header.{Header}
 use Rattle.message.specs.declared.message.Message.{Message}
-use Rattle.captures.proofs.HeaderFaults.{has_header, marked_by}
-use Rattle.captures.specs.NoMessage.{BeginsNoHeader}
-use Rattle.captures.specs.Whole.{BeginsWith, IsFront}
+use Rattle.captures.specs.Whole.{IsFront}
 use Rattle.searching.specs.Start.{IsStart}
 use Rattle.subcommands.specs.declared.words.Audit.{Audit}
 use Rattle.subcommands.specs.declared.words.Format.{Format}
@@ -30,6 +28,7 @@ use Rattle.command_inputs.specs.Found.{IsRead}
 use Rattle.command_inputs.specs.declared.fault.Fault.TheVariants as fault
 use Rattle.command_inputs.specs.declared.status.Status.{Status}
 use Rattle.files.specs.Known.{Content}
+use Rattle.path_commands.proofs.ByHartLemmas.{starts_well}
 use Rattle.path_commands.specs.AlignedRows.{aligned_table}
 use Rattle.path_commands.specs.Audited.{WritesAligned}
 use Rattle.path_commands.specs.Faults.{Fault}
@@ -39,12 +38,6 @@ use Rattle.path_commands.specs.Unnumbered.{is_read_whole, is_whole_unnumbered, l
 use Rattle.path_commands.specs.UnnumberedText.{unnumbered_text}
 use Rattle.path_commands.specs.declared.reason.PathReason.{PathReason}
 use Rattle.path_commands.specs.steps.Matching.{EndsUnnumbered, audit_in, report_in}
-
--- A capture that begins with a header, or with none, does not begin with one that is cut or not valid.
-starts_well : (bytes rest : List ℕ) (header : Option Header) (why : MessageFault) → BeginsWith header bytes rest
-    → BeginsNoHeader bytes why → ⊥
-starts_well bytes rest None why begins none = begins.0 (marked_by bytes why none)
-starts_well bytes rest (Some header) why begins none = has_header header rest bytes why begins.0 begins.1 none
 
 module _ (bytes : List ℕ) (header : Option Header) where
   -- RECEIVED has no valid header.

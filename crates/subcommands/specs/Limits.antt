@@ -4,7 +4,7 @@ use Rattle.message.specs.Capacity.{most_capacity}
 use Rattle.message.specs.Version.{most_harts}
 use Rattle.message.specs.declared.header.Version.TheVariants.{Two}
 use Rattle.subcommands.specs.declared.words.Asked.{Asked}
-use Rattle.subcommands.specs.declared.words.Asked.TheVariants.{Bench, Capture, Decode, Encode, Listing}
+use Rattle.subcommands.specs.declared.words.Asked.TheVariants.{Bench, Capture, Compare, Decode, Encode, Listing}
 use Rattle.subcommands.specs.declared.words.Asked.TheVariants.{Measure, Replay, Salvage}
 
 -- The most retirements from one periodic synchronisation to the next.
@@ -38,4 +38,5 @@ IsWithinLimits (Listing asked) = IsCountIfGiven asked.harts
 IsWithinLimits (Salvage asked) = IsCountIfGiven asked.harts
 IsWithinLimits (Capture asked) =
     (1 ≤ asked.period) × (asked.period ≤ longest_period) × IsCountIfGiven asked.harts
+IsWithinLimits (Compare asked) = (1 ≤ asked.harts) × (asked.harts ≤ most_harts Two)
 IsWithinLimits _ = Unit {0}

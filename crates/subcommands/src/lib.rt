@@ -7,6 +7,6 @@ mod words;
 
 pub use limits::{GREATEST_FIRST, LONGEST_PERIOD, SHORTEST_PERIOD, SMALLEST_CAPACITY};
 pub use words::{
-    Asked, Audit, Bench, Capture, Check, Decode, Dump, Encode, Format, Listing, Measure, Replay,
-    Salvage,
+    Asked, Audit, Bench, Capture, Check, Compare, Decode, Dump, Encode, Format, Listing, Measure,
+    Replay, Salvage,
 };

@@ -221,6 +221,26 @@ pub struct Capture<'a> {
     pub lines: &'a str,
 }
 
+/// `compare --base B [--harts N] [--long] [--progress] IMAGE CAPTURE LOG...`: whether a capture describes just these
+/// logs.
+#[derive(Debug, Drop)]
+pub struct Compare<'a> {
+    /// The address of the image's first byte, not yet read as a number.
+    pub base: &'a str,
+    /// The count of harts of a capture with no header, 1 to 1024.
+    pub harts: u16,
+    /// Whether a log may have up to 4,294,967,295 rows. Where this is false, it may have up to 16,777,216.
+    pub long: bool,
+    /// Whether a terminal is shown how far the capture is worked through and the logs are read.
+    pub progress: bool,
+    /// The path of the image.
+    pub image: &'a str,
+    /// The path of the capture.
+    pub capture: &'a str,
+    /// The paths of the logs, at least one, in the order of the arguments.
+    pub logs: Vec<&'a str>,
+}
+
 /// A subcommand with its files and options, as texts of the arguments.
 #[derive(Debug, Drop)]
 pub enum Asked<'a> {
@@ -246,4 +266,6 @@ pub enum Asked<'a> {
     Salvage(Salvage<'a>),
     /// A run of `capture`.
     Capture(Capture<'a>),
+    /// A run of `compare`.
+    Compare(Compare<'a>),
 }

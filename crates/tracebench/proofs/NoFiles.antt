@@ -17,6 +17,7 @@ use Rattle.capture_commands.specs.Symbols.{AreSymbols}
 use Rattle.capture_commands.specs.declared.reason.CaptureReason.TheVariants as capture
 use Rattle.log_commands.specs.declared.reason.LogReason.TheVariants as log
 use Rattle.path_commands.specs.declared.reason.PathReason.TheVariants as audit
+use Rattle.compare_commands.specs.Comparing.{ComparesCapture}
 use Rattle.line_commands.specs.Capturing.{AreSettings, WritesCapture}
 use Rattle.commands.specs.Faults.{Fault, Printed, command_reason_status, final_status, status_of}
 use Rattle.commands.specs.Joined.{joined_end, joined_printed}
@@ -206,6 +207,14 @@ not_ended (asked_for.Capture asked) status old new done =
     own status ends
     (λ settings are prints. not_first (IsRead none asked.lines) (WritesCapture asked.lines settings) own status ends
     (λ text read written. no_bytes asked.lines text read) prints) done.prints.prints
+not_ended (asked_for.Compare asked) status old new done =
+    let own = done.prints.own in
+    let ends = ends_so Capture done.text status own done.prints.is in
+    not_first (IsBase asked.base.now) (λ base. First (IsProgramAt none base asked.image) (λ program.
+    First (IsRead none asked.capture) (ComparesCapture none asked program))) own status ends
+    (λ base is prints. not_first (IsProgramAt none base asked.image) (λ program.
+    First (IsRead none asked.capture) (ComparesCapture none asked program)) own status ends
+    (λ program made lines. no_program base asked.image program made) prints) done.prints.prints
 
 -- No reason ends with status 0.
 reason_faulty : (why : CommandReason) → code_of (command_reason_status why) ≢ 0
@@ -219,6 +228,7 @@ reason_faulty (Capture capture.Header) = λ is. omega arith
 reason_faulty (Capture (capture.Message number why)) = λ is. omega arith
 reason_faulty (Capture (capture.Unclosed hart)) = λ is. omega arith
 reason_faulty (Capture (capture.Symbols path why)) = λ is. omega arith
+reason_faulty (Capture (capture.Logs logs harts)) = λ is. omega arith
 reason_faulty (Path audit.Format) = λ is. omega arith
 reason_faulty (Path (audit.Damaged path)) = λ is. omega arith
 reason_faulty (Path (audit.Unread path number why)) = λ is. omega arith

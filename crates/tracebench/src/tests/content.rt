@@ -10,7 +10,7 @@ use std::sync::Wait;
 use std::thread::Threads;
 
 /// A line of arguments for each subcommand. The first file of each is `image.bin`.
-pub(crate) const LINES: [&str; 9] = [
+pub(crate) const LINES: [&str; 10] = [
     "tracebench check --base 80000000 image.bin log.csv",
     "tracebench encode --base 80000000 image.bin log.csv",
     "tracebench dump image.bin",
@@ -20,6 +20,7 @@ pub(crate) const LINES: [&str; 9] = [
     "tracebench bench --base 80000000 image.bin log.csv",
     "tracebench salvage --base 80000000 image.bin log.capture",
     "tracebench capture image.bin",
+    "tracebench compare --base 80000000 image.bin log.capture log.csv",
 ];
 
 /// Runs the program with these arguments where there is no file: whatever they ask for, it is not done.

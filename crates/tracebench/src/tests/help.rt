@@ -20,6 +20,7 @@ $ tracebench --help
 !   list     List what each message of a capture says and settles
 !   salvage  Write what is left of the log of each hart after any damage to a capture
 !   capture  Write the capture of lines, each of one message, as `encode --hex` prints them
+!   compare  Say whether a capture describes just these logs
 !   help     Print this message or the help of the given subcommand(s)
 !
 ! Options:
@@ -272,5 +273,25 @@ $ tracebench capture --help
 !
 ! Example:
 !   tracebench capture examples/first/hex.txt >log.capture
+? 2
+$ tracebench compare --help
+! Say whether a capture describes just these logs
+!
+! Usage: tracebench compare [OPTIONS] --base <B> <IMAGE> <CAPTURE> <LOG>...
+!
+! Arguments:
+!   <IMAGE>    File of the program's bytes
+!   <CAPTURE>  File of trace messages
+!   <LOG>...   Logs, each of one hart, as CSV
+!
+! Options:
+!       --base <B>   Address of the image's first byte, in hexadecimal
+!       --harts <N>  How many harts a capture of version 1 may have, 1 to 1024 [default: 1]
+!       --long       Take logs of up to 4294967295 rows, not 16777216
+!       --progress   Show how far the logs are read, where standard error is a terminal
+!   -h, --help       Print help
+!
+! Example:
+!   tracebench compare --base 80000000 examples/loop/image.bin examples/loop/log.capture examples/loop/log.csv
 ? 2
 "#;

@@ -58,7 +58,7 @@ file empty.txt
 # Words that `clap` refuses.
 $
 ! error: 'tracebench' requires a subcommand but one was not provided
-!   [subcommands: check, encode, dump, decode, replay, bench, audit, measure, list, salvage, capture, help]
+!   [subcommands: check, encode, dump, decode, replay, bench, audit, measure, list, salvage, capture, compare, help]
 !
 ! Usage: tracebench <COMMAND>
 !

@@ -5,7 +5,7 @@ pub(crate) const TEXT: &str = r#"
 # No subcommand, and one that does not exist.
 % tracebench
 ! error: 'tracebench' requires a subcommand but one was not provided
-!   [subcommands: check, encode, dump, decode, replay, bench, audit, measure, list, salvage, capture, help]
+!   [subcommands: check, encode, dump, decode, replay, bench, audit, measure, list, salvage, capture, compare, help]
 !
 ! Usage: tracebench <COMMAND>
 !

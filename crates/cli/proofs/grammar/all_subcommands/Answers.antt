@@ -26,7 +26,7 @@ returns c =
                       c.in_ok-list.ensures,
                       (
                         c.in_ok-salvage.ensures,
-                        (c.in_ok-capture_of_lines.ensures, tt),
+                        (c.in_ok-capture_of_lines.ensures, (c.in_ok-compare.ensures, tt)),
                       ),
                     ),
                   ),

@@ -1,0 +1,4 @@
+mod ComparedRuns
+mod DecodedHarts
+mod LinesMade
+mod Reported

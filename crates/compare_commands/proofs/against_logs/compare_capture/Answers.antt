@@ -1,0 +1,110 @@
+-- The prover tries no chain of steps by itself: what each step found is handed to it, in order.
+use Rattle.std.proofs.Common.{◌≡◌, ◌∙◌, ◌⊎◌, Err, List, ap, arith, inl, length, subst, sym}
+use Rattle.std.proofs.lemmas.Grind.{common_steps}
+use Rattle.bench.specs.Got.{Got}
+use Rattle.command_inputs.proofs.Runs.{ends_silently}
+use Rattle.command_inputs.specs.FoundLogs.{AreLegalLogsUpTo}
+use Rattle.command_inputs.specs.declared.fault.Fault.TheVariants as fault
+use Rattle.files.specs.Known.{Content}
+use Rattle.compare_commands.specs.Comparing.{CanCompareCapture, ComparesCapture}
+use Rattle.subcommands.specs.declared.words.Compare.{Compare}
+use Rattle.compare_commands.specs.Comparison.{count_at, rows_of}
+use Rattle.compare_commands.specs.steps.Decoded.{gots_in}
+use Rattle.compare_commands.specs.steps.Lines.{AreLinesOfLogs}
+use Rattle.compare_commands.proofs.ComparedRuns.{as_many, count_ends, logs_end, report_cut, report_printed}
+use Rattle.compare_commands.proofs.against_logs.compare_capture.Goals.{After-check_count, After-write_report}
+use Rattle.compare_commands.proofs.against_logs.compare_capture.Goals as goal
+
+pub returns-in_err-decoded-clause-printed : goal.returns-in_err-decoded-clause-printed
+returns-in_err-decoded-clause-printed g c =
+    let content = g.F.Files.content c.args.files.now in
+    let asked = c.args.asked.now in
+    let why = c.in_err-decoded.field-0.0 in
+    let is : c.from_residual.result ≡ Err why = grind (arith, common_steps) in
+    ends_silently (ComparesCapture content asked c.args.program.now c.args.capture.now)
+    (CanCompareCapture content asked c.args.program.now c.args.capture.now) ⊥ why c.from_residual.result
+    (g.O.Write.contents c.args.out.now) is (inl c.in_err-decoded.ensures.fault) (λ none. absurd none)
+
+module _ (g : _) (c : After-check_count g) where
+  abbrev content : Content
+  content = g.F.Files.content c.args.files.now
+
+  abbrev asked : Compare
+  asked = c.args.asked.now
+
+  abbrev gots : List Got
+  gots = gots_in c.in_ok-decoded.decoded
+
+  -- What the count of logs is compared with, and what it is found to be.
+  counted : c.check_count.result ≡ count_at (length gots) asked.logs.items
+  counted =
+      c.check_count.ensures
+      ∙ ap (λ harts. count_at harts c.as_slice-paths.result.now)
+      (c.len.ensures ∙ c.in_ok-decoded.decoded.lists.ok.0 ∙ sym c.in_ok-decoded.ensures.many)
+      ∙ ap (count_at (length gots)) c.as_slice-paths.ensures.value
+
+pub returns-in_err-check_count-clause-printed : goal.returns-in_err-check_count-clause-printed
+returns-in_err-check_count-clause-printed g c =
+    let at = (goal.at.returns-in_err-check_count-clause-printed g c).After-check_count in
+    let decoded = c.in_ok-decoded.decoded in
+    let why = c.in_err-check_count.field-0.0 in
+    let is : c.from_residual-in_err-check_count.result ≡ Err why = grind (arith, common_steps) in
+    count_ends (content g at) (asked g at) c.args.program.now c.args.capture.now (gots g at) decoded.stop
+    c.in_ok-decoded.ensures.got c.in_ok-decoded.ensures.no_memory why c.from_residual-in_err-check_count.result (g.O.Write.contents c.args.out.now) is
+    (sym c.in_err-check_count.was ∙ counted g at)
+
+pub lines_of_logs-requires-clause-many : goal.lines_of_logs-requires-clause-many
+lines_of_logs-requires-clause-many g c = λ lifetimes live.
+    let at = (goal.at.lines_of_logs-requires-clause-many g c).After-check_count in
+    ap length c.as_slice-paths.ensures.value
+    ∙ as_many (length (gots g at)) c.args.asked.now.logs.items tt (sym c.in_ok-check_count.was ∙ counted g at)
+
+pub returns-in_err-lines-clause-printed : goal.returns-in_err-lines-clause-printed
+returns-in_err-lines-clause-printed g c =
+    let at = (goal.at.returns-in_err-lines-clause-printed g c).After-check_count in
+    let decoded = c.in_ok-decoded.decoded in
+    let why = c.in_err-lines.field-0.0 in
+    let is : c.from_residual-in_err-lines.result ≡ Err why = grind (arith, common_steps) in
+    logs_end (content g at) (asked g at) c.args.program.now c.args.capture.now (gots g at) decoded.stop
+    c.in_ok-decoded.ensures.got c.in_ok-decoded.ensures.no_memory tt (sym c.in_ok-check_count.was ∙ counted g at) why
+    c.from_residual-in_err-lines.result (g.O.Write.contents c.args.out.now) is
+    (subst (λ paths. (why ≡ fault.Memory) ⊎ AreLegalLogsUpTo (rows_of c.args.asked.now.long) (content g at)
+    c.args.program.now paths (Err why)) c.as_slice-paths.ensures.value c.in_err-lines.ensures.fault)
+
+pub returns-clause-refused : goal.returns-clause-refused
+returns-clause-refused g c = λ refused. absurd (c.write_report.ensures.never_refused refused)
+
+pub returns-clause-untouched : goal.returns-clause-untouched
+returns-clause-untouched g c = λ memory.
+    absurd (c.in_ok-decoded.ensures.no_memory (c.write_report.ensures.memory memory))
+
+module _ (g : _) (c : After-write_report g) where
+  lines_are : AreLinesOfLogs (rows_of c.args.asked.now.long) (g.F.Files.content c.args.files.now) c.args.program.now
+      c.args.asked.now.logs.items (gots_in c.in_ok-decoded.decoded) c.as_slice.result.now
+  lines_are =
+      subst (λ lines. AreLinesOfLogs (rows_of c.args.asked.now.long) (g.F.Files.content c.args.files.now)
+      c.args.program.now c.args.asked.now.logs.items (gots_in c.in_ok-decoded.decoded) lines)
+      (sym c.as_slice.ensures.value)
+      (subst (λ paths. AreLinesOfLogs (rows_of c.args.asked.now.long) (g.F.Files.content c.args.files.now)
+      c.args.program.now paths (gots_in c.in_ok-decoded.decoded) c.in_ok-lines.lines.items)
+      c.as_slice-paths.ensures.value c.in_ok-lines.ensures.lines)
+
+pub returns-clause-printed : goal.returns-clause-printed
+returns-clause-printed g c =
+    let before = (goal.at.returns-clause-printed g c).After-check_count in
+    let at = (goal.at.returns-clause-printed g c).After-write_report in
+    let decoded = c.in_ok-decoded.decoded in
+    report_printed (content g before) (asked g before) c.args.program.now c.args.capture.now (gots g before)
+    decoded.stop c.in_ok-decoded.ensures.got c.in_ok-decoded.ensures.no_memory tt (sym c.in_ok-check_count.was ∙ counted g before)
+    c.as_slice.result.now (lines_are g at) c.write_report.result (g.O.Write.contents c.args.out.now)
+    (g.O.Write.contents c.write_report.new.out) c.write_report.ensures.printed
+
+pub returns-clause-cut : goal.returns-clause-cut
+returns-clause-cut g c =
+    let before = (goal.at.returns-clause-cut g c).After-check_count in
+    let at = (goal.at.returns-clause-cut g c).After-write_report in
+    let decoded = c.in_ok-decoded.decoded in
+    report_cut (content g before) (asked g before) c.args.program.now c.args.capture.now (gots g before)
+    decoded.stop c.in_ok-decoded.ensures.got c.in_ok-decoded.ensures.no_memory tt (sym c.in_ok-check_count.was ∙ counted g before)
+    c.as_slice.result.now (lines_are g at) (g.O.Write.contents c.args.out.now)
+    (g.O.Write.contents c.write_report.new.out) c.write_report.ensures.begun

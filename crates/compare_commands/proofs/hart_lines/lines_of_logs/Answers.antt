@@ -1,0 +1,65 @@
+-- What is made of logs comes by their places: the lemmas on all of them are handed to the prover.
+use Rattle.std.proofs.Common.{◌≡◌, ◌∙◌, ◌⊎◌, Err, Ok, ap, arith, length, subst, sym}
+use Rattle.std.proofs.lemmas.Grind.{common_steps}
+use Rattle.command_inputs.proofs.StreamLemmas.{first_refused}
+use Rattle.capture_commands.specs.Faults.{Fault}
+use Rattle.command_inputs.specs.Faults.{stop_fault}
+use Rattle.command_inputs.specs.FoundLogs.{AreLegalLogsUpTo}
+use Rattle.command_inputs.specs.declared.fault.Fault.TheVariants as fault
+use Rattle.comparing.specs.Compared.{gots_by}
+use Rattle.log_streams.specs.Made.{AreMade}
+use Rattle.receiver.specs.Received.{events_in}
+use Rattle.compare_commands.specs.Comparison.{rows_of}
+use Rattle.compare_commands.specs.steps.Decoded.{count_in, gots_in}
+use Rattle.compare_commands.specs.steps.Lines.{AreLinesOfLogs}
+use Rattle.compare_commands.proofs.LinesMade.{OfEvents, lines_made}
+use Rattle.compare_commands.proofs.hart_lines.lines_of_logs.Goals as goal
+
+pub returns-in-Ok-clause-lines : goal.returns-in-Ok-clause-lines
+returns-in-Ok-clause-lines g c =
+    let content = g.F.Files.content c.args.files.now in
+    let program = c.args.program.now in
+    let paths = c.args.paths.now in
+    let made = c.made_of_logs-made.result.made.items in
+    let rows = c.rows_of-rows.result in
+    let decoded = c.args.decoded.now in
+    let lists = events_in c.as_slice-lists.result.now in
+    let closed = c.as_slice-closed.result.now in
+    let counts = c.as_slice-counts.result.now in
+    let is : c.made_of_logs-made.result.end ≡ Ok c.in-Ok.field-0 = grind (arith, common_steps) in
+    let flags : length closed ≡ length lists =
+    ap length c.as_slice-closed.ensures.value ∙ c.requires.flags
+    ∙ sym (ap (λ lists. length (events_in lists)) c.as_slice-lists.ensures.value) in
+    let same : gots_by (count_in counts) 0 lists closed ≡ gots_in decoded =
+    ap (λ lists. gots_by (count_in counts) 0 (events_in lists) closed) c.as_slice-lists.ensures.value
+    ∙ ap (gots_by (count_in counts) 0 (events_in decoded.lists.items)) c.as_slice-closed.ensures.value
+    ∙ ap (λ counts. gots_by (count_in counts) 0 (events_in decoded.lists.items) decoded.closed.items)
+    c.as_slice-counts.ensures.value in
+    let are = lines_made rows content program counts lists closed flags paths made c.in-Ok.field-0
+    (c.requires.many ∙ sym (ap length same))
+    (subst (AreMade (OfEvents program counts lists closed) (λ events row line. ⊥) content program rows paths made) is
+    c.made_of_logs-made.ensures.made) in
+    subst (λ gots. AreLinesOfLogs (rows_of c.args.long) content program paths gots made) same
+    (subst (λ rows. AreLinesOfLogs rows content program paths (gots_by (count_in counts) 0 lists closed) made)
+    c.rows_of-rows.ensures are)
+
+pub returns-in-Err-clause-fault : goal.returns-in-Err-clause-fault
+returns-in-Err-clause-fault g c =
+    let content = g.F.Files.content c.args.files.now in
+    let program = c.args.program.now in
+    let paths = c.args.paths.now in
+    let made = c.made_of_logs-made.result.made.items in
+    let rows = c.rows_of-rows.result in
+    let lists = events_in c.as_slice-lists.result.now in
+    let closed = c.as_slice-closed.result.now in
+    let counts = c.as_slice-counts.result.now in
+    let end = c.in-Err.field-0 in
+    let is : c.made_of_logs-made.result.end ≡ Err end = grind (arith, common_steps) in
+    let why : Fault = stop_fault end.path end.why in
+    subst (λ why. (why ≡ fault.Memory) ⊎ AreLegalLogsUpTo (rows_of c.args.long) content program paths (Err why))
+    (sym c.of_stop.ensures)
+    (subst (λ rows. (why ≡ fault.Memory) ⊎ AreLegalLogsUpTo rows content program paths (Err why)) c.rows_of-rows.ensures
+    (first_refused rows (OfEvents program counts lists closed) (λ events row line. ⊥)
+    (λ events row line none. none) content program paths made end
+    (subst (AreMade (OfEvents program counts lists closed) (λ events row line. ⊥) content program rows paths made) is
+    c.made_of_logs-made.ensures.made)))

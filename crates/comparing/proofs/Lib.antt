@@ -1,0 +1,6 @@
+pub mod AlikePieces
+pub mod CountedMessages
+pub mod DecodedHarts
+pub mod EqualLogs
+pub mod LineTexts
+pub mod MessageBounds

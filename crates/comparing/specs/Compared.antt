@@ -1,0 +1,61 @@
+-- What a capture has of logs.
+use Rattle.std.specs.Prelude.{ℕ, ◌+◌, ◌≡◌, ◌++◌, ◌&&◌, is_none, Bool, List, [], ◌∷◌, Option, length}
+use Rattle.bench.specs.Got.{Got}
+use Rattle.bench.specs.Report.{are_whole, report_lines, result_line}
+use Rattle.bench.specs.Verdict.{count_alike}
+use Rattle.captures.specs.Decoded.{IsDecoded}
+use Rattle.captures.specs.Whole.{IsFront}
+use Rattle.captures.specs.declared.outcome.CaptureFault.{CaptureFault}
+use Rattle.legalpath.specs.ProgramLog.{ProgramLog}
+use Rattle.message.specs.declared.fault.MessageFault.{MessageFault}
+use Rattle.message.specs.declared.header.Header.{Header}
+use Rattle.message.specs.declared.message.Message.{Message}
+use Rattle.retire.specs.declared.event.Event.{Event}
+use Rattle.rvclass.specs.Words.{Words}
+use Rattle.comparing.specs.Counts.{before_stop, count_of}
+use Rattle.comparing.specs.declared.hart_count.HartCount.{HartCount}
+use Rattle.comparing.specs.declared.pieces.Comparing.{Comparing}
+
+-- These events of a log were compared with those that were decoded: how many they are, and how many of the first are
+-- alike.
+pub record HasCompared (decoded : List Event) (seen : List Event) (comparing : Comparing) : Type 0 where
+  pub events : comparing.events ≡ length seen
+  pub alike : comparing.alike ≡ count_alike decoded seen
+
+-- What is decoded of a hart, with the count of its messages. The packets are not kept.
+abbrev pub got_by : HartCount → List Event → Bool → Got
+got_by count decoded closed = record {
+  packets = [];
+  taken = count.taken;
+  bytes = count.bytes;
+  decoded = decoded;
+  closed = closed;
+}
+
+-- What is decoded of harts, by their counts, lists and flags. So many harts are left, and the first has this number.
+abbrev pub gots_by : (ℕ → HartCount) → ℕ → List (List Event) → List Bool → List Got
+gots_by count hart [] closed = []
+gots_by count hart (decoded ∷ lists) [] = []
+gots_by count hart (decoded ∷ lists) (flag ∷ closed) =
+    got_by (count hart) decoded flag ∷ gots_by count (hart + 1) lists closed
+
+-- The bytes of a capture decode to this of each hart, and decoding stops there. The messages of a hart are counted
+-- before that place.
+pub record AreGot (words : Words) (harts : ℕ) (bytes : List ℕ) (gots : List Got) (stop : Option (ℕ × CaptureFault))
+    : Type 0 where
+  pub lists : List (List Event)
+  pub closed : List Bool
+  pub decoded : IsDecoded words harts bytes lists closed stop
+  pub header : Option Header
+  pub messages : List Message
+  pub end : Option MessageFault
+  pub front : IsFront bytes header messages end
+  pub each : gots ≡ gots_by (count_of (before_stop stop messages)) 0 lists closed
+
+-- Each hart's log came back whole, and decoding came to the end.
+abbrev pub is_compared_whole : Option (ℕ × CaptureFault) → List Got → List ProgramLog → Bool
+is_compared_whole stop gots logs = is_none stop && are_whole gots logs
+
+-- The report of a comparison: a line for each hart, and one for the result.
+abbrev pub comparison_text : Option (ℕ × CaptureFault) → List Got → List ProgramLog → List ℕ
+comparison_text stop gots logs = report_lines 0 gots logs ++ result_line (is_compared_whole stop gots logs)

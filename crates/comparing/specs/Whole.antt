@@ -1,0 +1,33 @@
+-- When a comparison is whole.
+use Rattle.std.specs.Prelude.{ℕ, ◌≡◌, ◌↔◌, true, Bool, List, Option, None, length, map, replicate}
+use Rattle.bench.specs.Got.{Got}
+use Rattle.captures.specs.Decoded.{IsDecoded}
+use Rattle.captures.specs.declared.outcome.CaptureFault.{CaptureFault}
+use Rattle.legalpath.specs.ProgramLog.{ProgramLog}
+use Rattle.retire.specs.declared.event.Event.{Event}
+use Rattle.rvclass.specs.Words.{Words}
+use Rattle.comparing.specs.Compared.{AreGot, gots_by, is_compared_whole}
+use Rattle.comparing.specs.declared.hart_count.HartCount.{HartCount}
+
+-- The events of each log.
+abbrev pub events_of_logs : List ProgramLog → List (List Event)
+events_of_logs logs = map (λ (log : ProgramLog). log.events) logs
+
+-- A capture decodes to these lists and flags, and decoding stops there, or comes to the end. As many logs as lists are
+-- compared with them. That is whole if and only if decoding comes to the end, the lists are just those of the logs, and
+-- each hart is closed.
+abbrev pub WholeIsEqual : Type 0
+WholeIsEqual =
+    (count : ℕ → HartCount) (lists : List (List Event)) (closed : List Bool) (stop : Option (ℕ × CaptureFault))
+    (logs : List ProgramLog) → length closed ≡ length lists → length logs ≡ length lists
+    → (is_compared_whole stop (gots_by count 0 lists closed) logs ≡ true)
+    ↔ ((stop ≡ None) × (lists ≡ events_of_logs logs) × (closed ≡ replicate (length lists) true))
+
+-- The bytes of a capture decode to something of each hart, and there are as many logs. Where the result is whole, the
+-- bytes decode without a fault to just the events of the logs, hart by hart, and each hart is closed.
+abbrev pub WholeIsDecoded : Type 0
+WholeIsDecoded =
+    (words : Words) (harts : ℕ) (bytes : List ℕ) (gots : List Got) (stop : Option (ℕ × CaptureFault))
+    (logs : List ProgramLog) → AreGot words harts bytes gots stop → length logs ≡ length gots
+    → is_compared_whole stop gots logs ≡ true
+    → IsDecoded words harts bytes (events_of_logs logs) (replicate (length gots) true) None

@@ -1,0 +1,22 @@
+//! Whether a capture describes just these logs.
+//!
+//! [`counts_of`] counts the messages of each hart of a capture before decoding stops. [`Comparing`] compares the events
+//! of a log, which come piece by piece, with those that were decoded of its hart. [`write_comparison`] writes a line for
+//! each hart, as a report of `bench` has it, and one for the result. [`whole_is_these_logs`] says when the result is whole,
+//! and [`whole_is_decoded`] what the bytes of the capture then decode to.
+#![tactic(auto)]
+
+mod alike_events;
+mod counting;
+mod hart_count;
+mod hart_line;
+mod laws;
+mod pieces;
+mod writing;
+
+pub use counting::counts_of;
+pub use hart_count::HartCount;
+pub use hart_line::ComparedHart;
+pub use laws::{whole_is_decoded, whole_is_these_logs};
+pub use pieces::Comparing;
+pub use writing::write_comparison;
