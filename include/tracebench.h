@@ -28,11 +28,14 @@
  * - No proof bounds the stack. Over logs of 200,000 rows and images of up to 16 MiB the calls took at most 19 kB of it.
  * - Numbers and structs are aligned as C aligns them, a struct to 8 bytes. Bytes are aligned to nothing.
  * - The library is built for x86-64-v2, 64-bit processors with SSE4.2 and POPCNT, and does not check for them.
- * - A call takes time in proportion to the bytes that it is given and the events that it settles, the same if it only
- *   asks for the size. So a push, a finish, a feed, a tracebench_receive and a tracebench_follow take as long as a copy
- *   of the image, though they look at a few instructions of it. tracebench_push_all and tracebench_feed_all copy it
- *   once for all their events or payloads. tracebench_decode and tracebench_audit go through all harts to answer for
- *   one.
+ * - No call copies the image but tracebench_encode, once. So no other call takes longer with a longer image: a push, a
+ *   finish and a tracebench_follow look at a few instructions of it, tracebench_push_all at a few for each event, and a
+ *   feed, tracebench_feed_all and tracebench_receive at those that their packets pass. They may be called with an image
+ *   of 16 MiB as with one of 64 bytes.
+ * - Else a call takes time in proportion to the bytes that it is given and the events that it settles, the same if it
+ *   only asks for the size. tracebench_decode and tracebench_audit go through all harts to answer for one.
+ * - tracebench_encoder, tracebench_push, tracebench_push_checked, tracebench_push_all, tracebench_finish,
+ *   tracebench_follow, tracebench_check_events and tracebench_decoder take no memory.
  */
 #ifndef TRACEBENCH_H
 #define TRACEBENCH_H
@@ -52,7 +55,7 @@ extern "C" {
 /* All is done. */
 #define TRACEBENCH_DONE 0u
 
-/* The buffer is too small: nothing was written to it. */
+/* The buffer is too small: nothing was written to it, or of many events or payloads what fits. */
 #define TRACEBENCH_TOO_SMALL 1u
 
 /* An allocation failed. */
@@ -408,13 +411,13 @@ uint32_t tracebench_encoder(uint16_t period, uint32_t mode, struct tracebench_en
  * 0 to 2, so a buffer for two is always large enough. `*state` is the state after the events before, and then the one
  * after this event too. Only with TRACEBENCH_DONE it changes. Where the buffer is too small, `*count` says how many
  * packets there are, and the status is TRACEBENCH_TOO_SMALL: the event was not taken. Else the status is
- * TRACEBENCH_BAD_STATE where no encoder has this state, TRACEBENCH_NO_EVENT where no event has these numbers,
- * TRACEBENCH_MEMORY, or says what is wrong with the image (TRACEBENCH_ODD_BASE to TRACEBENCH_PAST_END).
+ * TRACEBENCH_BAD_STATE where no encoder has this state, TRACEBENCH_NO_EVENT where no event has these numbers, or says
+ * what is wrong with the image (TRACEBENCH_ODD_BASE to TRACEBENCH_PAST_END).
  *
  * The packets are those of the log where it is legal. This call does not check: it is TRACEBENCH_DONE for illegal
  * events too, and for types, privileges, causes, addresses and trap values out of their ranges. tracebench_push_checked
- * checks each event. All events of a log are pushed over one image and base. The image is copied each time, so an event
- * costs as much as a copy of the image at least; tracebench_push_all copies it once for many events.
+ * checks each event. All events of a log are pushed over one image and base. An event takes the same time with any
+ * image; tracebench_push_all takes less for each of many events.
  *
  *     struct tracebench_event event = {TRACEBENCH_RETIREMENT, 0, 3, 0, 0, base, 0};
  *     struct tracebench_packet packets[2];
@@ -437,7 +440,7 @@ uint32_t tracebench_push(uint64_t base, const uint8_t *image, size_t image_lengt
  * The status is TRACEBENCH_DONE where the event is legal, or why it is not: TRACEBENCH_OFF_PROGRAM to
  * TRACEBENCH_WRONG_EPC, the one that tracebench_check reports. It is TRACEBENCH_OUT_OF_RANGE where the flag is above 1,
  * TRACEBENCH_NO_EVENT where no event has the numbers of one of the two, TRACEBENCH_BAD_BEFORE where the event before is
- * not legal as the first either, TRACEBENCH_MEMORY, or says what is wrong with the image.
+ * not legal as the first either, or says what is wrong with the image.
  *
  *     uint32_t status = tracebench_follow(base, image, image_length, state.holds, &state.held, &event);
  */
@@ -448,8 +451,7 @@ uint32_t tracebench_follow(uint64_t base, const uint8_t *image, size_t image_len
  * Says whether events are a legal log. Where they are, the status is TRACEBENCH_DONE and `*row` how many there are.
  * Else it says what is wrong with the image, or it is TRACEBENCH_TOO_MANY_ROWS where there are more than 16,777,216
  * events; or it is of the first row that is at fault, TRACEBENCH_NO_EVENT where no event has its numbers, and else
- * TRACEBENCH_OFF_PROGRAM to TRACEBENCH_WRONG_EPC. `*row` is then that row, from 1 on, or 0 where no row is at fault. Or
- * the status is TRACEBENCH_MEMORY, and `*row` is 0.
+ * TRACEBENCH_OFF_PROGRAM to TRACEBENCH_WRONG_EPC. `*row` is then that row, from 1 on, or 0 where no row is at fault.
  *
  *     uint64_t row;
  *     uint32_t status = tracebench_check_events(base, image, image_length, events, 4, &row);
@@ -475,7 +477,8 @@ uint32_t tracebench_push_checked(uint64_t base, const uint8_t *image, size_t ima
 /*
  * Takes the next events of a log, one after the other as tracebench_push takes each, and writes the packets that they
  * make due, the oldest first. `*taken` is how many events were taken, and `*count` how many packets were written: at
- * most 2 for each event. `*state` is the state after the events that were taken. The image is copied once.
+ * most 2 for each event. `*state` is the state after the events that were taken. The time grows with the events, and is
+ * shortest where the buffer has room for a packet of each event.
  *
  * With TRACEBENCH_DONE all events were taken. Else the status says why the event after those was not:
  *
@@ -484,7 +487,7 @@ uint32_t tracebench_push_checked(uint64_t base, const uint8_t *image, size_t ima
  * - TRACEBENCH_NO_EVENT where no event has its numbers.
  *
  * Or no event was taken, nothing was written, and `*taken` and `*count` are 0: TRACEBENCH_BAD_STATE where no encoder
- * has this state, what is wrong with the image, or TRACEBENCH_MEMORY.
+ * has this state, or what is wrong with the image.
  *
  *     uint64_t taken;
  *     for (size_t at = 0; at < events_length; at += (size_t)taken) {
@@ -502,7 +505,7 @@ uint32_t tracebench_push_all(uint64_t base, const uint8_t *image, size_t image_l
 /*
  * Takes the end of a log, and writes the packets that are left, 1 or 2. The last of them closes the trace. `*state` is
  * the state after all events of the log, and does not change. The status is TRACEBENCH_DONE, TRACEBENCH_TOO_SMALL,
- * TRACEBENCH_BAD_STATE, TRACEBENCH_MEMORY, or says what is wrong with the image.
+ * TRACEBENCH_BAD_STATE, or says what is wrong with the image.
  *
  *     uint32_t status = tracebench_finish(base, image, image_length, &state, packets, 2, &count);
  */
@@ -568,8 +571,8 @@ void tracebench_decoder(struct tracebench_decoder_state *state);
  * - TRACEBENCH_NOT_OPENED to TRACEBENCH_AFTER_CLOSING_PACKET where no log has these packets,
  * - TRACEBENCH_MEMORY, and the payload may be handed in again.
  *
- * The call copies the image each time, so a payload costs as much as a copy of the image at least. tracebench_feed_all
- * copies it once for many payloads.
+ * The call takes time in proportion to the payload and the events that it settles, with any image. It takes memory for
+ * these events while it runs.
  *
  *     struct tracebench_event events[64];
  *     uint64_t count;
@@ -584,7 +587,7 @@ uint32_t tracebench_feed(uint64_t base, const uint8_t *image, size_t image_lengt
  * Takes the next payloads of a trace, one after the other as tracebench_feed takes each, and writes the events that
  * they settle, the oldest first. `payloads` holds the payloads one after the other, and `ends` where each ends. `*taken`
  * is how many payloads were taken, and `*count` how many events were written. `*state` is the state after the payloads
- * that were taken. The image is copied once.
+ * that were taken. The time grows with the payloads and the events, not with the image.
  *
  * With TRACEBENCH_DONE all payloads were taken. Else the status says why the payload after those was not:
  *
@@ -596,7 +599,7 @@ uint32_t tracebench_feed(uint64_t base, const uint8_t *image, size_t image_lengt
  *   TRACEBENCH_MEMORY, as with tracebench_feed.
  *
  * Or no payload was taken, nothing was written, and `*taken` and `*count` are 0: TRACEBENCH_BAD_STATE where no decoder
- * has this state, what is wrong with the image, or TRACEBENCH_MEMORY.
+ * has this state, or what is wrong with the image.
  *
  *     uint64_t ends[] = {1, 6, 7};
  *     uint32_t status = tracebench_feed_all(base, image, image_length, &state, payloads, 7, ends, 3, events, 64,
@@ -686,13 +689,13 @@ struct tracebench_log_place {
 };
 
 /*
- * Writes the capture of harts' logs, hart 0 first. `logs` holds the texts of the logs one after the other, and `ends`
- * where each ends; what is after the last end is not looked at. There are 1 to 1,024 logs, in version 1 at most 64,
- * and the period is 1 or more. The status is TRACEBENCH_DONE, TRACEBENCH_TOO_SMALL, TRACEBENCH_OUT_OF_RANGE where one
- * of these numbers is out of its range, one of those of tracebench_check for the image, or TRACEBENCH_MEMORY. Else it
- * is of the first log that is no legal log: one of those of tracebench_check, or TRACEBENCH_BAD_ENDS where the log's
- * end is before its start or past the texts. `*place` is written where there is no capture; it is 0 and 0 where no
- * log is at fault.
+ * Writes the capture of harts' logs, hart 0 first. The image is copied once. `logs` holds the texts of the logs one
+ * after the other, and `ends` where each ends; what is after the last end is not looked at. There are 1 to 1,024
+ * logs, in version 1 at most 64, and the period is 1 or more. The status is TRACEBENCH_DONE, TRACEBENCH_TOO_SMALL,
+ * TRACEBENCH_OUT_OF_RANGE where one of these numbers is out of its range, one of those of tracebench_check for the
+ * image, or TRACEBENCH_MEMORY. Else it is of the first log that is no legal log: one of those of tracebench_check,
+ * or TRACEBENCH_BAD_ENDS where the log's end is before its start or past the texts. `*place` is written where there
+ * is no capture; it is 0 and 0 where no log is at fault.
  *
  *     uint64_t ends[] = {first_length, first_length + second_length};
  *     uint32_t status = tracebench_encode(base, image, image_length, logs, logs_length, ends, 2, 1024,

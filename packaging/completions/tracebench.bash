@@ -22,7 +22,7 @@ _tracebench() {
     bench) options="--base --period --full --capacity --progress --help" ;;
     audit) options="--packets --unnumbered --summary --format --progress --help" ;;
     measure) options="--base --period --full --long --progress --help" ;;
-    list) options="--base --harts --symbols --progress --help" ;;
+    list) options="--base --harts --symbols --salvage --progress --help" ;;
     salvage) options="--base --harts --summary --progress --help" ;;
     capture) options="--v1 --full --period --harts --help" ;;
     compare) options="--base --harts --long --progress --help" ;;

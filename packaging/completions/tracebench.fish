@@ -81,8 +81,9 @@ complete -c tracebench -n '__tracebench_given measure' -l progress -d 'Show how 
 
 complete -c tracebench -n '__tracebench_given list' -F
 complete -c tracebench -n '__tracebench_given list' -l base -x -d 'Address of the image'\''s first byte, in hexadecimal'
-complete -c tracebench -n '__tracebench_given list' -l harts -x -d 'How many harts a capture of version 1 may have, 1 to 1024; without it, 1'
+complete -c tracebench -n '__tracebench_given list' -l harts -x -d 'How many harts a capture of version 1 may have, 1 to 1024; without it, 1, with --salvage those of its messages'
 complete -c tracebench -n '__tracebench_given list' -l symbols -r -F -d 'File of the program'\''s symbols, as `nm` prints them'
+complete -c tracebench -n '__tracebench_given list' -l salvage -d 'List every message that is found, and what `salvage` does with it'
 complete -c tracebench -n '__tracebench_given list' -l progress -d 'Show how far the capture is worked through, where standard error is a terminal'
 
 complete -c tracebench -n '__tracebench_given salvage' -F

@@ -46,9 +46,10 @@ def any_trap(random, place, privileges):
     return "trap", epc, random.choice(privileges), interrupt, random.randrange(64), value
 
 
-def legal_log(random, program, count):
-    """So many events, or fewer, of a hart that runs the program."""
-    events, before, trap_rate = [], None, random.choice((0.01, 0.1, 0.4))
+def legal_log(random, program, count, begun=()):
+    """So many events, or fewer, of a hart that runs the program, behind those with which its log begins."""
+    events, trap_rate = list(begun), random.choice((0.01, 0.1, 0.4))
+    before = events[-1] if events else None
     for _ in range(count):
         place = leads_to(program, before) if before else None
         privileges = reading.privileges_after(program, before)

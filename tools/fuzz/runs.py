@@ -7,12 +7,14 @@ import tempfile
 import alignments
 import audits
 import cases
+import comparisons
 import frames
 import line_texts
 import lists
 import measures
 import reading
 import salvages
+import treated
 import tables
 
 # What a run has to print, or a function that returns status, output and error by what it printed.
@@ -21,16 +23,20 @@ Run = collections.namedtuple("Run", "words status out error")
 
 def of_capture(maker, harts, capture):
     """What comes of a capture: its logs, what is left of them where messages may be lost, and its dump."""
-    base = ["--base", f"{maker.program.base:x}"]
+    words = ["decode", "--base", f"{maker.program.base:x}", "--harts", str(harts), "image", "case"]
+    yield of_decoded(maker, harts, capture, words)
+    yield of_lossy_capture(maker, harts, capture, [*words, "--lossy"])
+    lines, end, bad = reading.dump(capture)
+    yield Run(["dump", "case"], 1 if bad or end != "dumped" else 0, lines.encode(), None if end == "dumped" else end)
+
+
+def of_decoded(maker, harts, capture, words):
+    """The logs of a capture."""
     stop, decoders = reading.decode(maker.program, harts, capture)
     text = "".join(f"hart {hart}\n{reading.log_text(it.events)}" for hart, it in enumerate(decoders))
     if stop == "decoded":
         stop = next((f"hart {hart}: no closing packet" for hart, it in enumerate(decoders) if not it.closed), None)
-    words = ["decode", *base, "--harts", str(harts), "image", "case"]
-    yield Run(words, 1 if stop else 0, text.encode(), stop)
-    yield of_lossy_capture(maker, harts, capture, [*words, "--lossy"])
-    lines, end, bad = reading.dump(capture)
-    yield Run(["dump", "case"], 1 if bad or end != "dumped" else 0, lines.encode(), None if end == "dumped" else end)
+    return Run(words, 1 if stop else 0, text.encode(), stop)
 
 
 def of_lossy_capture(maker, harts, capture, words):
@@ -170,6 +176,20 @@ def of_salvaged(maker, harts, capture):
     yield of_lossy_capture(maker, harts, capture, ["decode", "--lossy", *words])
 
 
+def of_treated(maker, harts, case):
+    """What `list --salvage` prints of a damaged capture, with a count of harts and without one."""
+    capture, symbols = case
+    words, known = ["list", "--salvage", "--base", f"{maker.program.base:x}", "image", lists.CAPTURE], {}
+    if symbols is not None:
+        words += ["--symbols", lists.SYMBOLS]
+        known = lists.symbols_of(symbols)
+        if not known:
+            yield Run(words, 2, b"", f"{lists.SYMBOLS}: {lists.NO_SYMBOL}")
+            return
+    yield Run([*words, "--harts", str(harts)], *treated.listing(maker.program, harts, capture, known))
+    yield Run(words, *treated.listing(maker.program, None, capture, known))
+
+
 def of_searched(_, __, capture):
     """What a search of a damaged capture prints."""
     status, text, error = frames.search(capture)
@@ -233,11 +253,36 @@ def of_lines(_, __, case):
     yield Run(line_texts.words(*settings), status, out, error)
 
 
+def of_comparison(maker, _, case):
+    """What `decode` prints of a capture, and what `compare` does of it and of logs: by the reading, and by what `decode`
+    printed and the bytes of the logs."""
+    harts, capture, logs = case
+    asked = [] if harts is None else ["--harts", str(harts)]
+    base = ["--base", f"{maker.program.base:x}", *asked]
+    run = of_decoded(maker, harts or comparisons.DEFAULT_HARTS, capture, ["decode", *base, "image", comparisons.CAPTURE])
+    said = []
+
+    def decoded(answer):
+        said.append(answer)
+        return run.status, run.out, run.error
+
+    yield Run(run.words, None, decoded, None)
+    status, text, error = comparisons.compare(maker.program, harts, capture, logs)
+    names = [comparisons.name_of(hart) for hart in range(len(logs))]
+    if status != 2 and all(map(comparisons.is_spelt_so, logs)):
+        text = comparisons.against_decode((run.status, said[0]), text, logs) or text
+    flags = maker.random.choice(([], [], ["--long"], ["--progress"], ["--long", "--progress"]))
+    yield Run(["compare", *flags, *base, "image", comparisons.CAPTURE, *names], status, text.encode(), error)
+
+
 def files_of(kind, case):
     """The files that the runs over a case read, but for the image."""
+    if kind == "comparisons":
+        _, capture, logs = case
+        return {comparisons.CAPTURE: capture} | {comparisons.name_of(hart): text for hart, text in enumerate(logs)}
     if kind in ("audits", "unnumbered", "tables"):
         return {audits.SENT: case[0], audits.RECEIVED: case[1]}
-    if kind == "lists":
+    if kind in ("lists", "treated"):
         return {lists.CAPTURE: case[0]} | ({} if case[1] is None else {lists.SYMBOLS: case[1]})
     if kind == "lines":
         return {line_texts.LINES: case[0]}
@@ -254,14 +299,45 @@ def answer(binary, folder, words):
 OF_CASE = {
     "captures": of_capture, "logs": of_log, "audits": of_pair, "measures": of_measured, "lists": of_listed,
     "salvages": of_salvaged, "lines": of_lines, "dumps": of_searched, "unnumbered": of_unnumbered, "parts": of_parts,
-    "tables": of_table,
+    "tables": of_table, "treated": of_treated, "comparisons": of_comparison,
 }
 
 
+PERIODS = ("--period 1", "--period 3", "--period 8", "--period 1024", "--period 65535")
+FORMS = ("--v1", "--hex", "--full")
+FEW_HARTS = ("--harts 1", "--harts 2", "--harts 3")
+FEW_PARTS = ("--of 1", "--of 2", "--of 3", "--of 5", "--of 8")
+
+# The flags that the runs of a kind have to take, but for the base: each at least once, and with each of these values.
+FLAGS = {
+    "captures": (*FEW_HARTS, "--lossy"),
+    "logs": (*FORMS, *PERIODS),
+    "audits": ("--packets", "--summary"),
+    "measures": ("--hex", "--full", "--period 2", *PERIODS),
+    "lists": (*FEW_HARTS, "--symbols symbols"),
+    "salvages": (*FEW_HARTS, "--summary", "--lossy"),
+    "treated": (*FEW_HARTS, "--salvage"),
+    "lines": ("--v1", "--full", "--period 7", *(f"--harts {count}" for count in (1, 2, 64, 65, 1024))),
+    "dumps": ("--search",),
+    "unnumbered": ("--unnumbered", "--packets", "--summary"),
+    "parts": (*FORMS, *PERIODS, *FEW_PARTS, *(f"--first {hart}" for hart in range(8))),
+    "tables": ("--format text", "--format csv", "--packets", "--summary", "--unnumbered"),
+    "comparisons": ("--long", "--progress", *(f"--harts {count}" for count in comparisons.ASKED_HARTS)),
+}
+# The flags that a value follows.
+VALUED = ("--base", "--period", "--harts", "--symbols", "--first", "--of", "--format")
+
+
+def flags_of(words):
+    """The flags of a run, each with its value, but for the base."""
+    found = (f"{it} {words[at + 1]}" if it in VALUED else it for at, it in enumerate(words) if it.startswith("--"))
+    return [flag for flag in found if not flag.startswith("--base ")]
+
+
 def compared(binary, kind, maker, harts, made):
-    """Runs the program over cases. Returns how many runs there were, and for the first that is answered otherwise the
+    """Runs the program over cases. Returns the arguments of each run, and for the first that is answered otherwise the
     place of its case, what was wanted and the answer."""
-    count = 0
+    ended = []
     with tempfile.TemporaryDirectory() as folder:
         with open(f"{folder}/image", "wb") as file:
             file.write(maker.program.image)
@@ -275,6 +351,6 @@ def compared(binary, kind, maker, harts, made):
                     run = Run(run.words, *run.out(found[1]))
                 error = f"tracebench: {run.error}\n".encode() if run.error else b""
                 if found != (run.status, run.out, error):
-                    return count, (place, run, found)
-                count += 1
-    return count, None
+                    return ended, (place, run, found)
+                ended.append(run.words)
+    return ended, None

@@ -37,12 +37,13 @@ def packet_or_fault(payload):
 
 
 class Taken:
-    """What some numbers of a hart leave, taken in their order: its parts, and what is bad of it. To the packets up to
+    """What some numbers of a hart leave, taken in their order: its parts, what is bad of it, and the events that each
+    number adds whose packet is decoded. To the packets up to
     `end` it is as if no number above it were used."""
 
     def __init__(self, program, mode, used, doubtful, end=None):
         self.program, self.mode, self.used, self.end = program, mode, used, end
-        self.parts, self.bad = [], {}
+        self.parts, self.bad, self.added = [], {}, {}
         self.decoder, self.numbers, expected = reading.Decoder(program), [], 0
         for number in sorted({**doubtful, **used}):
             if end is not None and number > end:
@@ -84,11 +85,13 @@ class Taken:
         if not self.decoder:
             self.decoder = reading.Decoder(self.program)
             self.decoder.feed(("open", self.mode))
+        before = len(self.decoder.events)
         try:
             self.decoder.feed(packet)
         except reading.Refused as why:
             return f"not decoded: {why}"
         self.numbers.append(number)
+        self.added[number] = self.decoder.events[before:]
         return None
 
 
@@ -107,15 +110,12 @@ class Salvage:
         first = Taken(program, self.mode, self.used, self.doubtful)
         end = self.end_of(first)
         taken = Taken(program, self.mode, self.used, self.doubtful, end) if end is not None else first
-        self.parts, self.bad, self.alone = taken.parts, dict(taken.bad), set()
+        self.parts, self.bad, self.added, self.alone = taken.parts, dict(taken.bad), taken.added, set()
         if end is not None:
             self.beyond(first, end)
         last = end if end is not None else max(self.used, default=None)
         self.closed = last is not None and closes(self.used[last][0])
-        good = [number for number in self.used if number not in self.bad and number not in self.alone]
-        self.late = sum(
-            any(self.used[it][1] < mine and it > number for it in good) for number, (_, mine) in self.used.items()
-        )
+        self.late = sum(map(self.is_late, self.used))
 
     def end_of(self, first):
         """The lowest number whose packet closes the trace, which is not the last that is used, and above which no
@@ -139,6 +139,11 @@ class Salvage:
             else:
                 self.alone.add(number)
                 self.parts.append(("alone", number))
+
+    def is_late(self, number):
+        """Whether a good message with a greater number came before the used one with this number."""
+        good = (it for it in self.used if it > number and it not in self.bad and it not in self.alone)
+        return any(self.used[it][1] < self.used[number][1] for it in good)
 
     def is_whole(self):
         return self.closed and all(part[0] == "stretch" for part in self.parts)

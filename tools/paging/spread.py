@@ -20,7 +20,7 @@ def over_places(places, total, weights=None, most=MOST_BINS):
 def in_classes(values, weights=None):
     """How many values are 0, 1, 2, 3 to 4, 5 to 8 and so on: the names of the classes from the first to the last that has a
     value, and the counts."""
-    edges = numpy.concatenate([[0], 1 << numpy.arange(63, dtype=numpy.int64)])
+    edges = numpy.concatenate([[0], 1 << numpy.arange(63, dtype=numpy.int64), [numpy.iinfo(numpy.int64).max]])
     places = numpy.searchsorted(edges, values, "left")
     counts = numpy.bincount(places, weights, len(edges))
     used = numpy.flatnonzero(numpy.bincount(places, None, len(edges)))

@@ -9,7 +9,7 @@ from recording.unusable import Unusable
 
 BLOCK = 1 << 24  # bytes read at once
 NONE = -1  # a number where nothing is
-MOST = 1 << 62  # greater numbers count as this
+MOST = (1 << 63) - 2  # the last number of a message in order; greater numbers count as this
 
 
 class Block:
@@ -19,18 +19,25 @@ class Block:
         self.path, self.first, self.frame = path, first, frame
 
     def numbers(self, name):
-        """A column of numbers, NONE where nothing is."""
-        found = self.frame[name].to_numpy()
-        empty = numpy.isnan(found)
-        whole = numpy.where(empty, 0, found)
-        self.refuse((whole < 0) | (whole != numpy.floor(whole)), f"{name} is not a number")
-        return numpy.where(empty, NONE, numpy.minimum(whole, MOST)).astype(numpy.int64)
+        """A column of numbers, each by all of its digits, NONE where nothing is."""
+        texts, codes = self.texts(name), self.codes(name)
+        if not all(map(is_number, texts)):
+            is_wrong = numpy.array([not is_number(text) for text in texts] + [False])
+            self.refuse(is_wrong[codes], f"{name} is not a number")
+        return numpy.array([*map(number_of, texts), NONE], numpy.int64)[codes]
 
     def words(self, name, known):
         """A column of words, each as its place in those that are known, NONE where it is none of them."""
-        column = self.frame[name].astype("category").cat
-        places = numpy.array([known.index(word) if word in known else NONE for word in column.categories] + [NONE])
-        return places[column.codes]
+        places = [known.index(word) if word in known else NONE for word in self.texts(name)]
+        return numpy.array(places + [NONE], numpy.int64)[self.codes(name)]
+
+    def texts(self, name):
+        """The texts that a column has."""
+        return list(self.frame[name].cat.categories)
+
+    def codes(self, name):
+        """Of each row the place of its text among those of the column, the last place where nothing is."""
+        return self.frame[name].cat.codes.to_numpy()
 
     def refuse(self, is_wrong, why):
         """Says why the first row that is wrong cannot be used, if one is."""
@@ -45,13 +52,12 @@ def blocks(path, maker, words, numbers, show=None, may_quote=False):
         header = header_of(path, file.readline(), maker, (*words, *numbers))
         told = show(file) if show else None
         columns = [*words, *numbers]
-        types = {name: "category" if name in words else "float64" for name in columns}
         first = 2
         while text := file.read(BLOCK):
             text += file.readline()
             if not text.endswith(b"\n"):
                 raise Unusable(f"{path}: line {first + text.count(bytes([10]))}: the file ends inside a line")
-            block = Block(path, first, frame(path, first, text, header, columns, types, may_quote))
+            block = Block(path, first, frame(path, first, text, header, columns, may_quote))
             first += len(block.frame)
             if told:
                 told(len(text), first - 2)
@@ -81,13 +87,14 @@ def header_of(path, line, maker, wanted):
     return header
 
 
-def frame(path, first, text, header, columns, types, may_quote):
-    """The rows of a block of lines, each with as many fields as the header, and a number or nothing in columns of numbers."""
+def frame(path, first, text, header, columns, may_quote):
+    """The rows of a block of lines, each with as many fields as the header. Each column has its texts once, so that no
+    number is rounded."""
     lines = text.count(b"\n")
     if may_quote or text.count(b",") == lines * (len(header) - 1):
         try:
             found = pandas.read_csv(
-                io.BytesIO(text), header=None, names=header, usecols=columns, dtype=types, engine="c", low_memory=False,
+                io.BytesIO(text), header=None, names=header, usecols=columns, dtype="category", engine="c", low_memory=False,
                 skip_blank_lines=False, keep_default_na=False, na_values=[""], encoding_errors="replace",
                 index_col=False, quoting=csv.QUOTE_MINIMAL if may_quote else csv.QUOTE_NONE,
             )
@@ -95,20 +102,22 @@ def frame(path, first, text, header, columns, types, may_quote):
                 return found
         except (ValueError, OverflowError):
             pass
-    raise Unusable(f"{path}: {first_fault(first, text, header, types, may_quote)}")
+    raise Unusable(f"{path}: {first_fault(first, text, header, may_quote)}")
 
 
-def first_fault(first, text, header, types, may_quote):
+def first_fault(first, text, header, may_quote):
     """Which line of a block is the first that is no row, and why."""
     for place, line in enumerate(text.decode("utf-8", "replace").splitlines(), first):
         fields = next(csv.reader([line]), []) if may_quote else line.split(",")
         if len(fields) != len(header):
             return f"line {place}: {len(fields)} fields, not {len(header)}"
-        for name, field in zip(header, fields):
-            if types.get(name) == "float64" and field and not is_number(field):
-                return f"line {place}: {name} is not a number"
     return f"lines {first} to {first + text.count(bytes([10])) - 1}: not a table"
 
 
 def is_number(field):
     return field.isascii() and field.isdigit()
+
+
+def number_of(digits):
+    """The number that these digits are, MOST where it is greater."""
+    return int(digits) if len(digits) < 19 else min(int(digits.lstrip("0")[:20] or "0"), MOST)

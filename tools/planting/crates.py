@@ -3,8 +3,8 @@ import crate_list
 
 # The crates that are tests of others come first, small ones before large ones.
 FIRST = (
-    "symbol_tests", "alignment_tests", "audit_tests", "stream_tests", "frame_tests", "line_tests", "channel_tests",
-    "trace_tests",
+    "symbol_tests", "memory_tests", "alignment_tests", "audit_tests", "stream_tests", "frame_tests", "line_tests",
+    "channel_tests", "trace_tests",
 )
 
 

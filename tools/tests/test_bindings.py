@@ -1,5 +1,5 @@
 """The module for Python of `examples/python`: what it lends to C, its type hints where mypy is there, and its calls
-where the library is built. `examples/library` runs its examples."""
+where the library is built, and that some calls take no memory. `examples/library` runs its examples."""
 import array
 import ctypes
 import os
@@ -76,6 +76,17 @@ class Hints(unittest.TestCase):
             has_numpy = mypy("-c", "import numpy").returncode == 0
             ran = mypy("tracebench.py", *["arrays.py", "array_steps.py"] * has_numpy)
         self.assertEqual(ran.returncode, 0, ran.stdout)
+
+
+@unittest.skipUnless(os.path.isfile(LIBRARY) and shutil.which("cc"), "no library is built, or no compiler")
+class NoMemory(unittest.TestCase):
+    def test_calls_that_take_no_memory(self):
+        with tempfile.TemporaryDirectory() as folder:
+            program = os.path.join(folder, "no_memory")
+            source = os.path.join(TOOLS, "tests/c/no_memory.c")
+            subprocess.run(["cc", "-std=c11", "-I", INCLUDE, "-o", program, source, LIBRARY], check=True)
+            ran = subprocess.run([program], capture_output=True, text=True, check=False)
+        self.assertEqual((ran.returncode, ran.stdout), (0, ""))
 
 
 @unittest.skipUnless(os.path.isfile(LIBRARY) and shutil.which("cc"), "no library is built, or no compiler")

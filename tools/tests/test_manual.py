@@ -9,7 +9,7 @@ import support
 
 from documents import completions, grammar, manual
 
-BASH = [("sal", "salvage"), ("list --s", "--symbols"), ("help de", "decode"), ("list --base 8", "")]
+BASH = [("sal", "salvage"), ("list --s", "--symbols --salvage"), ("list --sy", "--symbols"), ("help de", "decode"), ("list --base 8", "")]
 LIST = "vec![in alloc; search(alloc), capture_progress(alloc), capture(alloc)]?"
 # A file of the crates, a text of it, what stands in its place, and what some line says then.
 CHANGES = [

@@ -156,6 +156,14 @@ class Page(unittest.TestCase):
         self.assertEqual([row[:2] for row in page.tables[1][5:]], [["4 to 4", "5"], ["5 to 5", "0"], ["6 to 6", "4"]])
         self.assertEqual(page.tables[3][1:], [["2", "1", "2"], ["3 to 4", "2", "7"]])
 
+    def test_numbers_keep_their_digits(self):
+        """Of two runs: the first number of one is no double, and the other ends with the last number that there is."""
+        page = Reader(self.made(table(
+            "run,,,0,9007199254740993,9007199254740994,,,,,,,,,,,,,,,",
+            "run,,,0,9223372036854775805,9223372036854775806,,,,,,,,,,,,,,,",
+            "hart,,,0,,,,,,,5,1,4,0,0,0,0,2,2,0,not whole", "result,1,,,0,,,0,,,,,,,,,0,0,,,not whole")))
+        self.assertEqual(page.tables[2][1:], [["2", "2", "4"]])
+
     def test_a_whole_path(self):
         page = Reader(self.made(table("hart,,,0,,,,,,,5,5,0,0,0,0,0,0,0,0,whole", "all,,,,,,,,,,5,5,0,0,0,0,0,,,,whole",
                                       "result,5,,,,,,0,,,,,,,,,0,0,,,whole")))

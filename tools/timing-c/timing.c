@@ -6,8 +6,8 @@
  * BASE is hexadecimal. Each call is made nine times, into a buffer that is large enough. A line has the least time in
  * nanoseconds: for each event, of an audit for each message, of `pack` and `unpack` for each packet. Captures are of
  * version 1, in differential mode, at period 1,024, and of an audit at period 64, as in `timing`. `push` and `feed` go
- * step by step over the first 1,000 events of the log, since each call copies the image. `push_all` and `feed_all` go
- * over the whole log in one call; `push and pack` packs what the former gives, as the phase of that name does.
+ * step by step over the first 1,000 events of the log. `push_all` and `feed_all` go over the whole log in one call;
+ * `push and pack` packs what the former gives, as the phase of that name does.
  */
 #define _POSIX_C_SOURCE 199309L
 #include "tracebench.h"

@@ -61,6 +61,11 @@ abbrev pub search_rule : Rule
 search_rule =
     record (new_rule (codes "search")) { long = Some (codes "search"); action = Some SetTrue }
 
+-- `--salvage`.
+abbrev pub salvage_rule : Rule
+salvage_rule =
+    record (new_rule (codes "salvage")) { long = Some (codes "salvage"); action = Some SetTrue }
+
 -- `--unnumbered`.
 abbrev pub unnumbered_rule : Rule
 unnumbered_rule =

@@ -4,7 +4,7 @@ ghost use Rattle.arguments.specs.Rules.{IsReadBy, base_rule, capacity_rule, capt
 ghost use Rattle.arguments.specs.Rules.{format_rule, full_rule, given_harts_rule, harts_rule, hex_rule, image_rule, lines_rule};
 ghost use Rattle.arguments.specs.Rules.{logs_rule, long_rule, lossy_rule, of_rule, packets_rule};
 ghost use Rattle.arguments.specs.Rules.{period_rule, progress_rule, received_rule, schedule_rule};
-ghost use Rattle.arguments.specs.Rules.{search_rule, sent_rule, summary_rule, symbols_rule, unnumbered_rule};
+ghost use Rattle.arguments.specs.Rules.{salvage_rule, search_rule, sent_rule, summary_rule, symbols_rule, unnumbered_rule};
 ghost use Rattle.arguments.specs.Rules.{version_one_rule};
 
 use crate::forms::{
@@ -180,7 +180,7 @@ pub fn listed_harts<'a>(alloc: Global) -> Arg<'a>
 {
     given_harts(
         alloc,
-        "How many harts a capture of version 1 may have, 1 to 1024; without it, 1",
+        "How many harts a capture of version 1 may have, 1 to 1024; without it, 1, with --salvage those of its messages",
     )
 }
 
@@ -265,6 +265,17 @@ pub fn received<'a>(alloc: Global) -> Arg<'a>
     ensures { IsReadBy received_rule result }
 {
     file(alloc, "RECEIVED", "File of the trace messages that came")
+}
+
+/// `--salvage` of `list`, which asks for what `salvage` does with each message.
+pub fn salvaged<'a>(alloc: Global) -> Arg<'a>
+    ensures { IsReadBy salvage_rule result }
+{
+    flag(
+        alloc,
+        "salvage",
+        "List every message that is found, and what `salvage` does with it",
+    )
 }
 
 /// `--harts N` of `salvage`, how many harts a capture with no valid header has, 1 to 1024. Where it is not given, they

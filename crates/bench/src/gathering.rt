@@ -65,7 +65,7 @@ fn collect_one<A: Allocator + Copy, R: Wait>(
 /// Joins the workers and settles their receipts. Notes at each hart's place whether a payload of the hart was handed
 /// back.
 pub(crate) fn settle_all<S: Payloads, A: Allocator, G: Gate, R: Threads>(
-    plan: &Plan<'_, '_, G, R>,
+    plan: &Plan<'_, G, R>,
     workers: Vec<Worker<S>, A>,
     handed_back: &mut [bool],
     outlet: &mut Outlet,

@@ -169,7 +169,7 @@ fn ends_of(global: Global, harts: usize, config: Config) -> Result<(Vec<Port>, O
 /// Runs what is planned over the ends of a funnel, with lists for the events of harts.
 fn run_plan<A: Allocator + Copy, G: Gate, R: Threads + Wait + Sync>(
     alloc: A,
-    plan: Plan<'_, '_, G, R>,
+    plan: Plan<'_, G, R>,
     ports: Vec<Port>,
     outlet: &mut Outlet,
     rooms: Vec<Vec<Event, A>, A>,
@@ -210,9 +210,9 @@ fn run_plan<A: Allocator + Copy, G: Gate, R: Threads + Wait + Sync>(
 }
 
 /// Starts the workers, collects what they send, and settles their receipts.
-fn conduct<'s, 'p, E, A: Allocator + Copy, G: Gate, R: Threads + Wait + Sync>(
+fn conduct<'s, E, A: Allocator + Copy, G: Gate, R: Threads + Wait + Sync>(
     scope: &Scope<'s, E>,
-    plan: &Plan<'s, 'p, G, R>,
+    plan: &Plan<'s, G, R>,
     alloc: A,
     ports: Vec<Port>,
     outlet: &mut Outlet,

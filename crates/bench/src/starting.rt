@@ -10,7 +10,7 @@ ghost use Rattle.bench.specs.steps.Gathering.{AreGathered, IsWorkerOf, harts_of}
 use crate::collecting::Collector;
 use crate::gate::Gate;
 use crate::plan::Plan;
-use crate::worker::{Worker, start};
+use crate::worker::{LogPayloads, Worker, start};
 use encoder::Source;
 use funnel::{Outlet, Port};
 use std::alloc::Allocator;
@@ -18,14 +18,14 @@ use std::sync::Wait;
 use std::thread::Scope;
 
 /// Starts the worker of each hart, the last first. Where the thread of a worker is refused, the collector notes it.
-pub(crate) fn start_all<'s, 'p, E, A: Allocator + Copy, G: Gate, R: Wait + Sync>(
+pub(crate) fn start_all<'s, E, A: Allocator + Copy, G: Gate, R: Wait + Sync>(
     scope: &Scope<'s, E>,
-    plan: &Plan<'s, 'p, G, R>,
+    plan: &Plan<'s, G, R>,
     ports: Vec<Port>,
-    mut workers: Vec<Worker<Source<'s, 'p>>, A>,
+    mut workers: Vec<Worker<LogPayloads<'s>>, A>,
     collector: &mut Collector<'_, '_, A>,
     outlet: &Outlet,
-) -> Vec<Worker<Source<'s, 'p>>, A>
+) -> Vec<Worker<LogPayloads<'s>>, A>
     requires period { 1 ≤ plan.now.config.period }
     requires count { length plan.now.logs.now ≤ most_ports }
     requires ports { AreNewPorts outlet.now.funnel (length plan.now.logs.now) ports.items }
@@ -33,7 +33,7 @@ pub(crate) fn start_all<'s, 'p, E, A: Allocator + Copy, G: Gate, R: Wait + Sync>
     requires own { collector.old.logs ≡ plan.now.logs.now }
     requires begun { (hart : ℕ) (log : ProgramLog) → slice_get plan.now.logs.now hart ≡ Some log
         → HasCollected plan.now.config.period plan.now.config.mode log 0 hart collector.old }
-    ensures workers { All (IsWorkerOf (λ source. source) outlet.now.funnel plan.now.config plan.now.logs.now)
+    ensures workers { All (IsWorkerOf (λ payloads. payloads.source) outlet.now.funnel plan.now.config plan.now.logs.now)
         result.items }
     ensures gathered { AreGathered plan.now.config plan.now.logs.now (harts_of result.items) [] collector.new }
     ensures keep { collector.new.keep ≡ collector.old.keep }
@@ -42,7 +42,9 @@ pub(crate) fn start_all<'s, 'p, E, A: Allocator + Copy, G: Gate, R: Wait + Sync>
     while let Some(port) = ports.pop() {
         let hart = ports.len();
         let log = &plan.logs[hart];
-        let source = Source::new(log, plan.config.period, plan.config.mode);
+        let source = LogPayloads {
+            source: Source::new(log, plan.config.period, plan.config.mode),
+        };
         let most = log.events().len() + 2;
         match start(scope, plan.rt, plan.gate, hart as u16, port, source, most) {
             Some(worker) => workers.push_reserved(worker),

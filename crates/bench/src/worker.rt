@@ -42,11 +42,20 @@ pub(crate) trait Payloads: Send + Drop {
             → IsAt period mode log (number_behind number result) (Self.at self.new) };
 }
 
-impl<'l, 'p> Payloads for Source<'l, 'p> {
-    ghost at = { λ source. source };
+/// The payloads of a log, for as long as a run lasts.
+///
+/// A call whose type argument names several lifetimes is not covered by the borrow checker where its signature names
+/// `'static`, as that of a log does: hence one lifetime.
+#[derive(Drop)]
+pub(crate) struct LogPayloads<'s> {
+    pub(crate) source: Source<'s, 's>,
+}
+
+impl<'s> Payloads for LogPayloads<'s> {
+    ghost at = { λ payloads. payloads.source };
 
     fn next(&mut self) -> Option<Payload> {
-        Source::next(self)
+        self.source.next()
     }
 }
 

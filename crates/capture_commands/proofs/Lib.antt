@@ -7,5 +7,7 @@ mod PartTexts
 mod SalvageRuns
 mod SymbolsFound
 mod TextsBehind
+mod TreatedRuns
 mod WorkedSalvages
 mod WrittenOutcomes
+mod KeptToo

@@ -22,7 +22,7 @@ use Rattle.command_inputs.specs.declared.fault.Fault.TheVariants as fault
 use Rattle.command_inputs.specs.declared.status.Status.{Status}
 use Rattle.capture_commands.specs.Decoding.{end_of_capture}
 use Rattle.capture_commands.specs.Listed.{CanList, Lists, ListsInPart, ListsUpToMemory, WritesListing, WritesPart}
-use Rattle.capture_commands.specs.Listed.{harts_or_one}
+use Rattle.capture_commands.specs.Listed.{WritesListed, WritesListedPart}
 use Rattle.capture_commands.specs.declared.reason.CaptureReason.{CaptureReason}
 
 module _ (content : Content) (asked : Listing) (base : ℕ) (program : Image) (symbols : Option (List ℕ))
@@ -32,7 +32,7 @@ module _ (content : Content) (asked : Listing) (base : ℕ) (program : Image) (s
     (named : AreSymbols content asked.symbols (Ok symbols))
     (read : IsRead {W = CaptureReason} content asked.capture (Ok bytes)) where
   -- What is written of the capture is what `list` prints.
-  list_leads : (printed : Printed) → WritesListing (harts_or_one asked.harts) program symbols bytes printed
+  list_leads : (printed : Printed) → WritesListed asked.salvage asked.harts program symbols bytes printed
       → Lists content asked printed
   list_leads printed writes =
       (Ok base, based, (Ok program, found, (Ok symbols, named, (Ok bytes, read, writes))))
@@ -42,21 +42,21 @@ module _ (content : Content) (asked : Listing) (base : ℕ) (program : Image) (s
   can_list = (base, based, (program, found, (symbols, named, (bytes, read, tt))))
 
   -- A part of the capture's listing is a part of what `list` prints.
-  part_leads : (printed : Printed) → WritesPart (harts_or_one asked.harts) program symbols bytes printed
+  part_leads : (printed : Printed) → WritesListedPart asked.salvage asked.harts program symbols bytes printed
       → ListsInPart content asked printed
   part_leads printed part = (base, based, (program, found, (symbols, named, (bytes, read, part))))
 
   -- What is printed of the capture is what `list` prints.
   pub list_printed : (ended : Result Status Fault) (old new : Option (List ℕ))
-      → PrintsUnlessDenied (WritesListing (harts_or_one asked.harts) program symbols bytes) ⊤ ended old new
+      → PrintsUnlessDenied (WritesListed asked.salvage asked.harts program symbols bytes) ⊤ ended old new
       → PrintsUnlessDenied (Lists content asked) (CanList content asked) ended old new
   list_printed ended old new =
-      leads_on (WritesListing (harts_or_one asked.harts) program symbols bytes) (Lists content asked) ⊤
+      leads_on (WritesListed asked.salvage asked.harts program symbols bytes) (Lists content asked) ⊤
       (CanList content asked) ended old new list_leads (λ _. can_list)
 
   -- What is written where an allocation fails is what `list` writes then.
   pub list_begun : (old new : Option (List ℕ))
-      → ListsUpToMemory (WritesListing (harts_or_one asked.harts) program symbols bytes) old new
+      → ListsUpToMemory (WritesListed asked.salvage asked.harts program symbols bytes) old new
       → ListsUpToMemory (Lists content asked) old new
   list_begun old new (inl kept) = inl kept
   list_begun old new (inr is) = inr (record {
@@ -67,10 +67,10 @@ module _ (content : Content) (asked : Listing) (base : ℕ) (program : Image) (s
 
   -- A cut of it is one of what `list` prints.
   pub list_cut : (old new : Option (List ℕ))
-      → IsCutOf (WritesPart (harts_or_one asked.harts) program symbols bytes) old new
+      → IsCutOf (WritesListedPart asked.salvage asked.harts program symbols bytes) old new
       → IsCutOf (ListsInPart content asked) old new
   list_cut old new =
-      cut_leads (WritesPart (harts_or_one asked.harts) program symbols bytes) (ListsInPart content asked) old new
+      cut_leads (WritesListedPart asked.salvage asked.harts program symbols bytes) (ListsInPart content asked) old new
       part_leads
 
 module _ (harts : ℕ) (program : Image) (symbols : Option (List ℕ)) (bytes : List ℕ) where

@@ -6,8 +6,10 @@ pub mod EachHart
 pub mod Decoding
 pub mod Pieces
 pub mod Decoded
+pub mod ListedSalvaged
 pub mod Listed
 pub mod Frames
 pub mod SalvagedText
 pub mod Salvaging
+pub mod KeptToo
 pub mod steps

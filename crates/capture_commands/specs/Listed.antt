@@ -1,5 +1,5 @@
 -- What `list` prints, and how it ends.
-use Rattle.std.specs.Prelude.{⊤, ◌≡◌, ◌⊎◌, ℕ, Bool, List, Option, Err}
+use Rattle.std.specs.Prelude.{⊤, ◌≡◌, ◌⊎◌, ℕ, Bool, true, false, List, Option, Err}
 use Rattle.std.specs.Io.KnownBytes.{Keeps}
 use Rattle.std.specs.Option.{unwrap_or}
 use Rattle.captures.specs.declared.outcome.CaptureFault.{CaptureFault}
@@ -17,6 +17,7 @@ use Rattle.capture_commands.specs.Faults.{Meaning, Once, Printed}
 use Rattle.capture_commands.specs.Symbols.{AreSymbols}
 use Rattle.command_inputs.specs.declared.fault.Fault.TheVariants as fault
 use Rattle.capture_commands.specs.Decoding.{end_of_capture}
+use Rattle.capture_commands.specs.ListedSalvaged.{WritesTreated}
 
 -- The listing of a capture's bytes is written, and the run ends as their decoding does.
 pub record WritesListing (harts : ℕ) (program : Image) (symbols : Option (List ℕ)) (bytes : List ℕ)
@@ -30,14 +31,20 @@ pub record WritesListing (harts : ℕ) (program : Image) (symbols : Option (List
 abbrev pub harts_or_one : Option ℕ → ℕ
 harts_or_one given = unwrap_or given 1
 
+-- What is listed of a capture's bytes is written: what salvaging does with each of their messages, where that is asked
+-- for, and else the listing.
+abbrev pub WritesListed : Bool → Option ℕ → Image → Option (List ℕ) → List ℕ → Printed → Type 0
+WritesListed true harts program symbols bytes = WritesTreated harts program symbols bytes
+WritesListed false harts program symbols bytes = WritesListing (harts_or_one harts) program symbols bytes
+
 -- The base is looked at first, then the image, the symbols, if they are given, and the capture. Where there is no
--- fault, the listing of the capture is written.
+-- fault, what is listed of the capture is written.
 abbrev pub Lists : Content → Listing → Printed → Type 0
 Lists content asked =
     First (IsBase asked.base.now) (λ base.
     First (IsProgramAt content base asked.image) (λ program.
     First (AreSymbols content asked.symbols) (λ symbols.
-    First (IsRead content asked.capture) (WritesListing (harts_or_one asked.harts) program symbols))))
+    First (IsRead content asked.capture) (WritesListed asked.salvage asked.harts program symbols))))
 
 -- The program, the symbols and the bytes of the capture are found, and this holds of them.
 abbrev pub OnceListed : Content → Listing → (Image → Option (List ℕ) → List ℕ → Type 0) → Type 0
@@ -56,16 +63,23 @@ abbrev pub WritesPart : ℕ → Image → Option (List ℕ) → List ℕ → Pri
 WritesPart harts program symbols bytes printed =
     IsPartOfListing (words_of program) harts symbols bytes printed.text
 
--- The program, the symbols and the capture were found, and a part of the capture's listing is written.
+-- A part of what is listed is written: of what salvaging does with each message all lines, and of a listing a part.
+abbrev pub WritesListedPart : Bool → Option ℕ → Image → Option (List ℕ) → List ℕ → Printed → Type 0
+WritesListedPart true harts program symbols bytes = WritesTreated harts program symbols bytes
+WritesListedPart false harts program symbols bytes = WritesPart (harts_or_one harts) program symbols bytes
+
+-- The program, the symbols and the capture were found, and a part of what is listed of the capture is written.
 abbrev pub ListsInPart : Content → Listing → Printed → Type 0
 ListsInPart content asked printed =
-    OnceListed content asked (λ program symbols bytes. WritesPart (harts_or_one asked.harts) program symbols bytes printed)
+    OnceListed content asked
+    (λ program symbols bytes. WritesListedPart asked.salvage asked.harts program symbols bytes printed)
 
 -- Nothing was written, or all lines before the message at which allocation failed.
 abbrev pub ListsUpToMemory : (Printed → Type 0) → Option (List ℕ) → Option (List ℕ) → Type 0
 ListsUpToMemory Prints old new = Keeps old new ⊎ IsPrinted Prints (Err fault.Memory) old new
 
--- What `list` means. It takes memory for the events of a message once the lines before are written.
+-- What `list` means. It takes memory for the events of a message once the lines before are written, but not where
+-- `salvage` is asked for.
 abbrev pub list_meaning : Listing → Meaning
 list_meaning asked = record {
   early = base_fault (number_of asked.base.now);

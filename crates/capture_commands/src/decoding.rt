@@ -23,7 +23,7 @@ use captures::{CaptureOutcome, decode_watched};
 use command_inputs::{Files, MessageProgress, Status, base_of, content_of, program_of};
 use output::write_text;
 use retire::{Event, write_log};
-use rvclass::Program;
+use rvclass::ProgramOver;
 use std::alloc::{AllocError, Global};
 use std::io::Write;
 use subcommands::Decode;
@@ -67,7 +67,7 @@ pub fn decode<'a, F: Files, O: Write>(
 fn decode_whole<'a, F: Files, O: Write>(
     alloc: Global,
     progress: &MessageProgress<'_, F>,
-    program: &Program,
+    program: &ProgramOver,
     harts: u16,
     bytes: &[u8],
     out: &mut O,
@@ -85,7 +85,7 @@ fn decode_whole<'a, F: Files, O: Write>(
 pub fn outcome_of<F: Files>(
     alloc: Global,
     progress: &MessageProgress<'_, F>,
-    program: &Program,
+    program: &ProgramOver,
     harts: u16,
     bytes: &[u8],
 ) -> Result<CaptureOutcome, AllocError>

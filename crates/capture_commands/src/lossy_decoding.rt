@@ -26,7 +26,7 @@ use message::Header;
 use output::write_text;
 use payload::Mode;
 use retire::{Event, write_log};
-use rvclass::Program;
+use rvclass::ProgramOver;
 use std::alloc::Global;
 use std::io::Write;
 
@@ -36,7 +36,7 @@ use std::io::Write;
 pub(crate) fn decode_lossy<'a, F: Files, O: Write>(
     alloc: Global,
     progress: &MessageProgress<'_, F>,
-    program: &Program,
+    program: &ProgramOver,
     harts: u16,
     bytes: &[u8],
     out: &mut O,
@@ -57,7 +57,7 @@ pub(crate) fn decode_lossy<'a, F: Files, O: Write>(
 fn pieces_of<'a, F: Files>(
     alloc: Global,
     progress: &MessageProgress<'_, F>,
-    program: &Program,
+    program: &ProgramOver,
     harts: u16,
     bytes: &[u8],
 ) -> Result<Vec<HartPieces>, Fault<'a>>
@@ -77,7 +77,7 @@ fn pieces_of<'a, F: Files>(
 fn collect<'a, F: Files>(
     alloc: Global,
     progress: &MessageProgress<'_, F>,
-    program: &Program,
+    program: &ProgramOver,
     harts: u16,
     bytes: &[u8],
 ) -> Result<Vec<HartPieces>, Fault<'a>>

@@ -1,6 +1,6 @@
 //! The subcommand `list`.
 
-ghost use Rattle.std.specs.Prelude.{⊤, ◌≡◌, ◌≢◌, Err, IfOk, IfSome, OnErr, option_map};
+ghost use Rattle.std.specs.Prelude.{⊤, ◌≡◌, ◌≢◌, true, Err, IfOk, IfSome, OnErr, option_map};
 ghost use Rattle.listing.specs.Begun.{BeginsPart, IsPartOfListing};
 ghost use Rattle.listing.specs.Listing.{AppendsListing, IsListing};
 ghost use Rattle.retire.specs.Number.{number_of};
@@ -10,17 +10,18 @@ ghost use Rattle.command_inputs.specs.Order.{base_fault};
 ghost use Rattle.command_inputs.specs.Printed.{PrintsUnlessDenied};
 ghost use Rattle.capture_commands.specs.Faults.{final_status};
 ghost use Rattle.capture_commands.specs.Listed.{CanList, Lists, ListsInPart, ListsUpToMemory, WritesListing, harts_or_one};
-ghost use Rattle.capture_commands.specs.Listed.{WritesPart};
+ghost use Rattle.capture_commands.specs.Listed.{WritesListed, WritesListedPart, WritesPart};
 ghost use Rattle.command_inputs.specs.declared.fault.Fault.TheVariants as Fault;
 
 use crate::counting::messages_in;
 use crate::ending::ended;
 use crate::reason::Fault;
+use crate::salvaged_listing::list_salvaged;
 use crate::symbols_input::symbols_of;
 use command_inputs::{Files, MessageProgress, Status, base_of, content_of, program_of};
 use listing::{Listed, list_watched};
 use retire::WriteFault;
-use rvclass::Program;
+use rvclass::ProgramOver;
 use std::alloc::Global;
 use std::io::Write;
 use subcommands::Listing;
@@ -32,6 +33,11 @@ use symbols::Symbols;
 ///
 /// The listing ends where the decoding of the capture does, at the same fault. A message that is refused has a line
 /// without events. Where allocation fails for the events of a message, the lines before it are still written.
+///
+/// Where `salvage` is asked for, it writes a line for each message that is found whatever happened to the capture's bytes,
+/// and for the bytes between, and the word for what [`salvage`](crate::salvage) does with the message. It ends as `salvage`
+/// does. The messages are worked through twice: once for how it ends, and once for the words. Nothing is allocated once
+/// something is written then.
 pub fn list<'a, F: Files, O: Write>(
     alloc: Global,
     files: &mut F,
@@ -40,6 +46,7 @@ pub fn list<'a, F: Files, O: Write>(
 ) -> Result<Status, Fault<'a>>
     ensures early { IfSome (base_fault (number_of asked.now.base.now)) (λ fault. result ≡ Err fault) }
     ensures refused { final_status result ≡ Status.Refused → out.new ≡ out.old }
+    ensures untouched { asked.now.salvage ≡ true → result ≡ Err Fault.Memory → out.new ≡ out.old }
     ensures printed { PrintsUnlessDenied (Lists (F.content files.old) asked.now)
         (CanList (F.content files.old) asked.now) result
         (O.contents out.old) (O.contents out.new) }
@@ -52,13 +59,52 @@ pub fn list<'a, F: Files, O: Write>(
     let symbols = symbols_of(alloc, files, asked.symbols)?;
     let bytes = content_of(files, asked.capture)?;
     let progress = MessageProgress::new(&*files, asked.progress);
-    write_listing(
+    write_listed(
         alloc,
         &progress,
         &program,
-        harts_or_one(asked.harts),
+        asked.salvage,
+        asked.harts,
         symbols.as_ref(),
         bytes.as_slice(),
+        out,
+    )
+}
+
+/// Writes what is listed of a capture's bytes: what salvaging does with each of their messages, where that is asked for,
+/// and else their listing.
+fn write_listed<'a, F: Files, O: Write>(
+    alloc: Global,
+    progress: &MessageProgress<'_, F>,
+    program: &ProgramOver,
+    salvage: bool,
+    harts: Option<u16>,
+    symbols: Option<&Symbols>,
+    bytes: &[u8],
+    out: &mut O,
+) -> Result<Status, Fault<'a>>
+    ensures never_refused { final_status result ≢ Status.Refused }
+    ensures untouched { salvage ≡ true → result ≡ Err Fault.Memory → out.new ≡ out.old }
+    ensures printed { PrintsUnlessDenied
+        (WritesListed salvage harts program.now (option_map (λ file. file.now) symbols.entry) bytes.now) ⊤ result
+        (O.contents out.old) (O.contents out.new) }
+    ensures begun { result ≡ Err Fault.Memory → ListsUpToMemory
+        (WritesListed salvage harts program.now (option_map (λ file. file.now) symbols.entry) bytes.now)
+        (O.contents out.old) (O.contents out.new) }
+    ensures cut { IsCutOf
+        (WritesListedPart salvage harts program.now (option_map (λ file. file.now) symbols.entry) bytes.now)
+        (O.contents out.old) (O.contents out.new) }
+{
+    if salvage {
+        return list_salvaged(alloc, progress, program, harts, symbols, bytes, out);
+    }
+    write_listing(
+        alloc,
+        progress,
+        program,
+        harts_or_one(harts),
+        symbols,
+        bytes,
         out,
     )
 }
@@ -74,7 +120,7 @@ fn harts_or_one(given: Option<u16>) -> u16
 fn write_listing<'a, F: Files, O: Write>(
     alloc: Global,
     progress: &MessageProgress<'_, F>,
-    program: &Program,
+    program: &ProgramOver,
     harts: u16,
     symbols: Option<&Symbols>,
     bytes: &[u8],
@@ -100,7 +146,7 @@ fn write_listing<'a, F: Files, O: Write>(
 fn show_listing<F: Files, O: Write>(
     alloc: Global,
     progress: &MessageProgress<'_, F>,
-    program: &Program,
+    program: &ProgramOver,
     harts: u16,
     symbols: Option<&Symbols>,
     bytes: &[u8],

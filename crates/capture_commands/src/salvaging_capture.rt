@@ -29,7 +29,7 @@ use frames::Spans;
 use message::{Header, Message, MessageFault};
 use payload::Mode;
 use retire::LOG_ROOM;
-use rvclass::Program;
+use rvclass::ProgramOver;
 use salvaging::{Part, Salvaged, SalvagedHart, salvage_watched};
 use searching::{harts_counted, spans_of, start_of};
 use std::alloc::{AllocError, Global};
@@ -75,7 +75,7 @@ pub fn salvage<'a, F: Files, O: Write>(
 fn salvage_capture<'a, F: Files, O: Write>(
     alloc: Global,
     progress: &MessageProgress<'_, F>,
-    program: &Program,
+    program: &ProgramOver,
     harts: Option<u16>,
     summary: bool,
     bytes: &[u8],
@@ -141,20 +141,20 @@ fn write_rest<'a, O: Write>(
 #[derive(Debug, Drop)]
 pub(crate) struct Found {
     /// The header, where a valid one begins the capture.
-    header: Option<Header>,
+    pub(crate) header: Option<Header>,
     /// Why there is none, where the capture begins as one of version 2 does.
-    fault: Option<MessageFault>,
+    pub(crate) fault: Option<MessageFault>,
     /// The messages of its frames, and where they are.
-    frames: Frames,
+    pub(crate) frames: Frames,
     /// What is salvaged of them.
-    salvaged: Salvaged,
+    pub(crate) salvaged: Salvaged,
 }
 
 /// What is salvaged of the messages of a capture's frames.
-fn find<F: Files>(
+pub(crate) fn find<F: Files>(
     alloc: Global,
     progress: &MessageProgress<'_, F>,
-    program: &Program,
+    program: &ProgramOver,
     harts: Option<u16>,
     bytes: &[u8],
 ) -> Result<Found, AllocError>
@@ -183,7 +183,7 @@ fn find<F: Files>(
 fn salvage_shown<F: Files>(
     alloc: Global,
     progress: &MessageProgress<'_, F>,
-    program: &Program,
+    program: &ProgramOver,
     harts: u16,
     mode: Mode,
     messages: &[Message],
@@ -198,7 +198,7 @@ fn salvage_shown<F: Files>(
 
 /// How salvaging ended: at a header that is not valid, or else at the first hart that is not closed, or else by whether
 /// there is damage, or bytes that belong to no frame.
-fn ended<'a>(found: &Found) -> Result<Status, Fault<'a>>
+pub(crate) fn ended<'a>(found: &Found) -> Result<Status, Fault<'a>>
     ensures value { result ≡ end_of_salvage found.now.fault found.now.frames.runs found.now.salvaged }
     ensures never_refused { final_status result ≢ Status.Refused }
     ensures never_memory { result ≢ Err Fault.Memory }

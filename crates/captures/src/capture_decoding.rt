@@ -15,7 +15,7 @@ use crate::outcome::{CaptureFault, CaptureOutcome};
 use message::Messages;
 use payload::Mode;
 use receiver::Receiver;
-use rvclass::Program;
+use rvclass::ProgramOver;
 use std::alloc::{AllocError, Allocator};
 use watching::{Unwatched, Watch};
 
@@ -27,7 +27,7 @@ use watching::{Unwatched, Watch};
 /// header is cut short or bad, that is nothing. An error comes only where memory for the outcome itself was refused.
 pub fn decode_capture<A: Allocator + Copy>(
     alloc: A,
-    program: &Program,
+    program: &ProgramOver,
     harts: u16,
     bytes: &[u8],
 ) -> Result<CaptureOutcome<A>, AllocError>
@@ -48,7 +48,7 @@ pub fn decode_capture<A: Allocator + Copy>(
 /// Decodes a capture as [`decode_capture`] does, and tells `watch` of each message that is received.
 pub fn decode_watched<A: Allocator + Copy, V: Watch>(
     alloc: A,
-    program: &Program,
+    program: &ProgramOver,
     harts: u16,
     bytes: &[u8],
     watch: &V,
@@ -84,7 +84,7 @@ pub fn decode_watched<A: Allocator + Copy, V: Watch>(
 /// What messages of so many harts decode to, where the header announces this mode, if there is a header.
 fn decode_messages<A: Allocator + Copy, V: Watch>(
     alloc: A,
-    program: &Program,
+    program: &ProgramOver,
     harts: u16,
     announced: Option<Mode>,
     messages: Messages<'_>,
@@ -127,7 +127,7 @@ fn decode_nothing<A: Allocator + Copy>(
 /// end, and why.
 fn collect<A: Allocator + Copy, V: Watch>(
     receiver: &mut Receiver<A>,
-    program: &Program,
+    program: &ProgramOver,
     announced: Option<Mode>,
     mut messages: Messages<'_>,
     watch: &V,

@@ -147,6 +147,7 @@ Asks name rows (Measure asked) = (name ≡ codes "measure")
 Asks name rows (Listing asked) = (name ≡ codes "list")
     × (asked.base.now ≡ text_of (codes "base") rows) × IsGivenHarts (one_of (codes "harts") rows) asked.harts
     × (option_map (λ path. path.now) asked.symbols ≡ first_of (codes "symbols") rows)
+    × IsFlag (one_of (codes "salvage") rows) asked.salvage
     × IsFlag (one_of (codes "progress") rows) asked.progress
     × (asked.image.now ≡ text_of (codes "IMAGE") rows) × (asked.capture.now ≡ text_of (codes "CAPTURE") rows)
 Asks name rows (Salvage asked) = (name ≡ codes "salvage")

@@ -9,7 +9,7 @@ use Rattle.clap.specs.declared.builder.command.Command.TheViews.{out-Command as 
 use Rattle.arguments.specs.Rules.{base_rule, capacity_rule, capture_rule, explain_rule, first_rule, format_rule}
 use Rattle.arguments.specs.Rules.{full_rule, given_harts_rule, harts_rule, hex_rule, image_rule, lines_rule, logs_rule, long_rule}
 use Rattle.arguments.specs.Rules.{lossy_rule, of_rule, packets_rule, period_rule, progress_rule, received_rule}
-use Rattle.arguments.specs.Rules.{schedule_rule, search_rule, sent_rule, summary_rule, symbols_rule}
+use Rattle.arguments.specs.Rules.{salvage_rule, schedule_rule, search_rule, sent_rule, summary_rule, symbols_rule}
 use Rattle.arguments.specs.Rules.{unnumbered_rule, version_one_rule}
 
 -- A subcommand of this name with arguments that are read by these rules.
@@ -58,9 +58,10 @@ measure_app = with_arguments (codes "measure") (base_rule ∷ period_rule ∷ fu
     image_rule ∷
     logs_rule ∷ [])
 
--- `list --base B [--harts N] [--symbols FILE] [--progress] IMAGE CAPTURE`.
+-- `list --base B [--harts N] [--symbols FILE] [--salvage] [--progress] IMAGE CAPTURE`.
 abbrev pub list_app : App
-list_app = with_arguments (codes "list") (base_rule ∷ given_harts_rule ∷ symbols_rule ∷ progress_rule ∷ image_rule ∷ capture_rule ∷ [])
+list_app = with_arguments (codes "list") (base_rule ∷ given_harts_rule ∷ symbols_rule ∷ salvage_rule ∷
+    progress_rule ∷ image_rule ∷ capture_rule ∷ [])
 
 -- `salvage --base B [--harts N] [--summary] [--progress] IMAGE CAPTURE`.
 abbrev pub salvage_app : App

@@ -270,6 +270,7 @@ fn list_asked<'a>(given: &ArgMatches<'a>) -> Asked<'a>
         base: text(given, "base"),
         harts: given_harts(given, "harts"),
         symbols: given.get_str("symbols"),
+        salvage: flag(given, "salvage"),
         progress: flag(given, "progress"),
         image: text(given, "IMAGE"),
         capture: text(given, "CAPTURE"),

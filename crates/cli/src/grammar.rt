@@ -18,8 +18,8 @@ use crate::help::{
 use arguments::{
     base, capacity, capture, capture_progress, counted_harts, explain, first, format, full, harts,
     headed_full, headed_period, headless, hex, image, lines, listed_harts, logs, long, lossy, of,
-    packets, period, progress, received, salvaged_harts, schedule, search, sent, summary, symbols,
-    unnumbered, version_one, without_logs,
+    packets, period, progress, received, salvaged, salvaged_harts, schedule, search, sent, summary,
+    symbols, unnumbered, version_one, without_logs,
 };
 use clap::{Arg, Command};
 use std::alloc::{AllocError, Global};
@@ -220,6 +220,7 @@ fn list<'a>(alloc: Global) -> Result<Command<'a>, AllocError>
         base(alloc),
         listed_harts(alloc),
         symbols(alloc),
+        salvaged(alloc),
         capture_progress(alloc),
         image(alloc),
         capture(alloc),

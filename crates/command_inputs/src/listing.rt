@@ -5,7 +5,7 @@ ghost use Rattle.std.specs.Prelude.{◌≡◌};
 use legalpath::{LegalLog, PathFault};
 use log_streams::{IllegalRow, LogTask};
 use retire::{Event, MOST_ROWS};
-use rvclass::Program;
+use rvclass::{Program, ProgramOver};
 use std::alloc::{AllocError, Global};
 
 /// Keeps the events of each log that is legal for a program. An illegal log ends at its first illegal row.
@@ -26,15 +26,20 @@ impl<'p> LogTask<LegalLog<'p>> for Listing<'p> {
 
     ghost MakesOfIllegal = { λ task program events row log. ⊥ };
 
-    fn begin(&self, _: &Program, _: usize) -> Result<Vec<Event>, AllocError> {
+    fn begin(&self, _: &ProgramOver, _: usize) -> Result<Vec<Event>, AllocError> {
         Ok(Vec::new(self.alloc))
     }
 
-    fn add(&self, _: &Program, list: &mut Vec<Event>, events: &[Event]) -> Result<(), AllocError> {
+    fn add(
+        &self,
+        _: &ProgramOver,
+        list: &mut Vec<Event>,
+        events: &[Event],
+    ) -> Result<(), AllocError> {
         list.extend_from_slice(events)
     }
 
-    fn finish(&self, _: &Program, list: Vec<Event>) -> Result<LegalLog<'p>, AllocError> {
+    fn finish(&self, _: &ProgramOver, list: Vec<Event>) -> Result<LegalLog<'p>, AllocError> {
         // The log was checked against this program, so that no list of so many events is refused.
         if list.len() > MOST_ROWS as usize {
             return Err(AllocError);
@@ -42,7 +47,7 @@ impl<'p> LogTask<LegalLog<'p>> for Listing<'p> {
         LegalLog::new(self.program, list).map_err(|_| AllocError)
     }
 
-    fn refuse(&self, _: &Program, row: IllegalRow) -> Result<LegalLog<'p>, PathFault> {
+    fn refuse(&self, _: &ProgramOver, row: IllegalRow) -> Result<LegalLog<'p>, PathFault> {
         Err(row.fault)
     }
 }

@@ -15,7 +15,7 @@ use crate::report::write_report;
 use capture_commands::Fault;
 use command_inputs::{Status, base_of, content_of, program_of};
 use files::Files;
-use rvclass::Program;
+use rvclass::ProgramOver;
 use std::alloc::Global;
 use std::io::Write;
 use std::thread::Threads;
@@ -58,7 +58,7 @@ fn compare_capture<'a, F: Files + Sync, O: Write, R: Threads + Sync>(
     alloc: Global,
     rt: &R,
     files: &F,
-    program: &Program,
+    program: &ProgramOver,
     asked: &Compare<'a>,
     capture: &[u8],
     out: &mut O,

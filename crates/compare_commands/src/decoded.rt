@@ -14,7 +14,7 @@ use captures::CaptureFault;
 use command_inputs::{Files, MessageProgress, Status};
 use comparing::{HartCount, counts_of};
 use retire::Event;
-use rvclass::Program;
+use rvclass::ProgramOver;
 use std::alloc::Global;
 
 /// What is decoded of each hart of a capture, and where decoding stops.
@@ -36,7 +36,7 @@ pub(crate) fn decoded_of<'a, F: Files>(
     alloc: Global,
     files: &F,
     progress: bool,
-    program: &Program,
+    program: &ProgramOver,
     harts: u16,
     capture: &[u8],
 ) -> Result<Decoded, Fault<'a>>

@@ -16,7 +16,7 @@ use comparing::ComparedHart;
 use files::Files;
 use log_streams::{LogsFault, MadeLogs, made_of_logs};
 use retire::{MOST_LONG_ROWS, MOST_ROWS};
-use rvclass::Program;
+use rvclass::ProgramOver;
 use std::alloc::Global;
 use std::thread::Threads;
 
@@ -45,7 +45,7 @@ pub(crate) fn lines_of_logs<'a, F: Files + Sync, R: Threads + Sync>(
     files: &F,
     progress: bool,
     long: bool,
-    program: &Program,
+    program: &ProgramOver,
     paths: &[&'a str],
     decoded: &Decoded,
 ) -> Result<Vec<ComparedHart>, Fault<'a>>

@@ -11,7 +11,7 @@ use comparing::{ComparedHart, Comparing, HartCount};
 use legalpath::PathFault;
 use log_streams::{IllegalRow, LogTask};
 use retire::Event;
-use rvclass::Program;
+use rvclass::ProgramOver;
 use std::alloc::AllocError;
 
 /// Compares each log with what was decoded of its hart.
@@ -73,7 +73,7 @@ impl LogTask<ComparedHart> for AgainstDecoded<'_> {
 
     ghost MakesOfIllegal = { λ task program events row line. ⊥ };
 
-    fn begin(&self, _: &Program, hart: usize) -> Result<ComparingHart, AllocError> {
+    fn begin(&self, _: &ProgramOver, hart: usize) -> Result<ComparingHart, AllocError> {
         Ok(ComparingHart {
             hart,
             comparing: Comparing::new(),
@@ -82,7 +82,7 @@ impl LogTask<ComparedHart> for AgainstDecoded<'_> {
 
     fn add(
         &self,
-        _: &Program,
+        _: &ProgramOver,
         state: &mut ComparingHart,
         events: &[Event],
     ) -> Result<(), AllocError> {
@@ -91,7 +91,7 @@ impl LogTask<ComparedHart> for AgainstDecoded<'_> {
         Ok(())
     }
 
-    fn finish(&self, _: &Program, state: ComparingHart) -> Result<ComparedHart, AllocError> {
+    fn finish(&self, _: &ProgramOver, state: ComparingHart) -> Result<ComparedHart, AllocError> {
         let hart = state.hart;
         let decoded = self.decoded(hart);
         let count = self.count(hart);
@@ -105,7 +105,7 @@ impl LogTask<ComparedHart> for AgainstDecoded<'_> {
         })
     }
 
-    fn refuse(&self, _: &Program, row: IllegalRow) -> Result<ComparedHart, PathFault> {
+    fn refuse(&self, _: &ProgramOver, row: IllegalRow) -> Result<ComparedHart, PathFault> {
         Err(row.fault)
     }
 }

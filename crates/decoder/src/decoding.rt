@@ -25,7 +25,7 @@ use crate::settling::Waiting;
 use crate::state::{DecoderState, Phase};
 use payload::{Mode, Packet};
 use retire::Event;
-use rvclass::Program;
+use rvclass::ProgramOver;
 use std::alloc::Allocator;
 
 /// A decoder of one hart's trace: it takes the packets in their order, and adds to a log the events that they describe.
@@ -141,7 +141,7 @@ impl Decoder {
     /// small.
     pub fn feed<A: Allocator>(
         &mut self,
-        program: &Program,
+        program: &ProgramOver,
         packet: &Packet,
         log: &mut Vec<Event, A>,
     ) -> Result<(), DecodeFault>

@@ -6,21 +6,21 @@ ghost use Rattle.decoder.specs.steps.StraightLines.{AreLeaps, end_of};
 
 use crate::leaps::{Leap, end_of, find_leaps};
 use crate::paths::{Paths, longest};
-use rvclass::Program;
+use rvclass::ProgramOver;
 use std::alloc::{AllocError, Allocator};
 
 /// A program, and the leaps along its straight lines once they were found. A walk along them of which nothing comes
 /// takes few steps, where it else may take as many as the program has instructions, and those of a loop up to 31 times.
 #[derive(Drop)]
 pub struct Lines<'p, A: Allocator> {
-    program: &'p Program,
+    program: &'p ProgramOver<'p>,
     leaps: Vec<Leap, A>,
     ghost lead: { AreLeaps (words_of program.now) (end_of program.now) leaps.items },
 }
 
 impl<'p, A: Allocator> Lines<'p, A> {
     /// The program, with no leaps. Takes no memory.
-    pub fn new(alloc: A, program: &'p Program) -> Lines<'p, A>
+    pub fn new(alloc: A, program: &'p ProgramOver<'p>) -> Lines<'p, A>
         ensures { result.program.now ≡ program.now }
     {
         Lines {

@@ -7,7 +7,7 @@ ghost use Rattle.std.specs.Prelude.{◌≡◌, ◌+◌, ◌*◌, ◌-◌, ◌≤
 ghost use Rattle.rvclass.specs.Fetch.{words_of};
 ghost use Rattle.decoder.specs.steps.StraightLines.{AreLeaps, IsLine, end_of, straight_on};
 
-use rvclass::{Class, Program};
+use rvclass::{Class, ProgramOver};
 use std::alloc::{AllocError, Allocator};
 
 /// A straight line from a place of the image. Places are counted back in halfwords from the image's end.
@@ -32,7 +32,7 @@ pub struct Line {
 
 /// The address behind the last whole halfword of the image.
 #[inline]
-pub fn end_of(program: &Program) -> u64
+pub fn end_of(program: &ProgramOver) -> u64
     ensures { result ≡ end_of program.now }
 {
     program.base() + 2 * (program.byte_count() as u64 / 2)
@@ -40,7 +40,7 @@ pub fn end_of(program: &Program) -> u64
 
 /// Where the instruction at an address leads, if it is plain or jumps forward.
 #[inline]
-pub fn straight_on(program: &Program, addr: u64) -> Option<u64>
+pub fn straight_on(program: &ProgramOver, addr: u64) -> Option<u64>
     ensures { result ≡ straight_on addr (words_of program.now addr) }
 {
     match program.at(addr) {
@@ -73,7 +73,7 @@ pub fn place_of(end: u64, addr: u64) -> Option<u32>
 
 /// The leap from a place, by those from the places after it. It has as many steps as two others together and one more
 /// where these are equal, so that the leaps from a place on double.
-fn leap_from(program: &Program, end: u64, place: u32, leaps: &[Leap]) -> Leap
+fn leap_from(program: &ProgramOver, end: u64, place: u32, leaps: &[Leap]) -> Leap
     requires leaps { AreLeaps (words_of program.now) end leaps.now }
     requires inside { 2 * place ≤ end }
     ensures { IsLine (words_of program.now) result.steps (end - 2 * place) (end - 2 * result.to) }
@@ -106,7 +106,7 @@ fn leap_from(program: &Program, end: u64, place: u32, leaps: &[Leap]) -> Leap
 }
 
 /// The leaps from all places of the program, the last one first.
-pub fn find_leaps<A: Allocator>(alloc: A, program: &Program) -> Result<Vec<Leap, A>, AllocError>
+pub fn find_leaps<A: Allocator>(alloc: A, program: &ProgramOver) -> Result<Vec<Leap, A>, AllocError>
     ensures { IfOk result (λ leaps. AreLeaps (words_of program.now) (end_of program.now) leaps.items) }
 {
     let end = end_of(program);

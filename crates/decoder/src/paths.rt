@@ -6,14 +6,14 @@ ghost use Rattle.decoder.specs.steps.Longest.{IsLongest};
 ghost use Rattle.decoder.specs.steps.StraightLines.{AreLeaps, end_of};
 
 use crate::leaps::{Leap, end_of};
-use rvclass::Program;
+use rvclass::ProgramOver;
 
 /// A program, how many retirements a walk in it has at most, and the leaps along its straight lines, where these were
 /// found.
 #[derive(Clone, Copy)]
 pub struct Paths<'p> {
     /// The program.
-    pub(crate) program: &'p Program,
+    pub(crate) program: &'p ProgramOver<'p>,
     /// How many retirements a walk has at most.
     pub(crate) longest: usize,
     /// The address from which the places of leaps are counted.
@@ -26,7 +26,7 @@ pub struct Paths<'p> {
 
 /// How many retirements a walk in this program has at most.
 #[inline]
-pub fn longest(program: &Program) -> usize
+pub fn longest(program: &ProgramOver) -> usize
     ensures { IsLongest program.now result }
 {
     32 * (program.byte_count() / 2)
@@ -35,7 +35,7 @@ pub fn longest(program: &Program) -> usize
 impl<'p> Paths<'p> {
     /// The walks of this program, with no leaps. Takes no memory.
     #[inline]
-    pub fn of(program: &'p Program) -> Paths<'p>
+    pub fn of(program: &'p ProgramOver<'p>) -> Paths<'p>
         ensures { result.program.now ≡ program.now }
     {
         Paths {

@@ -20,7 +20,7 @@ use isa::is_privilege;
 use legalpath::{Next, Why, check, leads, may_stand_at, successor};
 use payload::Outcomes;
 use retire::Event;
-use rvclass::Program;
+use rvclass::ProgramOver;
 
 /// The fault of decoding where an event is illegal for this reason.
 fn fault_of(why: Why) -> DecodeFault
@@ -35,7 +35,7 @@ fn fault_of(why: Why) -> DecodeFault
 }
 
 /// Tests that an event is right by itself and may follow the one before.
-fn follows(program: &Program, before: Option<Event>, event: Event) -> Result<(), DecodeFault>
+fn follows(program: &ProgramOver, before: Option<Event>, event: Event) -> Result<(), DecodeFault>
     ensures ok { OnOk result (FollowOn (words_of program.now) before (event ∷ [])) }
     ensures err { IfErr result (λ fault. IsOnTheWay fault
         × (RightBefore (words_of program.now) before → FollowOn (words_of program.now) before (event ∷ []) → ⊥)) }
@@ -52,7 +52,7 @@ fn follows(program: &Program, before: Option<Event>, event: Event) -> Result<(),
 
 /// The retirement that a walk starts from: the event before it.
 #[inline]
-pub fn start(program: &Program, before: &Option<Event>) -> Result<Here, DecodeFault>
+pub fn start(program: &ProgramOver, before: &Option<Event>) -> Result<Here, DecodeFault>
     ensures here { IfOk result (λ here. IsHere (words_of program.now) here × (before.now ≡ Some (event_of here))) }
     ensures none { IfErr result (λ fault. IsOnTheWay fault
         × (RightBefore (words_of program.now) before.now → AfterRetirement before.now → ⊥)) }
@@ -146,7 +146,7 @@ impl Cause {
 
 /// The retirement that a packet reports, by the instruction at its address. The packet reports one outcome, which a
 /// branch uses. If the outcome is taken, the instruction has to be a branch.
-fn retirement(program: &Program, reported: Reported) -> Result<Event, DecodeFault>
+fn retirement(program: &ProgramOver, reported: Reported) -> Result<Event, DecodeFault>
     ensures { result ≡ reporting.retirement_with_type reported.addr reported.privilege
         (reporting.type_at (words_of program.now reported.addr) reported.taken) }
 {
@@ -172,7 +172,7 @@ fn retirement(program: &Program, reported: Reported) -> Result<Event, DecodeFaul
 
 /// The retirement that a packet reports, after the event before.
 pub fn reported_retirement(
-    program: &Program,
+    program: &ProgramOver,
     before: Option<Event>,
     reported: Reported,
 ) -> Result<Event, DecodeFault>
@@ -187,7 +187,7 @@ pub fn reported_retirement(
 }
 
 /// Whether an event may be at a place, after the event before.
-fn may_stand(program: &Program, before: Option<Event>, at: u64) -> bool
+fn may_stand(program: &ProgramOver, before: Option<Event>, at: u64) -> bool
     ensures { IsTrue result ↔ MayStandAfter (words_of program.now) before at }
 {
     match before {
@@ -198,7 +198,7 @@ fn may_stand(program: &Program, before: Option<Event>, at: u64) -> bool
 
 /// The trap that a packet reports without its handler, after the event before.
 fn trap_alone(
-    program: &Program,
+    program: &ProgramOver,
     before: Option<Event>,
     reported: Reported,
     cause: Cause,
@@ -223,7 +223,7 @@ fn trap_alone(
 
 /// The trap of a packet that reports its handler, after the event before: it was taken where that event leads.
 fn trap_handled(
-    program: &Program,
+    program: &ProgramOver,
     before: Option<Event>,
     cause: Cause,
 ) -> Result<Event, DecodeFault>
@@ -248,7 +248,7 @@ fn trap_handled(
 
 /// The trap and the first retirement of its handler that a packet reports, after the event before.
 fn trap_and_handler(
-    program: &Program,
+    program: &ProgramOver,
     before: Option<Event>,
     reported: Reported,
     cause: Cause,
@@ -267,7 +267,7 @@ fn trap_and_handler(
 
 /// The events of a trap that a packet reports with its handler's address, or without, after the event before.
 pub fn trap(
-    program: &Program,
+    program: &ProgramOver,
     before: &Option<Event>,
     reported: Reported,
     cause: Cause,

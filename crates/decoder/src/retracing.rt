@@ -8,12 +8,12 @@ ghost use Rattle.decoder.specs.steps.Walks.{event_of, goal_end, Carries};
 
 use crate::stepping::{Course, Goal, Here, may_stay, type_of};
 use legalpath::{Next, leads};
-use rvclass::Program;
+use rvclass::ProgramOver;
 
 /// Takes a step of a walk that was measured, from a retirement to the next one, where `used` outcomes are used before
 /// it. `false` means that the step leads to no retirement.
 #[inline(always)]
-pub fn retrace(program: &Program, here: &mut Here, used: &mut usize, course: &Course) -> bool
+pub fn retrace(program: &ProgramOver, here: &mut Here, used: &mut usize, course: &Course) -> bool
     requires here { Carries (words_of program.now) here.old }
     requires course { steps.IsCourse course.now }
     ensures { Retraces (words_of program.now) course.now.outcomes here.new used.new result
@@ -32,7 +32,13 @@ pub fn retrace(program: &Program, here: &mut Here, used: &mut usize, course: &Co
 
 /// Goes to the retirement at an address, if there is one.
 #[inline(always)]
-fn reach(program: &Program, addr: u64, here: &mut Here, used: &mut usize, course: &Course) -> bool
+fn reach(
+    program: &ProgramOver,
+    addr: u64,
+    here: &mut Here,
+    used: &mut usize,
+    course: &Course,
+) -> bool
     requires { steps.IsCourse course.now }
     ensures { Reaches (words_of program.now) course.now.outcomes here.new used.new result
         (steps.retire_on addr here.old.privilege (words_of program.now addr) (drop used.old course.now.outcomes)) }

@@ -17,7 +17,7 @@ use crate::stretch::Stretch;
 use crate::walking::{Progress, measure, write_found};
 use payload::{Mode, Outcomes, Packet, Report, Support};
 use retire::Event;
-use rvclass::Program;
+use rvclass::ProgramOver;
 use std::alloc::Allocator;
 
 /// An address packet with plain bits, which waits for the packet that follows it.
@@ -168,7 +168,7 @@ fn address<A: Allocator>(
 
 /// The events of a synchronisation.
 fn sync(
-    program: &Program,
+    program: &ProgramOver,
     before: &Option<Event>,
     reported: Reported,
     stretch: &mut Stretch,

@@ -15,7 +15,7 @@ use crate::fault::DecodeFault;
 use legalpath::{Next, greatest_after, leads, may_retire_at};
 use payload::Outcomes;
 use retire::{ITYPE_NOT_TAKEN, ITYPE_OTHER, ITYPE_TAKEN, ITYPE_TRAP_RETURN, ITYPE_UNINFERABLE};
-use rvclass::{Class, Program};
+use rvclass::{Class, ProgramOver};
 
 /// A retirement, and where it leads.
 #[derive(Clone, Copy)]
@@ -84,7 +84,7 @@ pub enum Step {
 /// outcomes that the walk used so far. Returns whether the walk goes on or ends there, or why there is no such walk.
 #[inline(always)]
 #[tactic(auto, unfolding(crate::specs::steps::WalkSteps::advance))]
-pub fn step_from(program: &Program, here: &mut Here, used: &mut usize, course: &Course) -> Step
+pub fn step_from(program: &ProgramOver, here: &mut Here, used: &mut usize, course: &Course) -> Step
     requires program { IsProgram (words_of program.now) }
     requires here { Carries (words_of program.now) here.old }
     requires course { steps.IsCourse course.now }
@@ -102,7 +102,13 @@ pub fn step_from(program: &Program, here: &mut Here, used: &mut usize, course: &
 
 /// The step to an address.
 #[inline(always)]
-fn step_on(program: &Program, addr: u64, here: &mut Here, used: &mut usize, course: &Course) -> Step
+fn step_on(
+    program: &ProgramOver,
+    addr: u64,
+    here: &mut Here,
+    used: &mut usize,
+    course: &Course,
+) -> Step
     requires { steps.IsCourse course.now }
     ensures step { steps.move_of course.now.outcomes here.new used.new result
         ≡ steps.next_move (words_of program.now) (goal_end course.now.goal)
@@ -158,7 +164,7 @@ fn step_plain(addr: u64, length: u8, here: &mut Here, used: usize, course: &Cour
 
 /// The step from a discontinuity.
 #[inline(always)]
-fn step_last(program: &Program, here: &mut Here, used: &mut usize, course: &Course) -> Step
+fn step_last(program: &ProgramOver, here: &mut Here, used: &mut usize, course: &Course) -> Step
     requires { steps.IsCourse course.now }
     ensures step { (word : Option Word) → may_stay_on word here.old.privilege ≡ here.old.stays
         → steps.move_of course.now.outcomes here.new used.new result

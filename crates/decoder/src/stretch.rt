@@ -11,7 +11,7 @@ use crate::stepping::{Goal, Here};
 use crate::walking::{Progress, Walked, write};
 use payload::Outcomes;
 use retire::Event;
-use rvclass::Program;
+use rvclass::ProgramOver;
 use std::alloc::Allocator;
 
 /// A walk that was found.
@@ -108,7 +108,7 @@ impl Stretch {
 
     /// Writes the events that are not in the list yet. The capacity for them was reserved.
     #[inline]
-    pub fn write<A: Allocator>(&self, program: &Program, log: &mut Vec<Event, A>)
+    pub fn write<A: Allocator>(&self, program: &ProgramOver, log: &mut Vec<Event, A>)
         requires program { IsProgram (words_of program.now) }
         requires room { HasRoomFor (words_of program.now) (left_of self.now) (vec_len log.old)
             (vec_capacity log.old) }

@@ -21,7 +21,7 @@ use crate::stepping::{Course, Goal, Here, Step, step_from};
 use legalpath::Next;
 use payload::Outcomes;
 use retire::Event;
-use rvclass::Program;
+use rvclass::ProgramOver;
 use std::alloc::Allocator;
 
 /// Whether events are in the list already.
@@ -97,7 +97,7 @@ pub fn measure(
 /// Writes a walk of `count` retirements, which was measured, into capacity that was reserved.
 #[inline(never)]
 pub fn write<A: Allocator>(
-    program: &Program,
+    program: &ProgramOver,
     from: Here,
     outcomes: &Outcomes,
     goal: Goal,
@@ -161,7 +161,7 @@ fn measure_within(paths: Paths, from: Here, course: &Course) -> Result<Walked, D
 /// Writes a walk of at most `limit` steps as it is found, as far as the capacity goes.
 #[inline(always)]
 fn write_found_within<A: Allocator>(
-    program: &Program,
+    program: &ProgramOver,
     limit: usize,
     from: Here,
     course: &Course,
@@ -206,7 +206,7 @@ fn write_found_within<A: Allocator>(
 /// Writes the `count` retirements of a walk that has no more.
 #[inline]
 fn write_within<A: Allocator>(
-    program: &Program,
+    program: &ProgramOver,
     count: usize,
     from: Here,
     course: &Course,

@@ -25,7 +25,7 @@ use crate::state::EncoderState;
 use arrayvec::ArrayVec;
 use payload::{MOST_OUTCOMES, Mode, Outcomes, Packet, Support};
 use retire::Event;
-use rvclass::Program;
+use rvclass::ProgramOver;
 
 /// The packets that one event gives: two at most.
 pub type Burst = ArrayVec<Packet, 2>;
@@ -82,7 +82,7 @@ impl Encoder {
 
     /// Takes the next event, and returns the packets that this event makes due.
     #[inline]
-    pub fn push(&mut self, program: &Program, event: Event) -> Burst
+    pub fn push(&mut self, program: &ProgramOver, event: Event) -> Burst
         ensures stands { (period : ℕ) (mode : Mode) (log : List Event) →
             EncoderStands (words_of program.now) period mode log self.old →
             Legal (words_of program.now) (log ++ event ∷ []) →
@@ -106,7 +106,7 @@ impl Encoder {
     /// call that returns a packet takes one event at least.
     pub fn push_until_packet(
         &mut self,
-        program: &Program,
+        program: &ProgramOver,
         events: &[Event],
     ) -> (usize, Option<Packet>)
         ensures within { result.0 ≤ length events.now }
@@ -137,7 +137,7 @@ impl Encoder {
     }
 
     /// Takes the end of the log, and returns the packets that are left. The last of them closes the trace.
-    pub fn finish(self, program: &Program) -> Burst
+    pub fn finish(self, program: &ProgramOver) -> Burst
         ensures packets { (period : ℕ) (mode : Mode) (log : List Event) →
             EncoderStands (words_of program.now) period mode log self →
             packets (words_of program.now) period mode log
@@ -190,7 +190,7 @@ impl Encoder {
 
     /// Takes the next event, and returns the packet that this event makes due.
     #[inline]
-    fn step(&mut self, program: &Program, event: &Event) -> Option<Packet>
+    fn step(&mut self, program: &ProgramOver, event: &Event) -> Option<Packet>
         ensures after { self.new ≡ stepping.encoder_after (words_of program.now) self.old event.now }
         ensures given { option_to_list result ≡ stepping.given (words_of program.now) self.old event.now }
         ensures numbers { Is64Bit event.now }
@@ -206,7 +206,7 @@ impl Encoder {
 
     /// Takes events, up to and with the first that makes a packet due, or all of them where none does. Returns how many
     /// it took, and that packet, if there is one.
-    fn run(&mut self, program: &Program, events: &[Event]) -> (usize, Option<Packet>)
+    fn run(&mut self, program: &ProgramOver, events: &[Event]) -> (usize, Option<Packet>)
         ensures within { result.0 ≤ length events.now }
         ensures becomes { Becomes (words_of program.now) self.old (take result.0 events.now) self.new
             (option_to_list result.1) }
@@ -231,7 +231,7 @@ impl Encoder {
 
     /// Takes events from the front, as long as each follows a retirement for which nothing is due and gives no packet.
     /// Returns how many it took.
-    fn pass(&mut self, program: &Program, events: &[Event]) -> usize
+    fn pass(&mut self, program: &ProgramOver, events: &[Event]) -> usize
         ensures within { result ≤ length events.now }
         ensures becomes { Becomes (words_of program.now) self.old (take result events.now) self.new [] }
     {
@@ -294,7 +294,7 @@ impl Encoder {
 
     /// The rule of the held event, if there is one, before the next event, for which `due` is due.
     #[inline]
-    fn rule_of_held(&self, program: &Program, next: &Event, due: Due) -> Option<Rule>
+    fn rule_of_held(&self, program: &ProgramOver, next: &Event, due: Due) -> Option<Rule>
         ensures { result ≡ stepping.rule_of_held (words_of program.now) self.now.held self.now.due next.now due }
     {
         match &self.held {

@@ -9,13 +9,19 @@ use crate::due::is_discontinuity;
 use crate::rule::jumps_back;
 use payload::{MOST_OUTCOMES, Outcomes};
 use retire::Event;
-use rvclass::Program;
+use rvclass::ProgramOver;
 
 /// Whether the event `next` gives no packet, and nothing is due for it. It comes after the event `held`, for which
 /// nothing is due. `left` retirements come before the next periodic sync. No packet has reported the outcomes in
 /// `pending`.
 #[inline(always)]
-pub fn passes(program: &Program, held: &Event, left: u16, pending: &Outcomes, next: Event) -> bool
+pub fn passes(
+    program: &ProgramOver,
+    held: &Event,
+    left: u16,
+    pending: &Outcomes,
+    next: Event,
+) -> bool
     ensures value { result ≡ passes (words_of program.now) held.now left pending.now next }
     ensures numbers { Is64Bit next }
 {

@@ -7,7 +7,7 @@ ghost use Rattle.encoder.specs.steps.Stepping.{rule_before, rule_at_end, jumps_b
 
 use crate::due::Due;
 use retire::{Event, ITYPE_OTHER};
-use rvclass::{Class, Program};
+use rvclass::{Class, ProgramOver};
 
 /// By which rule an event is reported.
 #[derive(Clone, Copy, Debug, PartialEq, Eq)]
@@ -37,7 +37,7 @@ pub enum Rule {
 /// The rule of the held event before the next one, which is no handler. `due` is due for the held event, and `after`
 /// for the next one.
 #[inline]
-pub fn rule_before(program: &Program, held: &Event, due: Due, next: &Event, after: Due) -> Rule
+pub fn rule_before(program: &ProgramOver, held: &Event, due: Due, next: &Event, after: Due) -> Rule
     ensures { result ≡ rule_before (words_of program.now) held.now due next.now after }
 {
     match due {
@@ -75,7 +75,7 @@ pub fn rule_at_end(due: Due) -> Rule
 /// Whether an event is a backward jump, where `next` comes next. The instruction is looked at only where the event is a
 /// retirement of type 0 and the next event is not at a higher address. Few events are such.
 #[inline(always)]
-pub fn jumps_back(program: &Program, event: &Event, next: &Event) -> bool
+pub fn jumps_back(program: &ProgramOver, event: &Event, next: &Event) -> bool
     ensures { result ≡ jumps_back_to (words_of program.now) event.now next.now }
 {
     match event {
@@ -88,7 +88,7 @@ pub fn jumps_back(program: &Program, event: &Event, next: &Event) -> bool
 
 /// Whether the instruction at this address, if there is one, jumps to an address that is not greater.
 #[inline(never)]
-fn is_backward(program: &Program, addr: u64) -> bool
+fn is_backward(program: &ProgramOver, addr: u64) -> bool
     ensures { result ≡ jumps_back addr (words_of program.now addr) }
 {
     match program.at(addr) {

@@ -7,15 +7,21 @@ pub use Rattle.salvaging.specs.Bad
 pub use Rattle.salvaging.specs.ReasonText
 pub use Rattle.salvaging.specs.Leaving
 pub use Rattle.salvaging.specs.Ends
+pub use Rattle.salvaging.specs.EndsByNumbers
+pub use Rattle.salvaging.specs.EndsByParts
 pub use Rattle.salvaging.specs.Late
 pub use Rattle.salvaging.specs.Shares
 pub use Rattle.salvaging.specs.Treatments
+pub use Rattle.salvaging.specs.TreatedParts
 pub use Rattle.salvaging.specs.PartsIn
 pub use Rattle.salvaging.specs.Salvaged
 pub use Rattle.salvaging.specs.FromLogs
 pub use Rattle.salvaging.specs.LogsSalvaged
 pub use Rattle.salvaging.specs.LossyParts
 pub use Rattle.salvaging.specs.AlikeParts
+pub use Rattle.salvaged_lines.specs.Words as SalvagedWords
+pub use Rattle.salvaged_lines.specs.Lines as SalvagedLines
+pub use Rattle.salvaged_lines.specs.Effects as SalvagedEffects
 pub use Rattle.frames.specs.Frame
 pub use Rattle.frames.specs.Taken as FramesTaken
 pub use Rattle.frames.specs.Spans as FrameSpans

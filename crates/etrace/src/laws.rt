@@ -24,7 +24,10 @@ pub use retire::{
     written_is_plain, written_is_read_back,
 };
 pub use roundtrip::first_packets_settle_the_first_events;
+pub use salvaged_lines::taken_messages_have_their_effect;
 pub use salvaging::{
-    harts_are_salvaged_in_one_way, logs_are_salvaged, what_is_collected_is_salvaged,
+    harts_are_salvaged_in_one_way, harts_end_at_their_lowest_number,
+    harts_end_where_no_stretch_comes_after, logs_are_salvaged, parts_are_what_is_done,
+    what_is_collected_is_salvaged,
 };
 pub use unnumbered::{counts_add_up, whole_is_equal};

@@ -2,6 +2,7 @@
 //! bytes.
 
 pub use frames::{END_OF_FRAMES, Span, Spans, begins_frame, message_in, message_size};
+pub use salvaged_lines::write_treated;
 pub use salvaging::{
     Added, Part, Reason, Salvaged, SalvagedHart, Treated, Treatment, salvage, salvage_watched,
     treat_watched,

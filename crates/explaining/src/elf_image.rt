@@ -5,12 +5,12 @@ ghost use Rattle.rvclass.specs.Instruction.{instruction_of};
 ghost use Rattle.explaining.specs.ElfImage.{begins_as_elf, elf_line};
 ghost use Rattle.explaining.specs.steps.ShortWord.{is_short_word};
 
-use rvclass::Program;
+use rvclass::ProgramOver;
 use std::fmt;
 
 /// The line below that of an event, if the image begins as an ELF file does.
 #[derive(Clone, Copy)]
-pub(crate) struct ElfLine<'a>(pub(crate) &'a Program);
+pub(crate) struct ElfLine<'a>(pub(crate) &'a ProgramOver<'a>);
 
 impl fmt::Display for ElfLine<'_> {
     ghost output = { λ text. Some (elf_line text.0.now) };
@@ -27,7 +27,7 @@ impl fmt::Display for ElfLine<'_> {
 }
 
 /// Whether the image begins as an ELF file does.
-fn begins_as_elf(program: &Program) -> bool
+fn begins_as_elf(program: &ProgramOver) -> bool
     ensures { result ≡ begins_as_elf program.now }
 {
     if program.byte_count() < 4 {
@@ -38,7 +38,7 @@ fn begins_as_elf(program: &Program) -> bool
 }
 
 /// Whether an instruction of 2 bytes is at an address, with these bits.
-fn is_short_word(program: &Program, addr: u64, code: u32) -> bool
+fn is_short_word(program: &ProgramOver, addr: u64, code: u32) -> bool
     ensures { result ≡ is_short_word (instruction_of program.now addr) code }
 {
     match program.instruction(addr) {

@@ -6,7 +6,7 @@ ghost use Rattle.explaining.specs.Following.{next_text, place_text, privileges_t
 
 use legalpath::{Next, successor};
 use retire::Event;
-use rvclass::{Class, Program, Return};
+use rvclass::{Class, ProgramOver, Return};
 use std::fmt;
 
 /// Where an event may be, by where the event before leads.
@@ -28,7 +28,7 @@ impl fmt::Display for Target {
 /// Where an event may be after the event before, if there is one.
 #[derive(Clone, Copy)]
 pub(crate) struct Place<'a> {
-    pub(crate) program: &'a Program,
+    pub(crate) program: &'a ProgramOver<'a>,
     pub(crate) before: Option<Event>,
 }
 
@@ -46,7 +46,7 @@ impl fmt::Display for Place<'_> {
 /// The privileges that may follow the event before, if there is one.
 #[derive(Clone, Copy)]
 pub(crate) struct Privileges<'a> {
-    pub(crate) program: &'a Program,
+    pub(crate) program: &'a ProgramOver<'a>,
     pub(crate) before: Option<Event>,
 }
 

@@ -6,13 +6,13 @@ ghost use Rattle.explaining.specs.Explanation.{place_line, privilege_line};
 use crate::following::{Place, Privileges};
 use crate::standing::Before;
 use retire::Event;
-use rvclass::Program;
+use rvclass::ProgramOver;
 use std::fmt;
 
 /// Where the row has to be, by the event before, and where it is.
 #[derive(Clone, Copy)]
 pub(crate) struct PlaceLine<'a> {
-    pub(crate) program: &'a Program,
+    pub(crate) program: &'a ProgramOver<'a>,
     pub(crate) before: Option<Event>,
     pub(crate) place: u64,
 }
@@ -36,7 +36,7 @@ impl fmt::Display for PlaceLine<'_> {
 /// The privileges that the row may have, by the event before, and the one that it has.
 #[derive(Clone, Copy)]
 pub(crate) struct PrivilegeLine<'a> {
-    pub(crate) program: &'a Program,
+    pub(crate) program: &'a ProgramOver<'a>,
     pub(crate) before: Option<Event>,
     pub(crate) privilege: u8,
 }

@@ -11,12 +11,12 @@ use crate::standing::Standing;
 use isa::is_privilege;
 use legalpath::{Why, may_retire_at};
 use retire::Event;
-use rvclass::{Class, Program, Return};
+use rvclass::{Class, ProgramOver, Return};
 use std::fmt;
 
 /// The first and the last address of a program's image.
 #[derive(Clone, Copy)]
-struct ImageRange<'a>(&'a Program);
+struct ImageRange<'a>(&'a ProgramOver<'a>);
 
 impl fmt::Display for ImageRange<'_> {
     ghost output = { λ text. Some (image_text text.0.now) };
@@ -36,7 +36,7 @@ impl fmt::Display for ImageRange<'_> {
 /// Why a retirement is illegal.
 #[derive(Clone, Copy)]
 pub(crate) struct RetirementLine<'a> {
-    pub(crate) program: &'a Program,
+    pub(crate) program: &'a ProgramOver<'a>,
     pub(crate) before: Option<Event>,
     pub(crate) addr: u64,
     pub(crate) itype: u8,
@@ -90,7 +90,7 @@ impl fmt::Display for RetirementLine<'_> {
 }
 
 /// The types that a retirement at an address may have, by the word there.
-fn types_text(program: &Program, addr: u64) -> &'static str
+fn types_text(program: &ProgramOver, addr: u64) -> &'static str
     ensures { result.now ≡ word_types_text (words_of program.now addr) }
 {
     match program.at(addr) {
@@ -103,7 +103,7 @@ fn types_text(program: &Program, addr: u64) -> &'static str
 }
 
 /// Whether the word at an address, if there is one, may retire at this privilege, which is a level.
-fn retires_at(program: &Program, addr: u64, privilege: u8) -> bool
+fn retires_at(program: &ProgramOver, addr: u64, privilege: u8) -> bool
     ensures { result ≡ retires_at (words_of program.now addr) privilege }
 {
     let is_level = is_privilege(u64::from(privilege));
@@ -114,7 +114,7 @@ fn retires_at(program: &Program, addr: u64, privilege: u8) -> bool
 }
 
 /// The privileges that the word at an address may retire at, if there is one.
-fn privileges_text(program: &Program, addr: u64) -> &'static str
+fn privileges_text(program: &ProgramOver, addr: u64) -> &'static str
     ensures { result.now ≡ word_privileges_text (words_of program.now addr) }
 {
     match program.at(addr) {

@@ -5,14 +5,14 @@ ghost use Rattle.explaining.specs.Standing.{before_text, class_text, standing_te
 
 use crate::code::Code;
 use retire::Event;
-use rvclass::{Class, Program, Return};
+use rvclass::{Class, ProgramOver, Return};
 use std::fmt;
 
 /// What is at an event's row: the address of a retirement and the word there, or the exception program counter of a
 /// trap, its kind and the privilege that it was taken from.
 #[derive(Clone, Copy)]
 pub(crate) struct Standing<'a> {
-    pub(crate) program: &'a Program,
+    pub(crate) program: &'a ProgramOver<'a>,
     pub(crate) event: Event,
 }
 
@@ -48,7 +48,7 @@ impl fmt::Display for Standing<'_> {
 /// What is at the row before, and which way it went if it is a branch.
 #[derive(Clone, Copy)]
 pub(crate) struct Before<'a> {
-    pub(crate) program: &'a Program,
+    pub(crate) program: &'a ProgramOver<'a>,
     pub(crate) event: Option<Event>,
 }
 

@@ -8,13 +8,13 @@ use crate::standing::Standing;
 use isa::is_privilege;
 use legalpath::Why;
 use retire::Event;
-use rvclass::Program;
+use rvclass::ProgramOver;
 use std::fmt;
 
 /// Why a trap is illegal.
 #[derive(Clone, Copy)]
 pub(crate) struct TrapLine<'a> {
-    pub(crate) program: &'a Program,
+    pub(crate) program: &'a ProgramOver<'a>,
     pub(crate) before: Option<Event>,
     pub(crate) privilege: u8,
     pub(crate) interrupt: bool,

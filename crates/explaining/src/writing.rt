@@ -13,14 +13,14 @@ use crate::trap::TrapLine;
 use legalpath::{PathFault, Why};
 use output::write_text;
 use retire::{Event, WriteFault};
-use rvclass::Program;
+use rvclass::ProgramOver;
 use std::fmt;
 use std::io::Write;
 
 /// Why an event is illegal: what is at its row, or at the row before, and what may be there.
 #[derive(Clone, Copy)]
 struct EventLine<'a> {
-    program: &'a Program,
+    program: &'a ProgramOver<'a>,
     before: Option<Event>,
     event: Event,
     why: Why,
@@ -90,7 +90,7 @@ fn at_row(log: &[Event], row: u32) -> Option<Event>
 /// not have, nothing is written. The only fault is [`WriteFault::Write`]: the writer failed, and what was written is a
 /// prefix of the text. The call allocates nothing, and does not flush the writer.
 pub fn explain<W: Write>(
-    program: &Program,
+    program: &ProgramOver,
     log: &[Event],
     fault: PathFault,
     sink: &mut W,
@@ -115,7 +115,7 @@ pub fn explain<W: Write>(
 /// writer failed, and what was written is a prefix of the text. The call allocates nothing, and does not flush the
 /// writer.
 pub fn explain_row<W: Write>(
-    program: &Program,
+    program: &ProgramOver,
     before: Option<Event>,
     event: &Event,
     fault: PathFault,

@@ -18,7 +18,7 @@ use captures::Form;
 use encoder::Encoder;
 use payload::Mode;
 use retire::Event;
-use rvclass::Program;
+use rvclass::ProgramOver;
 use std::alloc::{AllocError, Global};
 use std::marker::PhantomData;
 
@@ -58,7 +58,7 @@ impl<F: Form> HartMessages<F> {
     /// Takes the next events of the log, and writes the messages of the packets that they make due. There may be any
     /// number of events, and none. The error says that an allocation failed. After it no clause says what the messages
     /// are.
-    pub fn add(&mut self, program: &Program, events: &[Event]) -> Result<(), AllocError>
+    pub fn add(&mut self, program: &ProgramOver, events: &[Event]) -> Result<(), AllocError>
         ensures { (period : ℕ) (mode : Mode) (hart : ℕ) (seen : List Event) →
             HasEncoded F.text (words_of program.now) period mode hart seen self.old →
             Legal (words_of program.now) (seen ++ events.now) →
@@ -71,7 +71,7 @@ impl<F: Form> HartMessages<F> {
 
     /// Takes the end of the log, and returns its messages as they are written. The error says that an allocation
     /// failed.
-    pub fn finish(mut self, program: &Program) -> Result<Vec<u8>, AllocError>
+    pub fn finish(mut self, program: &ProgramOver) -> Result<Vec<u8>, AllocError>
         ensures { (period : ℕ) (mode : Mode) (hart : ℕ) (seen : List Event) →
             HasEncoded F.text (words_of program.now) period mode hart seen self →
             Legal (words_of program.now) seen →
@@ -107,7 +107,7 @@ impl<F: Form> HartMessages<F> {
 /// Gives an encoder the next events of its log, and writes the messages of the packets that they make due.
 fn push_all<F: Form>(
     encoder: &mut Encoder,
-    program: &Program,
+    program: &ProgramOver,
     events: &[Event],
     messages: &mut Messages,
 ) -> Result<(), AllocError>

@@ -11,14 +11,14 @@ ghost use Rattle.legalpath.specs.Legal.{Legal};
 use crate::fault::PathFault;
 use crate::judging::{Left, judge, left_at_start};
 use retire::Event;
-use rvclass::Program;
+use rvclass::ProgramOver;
 
 /// Checks that a log is legal for a program: each event is right by itself, and each may follow the
 /// one before. Any event that is right by itself may be the first.
 ///
 /// The error names the first illegal row, and of the reasons that apply to it the first in the order
 /// of [`Why`](crate::Why).
-pub fn check(program: &Program, log: &[Event]) -> Result<(), PathFault>
+pub fn check(program: &ProgramOver, log: &[Event]) -> Result<(), PathFault>
     requires { length log.now ≤ most_rows }
     ensures legal { IsOk result ↔ Legal (words_of program.now) log.now }
     ensures first { IfErr result (λ fault. IsFirstFault (words_of program.now) log.now fault) }
@@ -34,7 +34,7 @@ pub fn check(program: &Program, log: &[Event]) -> Result<(), PathFault>
 /// and `rows` how many rows come before theirs. Returns what the last event allows to follow it.
 #[inline(never)]
 pub(crate) fn judge_all(
-    program: &Program,
+    program: &ProgramOver,
     left: Left,
     rows: u32,
     log: &[Event],

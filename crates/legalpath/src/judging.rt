@@ -13,7 +13,7 @@ use crate::next::{Next, leads};
 use retire::{
     Event, ITYPE_NOT_TAKEN, ITYPE_OTHER, ITYPE_TAKEN, ITYPE_TRAP_RETURN, ITYPE_UNINFERABLE,
 };
-use rvclass::{Class, Program, Return};
+use rvclass::{Class, ProgramOver, Return};
 
 /// What an event allows to follow it.
 #[derive(Clone, Copy)]
@@ -41,7 +41,7 @@ pub fn left_at_start() -> Left
 /// Checks an event by `left`: what the event before allows to follow it. Returns what this event allows to follow it,
 /// or the first reason why it is illegal.
 #[inline]
-pub fn judge(program: &Program, left: Left, event: &Event) -> Result<Left, Why>
+pub fn judge(program: &ProgramOver, left: Left, event: &Event) -> Result<Left, Why>
     requires { left.greatest ≤ 3 }
     ensures value { result ≡ judging.judge (words_of program.now) left event.now }
     ensures below { IfOk result (λ next. next.greatest ≤ 3) }
@@ -66,7 +66,7 @@ pub fn judge(program: &Program, left: Left, event: &Event) -> Result<Left, Why>
 /// Checks a retirement.
 #[inline]
 fn judge_retirement(
-    program: &Program,
+    program: &ProgramOver,
     left: Left,
     addr: u64,
     itype: u8,

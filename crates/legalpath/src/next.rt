@@ -5,7 +5,7 @@ ghost use Rattle.rvclass.specs.Fetch.{words_of};
 ghost use Rattle.legalpath.specs.Successor as path;
 
 use retire::{Event, ITYPE_TAKEN};
-use rvclass::{Class, Program};
+use rvclass::{Class, ProgramOver};
 
 /// Where the event after another may be.
 #[derive(Clone, Copy, Debug, PartialEq, Eq)]
@@ -22,7 +22,7 @@ pub enum Next {
 /// the type is 5; anywhere after an uninferable discontinuity or a trap; and nowhere where the event itself is off the
 /// program or does not retire.
 #[inline]
-pub fn successor(program: &Program, event: &Event) -> Next
+pub fn successor(program: &ProgramOver, event: &Event) -> Next
     ensures { result ≡ path.successor (words_of program.now) event.now }
 {
     match *event {

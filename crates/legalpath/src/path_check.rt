@@ -13,7 +13,7 @@ use crate::checking::judge_all;
 use crate::fault::PathFault;
 use crate::judging::{Left, left_at_start};
 use retire::Event;
-use rvclass::Program;
+use rvclass::ProgramOver;
 use std::marker::Model;
 
 /// Checks a log whose events come piece by piece, and says of all of them what [`check`](crate::check) says of a list.
@@ -54,7 +54,7 @@ impl PathCheck {
     /// Checks the events that come next, with the program that the events before were checked with. The error names the
     /// first illegal row of the log, counted from the log's first event, and the first reason that applies to it; the
     /// checker is then as it was.
-    pub fn pass(&mut self, program: &Program, events: &[Event]) -> Result<(), PathFault>
+    pub fn pass(&mut self, program: &ProgramOver, events: &[Event]) -> Result<(), PathFault>
         requires few { self.old.rows + length events.now ≤ 2 ^ 32 - 1 }
         ensures legal { (seen : List AnyEvent) → HasPassed (words_of program.now) seen self.old
             → IsOk result ↔ Legal (words_of program.now) (seen ++ events.now) }

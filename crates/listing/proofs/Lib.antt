@@ -5,5 +5,6 @@ pub mod NothingListed
 pub mod Parts
 pub mod LastPlaces
 pub mod LineParts
-pub mod AddedParts
+pub mod PlacesParts
+pub mod AddedPlaces
 mod WorkedLines

@@ -10,9 +10,10 @@ use Rattle.payload.specs.declared.fault.PackFault.{PackFault}
 use Rattle.payload.specs.declared.mode.Mode.{Mode}
 use Rattle.payload.specs.declared.packet.Packet.{Packet}
 use Rattle.message.specs.declared.message.Message.{Message}
-use Rattle.listing.specs.EffectText.{added_text, closes_text, waits_text}
+use Rattle.listing.specs.EffectText.{added_text}
 use Rattle.listing.specs.Lines.{effect_line, text_with}
-use Rattle.listing.specs.steps.Message.{effect_of, read_closes, read_waits}
+use Rattle.listing.specs.PacketEnding.{ending_text}
+use Rattle.listing.specs.steps.Message.{effect_of}
 
 module _ (symbols : Option (List ℕ)) (mode : Mode) (offset : ℕ) (message : Message) (added : List Event)
     (read : Result Packet PackFault) (same : read ≡ reading message.payload) where
@@ -23,21 +24,18 @@ module _ (symbols : Option (List ℕ)) (mode : Mode) (offset : ℕ) (message : M
   events = added_text symbols added
 
   abbrev tail : List ℕ
-  tail = waits_text (read_waits read) ++ (closes_text (read_closes read) ++ codes "\n")
+  tail = ending_text read ++ codes "\n"
 
   abbrev line : List ℕ
   line = effect_line symbols mode offset message (effect_of added (reading message.payload))
 
   parted : head ++ (events ++ tail) ≡ line
   parted =
-      let waits = waits_text (read_waits read) in
-      let closes = closes_text (read_closes read) in
       append_assoc (text_with mode offset message read) (codes " => ") (events ++ tail)
       ∙ ap (λ l. text_with mode offset message read ++ (codes " => " ++ l))
-      (sym (append_assoc events (waits ++ closes) (codes "\n")
-      ∙ ap (λ l. events ++ l) (append_assoc waits closes (codes "\n"))))
+      (sym (append_assoc events (ending_text read) (codes "\n")))
       ∙ ap (λ read. text_with mode offset message read ++ (codes " => " ++
-      ((events ++ (waits_text (read_waits read) ++ closes_text (read_closes read))) ++ codes "\n"))) same
+      ((events ++ ending_text read) ++ codes "\n"))) same
 
   -- A beginning of what stands before the events was written.
   pub head_begun : (old new : Option (List ℕ)) → AppendsBeginning head old new → AppendsBeginning line old new

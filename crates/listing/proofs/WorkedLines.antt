@@ -9,7 +9,7 @@ use Rattle.payload.specs.Extension.{extended, magnitude}
 use Rattle.payload.specs.declared.mode.Mode.TheVariants.{Differential, Full}
 use Rattle.message.specs.declared.message.Message.{Message}
 use Rattle.listing.specs.Effect.{Effect, HasEffect}
-use Rattle.listing.specs.EffectText.{added_text, effect_text, place_text}
+use Rattle.listing.specs.EffectText.{added_text, effect_text, place_text, places_text}
 use Rattle.listing.specs.Lines.{effect_lines, offset_line, refused_line}
 
 -- A retirement at machine level, and an exception.
@@ -67,6 +67,17 @@ of_three_the_first_and_the_last :
     added_text None (at 0x10 ∷ at 0x20 ∷ at 0x30 ∷ []) ≡ codes "3 events, 10 to 30"
 unfolding digits
 of_three_the_first_and_the_last = refl
+
+no_places : places_text symbols 0 0x8000_0004 0x8000_0004 ≡ codes "nothing"
+no_places = refl
+
+one_place : places_text symbols 1 0x8000_0004 0xff ≡ codes "1 event, 80000004 <loop+0>"
+unfolding digits
+one_place = refl
+
+two_places : places_text symbols 12 0x8000_0004 0xff ≡ codes "12 events, 80000004 <loop+0> to ff"
+unfolding digits
+two_places = refl
 
 below_all_symbols : place_text symbols 0xff ≡ codes "ff"
 unfolding digits

@@ -7,6 +7,7 @@ use Rattle.retire.specs.declared.event.Event.{Event}
 use Rattle.legalpath.specs.LastPlace.{last_place}
 use Rattle.symbols.specs.SymbolText.{symbol_text}
 use Rattle.listing.specs.Effect.{Effect}
+use Prim.Native.Nat.{zero, suc}
 
 -- What follows a place, by the symbols of a file, if there is one.
 abbrev pub name_text : Option (List ℕ) → ℕ → List ℕ
@@ -26,6 +27,14 @@ added_text symbols (event ∷ next ∷ rest) =
     (codes " events, " ++
     (place_text symbols (place event) ++
     (codes " to " ++ place_text symbols (last_place (place next) rest))))
+
+-- The same by how many events there are, and by the places of the first and of the last.
+abbrev pub places_text : Option (List ℕ) → ℕ → ℕ → ℕ → List ℕ
+places_text symbols zero first last = codes "nothing"
+places_text symbols (suc zero) first last = codes "1 event, " ++ place_text symbols first
+places_text symbols (suc (suc more)) first last =
+    decimal (suc (suc more)) ++
+    (codes " events, " ++ (place_text symbols first ++ (codes " to " ++ place_text symbols last)))
 
 -- What the text says where a packet waits.
 abbrev pub waits_text : Bool → List ℕ

@@ -20,7 +20,7 @@ use message::{Header, MessageFault, Messages};
 use payload::Mode;
 use receiver::Receiver;
 use retire::WriteFault;
-use rvclass::Program;
+use rvclass::ProgramOver;
 use std::alloc::Allocator;
 use std::io::Write;
 use symbols::Symbols;
@@ -51,7 +51,7 @@ const HEADER_SIZE: u64 = 16;
 /// events of all harts.
 pub fn list_capture<A: Allocator + Copy, S: Allocator, W: Write>(
     alloc: A,
-    program: &Program,
+    program: &ProgramOver,
     harts: u16,
     capture: &[u8],
     symbols: Option<&Symbols<S>>,
@@ -72,7 +72,7 @@ pub fn list_capture<A: Allocator + Copy, S: Allocator, W: Write>(
 /// that is received and has its line.
 pub fn list_watched<A: Allocator + Copy, S: Allocator, W: Write, V: Watch>(
     alloc: A,
-    program: &Program,
+    program: &ProgramOver,
     harts: u16,
     capture: &[u8],
     symbols: Option<&Symbols<S>>,
@@ -115,7 +115,7 @@ fn list_nothing<A: Allocator>(
 /// Lists the messages after a header, or those of a capture that has none, and before them the header's line.
 fn list_behind<A: Allocator + Copy, S: Allocator, W: Write, V: Watch>(
     alloc: A,
-    program: &Program,
+    program: &ProgramOver,
     harts: u16,
     header: Option<Header>,
     messages: Messages<'_>,
@@ -190,7 +190,7 @@ fn write_start<W: Write>(header: Option<Header>, sink: &mut W) -> Result<(), Wri
 /// Lists the messages after a header with a receiver that received none, and before them the header's line.
 fn list_started<A: Allocator + Copy, S: Allocator, W: Write, V: Watch>(
     receiver: &mut Receiver<A>,
-    program: &Program,
+    program: &ProgramOver,
     header: Option<Header>,
     messages: Messages<'_>,
     symbols: Option<&Symbols<S>>,
@@ -227,7 +227,7 @@ fn list_started<A: Allocator + Copy, S: Allocator, W: Write, V: Watch>(
 /// before their end, and why.
 fn list_messages<A: Allocator + Copy, S: Allocator, W: Write, V: Watch>(
     receiver: &mut Receiver<A>,
-    program: &Program,
+    program: &ProgramOver,
     announced: Option<Mode>,
     first: u64,
     mut messages: Messages<'_>,

@@ -16,7 +16,7 @@ use message::Message;
 use payload::Mode;
 use receiver::{ReceiveFault, Receiver};
 use retire::{Event, WriteFault};
-use rvclass::Program;
+use rvclass::ProgramOver;
 use std::alloc::Allocator;
 use std::io::Write;
 use symbols::Symbols;
@@ -41,7 +41,7 @@ fn events_of<A: Allocator + Copy>(receiver: &Receiver<A>, hart: u16) -> &[Event]
 /// Receives a message and writes its line. Returns why it was not received, if it was not.
 pub(crate) fn list_message<A: Allocator + Copy, S: Allocator, W: Write>(
     receiver: &mut Receiver<A>,
-    program: &Program,
+    program: &ProgramOver,
     announced: Option<Mode>,
     symbols: Option<&Symbols<S>>,
     offset: u64,

@@ -1,10 +1,10 @@
 //! The places of events, and their names.
 
-ghost use Rattle.std.specs.Prelude.{◌≡◌, IfErr, OnOk, Some, option_map};
+ghost use Rattle.std.specs.Prelude.{◌≡◌, ℕ, List, Option, IfErr, OnOk, Some, length, option_map};
 ghost use Rattle.std.specs.Io.KnownBytes.{Appends};
 ghost use Rattle.output.specs.Begun.{AppendsBeginning};
 ghost use Rattle.retire.specs.LogText.{hex};
-ghost use Rattle.listing.specs.EffectText.{added_text, place_text};
+ghost use Rattle.listing.specs.EffectText.{added_text, place_text, places_text};
 
 use output::{write_bytes, write_text};
 use retire::{Event, WriteFault};
@@ -44,6 +44,51 @@ fn write_place<S: Allocator, W: Write>(
     }
 }
 
+/// Writes how many events there are, and the places of the first and of the last of them: `nothing`, or `1 event, A`, or
+/// `N events, A to Z`. A place is in hexadecimal, and its name by the symbols follows, where symbols are handed in. With
+/// no event `first` and `last` say nothing, and with one `last` does not.
+///
+/// The only fault is [`WriteFault::Write`], where the writer failed: what was written then is a prefix of the text. No
+/// memory is taken.
+pub fn write_places<S: Allocator, W: Write>(
+    symbols: Option<&Symbols<S>>,
+    count: usize,
+    first: u64,
+    last: u64,
+    sink: &mut W,
+) -> Result<(), WriteFault>
+    ensures text { OnOk result (Appends (W.contents sink.old) (W.contents sink.new)
+        (places_text (option_map (λ file. file.now) symbols.entry) count first last)) }
+    ensures begun { AppendsBeginning (places_text (option_map (λ file. file.now) symbols.entry) count first last)
+        (W.contents sink.old) (W.contents sink.new) }
+    ensures fault { IfErr result (λ fault. fault ≡ WriteFault.Write) }
+{
+    if count == 0 {
+        write_bytes(sink, b"nothing")?;
+        return Ok(());
+    }
+    if count == 1 {
+        write_bytes(sink, b"1 event, ")?;
+        return write_place(symbols, first, sink);
+    }
+    write_text(sink, format_args!("{count} events, "))?;
+    write_place(symbols, first, sink)?;
+    write_bytes(sink, b" to ")?;
+    write_place(symbols, last, sink)
+}
+
+/// The places of the first and of the last of these events; 0 where there is none.
+fn ends(added: &[Event]) -> (u64, u64)
+    ensures { (symbols : Option (List ℕ))
+        → places_text symbols (length added.now) result.0 result.1 ≡ added_text symbols added.now }
+{
+    match added {
+        [] => (0, 0),
+        [event] => (event.place(), event.place()),
+        [first, .., last] => (first.place(), last.place()),
+    }
+}
+
 /// Writes how many events there are, and the places of the first and of the last of them.
 pub(crate) fn write_added<S: Allocator, W: Write>(
     symbols: Option<&Symbols<S>>,
@@ -56,21 +101,6 @@ pub(crate) fn write_added<S: Allocator, W: Write>(
         (W.contents sink.old) (W.contents sink.new) }
     ensures fault { IfErr result (λ fault. fault ≡ WriteFault.Write) }
 {
-    match added {
-        [] => {
-            write_bytes(sink, b"nothing")?;
-            Ok(())
-        }
-        [event] => {
-            write_bytes(sink, b"1 event, ")?;
-            write_place(symbols, event.place(), sink)
-        }
-        [first, .., last] => {
-            let count = added.len();
-            write_text(sink, format_args!("{count} events, "))?;
-            write_place(symbols, first.place(), sink)?;
-            write_bytes(sink, b" to ")?;
-            write_place(symbols, last.place(), sink)
-        }
-    }
+    let (first, last) = ends(added);
+    write_places(symbols, added.len(), first, last, sink)
 }

@@ -24,7 +24,7 @@ use files::Files;
 use log_streams::{IllegalRow, MadeLogs, made_of_logs};
 use message::MOST_HARTS;
 use output::write_text;
-use rvclass::Program;
+use rvclass::ProgramOver;
 use std::alloc::Global;
 use std::io::Write;
 use std::thread::Threads;
@@ -66,7 +66,7 @@ fn check_all<'a, F: Files + Sync, O: Write, R: Threads + Sync>(
     alloc: Global,
     rt: &R,
     files: &F,
-    program: &Program,
+    program: &ProgramOver,
     asked: &Check<'a>,
     paths: &[&'a str],
     out: &mut O,
@@ -102,7 +102,7 @@ where
 /// Writes the lines of the logs at the first of these paths, by the verdicts on them, in order, and returns how a run
 /// of these logs ends.
 fn write_logs<'a, O: Write>(
-    program: &Program,
+    program: &ProgramOver,
     paths: &[&str],
     verdicts: &[Result<usize, IllegalRow>],
     explain: bool,
@@ -130,7 +130,7 @@ fn write_logs<'a, O: Write>(
 /// Writes the lines of a log: whether it is legal, and below that what explains its first illegal row, if it has one
 /// and that is asked for.
 fn write_lines<'a, O: Write>(
-    program: &Program,
+    program: &ProgramOver,
     path: &str,
     verdict: &Result<usize, IllegalRow>,
     explain: bool,
@@ -151,7 +151,7 @@ fn write_lines<'a, O: Write>(
 
 /// Writes the lines of an illegal log: its first illegal row, and below that what explains it, if that is asked for.
 fn write_illegal<'a, O: Write>(
-    program: &Program,
+    program: &ProgramOver,
     path: &str,
     row: &IllegalRow,
     explain: bool,
@@ -170,7 +170,7 @@ fn write_illegal<'a, O: Write>(
 
 /// Writes the line that explains the first illegal row of a log, if that is asked for.
 fn write_explanation<'a, O: Write>(
-    program: &Program,
+    program: &ProgramOver,
     row: &IllegalRow,
     explain: bool,
     out: &mut O,

@@ -6,7 +6,7 @@ ghost use Rattle.log_commands.specs.steps.Checked.{IsVerdictOnLegal};
 use legalpath::PathFault;
 use log_streams::{IllegalRow, LogTask};
 use retire::Event;
-use rvclass::Program;
+use rvclass::ProgramOver;
 use std::alloc::AllocError;
 
 /// Counts the events of a legal log. Of an illegal log it keeps the first illegal row.
@@ -24,20 +24,28 @@ impl LogTask<Result<usize, IllegalRow>> for Counting {
 
     ghost MayRefuse = { λ task. ⊥ };
 
-    fn begin(&self, _: &Program, _: usize) -> Result<usize, AllocError> {
+    fn begin(&self, _: &ProgramOver, _: usize) -> Result<usize, AllocError> {
         Ok(0)
     }
 
-    fn add(&self, _: &Program, count: &mut usize, events: &[Event]) -> Result<(), AllocError> {
+    fn add(&self, _: &ProgramOver, count: &mut usize, events: &[Event]) -> Result<(), AllocError> {
         *count += events.len();
         Ok(())
     }
 
-    fn finish(&self, _: &Program, count: usize) -> Result<Result<usize, IllegalRow>, AllocError> {
+    fn finish(
+        &self,
+        _: &ProgramOver,
+        count: usize,
+    ) -> Result<Result<usize, IllegalRow>, AllocError> {
         Ok(Ok(count))
     }
 
-    fn refuse(&self, _: &Program, row: IllegalRow) -> Result<Result<usize, IllegalRow>, PathFault> {
+    fn refuse(
+        &self,
+        _: &ProgramOver,
+        row: IllegalRow,
+    ) -> Result<Result<usize, IllegalRow>, PathFault> {
         Ok(Err(row))
     }
 }

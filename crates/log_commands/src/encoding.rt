@@ -34,7 +34,7 @@ use log_streams::{IllegalRow, LogTask, made_of_logs};
 use output::write_bytes;
 use payload::Mode;
 use retire::Event;
-use rvclass::Program;
+use rvclass::ProgramOver;
 use std::alloc::{AllocError, Global};
 use std::io::Write;
 use std::thread::Threads;
@@ -130,7 +130,7 @@ impl<C: Form> LogTask<Vec<u8>> for Encoding<C> {
 
     ghost MakesOfIllegal = { λ task program events row bytes. ⊥ };
 
-    fn begin(&self, _: &Program, place: usize) -> Result<HartMessages<C>, AllocError> {
+    fn begin(&self, _: &ProgramOver, place: usize) -> Result<HartMessages<C>, AllocError> {
         // Messages have 16 bits for the number of the hart. No version has more harts.
         match hart_at(self.first, place) {
             Some(hart) => Ok(HartMessages::new(self.alloc, hart, self.period, self.mode)),
@@ -140,18 +140,22 @@ impl<C: Form> LogTask<Vec<u8>> for Encoding<C> {
 
     fn add(
         &self,
-        program: &Program,
+        program: &ProgramOver,
         messages: &mut HartMessages<C>,
         events: &[Event],
     ) -> Result<(), AllocError> {
         messages.add(program, events)
     }
 
-    fn finish(&self, program: &Program, messages: HartMessages<C>) -> Result<Vec<u8>, AllocError> {
+    fn finish(
+        &self,
+        program: &ProgramOver,
+        messages: HartMessages<C>,
+    ) -> Result<Vec<u8>, AllocError> {
         messages.finish(program)
     }
 
-    fn refuse(&self, _: &Program, row: IllegalRow) -> Result<Vec<u8>, PathFault> {
+    fn refuse(&self, _: &ProgramOver, row: IllegalRow) -> Result<Vec<u8>, PathFault> {
         Err(row.fault)
     }
 }
@@ -161,7 +165,7 @@ fn messages_of_logs<'a, F: Files + Sync, R: Threads + Sync>(
     alloc: Global,
     rt: &R,
     files: &F,
-    program: &Program,
+    program: &ProgramOver,
     asked: &Encode<'a>,
     paths: &[&'a str],
 ) -> Result<Vec<Vec<u8>>, Fault<'a>>

@@ -32,7 +32,7 @@ use measuring::{LogMeasures, write_measures_of};
 use message::MOST_HARTS;
 use payload::Mode;
 use retire::Event;
-use rvclass::Program;
+use rvclass::ProgramOver;
 use std::alloc::{AllocError, Global};
 use std::io::Write;
 use std::thread::Threads;
@@ -88,13 +88,13 @@ impl LogTask<measuring::Measures> for Measuring {
 
     ghost MakesOfIllegal = { λ task program events row measures. ⊥ };
 
-    fn begin(&self, _: &Program, _: usize) -> Result<LogMeasures, AllocError> {
+    fn begin(&self, _: &ProgramOver, _: usize) -> Result<LogMeasures, AllocError> {
         Ok(LogMeasures::new(self.period, self.mode))
     }
 
     fn add(
         &self,
-        program: &Program,
+        program: &ProgramOver,
         counted: &mut LogMeasures,
         events: &[Event],
     ) -> Result<(), AllocError> {
@@ -104,13 +104,13 @@ impl LogTask<measuring::Measures> for Measuring {
 
     fn finish(
         &self,
-        program: &Program,
+        program: &ProgramOver,
         counted: LogMeasures,
     ) -> Result<measuring::Measures, AllocError> {
         Ok(counted.finish(program))
     }
 
-    fn refuse(&self, _: &Program, row: IllegalRow) -> Result<measuring::Measures, PathFault> {
+    fn refuse(&self, _: &ProgramOver, row: IllegalRow) -> Result<measuring::Measures, PathFault> {
         Err(row.fault)
     }
 }
@@ -120,7 +120,7 @@ fn measures_of_logs<'a, F: Files + Sync, R: Threads + Sync>(
     alloc: Global,
     rt: &R,
     files: &F,
-    program: &Program,
+    program: &ProgramOver,
     asked: &Measure<'a>,
     paths: &[&'a str],
 ) -> Result<Vec<measuring::Measures>, Fault<'a>>

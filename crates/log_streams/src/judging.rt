@@ -14,7 +14,7 @@ use crate::illegal_row::IllegalRow;
 use crate::task::LogTask;
 use legalpath::{PathCheck, PathFault};
 use retire::Event;
-use rvclass::Program;
+use rvclass::ProgramOver;
 use std::alloc::AllocError;
 
 /// What is kept of the events of a log that were checked.
@@ -83,7 +83,7 @@ fn last_event(before: Option<Event>, piece: &[Event]) -> Option<Event>
 /// Checks the events of a piece, and adds them to what the task keeps. It returns the first illegal row of the log, if
 /// that is in the piece.
 pub(crate) fn judge_piece<X, T: LogTask<X>>(
-    program: &Program,
+    program: &ProgramOver,
     task: &T,
     judging: &mut Judging<T::State>,
     piece: &[Event],

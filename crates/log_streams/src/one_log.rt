@@ -13,7 +13,7 @@ use crate::task::LogTask;
 use crate::watched::{Origin, Watched};
 use files::{FileFault, Files};
 use retire::{Event, LogFault, LogReader, PieceBuffer, Source};
-use rvclass::Program;
+use rvclass::ProgramOver;
 use std::alloc::Global;
 use std::marker::Brand;
 
@@ -40,7 +40,7 @@ fn is_confirmed<'w, O: Origin, F: Files, X>(
 fn made_at<O: Origin, F: Files, X: Drop, T: LogTask<X>>(
     alloc: Global,
     at: FileAt<'_, F>,
-    program: &Program,
+    program: &ProgramOver,
     most: u32,
     task: &T,
     hart: usize,
@@ -76,7 +76,7 @@ fn made_at<O: Origin, F: Files, X: Drop, T: LogTask<X>>(
 pub(crate) fn made_of_file<F: Files, X: Drop, T: LogTask<X>>(
     alloc: Global,
     files: &F,
-    program: &Program,
+    program: &ProgramOver,
     most: u32,
     task: &T,
     hart: usize,

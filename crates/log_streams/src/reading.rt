@@ -17,7 +17,7 @@ use crate::stop::Stop;
 use crate::task::LogTask;
 use legalpath::PathCheck;
 use retire::{Event, LogFault, LogReader, Source};
-use rvclass::Program;
+use rvclass::ProgramOver;
 use std::alloc::AllocError;
 
 /// Reads a log to its end.
@@ -41,7 +41,7 @@ fn read_on<S: Source>(reader: &mut LogReader<S>, piece: &mut Vec<Event>) -> Resu
 
 /// Reads an illegal log to its end, since a fault of a later row is named before, and makes something of it.
 fn made_of_illegal<S: Source, X, T: LogTask<X>>(
-    program: &Program,
+    program: &ProgramOver,
     task: &T,
     row: IllegalRow,
     reader: &mut LogReader<S>,
@@ -65,7 +65,7 @@ fn made_of_illegal<S: Source, X, T: LogTask<X>>(
 
 /// Reads a log whose events so far are checked, checks the others, and makes something of it.
 fn made_from<S: Source, X, T: LogTask<X>>(
-    program: &Program,
+    program: &ProgramOver,
     most: u32,
     task: &T,
     hart: usize,
@@ -99,7 +99,7 @@ fn made_from<S: Source, X, T: LogTask<X>>(
 
 /// Makes something of a legal log, all of whose events are checked.
 fn finished<X, T: LogTask<X>>(
-    program: &Program,
+    program: &ProgramOver,
     task: &T,
     judged: Judging<T::State>,
 ) -> Result<X, Stop>
@@ -119,7 +119,7 @@ fn finished<X, T: LogTask<X>>(
 
 /// Reads a log of which nothing is read yet, checks it with the program, and makes something of it.
 pub(crate) fn made_of<S: Source, X, T: LogTask<X>>(
-    program: &Program,
+    program: &ProgramOver,
     most: u32,
     task: &T,
     hart: usize,

@@ -15,7 +15,7 @@ use crate::work::Work;
 use crate::worker::entries_of;
 use files::Files;
 use retire::LogFault;
-use rvclass::Program;
+use rvclass::ProgramOver;
 use side_by_side::processors;
 use std::alloc::Global;
 use std::sync::atomic::AtomicUsize;
@@ -26,7 +26,7 @@ pub fn made_of_logs<'a, F: Files + Sync, R: Threads + Sync, X: Send + Drop, T: L
     alloc: Global,
     rt: &R,
     files: &F,
-    program: &Program,
+    program: &ProgramOver,
     most: u32,
     paths: &[&'a str],
     task: &T,

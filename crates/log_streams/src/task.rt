@@ -13,7 +13,7 @@ ghost use Rattle.log_streams.specs.declared.illegal_row.IllegalRow.{IllegalRow a
 use crate::illegal_row::IllegalRow;
 use legalpath::PathFault;
 use retire::Event;
-use rvclass::Program;
+use rvclass::ProgramOver;
 use std::alloc::AllocError;
 
 /// Makes something of the events of a log, which come a piece at a time.
@@ -34,14 +34,14 @@ pub trait LogTask<X> {
     ghost MayRefuse: { Self → Type 0 } = { λ _. ⊤ };
 
     /// Begins with the log of a hart. The error says that an allocation failed.
-    fn begin(&self, program: &Program, hart: usize) -> Result<Self::State, AllocError>
+    fn begin(&self, program: &ProgramOver, hart: usize) -> Result<Self::State, AllocError>
         ensures { IfOk result (Keeps self.now program.now hart []) };
 
     /// Adds the next events of the log. Together with those before them they are legal, and at most 4,294,967,295. The
     /// error says that an allocation failed.
     fn add(
         &self,
-        program: &Program,
+        program: &ProgramOver,
         state: &mut Self::State,
         events: &[Event],
     ) -> Result<(), AllocError>
@@ -51,13 +51,13 @@ pub trait LogTask<X> {
             → OnOk result (Keeps self.now program.now hart (seen ++ events.now) state.new) };
 
     /// Ends with a log that is legal. The error says that an allocation failed.
-    fn finish(&self, program: &Program, state: Self::State) -> Result<X, AllocError>
+    fn finish(&self, program: &ProgramOver, state: Self::State) -> Result<X, AllocError>
         ensures { (hart : ℕ) (seen : List AnyEvent) → Keeps self.now program.now hart seen state
             → IsLegalUpTo most_long_rows program.now seen
             → IfOk result (Makes self.now program.now hart seen) };
 
     /// Ends with a log that is illegal. The error is the fault of its first illegal row.
-    fn refuse(&self, program: &Program, row: IllegalRow) -> Result<X, PathFault>
+    fn refuse(&self, program: &ProgramOver, row: IllegalRow) -> Result<X, PathFault>
         ensures made { (events : List AnyEvent) → IsIllegalRow (words_of program.now) events row
             → IfOk result (MakesOfIllegal self.now program.now events row) }
         ensures fault { IfErr result (λ fault. fault ≡ row.fault) }

@@ -8,7 +8,7 @@ use crate::places::Places;
 use crate::task::LogTask;
 use crate::worker::Worker;
 use files::Files;
-use rvclass::Program;
+use rvclass::ProgramOver;
 use std::alloc::Global;
 use std::sync::atomic::{AtomicUsize, Ordering};
 
@@ -17,7 +17,7 @@ use std::sync::atomic::{AtomicUsize, Ordering};
 pub(crate) struct Work<'w, 'a, F, T> {
     pub(crate) alloc: Global,
     pub(crate) files: &'w F,
-    pub(crate) program: &'w Program,
+    pub(crate) program: &'w ProgramOver<'w>,
     pub(crate) most: u32,
     pub(crate) task: &'w T,
     pub(crate) paths: &'w [&'a str],

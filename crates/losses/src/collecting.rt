@@ -21,7 +21,7 @@ use crate::part::HartPieces;
 use decoder::DecodeFault;
 use message::{Demux, Message};
 use payload::{Mode, Packet};
-use rvclass::Program;
+use rvclass::ProgramOver;
 use std::alloc::{AllocError, Allocator};
 use watching::{Unwatched, Watch};
 
@@ -73,7 +73,7 @@ fn fault_at(place: usize, fault: DecodeFault) -> LossyFault
 /// Takes a hart's next packet, before which this many numbers are missing.
 fn take_packet<A: Allocator + Copy>(
     alloc: A,
-    program: &Program,
+    program: &ProgramOver,
     mode: Mode,
     packet: &Packet,
     missed: u64,
@@ -116,7 +116,7 @@ impl<A: Allocator + Copy> Collection<A> {
     fn take(
         &mut self,
         alloc: A,
-        program: &Program,
+        program: &ProgramOver,
         mode: Mode,
         place: usize,
         message: &Message,
@@ -152,7 +152,7 @@ impl<A: Allocator + Copy> Collection<A> {
 /// are not ended.
 fn take_all<A: Allocator + Copy, V: Watch>(
     alloc: A,
-    program: &Program,
+    program: &ProgramOver,
     harts: u16,
     mode: Mode,
     messages: &[Message],
@@ -202,7 +202,7 @@ fn end_all<A: Allocator + Copy>(
 /// closed.
 pub fn collect_lossy<A: Allocator + Copy>(
     alloc: A,
-    program: &Program,
+    program: &ProgramOver,
     harts: u16,
     mode: Mode,
     messages: &[Message],
@@ -229,7 +229,7 @@ pub fn collect_lossy<A: Allocator + Copy>(
 /// Collects what is left of logs as [`collect_lossy`] does, and tells `watch` of each message that is taken.
 pub fn collect_watched<A: Allocator + Copy, V: Watch>(
     alloc: A,
-    program: &Program,
+    program: &ProgramOver,
     harts: u16,
     mode: Mode,
     messages: &[Message],

@@ -14,7 +14,7 @@ use crate::part::{HartPieces, Part};
 use decoder::{DecodeFault, Decoder};
 use payload::{Mode, Packet};
 use retire::Event;
-use rvclass::Program;
+use rvclass::ProgramOver;
 use std::alloc::{AllocError, Allocator};
 use std::mem;
 
@@ -101,7 +101,7 @@ impl<A: Allocator + Copy> HartTrace<A> {
     pub fn take(
         &mut self,
         alloc: A,
-        program: &Program,
+        program: &ProgramOver,
         mode: Mode,
         packet: &Packet,
         missed: u64,

@@ -13,7 +13,7 @@ use crate::measures::Measures;
 use encoder::Encoder;
 use payload::{Packet, Report, pack};
 use retire::Event;
-use rvclass::Program;
+use rvclass::ProgramOver;
 
 /// Adds events.
 pub(crate) fn count_events(measures: &mut Measures, events: &[Event])
@@ -29,7 +29,7 @@ pub(crate) fn count_events(measures: &mut Measures, events: &[Event])
 pub(crate) fn count_packets(
     measures: &mut Measures,
     encoder: &mut Encoder,
-    program: &Program,
+    program: &ProgramOver,
     events: &[Event],
 )
     requires room { AreWithin (2 ^ 48) measures.old }

@@ -18,7 +18,7 @@ use encoder::Encoder;
 use legalpath::LegalLog;
 use payload::Mode;
 use retire::Event;
-use rvclass::Program;
+use rvclass::ProgramOver;
 use std::alloc::Allocator;
 use std::marker::Model;
 
@@ -64,7 +64,7 @@ impl LogMeasures {
     /// before were counted with. With the events before, these may be at most 2^32 - 1; [`rows`](LogMeasures::rows)
     /// returns how many were counted so far. If all events so far are no legal log of the program, each event is
     /// counted, but the counts of packets say nothing.
-    pub fn add(&mut self, program: &Program, events: &[Event])
+    pub fn add(&mut self, program: &ProgramOver, events: &[Event])
         requires few { self.old.rows + length events.now ≤ 2 ^ 32 - 1 }
         ensures counted { (period : ℕ) (mode : AnyMode) (seen : List AnyEvent) →
             HasCounted (words_of program.now) period mode seen self.old →
@@ -77,7 +77,7 @@ impl LogMeasures {
     }
 
     /// The counts of the log that ends here: of its events, of all its packets and of their payloads.
-    pub fn finish(self, program: &Program) -> Measures
+    pub fn finish(self, program: &ProgramOver) -> Measures
         ensures value { (period : ℕ) (mode : AnyMode) (seen : List AnyEvent) →
             HasCounted (words_of program.now) period mode seen self →
             result ≡ measures_of period mode (program_log program.now seen) }

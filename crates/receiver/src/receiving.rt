@@ -26,7 +26,7 @@ use decoder::{DecodeFault, Decoder};
 use message::{Demux, DemuxFault, Message};
 use payload::{Mode, Packet, Support};
 use retire::Event;
-use rvclass::Program;
+use rvclass::ProgramOver;
 use std::alloc::{AllocError, Allocator, Global};
 use std::marker::Model;
 
@@ -94,7 +94,7 @@ impl<A: Allocator + Copy> Receiver<A> {
     /// the hart. A fault leaves the receiver as it was; where an allocation failed, the packet may be decoded again.
     pub fn decode(
         &mut self,
-        program: &Program,
+        program: &ProgramOver,
         hart: u16,
         packet: &Packet,
     ) -> Result<(), DecodeFault>
@@ -163,7 +163,7 @@ impl<A: Allocator + Copy> Receiver<A> {
     /// hart's next message is expected.
     pub fn receive(
         &mut self,
-        program: &Program,
+        program: &ProgramOver,
         announced: Option<Mode>,
         message: &Message,
     ) -> Result<(), ReceiveFault>

@@ -37,32 +37,32 @@ abbrev Instruction-of : ℕ → ℕ → Class → Instruction
 Instruction-of code length class = record { code = code; length = length; class = class }
 
 -- Of a word of 2 bytes.
-pub half_code : (base : ℕ) (bytes read again : List ℕ) (addr length code : ℕ) (class : Class)
-    → read ≡ bytes → again ≡ bytes → base ≤ addr → length ≡ 2
+pub half_code : (base : ℕ) (bytes read : List ℕ) (addr length code : ℕ) (class : Class)
+    → read ≡ bytes → base ≤ addr → length ≡ 2
     → words_of (image_at base read) addr ≡ Some (class, length)
-    → code ≡ half_at (image_at 0 again) (addr - base)
+    → code ≡ half_at (image_at 0 read) (addr - base)
     → Some (Instruction-of code length class) ≡ instruction_of (image_at base bytes) addr
-half_code base bytes read again addr length code class r a from two e half =
+half_code base bytes read addr length code class r from two e half =
     let p = image_at base bytes in
     let word : words_of p addr ≡ Some (class, length) =
     subst (λ l. words_of (image_at base l) addr ≡ Some (class, length)) r e in
     let same : code ≡ half_at p addr =
-    half ∙ ap (λ l. half_at (image_at 0 l) (addr - base)) a ∙ half_from_base p addr from in
+    half ∙ ap (λ l. half_at (image_at 0 l) (addr - base)) r ∙ half_from_base p addr from in
     let choice : (if length == 2 then half_at p addr else word_at p addr) ≡ half_at p addr = rw two refl in
     ap (λ n. Some (Instruction-of n length class)) (same ∙ sym choice) ∙ sym (ap (option_map (with_code p addr)) word)
 
 -- Of a word of 4 bytes.
-pub word_code : (base : ℕ) (bytes read again : List ℕ) (addr length code : ℕ) (class : Class)
-    → read ≡ bytes → again ≡ bytes → base ≤ addr → ¬ (length ≡ 2)
+pub word_code : (base : ℕ) (bytes read : List ℕ) (addr length code : ℕ) (class : Class)
+    → read ≡ bytes → base ≤ addr → ¬ (length ≡ 2)
     → words_of (image_at base read) addr ≡ Some (class, length)
-    → code ≡ word_at (image_at 0 again) (addr - base)
+    → code ≡ word_at (image_at 0 read) (addr - base)
     → Some (Instruction-of code length class) ≡ instruction_of (image_at base bytes) addr
-word_code base bytes read again addr length code class r a from other e word32 =
+word_code base bytes read addr length code class r from other e word32 =
     let p = image_at base bytes in
     let word : words_of p addr ≡ Some (class, length) =
     subst (λ l. words_of (image_at base l) addr ≡ Some (class, length)) r e in
     let same : code ≡ word_at p addr =
-    word32 ∙ ap (λ l. word_at (image_at 0 l) (addr - base)) a ∙ word_from_base p addr from in
+    word32 ∙ ap (λ l. word_at (image_at 0 l) (addr - base)) r ∙ word_from_base p addr from in
     let test : (length == 2) ≡ false = grind (arith, nat_tests) in
     let choice : (if length == 2 then half_at p addr else word_at p addr) ≡ word_at p addr = rw test refl in
     ap (λ n. Some (Instruction-of n length class)) (same ∙ sym choice) ∙ sym (ap (option_map (with_code p addr)) word)

@@ -8,3 +8,4 @@ pub mod Fetch
 pub mod Instruction
 pub mod Program
 pub mod FaultText
+pub mod steps

@@ -6,6 +6,7 @@
 mod bits;
 mod class;
 mod fault;
+mod held;
 mod instruction;
 mod offset;
 mod program;
@@ -15,4 +16,4 @@ mod word32;
 pub use class::{Class, Return};
 pub use fault::ProgramFault;
 pub use instruction::Instruction;
-pub use program::Program;
+pub use program::{Program, ProgramOver};

@@ -1,15 +1,17 @@
 //! A program, and the instruction at each of its addresses.
 
-ghost use Rattle.std.specs.Prelude.{◌≡◌, ◌↔◌, ◌+◌, ◌-◌, ◌*◌, ◌%◌, ◌^◌, ◌<◌, ◌≤◌, length, vec_len, IsOk, IfOk, Err};
+ghost use Rattle.std.specs.Prelude.{◌≡◌, ◌↔◌, ◌+◌, ◌-◌, ◌*◌, ◌%◌, ◌^◌, ◌<◌, ◌≤◌, length, vec_len, IsOk, IfOk, IfErr, Ok, Err};
 ghost use Rattle.rvclass.specs.Fetch.{half_at, word_at, words_of};
 ghost use Rattle.rvclass.specs.Image.{Image, IsImage, image_at};
 ghost use Rattle.rvclass.specs.Instruction.{instruction_of};
 ghost use Rattle.rvclass.specs.Program.{program_of};
+ghost use Rattle.rvclass.specs.steps.HeldBytes.{held_bytes};
 ghost use Rattle.rvclass.specs.Words.{IsProgram, LiesIn};
 
 use crate::bits::bits_of;
 use crate::class::Class;
 use crate::fault::ProgramFault;
+use crate::held::Held;
 use crate::instruction::Instruction;
 use crate::word16::class_of_word16;
 use crate::word32::class_of_word32;
@@ -18,25 +20,28 @@ use std::marker::Model;
 /// The largest image, in bytes.
 const MAX_BYTES: usize = 1 << 24;
 
-/// A program: the bytes of its image, from a base address on. It never changes.
+/// A program: the bytes of its image, from a base address on, which it owns or borrows for `'b`. It never changes.
 #[derive(Debug, Drop)]
-pub struct Program {
+pub struct ProgramOver<'b> {
     base: u64,
-    bytes: Vec<u8>,
+    bytes: Held<'b>,
     /// The number of places from which there are four bytes: the length less 3, or 0.
     windows: u64,
 }
 
-impl Model for Program {
+/// A program that owns the bytes of its image.
+pub type Program = ProgramOver<'static>;
+
+impl<'b> Model for ProgramOver<'b> {
     ghost Value = { Image };
 
-    ghost view = { λ p. image_at p.base p.bytes.items };
+    ghost view = { λ p. image_at p.base (held_bytes p.bytes) };
 
     ghost invariant = { λ p.
-        IsImage (image_at p.base p.bytes.items) × (p.windows ≡ length p.bytes.items - 3) };
+        IsImage (image_at p.base (held_bytes p.bytes)) × (p.windows ≡ length (held_bytes p.bytes) - 3) };
 }
 
-impl Program {
+impl ProgramOver<'static> {
     /// The program of these bytes from the address `base` on. There may be an odd number of bytes, or none.
     pub fn new(base: u64, bytes: Vec<u8>) -> Result<Program, ProgramFault>
         ensures exact { result ≡ program_of base bytes.items }
@@ -47,19 +52,26 @@ impl Program {
         ensures past_end { (result ≡ Err ProgramFault.PastEnd)
             ↔ ((base % 2 ≡ 0) × (vec_len bytes ≤ 2 ^ 24) × (2 ^ 64 ≤ base + vec_len bytes)) }
     {
-        if !base.is_multiple_of(2) {
-            return Err(ProgramFault::OddBase);
-        }
-        if bytes.len() > MAX_BYTES {
-            return Err(ProgramFault::TooLarge);
-        }
-        if u64::MAX - base < bytes.len() as u64 {
-            return Err(ProgramFault::PastEnd);
-        }
-        let windows = bytes.len().saturating_sub(3) as u64;
-        Ok(Program {
+        let windows = windows_of(base, &bytes)?;
+        Ok(ProgramOver {
             base,
-            bytes,
+            bytes: Held::Owned(bytes),
+            windows,
+        })
+    }
+}
+
+impl<'b> ProgramOver<'b> {
+    /// The program of these bytes from the address `base` on, as [`new`](ProgramOver::new) makes it, without a copy of
+    /// the bytes. Takes no memory.
+    pub fn borrowed(base: u64, bytes: &'b [u8]) -> Result<ProgramOver<'b>, ProgramFault>
+        ensures exact { result ≡ program_of base bytes.now }
+        ensures image { IfOk result (λ p. p ≡ image_at base bytes.now) }
+    {
+        let windows = windows_of(base, bytes)?;
+        Ok(ProgramOver {
+            base,
+            bytes: Held::Borrowed(bytes),
             windows,
         })
     }
@@ -79,7 +91,7 @@ impl Program {
         ensures count { result ≡ length self.now.bytes }
         ensures kept { IsImage self.now }
     {
-        self.bytes.len()
+        self.bytes.bytes().len()
     }
 
     /// The class of the instruction at an address, and its length in bytes, 2 or 4. There is none where the address is
@@ -91,20 +103,21 @@ impl Program {
         ensures kept { IsProgram (words_of self.now) }
         ensures within { LiesIn (words_of self.now) self.now.base (length self.now.bytes) }
     {
-        word_of(self.base, &self.bytes, self.windows, addr)
+        word_of(self.base, self.bytes.bytes(), self.windows, addr)
     }
 
-    /// The instruction at an address with its bits. There is one where [`at`](Program::at) finds one, with the same
+    /// The instruction at an address with its bits. There is one where [`at`](ProgramOver::at) finds one, with the same
     /// class and length.
     pub fn instruction(&self, addr: u64) -> Option<Instruction>
         ensures { result ≡ instruction_of self.now addr }
     {
-        let (class, length) = word_of(self.base, &self.bytes, self.windows, addr)?;
+        let bytes = self.bytes.bytes();
+        let (class, length) = word_of(self.base, bytes, self.windows, addr)?;
         let place = (addr - self.base) as usize;
         let code = if length == 2 {
-            half_of(&self.bytes, place)
+            half_of(bytes, place)
         } else {
-            word_at(&self.bytes, place)
+            word_at(bytes, place)
         };
         Some(Instruction {
             code,
@@ -112,6 +125,25 @@ impl Program {
             class,
         })
     }
+}
+
+/// The number of places of an image from which there are four bytes, or the first fault of the program of these bytes.
+fn windows_of(base: u64, bytes: &[u8]) -> Result<u64, ProgramFault>
+    ensures exact { IfErr result (λ why. program_of base bytes.now ≡ Err why) }
+    ensures image { IfOk result (λ windows.
+        (program_of base bytes.now ≡ Ok (image_at base bytes.now)) × IsImage (image_at base bytes.now)
+        × (windows ≡ length bytes.now - 3)) }
+{
+    if !base.is_multiple_of(2) {
+        return Err(ProgramFault::OddBase);
+    }
+    if bytes.len() > MAX_BYTES {
+        return Err(ProgramFault::TooLarge);
+    }
+    if u64::MAX - base < bytes.len() as u64 {
+        return Err(ProgramFault::PastEnd);
+    }
+    Ok(bytes.len().saturating_sub(3) as u64)
 }
 
 /// The instruction at an address of the image that has these bytes from `base` on. `windows` is the number of places

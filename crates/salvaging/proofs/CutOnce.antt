@@ -8,7 +8,7 @@ use Rattle.salvaging.specs.Entries.{Entry}
 
 module _ (words : Words) (mode : Mode) where
   -- It does not end where none of the entries ends it.
-  not_at : (front : List Entry) (last : Entry) (more later : List Entry)
+  pub not_at : (front : List Entry) (last : Entry) (more later : List Entry)
       → NoneEnds words mode (front ++ last ∷ more) later → ¬ IsEnd words mode last (more ++ later)
   not_at [] last more later none = none.0
   not_at (entry ∷ front) last more later none = not_at front last more later none.1

@@ -73,7 +73,7 @@ module _ (words : Words) (mode : Mode) where
   not_before (Doubtful number one other) front start later begins end = end
 
   -- Nor at that entry itself.
-  not_closing : (payload : List ℕ) (p : Packet) → reading payload ≡ Ok p → IsSync p → is_closing payload ≡ false
+  pub not_closing : (payload : List ℕ) (p : Packet) → reading payload ≡ Ok p → IsSync p → is_closing payload ≡ false
   not_closing payload (packet.Sync taken priv address) read sync = ap is_closing_reading read
   not_closing payload (packet.Support support) read sync = absurd sync
   not_closing payload (packet.Trap taken priv cause interrupt handler address tval) read sync = absurd sync

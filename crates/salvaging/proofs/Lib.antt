@@ -58,3 +58,10 @@ pub mod TreatedAt
 pub mod SortedOut
 pub mod TreatedAll
 pub mod SortedEach
+pub mod StretchesBehind
+pub mod PartedAtClosing
+pub mod OrderedEntries
+pub mod NumberedEnds
+pub mod MarkedPlaces
+pub mod JoinedParts
+pub mod PartsTreated

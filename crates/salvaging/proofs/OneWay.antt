@@ -96,7 +96,7 @@ copies_once messages count other copies too =
     omega (arith, one, back, first, second)
 
 -- Parts behind one another.
-alike_append : (left more others further : List LeftPart) → AreAlikeParts left others → AreAlikeParts more further
+pub alike_append : (left more others further : List LeftPart) → AreAlikeParts left others → AreAlikeParts more further
     → AreAlikeParts (left ++ more) (others ++ further)
 alike_append [] more [] further are too = too
 alike_append [] more (Missing m ∷ others) further are too = absurd are
@@ -171,7 +171,7 @@ module _ (words : Words) (program : IsProgram words) (mode : Mode) where
       (alike_append one (Missing (suc missed) ∷ []) other (Missing (suc missed) ∷ [])
       (run_once run next one other leaves leaves_too) (refl, tt))
 
-  good_not_bad : (run : Run) (payload : List ℕ) (following : Option ℕ) (packet : Packet) (why : Reason)
+  pub good_not_bad : (run : Run) (payload : List ℕ) (following : Option ℕ) (packet : Packet) (why : Reason)
       → IsGood words mode run payload following packet → ¬ IsBad words mode run payload following why
   good_not_bad run payload following packet (reason.Packet why) good bad = let fine = good.read in cc
   good_not_bad run payload following packet (reason.Decode why) good bad =
@@ -208,7 +208,7 @@ module _ (words : Words) (program : IsProgram words) (mode : Mode) where
       → reading payload ≡ Ok packet → ⊥
   not_read payload why packet unread read = cc
 
-  reasons_alike : (run : Run) (payload : List ℕ) (following : Option ℕ) (one other : Reason)
+  pub reasons_alike : (run : Run) (payload : List ℕ) (following : Option ℕ) (one other : Reason)
       → IsBad words mode run payload following one → IsBad words mode run payload following other
       → AreAlikeReasons one other
   reasons_alike run payload following (reason.Packet why) (reason.Packet fault) bad too =

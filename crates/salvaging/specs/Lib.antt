@@ -6,6 +6,8 @@ pub mod ReasonText
 pub mod Bad
 pub mod Leaving
 pub mod Ends
+pub mod EndsByParts
+pub mod EndsByNumbers
 pub mod Late
 pub mod Shares
 pub mod Treatments
@@ -16,4 +18,5 @@ pub mod LogsSalvaged
 pub mod LossyParts
 pub mod Salvages
 pub mod AlikeParts
+pub mod TreatedParts
 pub mod steps

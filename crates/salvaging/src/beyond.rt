@@ -16,13 +16,13 @@ use crate::grouping::first_entry;
 use crate::part::{Part, push_part};
 use crate::trail::Trail;
 use payload::Mode;
-use rvclass::Program;
+use rvclass::ProgramOver;
 use std::alloc::{AllocError, Allocator};
 
 /// The part that an entry beyond the end of its hart leaves. `behind` are the messages with greater numbers.
 pub(crate) fn part_beyond<A: Allocator + Copy>(
     alloc: A,
-    program: &Program,
+    program: &ProgramOver,
     mode: Mode,
     entry: Entry<'_>,
     behind: &[Came<'_>],
@@ -53,7 +53,7 @@ pub(crate) fn part_beyond<A: Allocator + Copy>(
 /// Takes the messages beyond the end of their hart, which are in the order of their numbers. The mode is the hart's own.
 pub(crate) fn take_beyond<A: Allocator + Copy>(
     alloc: A,
-    program: &Program,
+    program: &ProgramOver,
     mode: Mode,
     came: &[Came<'_>],
     trail: &mut Trail<A>,

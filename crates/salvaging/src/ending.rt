@@ -16,14 +16,14 @@ use crate::reason::Reason;
 use crate::trail::{Trail, is_sync};
 use decoder::Paths;
 use payload::{Mode, Payload, unpack};
-use rvclass::Program;
+use rvclass::ProgramOver;
 use std::alloc::{AllocError, Allocator};
 
 /// Why a used message with this payload is bad where a synchronisation is looked for, in the hart's own mode; `None`
 /// where it is good. `behind` are the messages with greater numbers.
 pub(crate) fn reason_alone<A: Allocator + Copy>(
     alloc: A,
-    program: &Program,
+    program: &ProgramOver,
     mode: Mode,
     payload: &Payload,
     behind: &[Came<'_>],
@@ -39,7 +39,7 @@ pub(crate) fn reason_alone<A: Allocator + Copy>(
 /// Whether a stretch begins at an entry, where a synchronisation is looked for.
 fn begins_stretch<A: Allocator + Copy>(
     alloc: A,
-    program: &Program,
+    program: &ProgramOver,
     mode: Mode,
     entry: Entry<'_>,
 ) -> Result<bool, AllocError>
@@ -55,7 +55,7 @@ fn begins_stretch<A: Allocator + Copy>(
 /// Whether a stretch begins at a used message with this payload.
 fn begins_by<A: Allocator + Copy>(
     alloc: A,
-    program: &Program,
+    program: &ProgramOver,
     mode: Mode,
     payload: &Payload,
 ) -> Result<bool, AllocError>
@@ -115,7 +115,7 @@ fn end_with(entry: Entry<'_>, used: bool, upto: &[Came<'_>], end: usize) -> usiz
 /// It goes back from the last number, and no further than to the last one at which a stretch begins.
 pub(crate) fn count_to_end<A: Allocator + Copy>(
     alloc: A,
-    program: &Program,
+    program: &ProgramOver,
     mode: Mode,
     came: &[Came<'_>],
 ) -> Result<usize, AllocError>

@@ -17,7 +17,7 @@ use crate::trail::take_all;
 use crate::used::is_closed;
 use decoder::Lines;
 use payload::Mode;
-use rvclass::Program;
+use rvclass::ProgramOver;
 use std::alloc::{AllocError, Allocator};
 use watching::Watch;
 
@@ -25,7 +25,7 @@ use watching::Watch;
 /// of their numbers, and what came with each number is read from their list as it is needed. Each message is told of.
 pub(crate) fn salvage_hart<A: Allocator + Copy, V: Watch>(
     alloc: A,
-    program: &Program,
+    program: &ProgramOver,
     lines: &mut Lines<'_, A>,
     mode: Mode,
     mut came: Vec<Came<'_>, A>,

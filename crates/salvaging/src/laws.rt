@@ -1,21 +1,33 @@
 //! What the definitions of salvaging promise.
 
-ghost use Rattle.std.specs.Prelude.{ℕ, ◌≡◌, List, length};
+ghost use Rattle.std.specs.Prelude.{ℕ, ◌≡◌, ◌≢◌, ◌↔◌, ◌++◌, ◌∷◌, true, Bool, List, None, length, map};
 ghost use Rattle.rvclass.specs.Fetch.{words_of};
 ghost use Rattle.rvclass.specs.Image.{Image};
 ghost use Rattle.rvclass.specs.Words.{Words, IsProgram};
 ghost use Rattle.legalpath.specs.ProgramLog.{ProgramLog};
+ghost use Rattle.payload.specs.Closing.{is_closing};
 ghost use Rattle.payload.specs.declared.mode.Mode.{Mode};
 ghost use Rattle.message.specs.Accepted.{newcomers};
 ghost use Rattle.message.specs.declared.message.Message.{Message};
 ghost use Rattle.losses.specs.DescribedParts.{AreDescribed};
+ghost use Rattle.losses.specs.Apart.{AreRising};
+ghost use Rattle.losses.specs.Runs.{first_run};
 ghost use Rattle.losses.specs.Stops.{AreAcceptedLossy};
 ghost use Rattle.losses.specs.declared.part.HartPieces.{HartPieces as AnyPieces};
 ghost use Rattle.salvaging.specs.AlikeParts.{AreAlikeHarts};
+ghost use Rattle.salvaging.specs.Ends.{AreCutAtEnd};
+ghost use Rattle.salvaging.specs.EndsByNumbers.{AreCutByNumber};
+ghost use Rattle.salvaging.specs.EndsByParts.{MayEndByParts};
+ghost use Rattle.salvaging.specs.Entries.{Entry as AnyEntry, Used, entry_number, next_used};
 ghost use Rattle.salvaging.specs.FromLogs.{AreFromLogs};
+ghost use Rattle.salvaging.specs.Leaving.{EntriesLeave};
+ghost use Rattle.salvaging.specs.LeftParts.{LeftPart};
 ghost use Rattle.salvaging.specs.LogsSalvaged.{AreLogsSalvaged};
 ghost use Rattle.salvaging.specs.LossyParts.{AreCollectedToo};
+ghost use Rattle.salvaging.specs.PartsIn.{parts_in};
 ghost use Rattle.salvaging.specs.Salvaged.{IsSalvaged, IsSalvagedHart};
+ghost use Rattle.salvaging.specs.TreatedParts.{AreTreatedParts};
+ghost use Rattle.salvaging.specs.Treatments.{HartTreats};
 ghost use Rattle.salvaging.specs.declared.salvaged.SalvagedHart.{SalvagedHart as AnyHart};
 ghost use Rattle.salvaging.specs.declared.salvaged.Salvaged.{Salvaged as AnySalvaged};
 
@@ -47,4 +59,31 @@ pub fn harts_are_salvaged_in_one_way<A: Allocator, B: Allocator>()
     ensures { (words : Words) (mode : Mode) (messages : List Message) (one : AnyHart A) (other : AnyHart B)
         → IsProgram words → IsSalvagedHart words mode messages one → IsSalvagedHart words mode messages other
         → AreAlikeHarts one other }
+{}
+
+/// A hart may end at a number exactly where no stretch comes after it. The number is used, its message closes the
+/// trace, and a greater number is used. Whether a stretch comes after it is seen in what the hart's entries leave where
+/// none of them is the end.
+pub fn harts_end_where_no_stretch_comes_after()
+    ensures { (words : Words) (mode : Mode) (front later : List AnyEntry) (number place : ℕ) (payload : List ℕ)
+        (goods : List Bool) (parts : List LeftPart) → is_closing payload ≡ true → next_used later ≢ None
+        → EntriesLeave words mode first_run 0 (front ++ Used number place payload ∷ later) goods parts
+        → MayEndByParts words mode number place payload later parts }
+{}
+
+/// A hart ends at the lowest used number whose message closes the trace, where a greater number is used, but none with
+/// a synchronisation that is decoded. Where there is no such number, none of its entries is beyond its end.
+pub fn harts_end_at_their_lowest_number()
+    ensures { (words : Words) (mode : Mode) (entries upto beyond : List AnyEntry)
+        → AreRising 0 (map entry_number entries) → AreCutAtEnd words mode entries upto beyond
+        ↔ ((entries ≡ upto ++ beyond) × AreCutByNumber words mode entries upto beyond) }
+{}
+
+/// The parts that are salvaged of a hart's messages are what is done with them. The same numbers are bad, doubtful and
+/// alone, at the same places, but for which fault of a decoder a bad number has. The events of the stretches are those
+/// that the good messages add, in the order of their numbers, and the treatments say how many they are.
+pub fn parts_are_what_is_done<A: Allocator>()
+    ensures { (words : Words) (mode : Mode) (messages : List Message) (hart : AnyHart A) → IsProgram words
+        → IsSalvagedHart words mode messages hart → (treats : HartTreats words mode messages)
+        → AreTreatedParts (parts_in hart.parts.items) treats }
 {}

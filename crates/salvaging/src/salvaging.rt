@@ -20,7 +20,7 @@ use crate::salvaged::{Salvaged, SalvagedHart};
 use decoder::Lines;
 use message::Message;
 use payload::Mode;
-use rvclass::Program;
+use rvclass::ProgramOver;
 use std::alloc::{AllocError, Allocator};
 use std::mem;
 use watching::{Unwatched, Watch};
@@ -29,7 +29,7 @@ use watching::{Unwatched, Watch};
 /// the next hart's packets are decoded.
 fn salvage_each<A: Allocator + Copy, V: Watch>(
     alloc: A,
-    program: &Program,
+    program: &ProgramOver,
     mode: Mode,
     lists: &mut Vec<Vec<Came<'_>, A>, A>,
     watch: &V,
@@ -64,7 +64,7 @@ fn salvage_each<A: Allocator + Copy, V: Watch>(
 /// many a hart has.
 pub fn salvage<A: Allocator + Copy>(
     alloc: A,
-    program: &Program,
+    program: &ProgramOver,
     harts: u16,
     mode: Mode,
     messages: &[Message],
@@ -89,7 +89,7 @@ pub fn salvage<A: Allocator + Copy>(
 /// hart after hart, and of the strangers at last.
 pub fn salvage_watched<A: Allocator + Copy, V: Watch>(
     alloc: A,
-    program: &Program,
+    program: &ProgramOver,
     harts: u16,
     mode: Mode,
     messages: &[Message],

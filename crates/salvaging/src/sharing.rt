@@ -24,7 +24,7 @@ use decoder::Paths;
 use message::Message;
 use payload::Mode;
 use retire::Event;
-use rvclass::Program;
+use rvclass::ProgramOver;
 use std::alloc::{AllocError, Allocator};
 
 /// How many events these are, and where the first and the last of them are.
@@ -58,7 +58,7 @@ fn treated_good(begun: Option<u64>, added: &[Event]) -> Treatment
 /// Takes the message of a used number, and returns what it does. `behind` are the messages with greater numbers.
 fn share_used<A: Allocator + Copy>(
     alloc: A,
-    program: &Program,
+    program: &ProgramOver,
     mode: Mode,
     message: &Message,
     behind: &[Came<'_>],
@@ -103,7 +103,7 @@ fn share_doubtful<A: Allocator + Copy>(
 /// Takes a hart's next entry, and returns what it does. `behind` are the messages with greater numbers.
 fn share_entry<A: Allocator + Copy>(
     alloc: A,
-    program: &Program,
+    program: &ProgramOver,
     mode: Mode,
     entry: Entry<'_>,
     behind: &[Came<'_>],
@@ -131,7 +131,7 @@ fn share_entry<A: Allocator + Copy>(
 /// its own.
 pub(crate) fn share_all<A: Allocator + Copy>(
     alloc: A,
-    program: &Program,
+    program: &ProgramOver,
     mode: Mode,
     came: &[Came<'_>],
 ) -> Result<Vec<Treatment, A>, AllocError>

@@ -15,7 +15,7 @@ use crate::grouping::first_entry;
 use crate::part::Part;
 use crate::treatment::Treatment;
 use payload::Mode;
-use rvclass::Program;
+use rvclass::ProgramOver;
 use std::alloc::{AllocError, Allocator};
 
 /// What is done with the message of an entry that leaves this part, beyond the end of its hart.
@@ -33,7 +33,7 @@ fn treated_beyond<A: Allocator>(part: &Part<A>) -> Treatment
 /// the hart's own.
 pub(crate) fn share_beyond<A: Allocator + Copy>(
     alloc: A,
-    program: &Program,
+    program: &ProgramOver,
     mode: Mode,
     came: &[Came<'_>],
     treatments: &mut Vec<Treatment, A>,

@@ -13,7 +13,7 @@ use crate::rows::{NumberRow, rows_back};
 use crate::sharing::share_all;
 use crate::sharing_beyond::share_beyond;
 use payload::Mode;
-use rvclass::Program;
+use rvclass::ProgramOver;
 use std::alloc::{AllocError, Allocator};
 
 /// The messages of a hart in the order of their numbers, and the rows of its numbers, from the greatest on.
@@ -26,7 +26,7 @@ pub(crate) struct HartRows<'a, A: Allocator> {
 /// What is done with the messages of a hart, which are in the order in which they came.
 pub(crate) fn sort_out<'a, A: Allocator + Copy>(
     alloc: A,
-    program: &Program,
+    program: &ProgramOver,
     mode: Mode,
     mut came: Vec<Came<'a>, A>,
 ) -> Result<HartRows<'a, A>, AllocError>

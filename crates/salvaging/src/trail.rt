@@ -29,7 +29,7 @@ use decoder::{DecodeFault, Decoder, Lines, Paths};
 use message::Message;
 use payload::{Mode, Packet, Payload, unpack};
 use retire::Event;
-use rvclass::Program;
+use rvclass::ProgramOver;
 use std::alloc::{AllocError, Allocator};
 use std::mem;
 use watching::Watch;
@@ -351,7 +351,7 @@ fn find_after<A: Allocator + Copy>(
 /// order of their numbers. The last run is not ended. The program's leaps are found once a packet was refused.
 pub(crate) fn take_all<A: Allocator + Copy, V: Watch>(
     alloc: A,
-    program: &Program,
+    program: &ProgramOver,
     lines: &mut Lines<'_, A>,
     mode: Mode,
     came: &[Came<'_>],

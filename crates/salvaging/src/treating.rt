@@ -17,7 +17,7 @@ use crate::sorting_out::{HartRows, sort_out};
 use crate::treatment::{Treated, Treatment};
 use message::Message;
 use payload::Mode;
-use rvclass::Program;
+use rvclass::ProgramOver;
 use std::alloc::{AllocError, Allocator};
 use std::mem;
 use watching::Watch;
@@ -25,7 +25,7 @@ use watching::Watch;
 /// Sorts out the messages of each hart. Each list is taken out. Tells of the messages of each hart.
 fn sort_each<'a, A: Allocator + Copy, V: Watch>(
     alloc: A,
-    program: &Program,
+    program: &ProgramOver,
     mode: Mode,
     lists: &mut Vec<Vec<Came<'a>, A>, A>,
     watch: &V,
@@ -130,7 +130,7 @@ fn treat_each<A: Allocator + Copy>(
 /// an allocation fails.
 pub fn treat_watched<A: Allocator + Copy, V: Watch>(
     alloc: A,
-    program: &Program,
+    program: &ProgramOver,
     harts: u16,
     mode: Mode,
     messages: &[Message],

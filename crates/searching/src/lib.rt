@@ -2,7 +2,7 @@
 //!
 //! [`start_of`] returns how a capture begins, [`spans_of`] its frames and the bytes between them, and [`harts_counted`]
 //! how many harts it has. [`search_capture`] writes a line of text for each frame and for each run of bytes between.
-//! Nothing here takes memory.
+//! [`write_start`] and [`mode_of`] are what a header decides of such lines. Nothing here takes memory.
 #![tactic(auto)]
 
 mod counting;
@@ -10,5 +10,5 @@ mod searched;
 mod start;
 
 pub use counting::harts_counted;
-pub use searched::search_capture;
+pub use searched::{mode_of, search_capture, write_start};
 pub use start::{CaptureStart, first_place, spans_of, start_of};

@@ -76,8 +76,9 @@ fn write_found<W: Write, V: Watch>(
     write_spans(mode_of(header), spans_of(capture, header), sink, watch)
 }
 
-/// Writes the line of the header, if there is one.
-fn write_start<W: Write>(header: Option<Header>, sink: &mut W) -> Result<(), WriteFault>
+/// Writes the line of the header, if there is one. The only fault is [`WriteFault::Write`], where the writer failed: what
+/// was written then is a prefix of the line. No memory is taken.
+pub fn write_start<W: Write>(header: Option<Header>, sink: &mut W) -> Result<(), WriteFault>
     ensures text { OnOk result (Appends (W.contents sink.old) (W.contents sink.new) (start_line header)) }
     ensures begun { AppendsBeginning (start_line header) (W.contents sink.old) (W.contents sink.new) }
     ensures fault { IfErr result (λ fault. fault ≡ WriteFault.Write) }
@@ -88,8 +89,8 @@ fn write_start<W: Write>(header: Option<Header>, sink: &mut W) -> Result<(), Wri
     }
 }
 
-/// The mode that names address fields.
-fn mode_of(header: Option<Header>) -> Mode
+/// The mode that names address fields: the header's, and without a header the differential one. No memory is taken.
+pub fn mode_of(header: Option<Header>) -> Mode
     ensures { result ≡ mode_of header }
 {
     match header {

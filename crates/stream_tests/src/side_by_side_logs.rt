@@ -12,7 +12,7 @@ use self::tasks::{Collected, Collecting, Counting};
 use crate::fixtures::{BACK_JUMP, NOP, add, program_of, retired};
 use log_streams::{LogsFault, MadeLogs, Stop, made_of_logs};
 use retire::{Event, MOST_ROWS};
-use rvclass::Program;
+use rvclass::{Program, ProgramOver};
 use std::alloc::Global;
 use std::process::Abort;
 use std::thread::Threads;
@@ -76,7 +76,7 @@ fn count_up_to<'a, R: Threads + Sync>(
     rt: &R,
     alloc: Global,
     table: &Table,
-    program: &Program,
+    program: &ProgramOver,
     most: u32,
     paths: &[&'a str],
 ) -> MadeLogs<'a, usize> {
@@ -88,7 +88,7 @@ fn count_all<'a, R: Threads + Sync>(
     rt: &R,
     alloc: Global,
     table: &Table,
-    program: &Program,
+    program: &ProgramOver,
     paths: &[&'a str],
 ) -> MadeLogs<'a, usize> {
     count_up_to(rt, alloc, table, program, MOST_ROWS, paths)
@@ -99,7 +99,7 @@ fn collect_all<'a, R: Threads + Sync>(
     rt: &R,
     alloc: Global,
     table: &Table,
-    program: &Program,
+    program: &ProgramOver,
     paths: &[&'a str],
 ) -> MadeLogs<'a, Collected> {
     let collecting = Collecting { alloc };

@@ -169,7 +169,7 @@ pub struct Measure<'a> {
     pub logs: Vec<&'a str>,
 }
 
-/// `list --base B [--harts N] [--symbols FILE] [--progress] IMAGE CAPTURE`: what each message of a capture
+/// `list --base B [--harts N] [--symbols FILE] [--salvage] [--progress] IMAGE CAPTURE`: what each message of a capture
 /// says and settles.
 #[derive(Debug, Drop)]
 pub struct Listing<'a> {
@@ -179,6 +179,8 @@ pub struct Listing<'a> {
     pub harts: Option<u16>,
     /// The path of the program's symbols, where they are given.
     pub symbols: Option<&'a str>,
+    /// Whether every message that is found is wanted, and what `salvage` does with it.
+    pub salvage: bool,
     /// Whether a terminal is shown how far the capture is worked through.
     pub progress: bool,
     /// The path of the image.

@@ -11,7 +11,7 @@ use Rattle.commands.specs.CarriedOut.{IsCarriedOut}
 use Rattle.log_commands.specs.Checking.{WritesLines}
 use Rattle.capture_commands.specs.Decoded.{WritesLogs}
 use Rattle.capture_commands.specs.Dumping.{WritesDump}
-use Rattle.capture_commands.specs.Listed.{WritesListing, harts_or_one}
+use Rattle.capture_commands.specs.Listed.{WritesListed}
 use Rattle.capture_commands.specs.Salvaging.{WritesSalvaged}
 use Rattle.capture_commands.specs.Symbols.{AreSymbols}
 use Rattle.capture_commands.specs.declared.reason.CaptureReason.TheVariants as capture
@@ -187,10 +187,10 @@ not_ended (Listing asked) status old new done =
     let ends = ends_so Capture done.text status own done.prints.is in
     not_first (IsBase asked.base.now) (λ base. First (IsProgramAt none base asked.image) (λ program.
     First (AreSymbols none asked.symbols) (λ symbols. First (IsRead none asked.capture)
-    (WritesListing (harts_or_one asked.harts) program symbols)))) own status ends
+    (WritesListed asked.salvage asked.harts program symbols)))) own status ends
     (λ base is prints. not_first (IsProgramAt none base asked.image) (λ program.
     First (AreSymbols none asked.symbols) (λ symbols. First (IsRead none asked.capture)
-    (WritesListing (harts_or_one asked.harts) program symbols))) own status ends
+    (WritesListed asked.salvage asked.harts program symbols))) own status ends
     (λ program made listing. no_program base asked.image program made) prints) done.prints.prints
 not_ended (Salvage asked) status old new done =
     let own = done.prints.own in

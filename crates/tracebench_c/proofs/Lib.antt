@@ -1,6 +1,9 @@
+mod BlocksPushed
 mod DecodersBack
+mod DecodersRead
 mod EventsBack
 mod EventsPassed
+mod EventsRead
 mod FedInTurn
 mod HartFound
 mod HeaderMade
@@ -11,6 +14,7 @@ mod PassingBack
 mod PushedInTurn
 mod PushesReported
 mod StatesBack
+mod StatesRead
 mod StepsJudged
 mod StepsTaken
 mod TextsRead

@@ -23,7 +23,7 @@ use Rattle.tracebench_c.specs.steps.PushingAll.{ArePushed, EndsPushes, Gives, Go
 
 module _ (words : Words) where
   -- Without an event an encoder stands for what it stood for.
-  goes_none : (encoder : Encoder) → GoesOn words encoder [] encoder []
+  pub goes_none : (encoder : Encoder) → GoesOn words encoder [] encoder []
   goes_none encoder = λ period mode log stands legal. record {
     stands = subst (λ l. EncoderStands words period mode l encoder) (sym (append-nil log)) stands;
     grown = ap (packets_so_far words period mode) (append-nil log)
@@ -31,14 +31,14 @@ module _ (words : Words) where
     profile = All-nil InProfile;
   }
 
-  -- With one event more it goes on.
-  goes_more : (first middle after : Encoder) (events : List Event) (next : Event) (packets more : List Packet)
-      → GoesOn words first events middle packets → GoesOn words middle (next ∷ []) after more
-      → GoesOn words first (events ++ next ∷ []) after (packets ++ more)
-  goes_more first middle after events next packets more goes one = λ period mode log stands legal.
-      let joined = append_assoc log events (next ∷ []) in
+  -- With more events it goes on.
+  pub goes_more : (first middle after : Encoder) (events nexts : List Event) (packets more : List Packet)
+      → GoesOn words first events middle packets → GoesOn words middle nexts after more
+      → GoesOn words first (events ++ nexts) after (packets ++ more)
+  goes_more first middle after events nexts packets more goes one = λ period mode log stands legal.
+      let joined = append_assoc log events nexts in
       let together = subst (Legal words) (sym joined) legal in
-      let before = goes period mode log stands (follow_on_split words _ (log ++ events) (next ∷ []) together).0 in
+      let before = goes period mode log stands (follow_on_split words _ (log ++ events) nexts together).0 in
       let then = one period mode (log ++ events) before.stands together in
       record {
         stands = subst (λ l. EncoderStands words period mode l after) joined then.stands;
@@ -88,7 +88,7 @@ module _ (words : Words) (first : Encoder) (numbers : List EventNumbers) (old : 
               ∙ ap (λ n. take place numbers ++ n ∷ []) is
               ∙ ap (λ ns. ns ++ numbers_of_event event ∷ []) before.read
               ∙ sym (map-append numbers_of_event before.events (event ∷ []));
-          goes = goes_more words first middle after before.events event before.packets packets before.goes goes;
+          goes = goes_more words first middle after before.events (event ∷ []) before.packets packets before.goes goes;
           still = λ none. absurd (omega (arith, none));
           counted = ap (λ n. n + more) before.counted
               ∙ ap (λ n. length before.packets + n) counted

@@ -49,10 +49,10 @@ abbrev pub ReportsCheck : ℕ → List ℕ → List ℕ → ℕ → ℕ → Type
 ReportsCheck base image text status row =
     (checked : Result ℕ Fault) × IsChecked base image text checked × IsReported checked status row
 
--- An image makes no program, for this reason; or an allocation failed.
+-- An image makes no program, for this reason.
 abbrev pub IsNoProgram : ℕ → List ℕ → Fault → Type 0
 IsNoProgram base image (Program why) = program_of base image ≡ Err why
-IsNoProgram base image Memory = Unit {0}
+IsNoProgram base image Memory = ⊥
 IsNoProgram base image (Log why) = ⊥
 IsNoProgram base image (Illegal why) = ⊥
 IsNoProgram base image NoHart = ⊥

@@ -61,7 +61,7 @@ abbrev pub IsReportedOf : List EventNumbers → Result Unit EventsFault → ℕ 
 IsReportedOf numbers (Ok done) status row = (status ≡ DONE) × (row ≡ length numbers)
 IsReportedOf numbers (Err fault) status row = (status ≡ events_status fault) × (row ≡ events_row fault)
 
--- How a check of events ends: the image makes no program, or an allocation failed; or it makes one, and there are more
+-- How a check of events ends: the image makes no program; or it makes one, and there are more
 -- events than a log may have; or they were checked.
 pub data EndsCheckEvents (base : ℕ) (image : List ℕ) (numbers : List EventNumbers) (status row : ℕ) : Type 0 where
   NoProgram : (fault : Fault) → IsNoProgram base image fault → status ≡ fault_status fault → row ≡ 0

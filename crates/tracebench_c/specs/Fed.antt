@@ -105,7 +105,7 @@ pub record RefusesPayload (base : ℕ) (image payload : List ℕ) (numbers : Dec
     pub by_phase : RefusesByPhase (words_of program) packet numbers why
 
 -- The result of feeding a payload to a decoder with these numbers: it took the payload; or no decoder has these
--- numbers, the payload is that of no packet, the image makes no program or an allocation failed, or the decoder refused
+-- numbers, the payload is that of no packet, the image makes no program, or the decoder refused
 -- the packet.
 abbrev pub IsFed : ℕ → List ℕ → List ℕ → DecoderNumbers → Result FedPayload FeedFault → Type 0
 IsFed base image payload numbers (Ok fed) = TakesPayload base image payload numbers fed.numbers fed.events.items

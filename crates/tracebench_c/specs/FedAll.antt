@@ -71,7 +71,7 @@ pub record AreFed (base : ℕ) (image bytes ends : List ℕ) (before after : Dec
   pub fit : count ≤ length old
   pub written : new ≡ map numbers_of_event events ++ drop count old
 
--- What is reported of payloads: no decoder has these numbers, or the image makes no program or an allocation failed,
+-- What is reported of payloads: no decoder has these numbers, or the image makes no program,
 -- and none is taken; or some were taken, and it is reported how they end.
 pub data ReportsFeedAll (base : ℕ) (image bytes ends : List ℕ) (status : ℕ) (before after : DecoderNumbers)
     (taken count : ℕ) (old new : List EventNumbers) : Type 0 where

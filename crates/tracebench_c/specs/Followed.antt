@@ -51,7 +51,7 @@ follow_status (Ok done) = DONE
 follow_status (Err fault) = step_status fault
 
 -- How a call ends that asks whether an event may follow another: the flag is neither 0 nor 1; or the event before, if
--- there is one by the flag, or the event itself is none; or the image makes no program, or an allocation failed; or the
+-- there is one by the flag, or the event itself is none; or the image makes no program; or the
 -- event was checked after the one before.
 pub data EndsFollow (base : ℕ) (image : List ℕ) (flag : ℕ) (before event : EventNumbers) (status : ℕ) : Type 0 where
   OutOfRange : 1 < flag → status ≡ OUT_OF_RANGE → EndsFollow base image flag before event status

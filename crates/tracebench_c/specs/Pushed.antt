@@ -26,8 +26,8 @@ use Rattle.tracebench_c.specs.declared.status.TheConstants.{DONE, TOO_SMALL, OUT
 abbrev pub new_status : ℕ → ℕ → ℕ
 new_status period mode = if (period == 0) || is_none (mode_of mode) then OUT_OF_RANGE else DONE
 
--- The image makes no program, or an allocation failed, and the status says so; or the image makes a program, and the
--- buffer was large enough, or it was too small.
+-- The image makes no program, and the status says why; or it makes a program, and the buffer was large enough, or it
+-- was too small.
 abbrev pub EndsByProgram : ℕ → List ℕ → ℕ → Type 0
 EndsByProgram base image status =
     ((fault : Fault) × IsNoProgram base image fault × (status ≡ fault_status fault))

@@ -21,7 +21,7 @@ use Rattle.tracebench_c.specs.declared.numbers.PacketNumbers.{PacketNumbers}
 use Rattle.tracebench_c.specs.declared.status.TheConstants.{DONE, TOO_SMALL, BAD_STATE, NO_EVENT}
 
 -- How pushes of events end, the first so many of which were taken: the state is no encoder's; or it is one's, and the
--- image makes no program, or an allocation failed; or all events were taken; or those before the next one were, and the
+-- image makes no program; or all events were taken; or those before the next one were, and the
 -- packets of the next one have no room; or the next one is no event.
 pub data EndsPushAll (base : ℕ) (image : List ℕ) (state : EncoderNumbers) (numbers : List EventNumbers)
     (taken status : ℕ) : Type 0 where

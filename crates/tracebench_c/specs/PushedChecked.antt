@@ -24,7 +24,7 @@ use Rattle.tracebench_c.specs.declared.following.StepFault.{StepFault}
 use Rattle.tracebench_c.specs.declared.status.TheConstants.{BAD_STATE, DONE, NO_EVENT, TOO_SMALL}
 
 -- How a push ends that checks the event: the state is no encoder's; or it is one's, and the event is none; or the image
--- makes no program, or an allocation failed; or the event may follow the one that the state holds, and the size of the
+-- makes no program; or the event may follow the one that the state holds, and the size of the
 -- buffer decides; or it may not.
 pub data EndsPushChecked (base : ℕ) (image : List ℕ) (state : EncoderNumbers) (event : EventNumbers) (status : ℕ)
     : Type 0 where

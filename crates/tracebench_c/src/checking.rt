@@ -9,7 +9,7 @@ use crate::fault::Fault;
 use crate::status::DONE;
 use legalpath::check;
 use retire::read_log_from_slice;
-use rvclass::Program;
+use rvclass::ProgramOver;
 use std::alloc::Global;
 
 /// Checks that the text of a log is that of a legal log of a program, whose image has its first byte at `base`.
@@ -43,20 +43,18 @@ pub extern "C" fn tracebench_check(
 fn check_log(alloc: Global, base: u64, image: &[u8], log: &[u8]) -> Result<u64, Fault>
     ensures { IsChecked base image.now log.now result }
 {
-    let program = program_of(alloc, base, image)?;
+    let program = program_of(base, image)?;
     let events = read_log_from_slice(alloc, alloc, log)?;
     check(&program, events.as_slice())?;
     Ok(events.len() as u64)
 }
 
-/// The program of an image.
-pub(crate) fn program_of(alloc: Global, base: u64, image: &[u8]) -> Result<Program, Fault>
+/// The program of an image, which it borrows.
+pub(crate) fn program_of(base: u64, image: &[u8]) -> Result<ProgramOver<'_>, Fault>
     ensures program { IfOk result (λ program. program_of base image.now ≡ Ok program) }
     ensures image { IfOk result (λ program. program ≡ image_at base image.now) }
     ensures fault { IfErr result (IsNoProgram base image.now) }
 {
-    let mut bytes = Vec::with_capacity(alloc, image.len())?;
-    bytes.extend_from_slice(image)?;
-    let program = Program::new(base, bytes)?;
+    let program = ProgramOver::borrowed(base, image)?;
     Ok(program)
 }

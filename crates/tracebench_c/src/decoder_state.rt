@@ -1,12 +1,14 @@
 //! What a decoder remembers, as numbers.
 
-ghost use Rattle.std.specs.Prelude.{◌≡◌, ◌↔◌, IfSome, IsTrue, Some};
+ghost use Rattle.std.specs.Prelude.{◌≡◌, IfSome, Some};
 ghost use Rattle.decoder.specs.declared.state.DecoderState.{DecoderState as AnyState};
-ghost use Rattle.tracebench_c.specs.DecoderKept.{HasFewOutcomes, IsOfState, delta_waiting, number_of_announced};
-ghost use Rattle.tracebench_c.specs.DecoderKept.{number_of_phase, numbers_of_state, outcomes_waiting};
-ghost use Rattle.tracebench_c.specs.steps.ReadingDecoders.{announced_in, phase_in, state_in, waiting_in};
+ghost use Rattle.tracebench_c.specs.DecoderKept.{IsOfState, delta_waiting, number_of_announced};
+ghost use Rattle.tracebench_c.specs.DecoderKept.{number_of_phase, outcomes_waiting};
+ghost use Rattle.tracebench_c.specs.steps.ReadingDecoders.{announced_in, is_announced_read, is_state_read};
+ghost use Rattle.tracebench_c.specs.steps.ReadingDecoders.{is_waiting_read, phase_in, state_in, waiting_in};
 
-use crate::events::{EventNumbers, event_if_any, numbers_if_any};
+use crate::encoder_state::are_outcomes;
+use crate::events::{EventNumbers, event_if_any, is_event_if_any, numbers_if_any};
 use crate::numbers::{map_of, mode_in, number_of_mode, outcomes_in};
 use decoder::{DecoderState, Phase, Waiting};
 use payload::{Mode, Outcomes};
@@ -49,6 +51,7 @@ pub struct DecoderNumbers {
 }
 
 /// The numbers of a state.
+#[inline(always)]
 pub(crate) fn numbers_of_state(state: &DecoderState) -> DecoderNumbers
     ensures { IsOfState result state.now }
 {
@@ -111,27 +114,51 @@ fn delta_waiting(waiting: &Option<Waiting>) -> u64
 }
 
 /// The state that has these numbers, if there is one.
+#[inline(always)]
 pub(crate) fn state_of(numbers: &DecoderNumbers) -> Option<DecoderState>
     ensures found { IfSome result (λ state. IsOfState numbers.now state) }
     ensures only { (state : AnyState) → IsOfState numbers.now state → result ≡ Some state }
 {
-    let state = state_in(numbers);
-    if has_state(numbers, &state) {
-        Some(state)
+    if has_state(numbers) {
+        Some(state_in(numbers))
     } else {
         None
     }
 }
 
 /// Whether a state has these numbers.
-fn has_state(numbers: &DecoderNumbers, state: &DecoderState) -> bool
-    ensures same { IsTrue result ↔ (numbers.now ≡ numbers_of_state state.now) }
-    ensures few { HasFewOutcomes state.now }
+#[inline(always)]
+fn has_state(numbers: &DecoderNumbers) -> bool
+    ensures { result ≡ is_state_read numbers.now }
 {
-    numbers_of_state(state) == *numbers
+    numbers.phase < 4
+        && (numbers.mode < 2
+            && (has_announced(numbers)
+                && (has_waiting(numbers) && is_event_if_any(numbers.has_last, &numbers.last))))
+}
+
+/// Whether the mode that was announced has these numbers, if one was.
+fn has_announced(numbers: &DecoderNumbers) -> bool
+    ensures { result ≡ is_announced_read numbers.now.is_announced numbers.now.announced }
+{
+    if numbers.is_announced == 0 {
+        return numbers.announced == 0;
+    }
+    numbers.is_announced == 1 && numbers.announced < 2
+}
+
+/// Whether the packet that waits has these numbers, if one does.
+fn has_waiting(numbers: &DecoderNumbers) -> bool
+    ensures { result ≡ is_waiting_read numbers.now.waits numbers.now.outcomes numbers.now.map numbers.now.delta }
+{
+    if numbers.waits == 0 {
+        return numbers.outcomes == 0 && (numbers.map == 0 && numbers.delta == 0);
+    }
+    numbers.waits == 1 && are_outcomes(numbers.outcomes, numbers.map)
 }
 
 /// A state that has these numbers, if any has.
+#[inline(always)]
 fn state_in(numbers: &DecoderNumbers) -> DecoderState
     ensures { result ≡ state_in numbers.now }
 {

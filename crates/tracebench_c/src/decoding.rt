@@ -80,7 +80,7 @@ fn decode_hart(
 ) -> Result<HartText, Fault>
     ensures { IsHartDecoded base image.now harts capture.now hart result }
 {
-    let program = program_of(alloc, base, image)?;
+    let program = program_of(base, image)?;
     let outcome = decode_capture(alloc, &program, harts, capture)?;
     let place = usize::from(hart);
     let Some(events) = outcome.harts.get(place) else {

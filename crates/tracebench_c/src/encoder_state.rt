@@ -1,12 +1,12 @@
 //! What an encoder keeps, as numbers.
 
-ghost use Rattle.std.specs.Prelude.{◌≡◌, ◌↔◌, ◌≤◌, IfSome, IsTrue, length};
+ghost use Rattle.std.specs.Prelude.{◌≡◌, ◌≤◌, IfSome, length};
 ghost use Rattle.encoder.specs.declared.state.EncoderState.{EncoderState as AnyState};
 ghost use Rattle.payload.specs.Limits.{most_outcomes};
 ghost use Rattle.tracebench_c.specs.EncoderKept.{IsOfState, number_of_due, numbers_of_state};
-ghost use Rattle.tracebench_c.specs.steps.ReadingStates.{due_in, state_in};
+ghost use Rattle.tracebench_c.specs.steps.ReadingStates.{are_outcomes_read, due_in, is_state_read, state_in};
 
-use crate::events::{EventNumbers, event_if_any, numbers_if_any};
+use crate::events::{EventNumbers, event_if_any, is_event_if_any, numbers_if_any};
 use crate::numbers::{map_of, mode_in, number_of_mode, outcomes_in};
 use encoder::{Due, EncoderState};
 
@@ -48,6 +48,7 @@ pub struct EncoderNumbers {
 }
 
 /// The numbers of a state.
+#[inline(always)]
 pub(crate) fn numbers_of_state(state: &EncoderState) -> EncoderNumbers
     ensures same { result ≡ numbers_of_state state.now }
     ensures few { length state.now.pending ≤ most_outcomes }
@@ -66,26 +67,39 @@ pub(crate) fn numbers_of_state(state: &EncoderState) -> EncoderNumbers
 }
 
 /// The state that has these numbers, if there is one.
+#[inline(always)]
 pub(crate) fn state_of(numbers: &EncoderNumbers) -> Option<EncoderState>
     ensures found { IfSome result (λ state. IsOfState numbers.now state) }
     ensures only { (state : AnyState) → IsOfState numbers.now state → result ≡ Some state }
 {
-    let state = state_in(numbers);
-    if has_state(numbers, &state) {
-        Some(state)
+    if has_state(numbers) {
+        Some(state_in(numbers))
     } else {
         None
     }
 }
 
 /// Whether a state has these numbers.
-fn has_state(numbers: &EncoderNumbers, state: &EncoderState) -> bool
-    ensures { IsTrue result ↔ IsOfState numbers.now state.now }
+#[inline(always)]
+fn has_state(numbers: &EncoderNumbers) -> bool
+    ensures { result ≡ is_state_read numbers.now }
 {
-    numbers_of_state(state) == *numbers
+    numbers.mode < 2
+        && (numbers.due < 6
+            && (are_outcomes(numbers.outcomes, numbers.map)
+                && is_event_if_any(numbers.holds, &numbers.held)))
+}
+
+/// Whether as many outcomes fit into a packet, and have this map.
+#[inline(always)]
+pub(crate) fn are_outcomes(count: u32, map: u32) -> bool
+    ensures { result ≡ are_outcomes_read count map }
+{
+    count < 32 && u64::from(map) < 1 << count
 }
 
 /// A state that has these numbers, if any has.
+#[inline(always)]
 fn state_in(numbers: &EncoderNumbers) -> EncoderState
     ensures { result ≡ state_in numbers.now }
 {

@@ -1,12 +1,14 @@
 //! From the texts of logs to a capture.
 
-ghost use Rattle.std.specs.Prelude.{◌≡◌, ◌≤◌, IfErr, IfOk, IfSome, None, length, option_map};
+ghost use Rattle.std.specs.Prelude.{◌≡◌, ◌≤◌, ◌⊎◌, IfErr, IfOk, IfSome, None, Ok, length, option_map};
 ghost use Rattle.message.specs.Version.{most_harts};
+ghost use Rattle.rvclass.specs.Program.{program_of};
+ghost use Rattle.tracebench_c.specs.Checked.{IsNoProgram};
 ghost use Rattle.tracebench_c.specs.Encoded.{AreInRange, AreLogs, IsEncoded, IsLegalText, IsMade, IsNoLegalText};
 ghost use Rattle.tracebench_c.specs.Encoded.{IsOutOfRange, IsRefusedLog, ReportsEncode, mode_of, text_between};
 ghost use Rattle.tracebench_c.specs.Encoded.{version_of};
+ghost use Rattle.tracebench_c.specs.declared.fault.Fault.TheVariants.{Memory};
 
-use crate::checking::program_of;
 use crate::fault::Fault;
 use crate::handing::hand_out;
 use crate::numbers::{DIFFERENTIAL, FULL};
@@ -126,7 +128,7 @@ fn capture_of_texts(
     requires few { length ends.now ≤ most_harts version }
     ensures { IsMade base image.now logs.now ends.now period mode version result }
 {
-    let program = match program_of(alloc, base, image) {
+    let program = match copied_program(alloc, base, image) {
         Ok(program) => program,
         Err(fault) => return Err((0, fault)),
     };
@@ -136,6 +138,17 @@ fn capture_of_texts(
         Ok(()) => Ok(capture),
         Err(_) => Err((0, Fault::Memory)),
     }
+}
+
+/// The program of an image, which it copies: a legal log keeps a reference to a program that owns its bytes.
+fn copied_program(alloc: Global, base: u64, image: &[u8]) -> Result<Program, Fault>
+    ensures program { IfOk result (λ program. program_of base image.now ≡ Ok program) }
+    ensures fault { IfErr result (λ fault. (fault ≡ Memory) ⊎ IsNoProgram base image.now fault) }
+{
+    let mut bytes = Vec::with_capacity(alloc, image.len())?;
+    bytes.extend_from_slice(image)?;
+    let program = Program::new(base, bytes)?;
+    Ok(program)
 }
 
 /// The mode of a number.

@@ -1,9 +1,10 @@
 //! Events as numbers.
 
-ghost use Rattle.std.specs.Prelude.{◌≡◌, ◌↔◌, IfSome, IsTrue};
+ghost use Rattle.std.specs.Prelude.{◌≡◌, IfSome};
 ghost use Rattle.retire.specs.declared.event.Event.{Event as AnyEvent};
 ghost use Rattle.tracebench_c.specs.Events.{numbers_if_any, numbers_of_event};
-ghost use Rattle.tracebench_c.specs.steps.ReadingEvents.{event_if_any, event_in};
+ghost use Rattle.tracebench_c.specs.steps.ReadingEvents.{event_if_any, event_in, is_any_read, is_event_read};
+ghost use Rattle.tracebench_c.specs.steps.ReadingEvents.{is_none_read};
 
 use retire::Event;
 
@@ -71,26 +72,53 @@ pub(crate) fn numbers_of_event(event: &Event) -> EventNumbers
 }
 
 /// The event that has these numbers, if there is one. Its type, privilege and cause may be such that no log has.
+#[inline(always)]
 pub(crate) fn event_of(numbers: &EventNumbers) -> Option<Event>
     ensures found { IfSome result (λ event. numbers.now ≡ numbers_of_event event) }
     ensures only { (event : AnyEvent) → numbers.now ≡ numbers_of_event event → result ≡ Some event }
 {
-    let event = event_in(numbers);
-    if is_event(&event, numbers) {
-        Some(event)
+    if is_event(numbers) {
+        Some(event_in(numbers))
     } else {
         None
     }
 }
 
-/// Whether an event has these numbers.
-fn is_event(event: &Event, numbers: &EventNumbers) -> bool
-    ensures { IsTrue result ↔ (numbers.now ≡ numbers_of_event event.now) }
+/// Whether numbers are those of an event: what an event of their kind does not have is 0.
+#[inline(always)]
+fn is_event(numbers: &EventNumbers) -> bool
+    ensures { result ≡ is_event_read numbers.now }
 {
-    numbers_of_event(event) == *numbers
+    if numbers.kind == RETIREMENT {
+        return numbers.cause == 0 && (numbers.interrupt == 0 && numbers.tval == 0);
+    }
+    numbers.kind == TRAP_TAKEN && (numbers.itype == 0 && numbers.interrupt < 2)
+}
+
+/// Whether numbers are those of an event that there may be by this flag. Without one all are 0.
+#[inline(always)]
+pub(crate) fn is_event_if_any(there: u32, numbers: &EventNumbers) -> bool
+    ensures { result ≡ is_any_read there numbers.now }
+{
+    if there == 0 {
+        return is_none(numbers);
+    }
+    there == 1 && is_event(numbers)
+}
+
+/// Whether all numbers are 0.
+fn is_none(numbers: &EventNumbers) -> bool
+    ensures { result ≡ is_none_read numbers.now }
+{
+    numbers.kind == 0
+        && (numbers.itype == 0
+            && (numbers.privilege == 0
+                && (numbers.cause == 0
+                    && (numbers.interrupt == 0 && (numbers.address == 0 && numbers.tval == 0)))))
 }
 
 /// An event that has these numbers, if any has.
+#[inline(always)]
 fn event_in(numbers: &EventNumbers) -> Event
     ensures { result ≡ event_in numbers.now }
 {
@@ -112,6 +140,7 @@ fn event_in(numbers: &EventNumbers) -> Event
 }
 
 /// The numbers of an event, if there is one. Else all are 0.
+#[inline(always)]
 pub(crate) fn numbers_if_any(event: &Option<Event>) -> EventNumbers
     ensures { result ≡ numbers_if_any event.now }
 {
@@ -130,6 +159,7 @@ pub(crate) fn numbers_if_any(event: &Option<Event>) -> EventNumbers
 }
 
 /// An event that has these numbers, if any has, where there is one by this flag.
+#[inline(always)]
 pub(crate) fn event_if_any(there: u32, numbers: &EventNumbers) -> Option<Event>
     ensures { result ≡ event_if_any there numbers.now }
 {

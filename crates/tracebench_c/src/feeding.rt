@@ -18,7 +18,7 @@ use crate::status::{BAD_STATE, DONE};
 use decoder::{DecodeFault, Decoder, DecoderState};
 use payload::{PackFault, Packet, unpack};
 use retire::Event;
-use rvclass::Program;
+use rvclass::ProgramOver;
 use std::alloc::Global;
 
 /// What a payload gives that a decoder takes.
@@ -37,7 +37,7 @@ pub enum FeedFault {
     State,
     /// The payload is that of no packet.
     Payload(PackFault),
-    /// The image makes no program, or an allocation failed.
+    /// The image makes no program.
     Image(Fault),
     /// The decoder refuses the packet.
     Decode(DecodeFault),
@@ -56,7 +56,7 @@ pub extern "C" fn tracebench_decoder(state: &mut DecoderNumbers)
 /// decoder's new numbers. `count` is how many events there are.
 ///
 /// An address packet with plain bits is not settled before the next packet, so its events come with that packet's. Hand
-/// in the same image at each call; it is copied each time.
+/// in the same image at each call; it is not copied, and the time does not grow with it.
 ///
 /// A decoder that passes over packets, after [`tracebench_resume`](crate::tracebench_resume), takes each packet up to
 /// the next synchronisation, settles nothing, and keeps its numbers; only a packet that closes the trace closes it. The
@@ -121,7 +121,7 @@ fn feed_payload(
         Ok(packet) => packet,
         Err(why) => return Err(FeedFault::Payload(why)),
     };
-    let program = match program_of(alloc, base, image) {
+    let program = match program_of(base, image) {
         Ok(program) => program,
         Err(why) => return Err(FeedFault::Image(why)),
     };
@@ -136,7 +136,7 @@ fn feed_payload(
 /// Feeds a packet to the decoder with this state, and adds the events that it settles to a list, which has none. The
 /// state is the decoder's then, of which these are the numbers.
 pub(crate) fn feed_packet(
-    program: &Program,
+    program: &ProgramOver,
     state: &mut DecoderState,
     packet: &Packet,
     events: &mut Vec<Event>,

@@ -18,13 +18,13 @@ use crate::status::{BAD_STATE, DONE, OUT_OF_RANGE};
 use decoder::DecoderState;
 use payload::unpack;
 use retire::Event;
-use rvclass::Program;
+use rvclass::ProgramOver;
 use std::alloc::Global;
 
 /// Feeds payloads to the decoder with these numbers, one after the other as [`tracebench_feed`](crate::tracebench_feed)
 /// each, and writes the events that they settle, oldest first. `payloads` holds the payloads one after the other, and
 /// `ends` where each ends. `taken` is how many of them were taken, `count` how many events there are at the start of
-/// the buffer, and `state` has the decoder's numbers after those. The image is copied once.
+/// the buffer, and `state` has the decoder's numbers after those. The time does not grow with the image.
 ///
 /// The status is [`DONE`] where all payloads were taken. Else it says why the payload after those was not:
 ///
@@ -37,8 +37,8 @@ use std::alloc::Global;
 ///   packet does not follow those before.
 /// - [`MEMORY`](crate::status::MEMORY): an allocation failed.
 ///
-/// Or no payload was taken, and the state stays: [`BAD_STATE`] where no decoder has these numbers, what is wrong with
-/// the image, or [`MEMORY`](crate::status::MEMORY).
+/// Or no payload was taken, and the state stays: [`BAD_STATE`] where no decoder has these numbers, or what is wrong with
+/// the image.
 #[unsafe(no_mangle)]
 pub extern "C" fn tracebench_feed_all(
     alloc: Global,
@@ -60,7 +60,7 @@ pub extern "C" fn tracebench_feed_all(
         Some(first) => first,
         None => return BAD_STATE,
     };
-    let program = match program_of(alloc, base, image) {
+    let program = match program_of(base, image) {
         Ok(program) => program,
         Err(fault) => return fault.status(),
     };
@@ -72,7 +72,7 @@ pub extern "C" fn tracebench_feed_all(
 /// Feeds payloads to the decoder with this state and these numbers, as long as their events have room.
 fn feed_while_room(
     alloc: Global,
-    program: &Program,
+    program: &ProgramOver,
     first: DecoderState,
     numbers: &mut DecoderNumbers,
     payloads: &[u8],
@@ -118,7 +118,7 @@ fn feed_while_room(
 /// Feeds the next payload to the decoder with this state and these numbers, and writes its events, for which it uses
 /// the list. Where they have no room, nothing changes but the list.
 fn feed_next(
-    program: &Program,
+    program: &ProgramOver,
     kept: &mut DecoderState,
     numbers: &mut DecoderNumbers,
     payload: Option<&[u8]>,

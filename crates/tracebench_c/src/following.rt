@@ -13,8 +13,7 @@ use crate::fault::why_status;
 use crate::status::{BAD_BEFORE, DONE, NO_EVENT, OUT_OF_RANGE, TOO_MANY_ROWS};
 use legalpath::{PathCheck, PathFault, Why, check};
 use retire::{Event, MOST_ROWS};
-use rvclass::Program;
-use std::alloc::Global;
+use rvclass::ProgramOver;
 
 /// Why an event is refused where it is to come.
 #[derive(Clone, Copy)]
@@ -43,11 +42,10 @@ pub enum EventsFault {
 /// The status is [`DONE`] where the event is legal, or why it is not: [`OFF_PROGRAM`](crate::status::OFF_PROGRAM) to
 /// [`WRONG_EPC`](crate::status::WRONG_EPC), the one that [`tracebench_check`](crate::tracebench_check) reports. It is
 /// [`OUT_OF_RANGE`] where the flag is above 1, [`NO_EVENT`] where no event has the numbers of one of the two,
-/// [`BAD_BEFORE`] where the event before is not legal as the first either, [`MEMORY`](crate::status::MEMORY), or says
-/// what is wrong with the image.
+/// [`BAD_BEFORE`] where the event before is not legal as the first either, or says what is wrong with the image. No
+/// memory is taken, and the time does not grow with the image.
 #[unsafe(no_mangle)]
 pub extern "C" fn tracebench_follow(
-    alloc: Global,
     base: u64,
     image: &[u8],
     has_before: u32,
@@ -66,7 +64,7 @@ pub extern "C" fn tracebench_follow(
         Some(next) => next,
         None => return NO_EVENT,
     };
-    let program = match program_of(alloc, base, image) {
+    let program = match program_of(base, image) {
         Ok(program) => program,
         Err(fault) => return fault.status(),
     };
@@ -92,7 +90,7 @@ fn read_before(has_before: u32, before: &EventNumbers) -> Option<Option<Event>>
 
 /// Checks an event after the event before, or as the first.
 pub(crate) fn judge_step(
-    program: &Program,
+    program: &ProgramOver,
     before: Option<Event>,
     event: Event,
 ) -> Result<(), StepFault>
@@ -105,7 +103,7 @@ pub(crate) fn judge_step(
 }
 
 /// Checks an event as the first of a log.
-fn judge_first(program: &Program, event: Event) -> Result<(), StepFault>
+fn judge_first(program: &ProgramOver, event: Event) -> Result<(), StepFault>
     ensures { IsFollowed (words_of program.now) None event result }
 {
     match check(program, &[event]) {
@@ -115,7 +113,7 @@ fn judge_first(program: &Program, event: Event) -> Result<(), StepFault>
 }
 
 /// Checks an event after the one before.
-fn judge_second(program: &Program, before: Event, event: Event) -> Result<(), StepFault>
+fn judge_second(program: &ProgramOver, before: Event, event: Event) -> Result<(), StepFault>
     ensures { IsFollowed (words_of program.now) (Some before) event result }
 {
     match check(program, &[before, event]) {
@@ -146,10 +144,9 @@ pub(crate) fn step_status(fault: StepFault) -> u32
 /// The status is [`DONE`] where they are; then `row` is how many there are. Else it says what is wrong with the image;
 /// or it is [`TOO_MANY_ROWS`] where there are more than 2^24 events; or it is of the first row that is at fault:
 /// [`NO_EVENT`] where no event has its numbers, and else why it is illegal. Then `row` is that row, counted from 1; it
-/// is 0 where no row is at fault. Or the status is [`MEMORY`](crate::status::MEMORY).
+/// is 0 where no row is at fault. No memory is taken.
 #[unsafe(no_mangle)]
 pub extern "C" fn tracebench_check_events(
-    alloc: Global,
     base: u64,
     image: &[u8],
     events: &[EventNumbers],
@@ -157,7 +154,7 @@ pub extern "C" fn tracebench_check_events(
 ) -> u32
     ensures { EndsCheckEvents base image.now events.now result row.new }
 {
-    let program = match program_of(alloc, base, image) {
+    let program = match program_of(base, image) {
         Ok(program) => program,
         Err(fault) => {
             *row = 0;
@@ -181,7 +178,7 @@ pub extern "C" fn tracebench_check_events(
 }
 
 /// Checks events one after the other, up to the first fault.
-fn check_all(program: &Program, events: &[EventNumbers]) -> Result<(), EventsFault>
+fn check_all(program: &ProgramOver, events: &[EventNumbers]) -> Result<(), EventsFault>
     requires { length events.now ≤ most_rows }
     ensures { AreChecked (words_of program.now) events.now result }
 {

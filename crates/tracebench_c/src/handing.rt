@@ -27,6 +27,7 @@ pub(crate) fn hand_out(bytes: &[u8], buffer: &mut [u8], wanted: &mut u64) -> u32
 
 /// Writes the numbers of packets to the start of a buffer, and how many packets there are. Where the buffer is too
 /// small, nothing is written to it.
+#[inline(always)]
 pub(crate) fn hand_out_packets(
     given: &[Packet],
     packets: &mut [PacketNumbers],

@@ -26,6 +26,7 @@ mod packing;
 mod path_audit;
 mod pushing;
 mod pushing_all;
+mod pushing_blocks;
 mod receiving;
 pub mod status;
 #[cfg(test)]

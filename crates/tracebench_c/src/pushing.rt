@@ -15,7 +15,7 @@ ghost use Rattle.tracebench_c.specs.EncoderKept.{AreOfEncoder, NumbersStand};
 ghost use Rattle.tracebench_c.specs.Numbers.{numbers_of};
 ghost use Rattle.tracebench_c.specs.Pushed.{AreFew, AreMore, EndsFinish, EndsPush, IsNext, IsOn, new_status};
 ghost use Rattle.tracebench_c.specs.PushedChecked.{EndsPushChecked, JudgesNext, MayBeNext};
-ghost use Rattle.tracebench_c.specs.declared.status.TheConstants.{DONE, MEMORY, TOO_SMALL};
+ghost use Rattle.tracebench_c.specs.declared.status.TheConstants.{DONE, TOO_SMALL};
 
 use crate::checking::program_of;
 use crate::encoder_state::{EncoderNumbers, numbers_of_state, state_of};
@@ -27,8 +27,7 @@ use crate::numbers::{PacketNumbers, numbers_of};
 use crate::status::{BAD_STATE, DONE, NO_EVENT, OUT_OF_RANGE};
 use encoder::{Encoder, EncoderState};
 use retire::Event;
-use rvclass::Program;
-use std::alloc::Global;
+use rvclass::ProgramOver;
 
 /// Writes the state of an encoder before the first event of a log, and the packet that opens the trace. There is a
 /// periodic sync at each retirement whose number, from 0, the period divides. The period is 1 or more, and the mode
@@ -68,12 +67,11 @@ pub extern "C" fn tracebench_encoder(
 /// [`tracebench_push_checked`] checks each event, [`tracebench_check`](crate::tracebench_check) a text.
 ///
 /// The status is [`DONE`]; or [`TOO_SMALL`](crate::status::TOO_SMALL) where the buffer is too small for the packets; or
-/// [`BAD_STATE`] where no encoder has this state, [`NO_EVENT`] where no event has these numbers,
-/// [`MEMORY`](crate::status::MEMORY), or what is wrong with the image; these write nothing. Only the first changes the
-/// state. The image is copied at each call.
+/// [`BAD_STATE`] where no encoder has this state, [`NO_EVENT`] where no event has these numbers, or what is wrong with
+/// the image; these write nothing. Only the first changes the state. No memory is taken, and the time does not grow
+/// with the image.
 #[unsafe(no_mangle)]
 pub extern "C" fn tracebench_push(
-    alloc: Global,
     base: u64,
     image: &[u8],
     state: &mut EncoderNumbers,
@@ -86,7 +84,7 @@ pub extern "C" fn tracebench_push(
         IsNext base image.now program period mode log next state.old event.now → result ≡ DONE →
         NumbersStand (words_of program) period mode (log ++ next ∷ []) state.new }
     ensures packets { (program : Image) (period : ℕ) (mode : Mode) (log : List AnyEvent) (next : AnyEvent) →
-        IsNext base image.now program period mode log next state.old event.now → result ≢ MEMORY →
+        IsNext base image.now program period mode log next state.old event.now →
         AreMore (packets_so_far (words_of program) period mode log)
         (packets_so_far (words_of program) period mode (log ++ next ∷ [])) result count.new packets.old packets.new }
     ensures refused { result ≢ DONE → (state.new ≡ state.old) × (packets.new ≡ packets.old) }
@@ -101,7 +99,7 @@ pub extern "C" fn tracebench_push(
     let Some(event) = event_of(event) else {
         return NO_EVENT;
     };
-    let program = match program_of(alloc, base, image) {
+    let program = match program_of(base, image) {
         Ok(program) => program,
         Err(fault) => return fault.status(),
     };
@@ -120,7 +118,6 @@ pub extern "C" fn tracebench_push(
 /// where the event that the state holds is not legal as the first either.
 #[unsafe(no_mangle)]
 pub extern "C" fn tracebench_push_checked(
-    alloc: Global,
     base: u64,
     image: &[u8],
     state: &mut EncoderNumbers,
@@ -130,7 +127,7 @@ pub extern "C" fn tracebench_push_checked(
 ) -> u32
     ensures ends { EndsPushChecked base image.now state.old event.now result }
     ensures judged { (program : Image) (period : ℕ) (mode : Mode) (log : List AnyEvent) (next : AnyEvent) →
-        MayBeNext base image.now program period mode log next state.old event.now → result ≢ MEMORY →
+        MayBeNext base image.now program period mode log next state.old event.now →
         JudgesNext (words_of program) log next result }
     ensures stands { (program : Image) (period : ℕ) (mode : Mode) (log : List AnyEvent) (next : AnyEvent) →
         MayBeNext base image.now program period mode log next state.old event.now → result ≡ DONE →
@@ -154,7 +151,7 @@ pub extern "C" fn tracebench_push_checked(
         Some(event) => event,
         None => return NO_EVENT,
     };
-    let program = match program_of(alloc, base, image) {
+    let program = match program_of(base, image) {
         Ok(program) => program,
         Err(fault) => return fault.status(),
     };
@@ -166,8 +163,9 @@ pub extern "C" fn tracebench_push_checked(
 
 /// Pushes an event to the encoder with this state, and hands out its packets. Only where they fit, the state's numbers
 /// change.
+#[inline(always)]
 fn push_event(
-    program: &Program,
+    program: &ProgramOver,
     before: EncoderState,
     event: Event,
     state: &mut EncoderNumbers,
@@ -203,11 +201,10 @@ fn push_event(
 /// the trace. `state` is that after all events of the log, and does not change.
 ///
 /// The status is [`DONE`]; or [`TOO_SMALL`](crate::status::TOO_SMALL) where the buffer is too small for the packets; or
-/// [`BAD_STATE`] where no encoder has this state, [`MEMORY`](crate::status::MEMORY), or what is wrong with the image;
-/// these write nothing. The image is copied.
+/// [`BAD_STATE`] where no encoder has this state, or what is wrong with the image; these write nothing. No memory is
+/// taken, and the time does not grow with the image.
 #[unsafe(no_mangle)]
 pub extern "C" fn tracebench_finish(
-    alloc: Global,
     base: u64,
     image: &[u8],
     state: &EncoderNumbers,
@@ -216,7 +213,7 @@ pub extern "C" fn tracebench_finish(
 ) -> u32
     ensures ends { EndsFinish base image.now state.now result }
     ensures packets { (program : Image) (period : ℕ) (mode : Mode) (log : List AnyEvent) →
-        IsOn base image.now program period mode log state.now → result ≢ MEMORY →
+        IsOn base image.now program period mode log state.now →
         AreMore (packets_so_far (words_of program) period mode log) (packets_of (words_of program) period mode log)
         result count.new packets.old packets.new }
     ensures refused { result ≢ DONE → packets.new ≡ packets.old }
@@ -227,7 +224,7 @@ pub extern "C" fn tracebench_finish(
     let Some(kept) = state_of(state) else {
         return BAD_STATE;
     };
-    let program = match program_of(alloc, base, image) {
+    let program = match program_of(base, image) {
         Ok(program) => program,
         Err(fault) => return fault.status(),
     };

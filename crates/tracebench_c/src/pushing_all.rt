@@ -16,16 +16,16 @@ use crate::encoder_state::{EncoderNumbers, numbers_of_state, state_of};
 use crate::events::{EventNumbers, event_of};
 use crate::handing::hand_out_packets;
 use crate::numbers::PacketNumbers;
+use crate::pushing_blocks::push_blocks;
 use crate::status::{BAD_STATE, DONE, NO_EVENT};
 use encoder::Encoder;
 use retire::Event;
-use rvclass::Program;
-use std::alloc::Global;
+use rvclass::ProgramOver;
 
 /// Takes the next events of a log, one after the other as [`tracebench_push`](crate::tracebench_push) takes each, and
 /// writes the packets that they make due. `taken` is how many events were taken, and `count` how many packets there
 /// are at the start of the buffer, at most 2 for each event. `state` holds what the encoder keeps of the events before,
-/// and then of those that were taken too. The image is copied once.
+/// and then of those that were taken too. No memory is taken; the time grows with the events, not with the image.
 ///
 /// The status is [`DONE`] where all events were taken. Else it says why the event after those was not:
 ///
@@ -33,11 +33,10 @@ use std::alloc::Global;
 ///   at most one. Hand in the events from there on again.
 /// - [`NO_EVENT`]: no event has its numbers.
 ///
-/// Or no event was taken, and the state stays: [`BAD_STATE`] where no encoder has this state,
-/// [`MEMORY`](crate::status::MEMORY), or what is wrong with the image.
+/// Or no event was taken, and the state stays: [`BAD_STATE`] where no encoder has this state, or what is wrong with the
+/// image.
 #[unsafe(no_mangle)]
 pub extern "C" fn tracebench_push_all(
-    alloc: Global,
     base: u64,
     image: &[u8],
     state: &mut EncoderNumbers,
@@ -71,7 +70,7 @@ pub extern "C" fn tracebench_push_all(
         Some(before) => before,
         None => return BAD_STATE,
     };
-    let program = match program_of(alloc, base, image) {
+    let program = match program_of(base, image) {
         Ok(program) => program,
         Err(fault) => return fault.status(),
     };
@@ -83,7 +82,7 @@ pub extern "C" fn tracebench_push_all(
 
 /// Pushes events as long as their packets have room.
 fn push_while_room(
-    program: &Program,
+    program: &ProgramOver,
     encoder: &mut Encoder,
     events: &[EventNumbers],
     packets: &mut [PacketNumbers],
@@ -94,8 +93,8 @@ fn push_while_room(
         packets.new }
     ensures ends { EndsPushes (words_of program.now) events.now taken.new encoder.new count.new packets.old result }
 {
-    let mut written = 0;
-    for place in 0..events.len() {
+    let (first, mut written) = push_blocks(program, encoder, events, packets);
+    for place in first..events.len() {
         *taken = place as u64;
         *count = written as u64;
         let event = match event_of(&events[place]) {
@@ -116,7 +115,7 @@ fn push_while_room(
 
 /// Pushes the next event, and writes its packets. Where they have no room, the encoder stays as it was.
 fn push_next(
-    program: &Program,
+    program: &ProgramOver,
     encoder: &mut Encoder,
     event: Event,
     packets: &mut [PacketNumbers],

@@ -3,7 +3,7 @@
 /// All is done.
 pub const DONE: u32 = 0;
 
-/// The buffer is too small: nothing was written to it.
+/// The buffer is too small: nothing was written to it, or of many events or payloads what fits.
 pub const TOO_SMALL: u32 = 1;
 
 /// An allocation failed.

@@ -3,6 +3,7 @@
 
 mod all_at_once;
 mod audited;
+mod blocks;
 mod decoded;
 mod encoded;
 mod event_logs;

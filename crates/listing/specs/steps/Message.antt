@@ -1,13 +1,11 @@
 -- What one message of a capture is listed as.
 use Rattle.std.specs.Prelude.{ℕ, ◌≡◌, ◌++◌, if◌then◌else◌, Bool, true, false, List, [], ◌∷◌, Option, Some, None}
-use Rattle.std.specs.Prelude.{Result, Ok, Err}
+use Rattle.std.specs.Prelude.{Result}
 use Rattle.retire.specs.declared.event.Event.{Event}
 use Rattle.rvclass.specs.Words.{Words}
-use Rattle.payload.specs.Closing.{is_closing_packet}
 use Rattle.payload.specs.declared.fault.PackFault.{PackFault}
 use Rattle.payload.specs.declared.mode.Mode.{Mode}
 use Rattle.payload.specs.declared.packet.Packet.{Packet}
-use Rattle.decoder.specs.Settling.{waits}
 use Rattle.decoder.specs.declared.fault.DecodeFault.TheVariants.{Memory}
 use Rattle.message.specs.declared.message.Message.{Message}
 use Rattle.receiver.specs.Agreeing.{Agrees}
@@ -19,16 +17,7 @@ use Rattle.receiver.specs.declared.fault.ReceiveFault.TheVariants as fault
 use Rattle.listing.specs.Effect.{Effect, HasEffect}
 use Rattle.listing.specs.Lines.{effect_line, refused_line}
 use Rattle.listing.specs.Listing.{naming_mode}
-
--- Whether the packet that a payload unpacks to waits for the one that follows it.
-abbrev pub read_waits : Result Packet PackFault → Bool
-read_waits (Ok packet) = waits packet
-read_waits (Err why) = false
-
--- Whether the packet that a payload unpacks to closes a trace.
-abbrev pub read_closes : Result Packet PackFault → Bool
-read_closes (Ok packet) = is_closing_packet packet
-read_closes (Err why) = false
+use Rattle.listing.specs.PacketEnding.{read_closes, read_waits}
 
 -- The effect of a message that adds these events, whose payload unpacks to this.
 abbrev pub effect_of : List Event → Result Packet PackFault → Effect

@@ -5,7 +5,7 @@ ghost use Rattle.std.specs.Prelude.{⊤};
 use legalpath::PathFault;
 use log_streams::{IllegalRow, LogTask};
 use retire::Event;
-use rvclass::Program;
+use rvclass::ProgramOver;
 use std::alloc::{AllocError, Global};
 
 /// Counts the events. Nothing is made of an illegal log.
@@ -21,7 +21,7 @@ impl LogTask<usize> for Counting {
 
     ghost MakesOfIllegal = { λ _ _ _ _ _. ⊤ };
 
-    fn begin(&self, program: &Program, hart: usize) -> Result<usize, AllocError> {
+    fn begin(&self, program: &ProgramOver, hart: usize) -> Result<usize, AllocError> {
         let _ = program;
         let _ = hart;
         Ok(0)
@@ -29,7 +29,7 @@ impl LogTask<usize> for Counting {
 
     fn add(
         &self,
-        program: &Program,
+        program: &ProgramOver,
         state: &mut usize,
         events: &[Event],
     ) -> Result<(), AllocError> {
@@ -38,12 +38,12 @@ impl LogTask<usize> for Counting {
         Ok(())
     }
 
-    fn finish(&self, program: &Program, state: usize) -> Result<usize, AllocError> {
+    fn finish(&self, program: &ProgramOver, state: usize) -> Result<usize, AllocError> {
         let _ = program;
         Ok(state)
     }
 
-    fn refuse(&self, program: &Program, row: IllegalRow) -> Result<usize, PathFault> {
+    fn refuse(&self, program: &ProgramOver, row: IllegalRow) -> Result<usize, PathFault> {
         let _ = program;
         Err(row.fault)
     }
@@ -76,7 +76,7 @@ impl LogTask<Collected> for Collecting {
 
     ghost MayRefuse = { λ _. ⊥ };
 
-    fn begin(&self, program: &Program, hart: usize) -> Result<Collected, AllocError> {
+    fn begin(&self, program: &ProgramOver, hart: usize) -> Result<Collected, AllocError> {
         let _ = program;
         Ok(Collected {
             hart,
@@ -87,7 +87,7 @@ impl LogTask<Collected> for Collecting {
 
     fn add(
         &self,
-        program: &Program,
+        program: &ProgramOver,
         state: &mut Collected,
         events: &[Event],
     ) -> Result<(), AllocError> {
@@ -95,12 +95,12 @@ impl LogTask<Collected> for Collecting {
         state.events.extend_from_slice(events)
     }
 
-    fn finish(&self, program: &Program, state: Collected) -> Result<Collected, AllocError> {
+    fn finish(&self, program: &ProgramOver, state: Collected) -> Result<Collected, AllocError> {
         let _ = program;
         Ok(state)
     }
 
-    fn refuse(&self, program: &Program, row: IllegalRow) -> Result<Collected, PathFault> {
+    fn refuse(&self, program: &ProgramOver, row: IllegalRow) -> Result<Collected, PathFault> {
         let _ = program;
         Ok(Collected {
             hart: 0,

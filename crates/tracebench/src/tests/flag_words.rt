@@ -10,7 +10,11 @@ pub(crate) const TEXT: &str = r#"
 % tracebench decode --base 0 --progress image.bin run.capture
 > Decode(Decode { base: "0", harts: 1, lossy: false, progress: true, image: "image.bin", capture: "run.capture" })
 % tracebench list --base 0 image.bin --progress run.capture
-> Listing(Listing { base: "0", harts: None, symbols: None, progress: true, image: "image.bin", capture: "run.capture" })
+> Listing(Listing { base: "0", harts: None, symbols: None, salvage: false, progress: true, image: "image.bin", capture: "run.capture" })
+% tracebench list --base 0 --salvage image.bin run.capture
+> Listing(Listing { base: "0", harts: None, symbols: None, salvage: true, progress: false, image: "image.bin", capture: "run.capture" })
+% tracebench list image.bin run.capture --harts 2 --salvage --base 0 --symbols nm.txt
+> Listing(Listing { base: "0", harts: Some(2), symbols: Some("nm.txt"), salvage: true, progress: false, image: "image.bin", capture: "run.capture" })
 % tracebench salvage --base 0 image.bin run.capture --progress
 > Salvage(Salvage { base: "0", harts: None, summary: false, progress: true, image: "image.bin", capture: "run.capture" })
 % tracebench audit --progress sent.capture received.capture

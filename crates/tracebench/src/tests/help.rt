@@ -229,8 +229,9 @@ $ tracebench list --help
 !
 ! Options:
 !       --base <B>        Address of the image's first byte, in hexadecimal
-!       --harts <N>       How many harts a capture of version 1 may have, 1 to 1024; without it, 1
+!       --harts <N>       How many harts a capture of version 1 may have, 1 to 1024; without it, 1, with --salvage those of its messages
 !       --symbols <FILE>  File of the program's symbols, as `nm` prints them
+!       --salvage         List every message that is found, and what `salvage` does with it
 !       --progress        Show how far the capture is worked through, where standard error is a terminal
 !   -h, --help            Print help
 !

@@ -319,9 +319,9 @@ pub(crate) const TEXT: &str = r#"
 
 # `list`: its count of harts and its symbols.
 % tracebench list --base 80000000 image.bin run.capture
-> Listing(Listing { base: "80000000", harts: None, symbols: None, progress: false, image: "image.bin", capture: "run.capture" })
+> Listing(Listing { base: "80000000", harts: None, symbols: None, salvage: false, progress: false, image: "image.bin", capture: "run.capture" })
 % tracebench list --symbols nm.txt --harts 1024 --base 0 image.bin run.capture
-> Listing(Listing { base: "0", harts: Some(1024), symbols: Some("nm.txt"), progress: false, image: "image.bin", capture: "run.capture" })
+> Listing(Listing { base: "0", harts: Some(1024), symbols: Some("nm.txt"), salvage: false, progress: false, image: "image.bin", capture: "run.capture" })
 % tracebench list --base 0 --harts 0 image.bin run.capture
 ! error: invalid value '0' for '--harts <N>': 0 is not in 1..=1024
 !

@@ -71,3 +71,23 @@ pub data EndsPushes (words : Words) (numbers : List EventNumbers) (taken : ℕ) 
       → EndsPushes words numbers taken encoder count old status
   NoEvent : (next : EventNumbers) → slice_get numbers taken ≡ Some next → ¬ AreOfEvent next → status ≡ NO_EVENT
       → EndsPushes words numbers taken encoder count old status
+
+-- All events of a block were pushed, and their packets, at most one for each, were written.
+pub record IsBlockPushed (words : Words) (first : Encoder) (block : List Event) (encoder : Encoder) (count : ℕ)
+    (old new : List PacketNumbers) : Type 0 where
+  pub packets : List Packet
+  pub goes : GoesOn words first block encoder packets
+  pub counted : count ≡ length packets
+  pub few : count ≤ length block
+  pub written : new ≡ map numbers_of packets ++ drop count old
+
+-- The first events of a block were pushed, up to one that made a packet due so many times.
+pub record IsPartPushed (words : Words) (first : Encoder) (block : List Event) (at : ℕ) (encoder : Encoder)
+    (place : ℕ) (old now : List PacketNumbers) : Type 0 where
+  pub packets : List Packet
+  pub goes : GoesOn words first (take at block) encoder packets
+  pub counted : place ≡ length packets
+  pub far : place ≤ at
+  pub within : at ≤ length block
+  pub room : length now ≡ length old
+  pub written : now ≡ map numbers_of packets ++ drop place old

@@ -78,7 +78,6 @@ fn are_pushed<R: Abort + AllocGlobal>(rt: &R, (words, period, mode, pushes, _): 
     let mut taken = 77;
     let mut count = 77;
     let status = tracebench_push_all(
-        rt.alloc(),
         BASE,
         &image,
         &mut state,
@@ -105,8 +104,7 @@ fn logs_are_pushed_at_once(rt: HostRuntime) {
 }
 
 /// Pushes are refused: the status, how many events were taken, how many packets there are, and the state.
-fn refused<R: AllocGlobal>(
-    rt: &R,
+fn refused(
     (base, image): (u64, &[u8]),
     state: EncoderRow,
     events: &[EventRow; 3],
@@ -118,7 +116,6 @@ fn refused<R: AllocGlobal>(
     let mut taken = 77;
     let mut count = 77;
     let status = tracebench_push_all(
-        rt.alloc(),
         base,
         image,
         &mut state,
@@ -141,21 +138,21 @@ fn pushes_at_once_are_refused(rt: HostRuntime) {
     agree(
         &rt,
         128,
-        refused(&rt, (1, &image), bad, &events),
+        refused((1, &image), bad, &events),
         (128, 0, 0, bad),
     );
     for (base, status) in [(1, 48), (0, 49)] {
         agree(
             &rt,
             status,
-            refused(&rt, (base, &image), NO_ENCODER, &events),
+            refused((base, &image), NO_ENCODER, &events),
             (status, 0, 0, NO_ENCODER),
         );
     }
     agree(
         &rt,
         50,
-        refused(&rt, (u64::MAX - 1, &[1, 0]), NO_ENCODER, &events),
+        refused((u64::MAX - 1, &[1, 0]), NO_ENCODER, &events),
         (50, 0, 0, NO_ENCODER),
     );
     let first = row_of_encoder(&new(1024, 0));
@@ -165,13 +162,13 @@ fn pushes_at_once_are_refused(rt: HostRuntime) {
     agree(
         &rt,
         129,
-        refused(&rt, (BASE, &words), first, &events),
+        refused((BASE, &words), first, &events),
         (129, 2, 1, two),
     );
     agree(
         &rt,
         129,
-        refused(&rt, (BASE, &words), first, &[none, FIRST, second]),
+        refused((BASE, &words), first, &[none, FIRST, second]),
         (129, 0, 0, first),
     );
 }

@@ -11,7 +11,6 @@ use crate::{
     EventNumbers, tracebench_check_events, tracebench_encoder, tracebench_follow,
     tracebench_push_checked,
 };
-use std::alloc::Global;
 use std::process::Abort;
 
 /// Numbers that no event has.
@@ -59,21 +58,8 @@ const FOLLOWED: [(u32, EventRow, EventRow, u32); 24] = [
 ];
 
 /// What a call says of an event after another.
-fn followed(
-    alloc: Global,
-    (base, image): (u64, &[u8]),
-    flag: u32,
-    before: EventRow,
-    event: EventRow,
-) -> u32 {
-    tracebench_follow(
-        alloc,
-        base,
-        image,
-        flag,
-        &event_of(before),
-        &event_of(event),
-    )
+fn followed((base, image): (u64, &[u8]), flag: u32, before: EventRow, event: EventRow) -> u32 {
+    tracebench_follow(base, image, flag, &event_of(before), &event_of(event))
 }
 
 #[test]
@@ -81,45 +67,15 @@ fn events_follow(rt: HostRuntime) {
     let image = image_of(&rt, &WORDS);
     for (place, (flag, before, event, status)) in FOLLOWED.iter().enumerate() {
         let of = (BASE, image.as_slice());
-        agree(
-            &rt,
-            place,
-            followed(rt.alloc(), of, *flag, *before, *event),
-            *status,
-        );
+        agree(&rt, place, followed(of, *flag, *before, *event), *status);
     }
     let large = filled(&rt, 1, (1 << 24) + 1);
-    agree(
-        &rt,
-        "flag",
-        followed(rt.alloc(), (1, &large), 2, BAD, BAD),
-        4,
-    );
-    agree(
-        &rt,
-        "event",
-        followed(rt.alloc(), (1, &large), 0, BAD, BAD),
-        129,
-    );
-    agree(
-        &rt,
-        "odd",
-        followed(rt.alloc(), (1, &large), 0, BAD, FIRST),
-        48,
-    );
-    agree(
-        &rt,
-        "large",
-        followed(rt.alloc(), (0, &large), 0, BAD, FIRST),
-        49,
-    );
+    agree(&rt, "flag", followed((1, &large), 2, BAD, BAD), 4);
+    agree(&rt, "event", followed((1, &large), 0, BAD, BAD), 129);
+    agree(&rt, "odd", followed((1, &large), 0, BAD, FIRST), 48);
+    agree(&rt, "large", followed((0, &large), 0, BAD, FIRST), 49);
     let last = (u64::MAX - 1, [1, 0]);
-    agree(
-        &rt,
-        "end",
-        followed(rt.alloc(), (last.0, &last.1), 0, BAD, FIRST),
-        50,
-    );
+    agree(&rt, "end", followed((last.0, &last.1), 0, BAD, FIRST), 50);
 }
 
 /// MRET leads to any privilege, and the return after it keeps its own.
@@ -130,10 +86,10 @@ fn returns_from_traps_lead_on(rt: HostRuntime) {
     let left = (0, [3, 3, 0, 0], BASE, 0);
     for privilege in [0, 1, 3] {
         let next = (0, [0, privilege, 0, 0], BASE + 4, 0);
-        agree(&rt, privilege, followed(rt.alloc(), of, 1, left, next), 0);
+        agree(&rt, privilege, followed(of, 1, left, next), 0);
     }
     let low = (0, [3, 1, 0, 0], BASE, 0);
-    agree(&rt, "low", followed(rt.alloc(), of, 0, left, low), 84);
+    agree(&rt, "low", followed(of, 0, left, low), 84);
 }
 
 /// Events, the status, and how many events there are or the row at fault.
@@ -150,9 +106,9 @@ const CHECKED: [(&[EventRow], u32, u64); 9] = [
 ];
 
 /// What a call says of events: the status and the row.
-fn checked(alloc: Global, (base, image): (u64, &[u8]), events: &[EventNumbers]) -> (u32, u64) {
+fn checked((base, image): (u64, &[u8]), events: &[EventNumbers]) -> (u32, u64) {
     let mut row = 77;
-    let status = tracebench_check_events(alloc, base, image, events, &mut row);
+    let status = tracebench_check_events(base, image, events, &mut row);
     (status, row)
 }
 
@@ -165,32 +121,21 @@ fn events_are_checked(rt: HostRuntime) {
         for event in *rows {
             events.push(event_of(*event)).expect(&rt, "memory");
         }
-        agree(
-            &rt,
-            place,
-            checked(rt.alloc(), of, &events),
-            (*status, *row),
-        );
+        agree(&rt, place, checked(of, &events), (*status, *row));
     }
-    agree(&rt, "odd", checked(rt.alloc(), (1, &image), &[]), (48, 0));
+    agree(&rt, "odd", checked((1, &image), &[]), (48, 0));
     let image = image_of(&rt, &[JUMP_LOOP]);
     let of = (BASE, image.as_slice());
     let most = 1u64 << 24;
     let many = Vec::from_elem(rt.alloc(), event_of(FIRST), (1 << 24) + 1).expect(&rt, "memory");
-    agree(&rt, "many", checked(rt.alloc(), of, &many), (73, 0));
-    agree(&rt, "most", checked(rt.alloc(), of, &many[1..]), (0, most));
-    agree(
-        &rt,
-        "image",
-        checked(rt.alloc(), (1, &image), &many),
-        (48, 0),
-    );
+    agree(&rt, "many", checked(of, &many), (73, 0));
+    agree(&rt, "most", checked(of, &many[1..]), (0, most));
+    agree(&rt, "image", checked((1, &image), &many), (48, 0));
 }
 
 /// What a call for the next event says, which is checked: the status, the count, the first packet in the buffer, and
 /// the state.
 fn pushed(
-    alloc: Global,
     (base, image): (u64, &[u8]),
     (state, event): (EncoderRow, EventRow),
     room: usize,
@@ -199,7 +144,6 @@ fn pushed(
     let mut packets = [packet_of(BEFORE); 2];
     let mut count = 77;
     let status = tracebench_push_checked(
-        alloc,
         base,
         image,
         &mut state,
@@ -225,12 +169,12 @@ fn are_pushed<R: Abort + AllocGlobal>(rt: &R, (words, period, mode, pushes, _): 
     for (event, count, packet, next) in pushes {
         let off = (0, [0, 3, 0, 0], 0x1000, 0);
         let kept = (80, 77, BEFORE, state);
-        agree(rt, "off", pushed(rt.alloc(), of, (state, off), 2), kept);
+        agree(rt, "off", pushed(of, (state, off), 2), kept);
         let taken = (0, *count, *packet, *next);
-        agree(rt, event, pushed(rt.alloc(), of, (state, *event), 2), taken);
+        agree(rt, event, pushed(of, (state, *event), 2), taken);
         if *count == 1 {
             let small = (1, 1, BEFORE, state);
-            agree(rt, event, pushed(rt.alloc(), of, (state, *event), 0), small);
+            agree(rt, event, pushed(of, (state, *event), 0), small);
         }
         state = *next;
     }
@@ -269,13 +213,13 @@ fn illegal_events_are_not_pushed(rt: HostRuntime) {
     let of = (BASE, image.as_slice());
     for (state, event, status) in REFUSED {
         let kept = (status, 77, BEFORE, state);
-        agree(&rt, status, pushed(rt.alloc(), of, (state, event), 2), kept);
+        agree(&rt, status, pushed(of, (state, event), 2), kept);
     }
     let kept = (48, 77, BEFORE, NO_ENCODER);
     agree(
         &rt,
         "odd",
-        pushed(rt.alloc(), (1, &image), (NO_ENCODER, FIRST), 2),
+        pushed((1, &image), (NO_ENCODER, FIRST), 2),
         kept,
     );
 }

@@ -59,15 +59,7 @@ fn is_pushed<R: Abort + AllocGlobal>(
     let mut due = [packet_of(([0; 10], 0, 0)); 2];
     let mut count = 77;
     let event = event_of(BRANCH);
-    let status = tracebench_push(
-        rt.alloc(),
-        BASE,
-        image,
-        encoder,
-        &event,
-        &mut due,
-        &mut count,
-    );
+    let status = tracebench_push(BASE, image, encoder, &event, &mut due, &mut count);
     agree(rt, "push", (status, count), (0, packets));
     if packets == 1 {
         is_fed(rt, image, decoder, &due[0], (b"\x63\0\0\0\x20", 1));
@@ -92,7 +84,7 @@ fn goes_through<R: Abort + AllocGlobal>(rt: &R, image: &[u8], mode: u32, opens: 
     for _ in 1..70_000 {
         is_pushed(rt, image, &mut encoder, &mut decoder, 1);
     }
-    let status = tracebench_finish(rt.alloc(), BASE, image, &encoder, &mut packets, &mut count);
+    let status = tracebench_finish(BASE, image, &encoder, &mut packets, &mut count);
     agree(rt, "finish", (status, count), (0, 2));
     is_fed(rt, image, &mut decoder, &packets[0], (b"\x63\0\0\0\x20", 1));
     is_fed(rt, image, &mut decoder, &packets[1], (b"\xcf\0", 0));
@@ -159,16 +151,8 @@ fn many_events_at_once(rt: HostRuntime) {
     let mut packets = [packet_of(([0; 10], 0, 0)); 2];
     let mut count = 77;
     let event = event_of((0, [0, 3, 0, 0], 0x80ff_fffe, 0));
-    let status = tracebench_push(
-        rt.alloc(),
-        BASE,
-        &image,
-        &mut encoder,
-        &event,
-        &mut packets,
-        &mut count,
-    );
+    let status = tracebench_push(BASE, &image, &mut encoder, &event, &mut packets, &mut count);
     agree(&rt, "push", (status, count), (0, 0));
-    let status = tracebench_finish(rt.alloc(), BASE, &image, &encoder, &mut packets, &mut count);
+    let status = tracebench_finish(BASE, &image, &encoder, &mut packets, &mut count);
     agree(&rt, "finish", (status, count), (0, 2));
 }

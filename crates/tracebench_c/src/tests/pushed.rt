@@ -8,7 +8,6 @@ use super::rows::{
     row_of_encoder, row_of_packet,
 };
 use crate::{tracebench_encoder, tracebench_finish, tracebench_push};
-use std::alloc::Global;
 use std::process::Abort;
 
 /// Periods and modes, and the status; where it is 0, the numbers of a new encoder's state, and of the mode that its
@@ -53,7 +52,6 @@ fn encoders_begin(rt: HostRuntime) {
 /// What a call for the next event says with a buffer of so many packets: the status, the count, the first packet in the
 /// buffer, and the state.
 fn pushed(
-    alloc: Global,
     base: u64,
     image: &[u8],
     (state, event): (EncoderRow, EventRow),
@@ -63,7 +61,6 @@ fn pushed(
     let mut packets = [packet_of(BEFORE); 2];
     let mut count = 77;
     let status = tracebench_push(
-        alloc,
         base,
         image,
         &mut state,
@@ -80,24 +77,11 @@ fn pushed(
 }
 
 /// What a call for the end of a log says: the status, the count and the packets in the buffer.
-fn finished(
-    alloc: Global,
-    base: u64,
-    image: &[u8],
-    state: EncoderRow,
-    room: usize,
-) -> (u32, u64, [PacketRow; 2]) {
+fn finished(base: u64, image: &[u8], state: EncoderRow, room: usize) -> (u32, u64, [PacketRow; 2]) {
     let state = encoder_of(state);
     let mut packets = [packet_of(BEFORE); 2];
     let mut count = 77;
-    let status = tracebench_finish(
-        alloc,
-        base,
-        image,
-        &state,
-        &mut packets[..room.min(2)],
-        &mut count,
-    );
+    let status = tracebench_finish(base, image, &state, &mut packets[..room.min(2)], &mut count);
     let rows = [row_of_packet(&packets[0]), row_of_packet(&packets[1])];
     (status, count, rows)
 }
@@ -114,16 +98,16 @@ fn are_pushed<R: Abort + AllocGlobal>(
     for (event, count, packet, next) in pushes {
         let given = (state, *event);
         let taken = (0, *count, *packet, *next);
-        agree(rt, event, pushed(rt.alloc(), BASE, image, given, 2), taken);
+        agree(rt, event, pushed(BASE, image, given, 2), taken);
         agree(
             rt,
             event,
-            pushed(rt.alloc(), BASE, image, given, *count as usize),
+            pushed(BASE, image, given, *count as usize),
             taken,
         );
         if *count == 1 {
             let kept = (1, 1, BEFORE, state);
-            agree(rt, event, pushed(rt.alloc(), BASE, image, given, 0), kept);
+            agree(rt, event, pushed(BASE, image, given, 0), kept);
         }
         state = *next;
     }
@@ -139,16 +123,11 @@ fn is_encoded<R: Abort + AllocGlobal>(rt: &R, (words, period, mode, pushes, end)
     agree(
         rt,
         "end",
-        finished(rt.alloc(), BASE, &image, last, 2),
+        finished(BASE, &image, last, 2),
         (0, count, packets),
     );
     let kept = (1, count, [BEFORE; 2]);
-    agree(
-        rt,
-        "no room",
-        finished(rt.alloc(), BASE, &image, last, 0),
-        kept,
-    );
+    agree(rt, "no room", finished(BASE, &image, last, 0), kept);
 }
 
 #[test]
@@ -190,15 +169,10 @@ fn are_refused<R: Abort + AllocGlobal>(
 ) {
     let kept = (status, 77, BEFORE, state);
     let given = (state, event);
-    agree(rt, status, pushed(rt.alloc(), base, image, given, 2), kept);
+    agree(rt, status, pushed(base, image, given, 2), kept);
     if status != 129 {
         let kept = (status, 77, [BEFORE; 2]);
-        agree(
-            rt,
-            status,
-            finished(rt.alloc(), base, image, state, 2),
-            kept,
-        );
+        agree(rt, status, finished(base, image, state, 2), kept);
     }
 }
 

@@ -4,6 +4,7 @@ use Rattle.std.proofs.lemmas.List.{map-append}
 use Rattle.std.proofs.lemmas.Option.{slice_get-get_or}
 use Rattle.encoder.specs.SourceAt.{SourceAt}
 use Rattle.funnel.specs.Ends.{AreNewPorts, PortView}
+use Rattle.bench.specs.declared.worker.LogPayloads.{LogPayloads}
 use Rattle.bench.specs.steps.Gathering.{IsWorkerOf, harts_of}
 use Rattle.bench.proofs.LastPort.{last_port}
 use Rattle.bench.proofs.ListElements.{All-pushed}
@@ -33,7 +34,7 @@ pub start-requires-after_bounds : goal.start-requires-after_bounds
 start-requires-after_bounds g c κs within =
     let popped =
     last_port _ _ _ _ _ c.in-Some.port c.loop-port.invariant.ports c.in-Some.ensures.items c.pop.new.self.ok.0 in
-    (ap (λ at. at.number) c.new-source.ensures, ap (λ port. port.sent) popped.1)
+    (ap (λ at. at.number) c.new.ensures, ap (λ port. port.sent) popped.1)
 
 pub loop-port-preserved-in-Some-start : goal.loop-port-preserved-in-Some-start
 loop-port-preserved-in-Some-start g c =
@@ -50,10 +51,10 @@ loop-port-preserved-in-Some-start g c =
     let same = pushed.capacity in
     let known =
     slice_get-get_or c.args.plan.now.logs.now c.len-hart.result c.index-plan-hart.result (omega (arith, count, few)) in
-    let at : SourceAt → SourceAt = λ source. source in
+    let at : LogPayloads → SourceAt = λ payloads. payloads.source in
     let new =
     new_worker at c.args.outlet.now.funnel c.args.plan.now.config c.args.plan.now.logs.now worker _ _ _ _
-    c.in-Some-start.ensures.0 c.in-Some-start.ensures.1 popped.1 c.new-source.ensures known in
+    c.in-Some-start.ensures.0 (ap at c.in-Some-start.ensures.1) popped.1 c.new.ensures known in
     record {
       ports = subst (λ n. AreNewPorts c.args.outlet.now.funnel n c.pop.new.self.items) place popped.0;
       few = omega (arith, few, count, place);

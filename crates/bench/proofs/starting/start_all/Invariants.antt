@@ -9,7 +9,7 @@ invariant-loop-port g l = record {
   ports : AreNewPorts l.outlet.funnel (vec_len l.ports) l.ports.items;
   few : vec_len l.ports ≤ length l.plan.logs.now;
   room : vec_len l.workers + vec_len l.ports ≤ vec_capacity l.workers;
-  workers : All (IsWorkerOf (λ source. source) l.outlet.funnel l.plan.config l.plan.logs.now) l.workers.items;
+  workers : All (IsWorkerOf (λ payloads. payloads.source) l.outlet.funnel l.plan.config l.plan.logs.now) l.workers.items;
   keep : l.collector.keep ≡ l.fn.collector.keep;
   harts : AreBegun l.plan.config l.plan.logs.now (vec_len l.ports) (harts_of l.workers.items) l.collector;
 }

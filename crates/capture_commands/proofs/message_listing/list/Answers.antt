@@ -2,7 +2,7 @@
 use Rattle.std.proofs.Common.{Err, List, Ok, Option, ap, arith, inr, refl, subst, sym, ℕ, ◌≡◌, ◌∙◌, ◌⊎◌}
 use Rattle.std.proofs.lemmas.Grind.{common_steps}
 use Rattle.std.specs.Borrow.{Bor}
-use Rattle.std.specs.Prelude.{⊤, IfSome, option_map}
+use Rattle.std.specs.Prelude.{IfSome, option_map}
 use Rattle.subcommands.specs.declared.words.Listing.{Listing}
 use Rattle.command_inputs.specs.Begun.{IsCutOf}
 use Rattle.command_inputs.specs.Found.{IsBase, IsProgramAt, IsRead}
@@ -12,10 +12,10 @@ use Rattle.command_inputs.specs.Printed.{PrintsUnlessDenied}
 use Rattle.capture_commands.specs.Symbols.{AreSymbols}
 use Rattle.command_inputs.specs.declared.fault.Fault.TheVariants as fault
 use Rattle.command_inputs.proofs.Runs.{ends_silently}
-use Rattle.capture_commands.specs.Listed.{CanList, Lists, ListsInPart, ListsUpToMemory, WritesListing, WritesPart}
+use Rattle.capture_commands.specs.Listed.{CanList, Lists, ListsInPart, ListsUpToMemory}
 use Rattle.capture_commands.specs.declared.reason.CaptureReason.{CaptureReason}
 use Rattle.capture_commands.proofs.ListedRuns.{list_begun, list_cut, list_printed}
-use Rattle.capture_commands.proofs.message_listing.list.Goals.{After-write_listing}
+use Rattle.capture_commands.proofs.message_listing.list.Goals.{After-write_listed}
 use Rattle.capture_commands.proofs.message_listing.list.Goals as goal
 
 pub returns-in_err-base-clause-early : goal.returns-in_err-base-clause-early
@@ -91,7 +91,7 @@ returns-in_err-bytes-clause-printed g c =
       ),
     ))
 
-module _ (g : _) (c : After-write_listing g) where
+module _ (g : _) (c : After-write_listed g) where
   abbrev content : Content
   content = g.F.Files.content c.args.files.now
 
@@ -105,7 +105,7 @@ module _ (g : _) (c : After-write_listing g) where
   old = g.O.Write.contents c.args.out.now
 
   abbrev new : Option (List ℕ)
-  new = g.O.Write.contents c.write_listing.new.out
+  new = g.O.Write.contents c.write_listed.new.out
 
   -- The symbols that were found are those that are handed on.
   named : AreSymbols content asked.symbols (Ok symbols)
@@ -121,32 +121,29 @@ module _ (g : _) (c : After-write_listing g) where
       (subst (λ known. IsRead {W = CaptureReason} known asked.capture (Ok c.in_ok-bytes.bytes.items))
       (c.in_ok-symbols.ensures.kept ∙ c.in_ok-program.ensures.kept) c.in_ok-bytes.ensures.held)
 
-  printed : PrintsUnlessDenied (Lists content asked) (CanList content asked) c.write_listing.result old new
+  printed : PrintsUnlessDenied (Lists content asked) (CanList content asked) c.write_listed.result old new
   printed =
       list_printed content asked c.in_ok-base.base c.in_ok-program.program symbols c.as_slice.result.now
-      c.in_ok-base.ensures.found c.in_ok-program.ensures.program named read c.write_listing.result old new
-      (subst (λ harts. PrintsUnlessDenied (WritesListing harts c.in_ok-program.program symbols c.as_slice.result.now) ⊤
-      c.write_listing.result old new) c.harts_or_one.ensures c.write_listing.ensures.printed)
+      c.in_ok-base.ensures.found c.in_ok-program.ensures.program named read c.write_listed.result old new
+      c.write_listed.ensures.printed
 
-  begun : c.write_listing.result ≡ Err fault.Memory → ListsUpToMemory (Lists content asked) old new
+  begun : c.write_listed.result ≡ Err fault.Memory → ListsUpToMemory (Lists content asked) old new
   begun memory =
       list_begun content asked c.in_ok-base.base c.in_ok-program.program symbols c.as_slice.result.now
       c.in_ok-base.ensures.found c.in_ok-program.ensures.program named read old new
-      (subst (λ harts. ListsUpToMemory (WritesListing harts c.in_ok-program.program symbols c.as_slice.result.now)
-      old new) c.harts_or_one.ensures (c.write_listing.ensures.begun memory))
+      (c.write_listed.ensures.begun memory)
 
   cut : IsCutOf (ListsInPart content asked) old new
   cut =
       list_cut content asked c.in_ok-base.base c.in_ok-program.program symbols c.as_slice.result.now
       c.in_ok-base.ensures.found c.in_ok-program.ensures.program named read old new
-      (subst (λ harts. IsCutOf (WritesPart harts c.in_ok-program.program symbols c.as_slice.result.now) old new)
-      c.harts_or_one.ensures c.write_listing.ensures.cut)
+      c.write_listed.ensures.cut
 
 pub returns-clause-printed : goal.returns-clause-printed
-returns-clause-printed g c = printed g (goal.at.returns-clause-printed g c).After-write_listing
+returns-clause-printed g c = printed g (goal.at.returns-clause-printed g c).After-write_listed
 
 pub returns-clause-begun : goal.returns-clause-begun
-returns-clause-begun g c = begun g (goal.at.returns-clause-begun g c).After-write_listing
+returns-clause-begun g c = begun g (goal.at.returns-clause-begun g c).After-write_listed
 
 pub returns-clause-cut : goal.returns-clause-cut
-returns-clause-cut g c = cut g (goal.at.returns-clause-cut g c).After-write_listing
+returns-clause-cut g c = cut g (goal.at.returns-clause-cut g c).After-write_listed

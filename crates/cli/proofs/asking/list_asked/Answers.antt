@@ -12,6 +12,7 @@ returns c =
       c.given_harts.ensures,
       c.get_str.ensures ∙ first_value-rows found (codes "symbols"),
       c.flag.ensures,
+      c.flag-2.ensures,
       c.text-2.ensures,
       c.text-3.ensures,
     )

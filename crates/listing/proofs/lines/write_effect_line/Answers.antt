@@ -1,28 +1,14 @@
 -- The prover does not part the line at the write that failed: its parts are put together by hand.
-use Rattle.std.proofs.Common.{◌≡◌, ◌++◌, codes, option_map, ap, subst, ◌∙◌}
-use Rattle.std.specs.Io.KnownBytes.{Appends}
-use Rattle.output.specs.Begun.{AppendsBeginning}
+use Rattle.std.proofs.Common.{◌≡◌, option_map, ap, ◌∙◌}
 use Rattle.output.proofs.Beginnings.{whole_begun}
 use Rattle.payload.specs.Reading.{reading}
 use Rattle.listing.proofs.LineParts.{events_begun, head_begun, line_written, tail_begun}
-use Rattle.listing.specs.EffectText.{closes_text, waits_text}
-use Rattle.listing.specs.steps.Message.{read_closes, read_waits}
-use Rattle.listing.proofs.lines.write_effect_line.Goals.{After-unpack-unpacked, After-closes_text-closed}
+use Rattle.listing.proofs.lines.write_effect_line.Goals.{After-unpack-unpacked}
 use Rattle.listing.proofs.lines.write_effect_line.Goals as goal
 
 module _ (g : _) (c : After-unpack-unpacked g) where
   same : c.unpack-unpacked.result ≡ reading c.args.message.now.payload
   same = c.unpack-unpacked.ensures.value ∙ ap reading c.bytes.ensures.same
-
-module _ (g : _) (c : After-closes_text-closed g) where
-  tail_is : (c.waits_text-waits.result.now ++ (c.closes_text-closed.result.now ++ codes "\n"))
-      ≡ waits_text (read_waits c.unpack-unpacked.result) ++ (closes_text (read_closes c.unpack-unpacked.result)
-      ++ codes "\n")
-  tail_is =
-      ap (λ waits. waits ++ (c.closes_text-closed.result.now ++ codes "\n"))
-      (c.waits_text-waits.ensures ∙ ap waits_text c.read_waits.ensures)
-      ∙ ap (λ closes. waits_text (read_waits c.unpack-unpacked.result) ++ (closes ++ codes "\n"))
-      (c.closes_text-closed.ensures ∙ ap closes_text c.read_closes.ensures)
 
 pub returns-in_err-write_text-clause-begun : goal.returns-in_err-write_text-clause-begun
 returns-in_err-write_text-clause-begun g c =
@@ -43,25 +29,21 @@ pub returns-in_err-write_text-2-clause-begun : goal.returns-in_err-write_text-2-
 returns-in_err-write_text-2-clause-begun g c =
     let late = g.W.Write.contents c.write_added.new.sink in
     let new = g.W.Write.contents c.write_text-2.new.out in
-    let after = (goal.at.returns-in_err-write_text-2-clause-begun g c).After-closes_text-closed in
     tail_begun (option_map (λ file. file.now) c.args.symbols) c.args.mode c.args.offset
     c.args.message.now c.args.added.now c.unpack-unpacked.result
     (same g (goal.at.returns-in_err-write_text-2-clause-begun g c).After-unpack-unpacked)
     (g.W.Write.contents c.args.sink.now) (g.W.Write.contents c.write_text.new.out) c.in_ok-write_text.ensures.whole
-    late c.in_ok-write_added.ensures.text new
-    (subst (λ l. AppendsBeginning l late new) (tail_is g after) c.write_text-2.ensures.begun)
+    late c.in_ok-write_added.ensures.text new c.write_text-2.ensures.begun
 
 pub returns-clause-text : goal.returns-clause-text
 returns-clause-text g c =
     let late = g.W.Write.contents c.write_added.new.sink in
     let new = g.W.Write.contents c.write_text-2.new.out in
-    let after = (goal.at.returns-clause-text g c).After-closes_text-closed in
     line_written (option_map (λ file. file.now) c.args.symbols) c.args.mode c.args.offset
     c.args.message.now c.args.added.now c.unpack-unpacked.result
     (same g (goal.at.returns-clause-text g c).After-unpack-unpacked)
     (g.W.Write.contents c.args.sink.now) (g.W.Write.contents c.write_text.new.out) c.in_ok-write_text.ensures.whole
-    late c.in_ok-write_added.ensures.text new
-    (subst (Appends late new) (tail_is g after) c.in_ok-write_text-2.ensures.whole)
+    late c.in_ok-write_added.ensures.text new c.in_ok-write_text-2.ensures.whole
 
 pub returns-clause-begun : goal.returns-clause-begun
 returns-clause-begun g c =

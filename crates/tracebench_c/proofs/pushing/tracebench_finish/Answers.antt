@@ -10,7 +10,7 @@ use Rattle.tracebench_c.specs.Pushed.{AreMore}
 use Rattle.tracebench_c.proofs.pushing.tracebench_finish.Goals as goal
 
 pub returns-clause-packets : goal.returns-clause-packets
-returns-clause-packets c = λ program period mode log is other.
+returns-clause-packets c = λ program period mode log is.
     let made = c.in-Ok.program in
     let status = c.hand_out_packets.result in
     let count = c.hand_out_packets.new.count in

@@ -20,7 +20,7 @@ returns-clause-stands c = λ program period mode log next is done.
     (c.push_event.ensures.stands period mode log known.stands known.legal done))
 
 pub returns-clause-packets : goal.returns-clause-packets
-returns-clause-packets c = λ program period mode log next is other.
+returns-clause-packets c = λ program period mode log next is.
     let made = c.in-Ok.program in
     let status = c.push_event.result in
     let count = c.push_event.new.count in

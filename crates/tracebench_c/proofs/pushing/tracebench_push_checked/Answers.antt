@@ -35,7 +35,7 @@ returns-clause-ends c =
     c.step_status.ensures.value
 
 pub returns-in-Ok-judge_step-clause-judged : goal.returns-in-Ok-judge_step-clause-judged
-returns-in-Ok-judge_step-clause-judged c = λ program period mode log next is other.
+returns-in-Ok-judge_step-clause-judged c = λ program period mode log next is.
     let made = c.in-Ok.program in
     let taken = c.in-Some-event_of.event in
     let known =
@@ -48,7 +48,7 @@ returns-in-Ok-judge_step-clause-judged c = λ program period mode log next is ot
     c.in-Ok-judge_step.ensures))) c.push_event.ensures.status
 
 pub returns-clause-judged : goal.returns-clause-judged
-returns-clause-judged c = λ program period mode log next is other.
+returns-clause-judged c = λ program period mode log next is.
     let made = c.in-Ok.program in
     let taken = c.in-Some-event_of.event in
     let status = c.step_status.result in

@@ -2,14 +2,13 @@
 use Rattle.std.proofs.Common.{refl, slice_index_or}
 use Rattle.std.proofs.lemmas.Option.{slice_get-get_or}
 use Rattle.rvclass.specs.Fetch.{words_of}
-use Rattle.tracebench_c.proofs.PushedInTurn.{no_room_at, pushed_more, pushed_none}
+use Rattle.tracebench_c.proofs.PushedInTurn.{no_room_at, pushed_more}
 use Rattle.tracebench_c.proofs.WrittenInTurn.{part_back, part_lent}
 use Rattle.tracebench_c.specs.steps.PushingAll.{NoEvent}
 use Rattle.tracebench_c.proofs.pushing_all.push_while_room.Goals as goal
 
 pub loop-place-init : goal.loop-place-init
-loop-place-init c =
-    pushed_none (words_of c.args.program.now) c.args.encoder.now c.args.events.now c.args.packets.now
+loop-place-init c = c.push_blocks-first.ensures.pushed
 
 pub returns-in-None-clause-ends : goal.returns-in-None-clause-ends
 returns-in-None-clause-ends c =

@@ -1,0 +1,11 @@
+pub mod OrderLemmas
+pub mod BytesLemmas
+pub mod OverlapLemmas
+pub mod FetchLemmas
+pub mod FoundLemmas
+pub mod PlacedLemmas
+pub mod AddedLemmas
+pub mod CutLemmas
+pub mod OneLemmas
+pub mod HalvesLemmas
+pub mod CutLegalLemmas

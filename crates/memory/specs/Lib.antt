@@ -1,0 +1,6 @@
+pub mod Piece
+pub mod Memory
+pub mod Fetch
+pub mod Adding
+pub mod Halves
+pub mod steps

@@ -1,0 +1,5 @@
+pub mod HeldBytes
+pub mod Parts
+pub mod Search
+pub mod Kept
+pub mod Words

@@ -1,0 +1,4 @@
+pub mod TreatedLine
+pub mod TreatedSpans
+pub mod TakenMessages
+mod WorkedLines

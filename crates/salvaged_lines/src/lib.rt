@@ -1,0 +1,12 @@
+//! What salvaging does with each message of a damaged capture, in a line of text for each.
+//!
+//! [`write_treated`] writes a line for each frame of a capture and for each run of bytes between: where it is, what the
+//! message says, and the word for what is done with it. Nothing here takes memory.
+#![tactic(auto)]
+
+mod laws;
+mod lines;
+mod words;
+
+pub use laws::taken_messages_have_their_effect;
+pub use lines::write_treated;

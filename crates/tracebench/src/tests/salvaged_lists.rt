@@ -1,0 +1,232 @@
+//! Damaged captures to listings of what salvaging does with each message.
+
+/// Each word, alone and of messages that are late; bytes that belong to no frame; with a header, and without a valid one.
+pub(crate) const TEXT: &str = r"
+# The log of three words, where every second retirement is a synchronisation, has five messages. Nothing is damaged: the
+# list is that without `--salvage`, without a header and behind one.
+file image.bin
+|= 13000000 13000000 13000000
+file log.capture
+|~ 0 0 1f
+|~ 0 1 7300000020
+|~ 0 2 0a
+|~ 0 3 7302000020
+|~ 0 4 cf00
+file log.txt
+| 00000000 0 0 open => nothing
+| 0000000c 0 1 sync addr=80000000 priv=3 branch=1 => 1 event, 80000000
+| 0000001c 0 2 address diff=4 map=- plain => nothing, waits
+| 00000028 0 3 sync addr=80000008 priv=3 branch=1 => 2 events, 80000004 to 80000008
+| 00000038 0 4 close ended_ntr => nothing, closed
+$ tracebench list --base 80000000 --salvage image.bin log.capture
+>< log.txt
+$ tracebench list --base 80000000 image.bin log.capture
+>< log.txt
+file nm.txt
+| 80000000 T _start
+| 80000004 t loop
+file headed.capture
+|= ffff7276747261636532000002000100
+|< log.capture
+$ tracebench list --base 80000000 --salvage --symbols nm.txt image.bin headed.capture
+> capture 2 mode=diff period=2 harts=1
+> 00000010 0 0 open => nothing
+> 0000001c 0 1 sync addr=80000000 priv=3 branch=1 => 1 event, 80000000 <_start+0>
+> 0000002c 0 2 address diff=4 map=- plain => nothing, waits
+> 00000038 0 3 sync addr=80000008 priv=3 branch=1 => 2 events, 80000004 <loop+0> to 80000008 <loop+4>
+> 00000048 0 4 close ended_ntr => nothing, closed
+
+# Copies: a message came again at once, another one at the end.
+file log.capture
+|~ 0 0 1f
+|~ 0 1 7300000020
+|~ 0 1 7300000020
+|~ 0 2 0a
+|~ 0 3 7302000020
+|~ 0 4 cf00
+|~ 0 0 1f
+$ tracebench list --base 80000000 --salvage image.bin log.capture
+> 00000000 0 0 open => nothing
+> 0000000c 0 1 sync addr=80000000 priv=3 branch=1 => 1 event, 80000000
+> 0000001c 0 1 sync addr=80000000 priv=3 branch=1 => copy
+> 0000002c 0 2 address diff=4 map=- plain => nothing, waits
+> 00000038 0 3 sync addr=80000008 priv=3 branch=1 => 2 events, 80000004 to 80000008
+> 00000048 0 4 close ended_ntr => nothing, closed
+> 00000055 0 0 open => copy
+
+# All came the other way around.
+file log.capture
+|= ffff7276747261636532000002000100
+|~ 0 4 cf00
+|~ 0 3 7302000020
+|~ 0 2 0a
+|~ 0 1 7300000020
+|~ 0 0 1f
+$ tracebench list --base 80000000 --salvage image.bin log.capture
+> capture 2 mode=diff period=2 harts=1
+> 00000010 0 4 close ended_ntr => nothing, closed
+> 0000001d 0 3 sync addr=80000008 priv=3 branch=1 => 2 events, 80000004 to 80000008, late
+> 0000002d 0 2 address diff=4 map=- plain => nothing, waits, late
+> 00000039 0 1 sync addr=80000000 priv=3 branch=1 => 1 event, 80000000, late
+> 00000049 0 0 open => nothing, late
+
+# A number came with two payloads.
+file log.capture
+|~ 0 0 1f
+|~ 0 1 7300000020
+|~ 0 2 0a
+|~ 0 2 12
+|~ 0 3 7302000020
+|~ 0 4 cf00
+$ tracebench list --base 80000000 --salvage image.bin log.capture
+> 00000000 0 0 open => nothing
+> 0000000c 0 1 sync addr=80000000 priv=3 branch=1 => 1 event, 80000000
+> 0000001c 0 2 address diff=4 map=- plain => doubtful
+> 00000028 0 2 address diff=8 map=- plain => doubtful
+> 00000034 0 3 sync addr=80000008 priv=3 branch=1 => 1 event, 80000008
+> 00000044 0 4 close ended_ntr => nothing, closed
+? 1
+
+# A payload is no packet: what follows is passed over up to a synchronisation. Then the same, late.
+file log.capture
+|~ 0 0 1f
+|~ 0 1 00
+|~ 0 2 0a
+|~ 0 3 7302000020
+|~ 0 4 cf00
+$ tracebench list --base 80000000 --salvage image.bin log.capture
+> 00000000 0 0 open => nothing
+> 0000000c 0 1 bad Unsupported => bad: bad packet: Unsupported
+> 00000018 0 2 address diff=4 map=- plain => passed
+> 00000024 0 3 sync addr=80000008 priv=3 branch=1 => 1 event, 80000008
+> 00000034 0 4 close ended_ntr => nothing, closed
+? 1
+file log.capture
+|~ 0 0 1f
+|~ 0 3 7302000020
+|~ 0 1 00
+|~ 0 2 0a
+|~ 0 4 cf00
+$ tracebench list --base 80000000 --salvage image.bin log.capture
+> 00000000 0 0 open => nothing
+> 0000000c 0 3 sync addr=80000008 priv=3 branch=1 => 1 event, 80000008
+> 0000001c 0 1 bad Unsupported => bad: bad packet: Unsupported, late
+> 00000028 0 2 address diff=4 map=- plain => passed, late
+> 00000034 0 4 close ended_ntr => nothing, closed
+? 1
+
+# A packet that closes the trace is passed over; one is bad, since the trace goes on; a packet opens the trace again.
+file log.capture
+|~ 0 0 1f
+|~ 0 2 0a
+|~ 0 4 cf00
+$ tracebench list --base 80000000 --salvage image.bin log.capture
+> 00000000 0 0 open => nothing
+> 0000000c 0 2 address diff=4 map=- plain => passed
+> 00000018 0 4 close ended_ntr => passed
+? 1
+file log.capture
+|~ 0 0 1f
+|~ 0 1 7300000020
+|~ 0 2 cf00
+|~ 0 3 7302000020
+|~ 0 4 cf00
+$ tracebench list --base 80000000 --salvage image.bin log.capture
+> 00000000 0 0 open => nothing
+> 0000000c 0 1 sync addr=80000000 priv=3 branch=1 => 1 event, 80000000
+> 0000001c 0 2 close ended_ntr => bad: closing, but number 3 came
+> 00000029 0 3 sync addr=80000008 priv=3 branch=1 => 1 event, 80000008
+> 00000039 0 4 close ended_ntr => nothing, closed
+? 1
+file log.capture
+|~ 0 0 1f
+|~ 0 1 7300000020
+|~ 0 2 1f
+|~ 0 3 7302000020
+|~ 0 4 cf00
+$ tracebench list --base 80000000 --salvage image.bin log.capture
+> 00000000 0 0 open => nothing
+> 0000000c 0 1 sync addr=80000000 priv=3 branch=1 => 1 event, 80000000
+> 0000001c 0 2 open => bad: not decoded: WrongPlace
+> 00000028 0 3 sync addr=80000008 priv=3 branch=1 => 1 event, 80000008
+> 00000038 0 4 close ended_ntr => nothing, closed
+? 1
+
+# Above the end of the hart no stretch is found: its messages are alone or bad.
+file log.capture
+|~ 0 0 1f
+|~ 0 1 7300000020
+|~ 0 2 0a
+|~ 0 3 7302000020
+|~ 0 4 cf00
+|~ 0 9 0a
+|~ 0 10 cf00
+|~ 0 11 00
+|~ 0 15 cf00
+$ tracebench list --base 80000000 --salvage image.bin log.capture
+> 00000000 0 0 open => nothing
+> 0000000c 0 1 sync addr=80000000 priv=3 branch=1 => 1 event, 80000000
+> 0000001c 0 2 address diff=4 map=- plain => nothing, waits
+> 00000028 0 3 sync addr=80000008 priv=3 branch=1 => 2 events, 80000004 to 80000008
+> 00000038 0 4 close ended_ntr => nothing, closed
+> 00000045 0 9 address diff=4 map=- plain => alone
+> 00000051 0 10 close ended_ntr => bad: closing, but number 11 came
+> 0000005e 0 11 bad Unsupported => bad: bad packet: Unsupported
+> 0000006a 0 15 close ended_ntr => alone
+? 1
+
+# With a count of harts a message of another hart is a stranger. With none, the harts are those of the frames.
+file log.capture
+|~ 0 0 1f
+|~ 1 0 1f
+|~ 0 1 7300000020
+|~ 0 2 cf00
+$ tracebench list --base 80000000 --salvage --harts 1 image.bin log.capture
+> 00000000 0 0 open => nothing
+> 0000000c 1 0 open => stranger
+> 00000018 0 1 sync addr=80000000 priv=3 branch=1 => 1 event, 80000000
+> 00000028 0 2 close ended_ntr => nothing, closed
+? 1
+$ tracebench list --base 80000000 --salvage image.bin log.capture
+> 00000000 0 0 open => nothing
+> 0000000c 1 0 open => nothing
+> 00000018 0 1 sync addr=80000000 priv=3 branch=1 => 1 event, 80000000
+> 00000028 0 2 close ended_ntr => nothing, closed
+! tracebench: hart 1: no closing packet
+? 1
+
+# Bytes are before the first message and after the last. Then the header is not valid: its error comes at the end.
+file log.capture
+|= ffff7276747261636532000002000100
+|= ffffff
+|~ 0 0 1f
+|~ 0 1 7300000020
+|~ 0 4 cf00
+|= eeee
+$ tracebench list --base 80000000 --salvage image.bin log.capture
+> capture 2 mode=diff period=2 harts=1
+> 00000010 bytes: 3
+> 00000013 0 0 open => nothing
+> 0000001f 0 1 sync addr=80000000 priv=3 branch=1 => 1 event, 80000000
+> 0000002f 0 4 close ended_ntr => passed
+> 0000003c bytes: 2
+? 1
+file log.capture
+|= ffff7276747261636532000202000100
+|~ 0 0 1f
+|~ 0 1 7300000020
+|~ 0 2 cf00
+$ tracebench list --base 80000000 --salvage image.bin log.capture
+> 00000000 bytes: 16
+> 00000010 0 0 open => nothing
+> 0000001c 0 1 sync addr=80000000 priv=3 branch=1 => 1 event, 80000000
+> 0000002c 0 2 close ended_ntr => nothing, closed
+! tracebench: capture header is not valid
+? 1
+
+# No byte at all.
+file log.capture
+$ tracebench list --base 80000000 --salvage image.bin log.capture
+! tracebench: hart 0: no closing packet
+? 1
+";

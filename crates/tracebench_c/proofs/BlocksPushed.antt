@@ -1,0 +1,155 @@
+-- Events are pushed block by block.
+use Prim.Native.Nat.{zero, suc}
+use Rattle.std.proofs.Common.{◌≡◌, ℕ, ◌+◌, ◌-◌, ◌<◌, ◌≤◌, List, ◌∷◌, [], ◌++◌, drop}
+use Rattle.std.proofs.Common.{length, map, take, refl, sym, ap, subst, ◌∙◌, arith}
+use Rattle.std.specs.Prelude.{slice_set}
+use Rattle.std.proofs.lemmas.List.{append-nil, length-append, length-drop, length-map, length-set, map-append}
+use Rattle.std.proofs.lemmas.List.{drop-drop, length-take-le, set_split, take_all}
+use Rattle.encoder.specs.declared.encoder.Encoder.{Encoder}
+use Rattle.payload.specs.declared.packet.Packet.{Packet}
+use Rattle.retire.specs.declared.event.Event.{Event}
+use Rattle.rvclass.specs.Words.{Words}
+use Rattle.tracebench_c.proofs.PushedInTurn.{goes_more, goes_none}
+use Rattle.tracebench_c.proofs.WrittenInTurn.{behind_front, front_more}
+use Rattle.tracebench_c.specs.Events.{numbers_of_event}
+use Rattle.tracebench_c.specs.Numbers.{numbers_of}
+use Rattle.tracebench_c.specs.declared.events.EventNumbers.{EventNumbers}
+use Rattle.tracebench_c.specs.declared.numbers.PacketNumbers.{PacketNumbers}
+use Rattle.tracebench_c.specs.steps.PushingAll.{ArePushed, GoesOn, IsBlockPushed, IsPartPushed}
+
+-- A beginning is a shorter one and what is after that.
+pub take_join : {X : Type 0} (n m : ℕ) (xs : List X) → take (n + m) xs ≡ take n xs ++ take m (drop n xs)
+take_join zero m xs = let on : zero + m ≡ m = omega arith in ap (λ k. take k xs) on
+take_join (suc n) m [] = take_all (suc n + m) [] (omega arith) ∙ sym (take_all m [] (omega arith))
+take_join (suc n) m (x ∷ xs) =
+    let on : suc n + m ≡ suc (n + m) = omega arith in
+    ap (λ k. take k (x ∷ xs)) on ∙ ap (λ ys. x ∷ ys) (take_join n m xs)
+
+module _ (words : Words) (first : Encoder) (block : List Event) (old : List PacketNumbers) where
+  pub part_none : IsPartPushed words first block 0 first 0 old old
+  part_none = record {
+    packets = [];
+    goes = goes_none words first;
+    counted = refl;
+    far = omega arith;
+    within = omega arith;
+    room = refl;
+    written = refl;
+  }
+
+  module _ (at place count : ℕ) (middle after : Encoder) (now : List PacketNumbers)
+      (before : IsPartPushed words first block at middle place old now) where
+    module _ (rest : List Event) (lent : rest ≡ drop at block) where
+      long : length rest ≡ length block - at
+      long = ap length lent ∙ length-drop at block
+
+      joined : take (at + count) block ≡ take at block ++ take count rest
+      joined = take_join at count block ∙ ap (λ es. take at block ++ take count es) (sym lent)
+
+      -- The events up to one that makes a packet due were pushed.
+      pub part_more : (packet : Packet) (one : PacketNumbers) → one ≡ numbers_of packet → 1 ≤ count
+          → count ≤ length rest → length block ≤ length old → place < length block
+          → GoesOn words middle (take count rest) after (packet ∷ [])
+          → IsPartPushed words first block (at + count) after (place + 1) old (slice_set now place one)
+      part_more packet one is some fits room more goes =
+          let far = before.far in
+          let within = before.within in
+          let same = before.room in
+          let many = long in
+          record {
+            packets = before.packets ++ packet ∷ [];
+            goes = subst (λ es. GoesOn words first es after (before.packets ++ packet ∷ [])) (sym joined)
+                (goes_more words first middle after (take at block) (take count rest) before.packets (packet ∷ [])
+                before.goes goes);
+            counted = ap (λ n. n + 1) before.counted ∙ sym (length-append before.packets (packet ∷ []));
+            far = omega (arith, some, far);
+            within = omega (arith, fits, many, within);
+            room = length-set now place one ∙ before.room;
+            written = ap (slice_set now place) is
+                ∙ set_split now place (numbers_of packet) (omega (arith, more, room, same))
+                ∙ ap (λ n. take place now ++ numbers_of packet ∷ drop n now)
+                (let on : suc place ≡ place + 1 = omega arith in on)
+                ∙ front_more numbers_of old before.packets (packet ∷ []) place now
+                (numbers_of packet ∷ drop (place + 1) now) (sym before.counted) before.written
+                (ap (λ ns. numbers_of packet ∷ ns) (sym (drop-drop 1 place now)));
+          }
+
+      -- The rest makes none due.
+      pub part_all : count ≡ length rest → place < length block → GoesOn words middle (take count rest) after []
+          → IsBlockPushed words first block after place old now
+      part_all all few goes =
+          let within = before.within in
+          let many = long in
+          record {
+            packets = before.packets;
+            goes = subst (λ es. GoesOn words first es after before.packets)
+                (sym joined ∙ take_all (at + count) block (omega (arith, all, many, within)))
+                (subst (λ ps. GoesOn words first (take at block ++ take count rest) after ps)
+                (append-nil before.packets)
+                (goes_more words first middle after (take at block) (take count rest) before.packets [] before.goes
+                goes));
+            counted = before.counted;
+            few = omega (arith, few);
+            written = before.written;
+          }
+
+    -- Each event made a packet due.
+    pub part_end : length block ≤ place → IsBlockPushed words first block middle (length block) old now
+    part_end far =
+        let on = before.far in
+        let within = before.within in
+        let last : length block ≡ place = omega (arith, far, on, within) in
+        record {
+          packets = before.packets;
+          goes = subst (λ es. GoesOn words first es middle before.packets)
+              (take_all at block (omega (arith, far, on))) before.goes;
+          counted = last ∙ before.counted;
+          few = omega arith;
+          written = subst (λ n. now ≡ map numbers_of before.packets ++ drop n old) (sym last) before.written;
+        }
+
+-- A block more was pushed.
+pub pushed_block : (words : Words) (first : Encoder) (numbers : List EventNumbers) (old : List PacketNumbers)
+    (place next count more : ℕ) (middle after : Encoder) (block : List Event) (now part tail whole : List PacketNumbers)
+    → next ≡ place + 16 → part ≡ drop count now → whole ≡ take count now ++ tail → place + 16 ≤ length numbers
+    → map numbers_of_event block ≡ take 16 (drop place numbers) → 16 ≤ length now - count
+    → ArePushed words first numbers place middle count old now → IsBlockPushed words middle block after more part tail
+    → ArePushed words first numbers next after (count + more) old whole
+pushed_block words first numbers old place next count more middle after block now part tail whole on lent back within
+    is fits before pushed =
+    let far = length-drop place numbers in
+    let sixteen : length block ≡ 16 =
+    sym (length-map block numbers_of_event)
+    ∙ ap length is
+    ∙ length-take-le 16 (drop place numbers) (omega (arith, far, within)) in
+    let room : length part ≡ length old - count =
+    ap length lent
+    ∙ ap length (behind_front numbers_of old before.packets count now (sym before.counted) before.written)
+    ∙ length-drop count old in
+    let left : length part ≡ length now - count = ap length lent ∙ length-drop count now in
+    let fit_before = before.fit in
+    let two_before = before.two in
+    let few = pushed.few in
+    subst (λ n. ArePushed words first numbers n after (count + more) old whole) (sym on) (record {
+      events = before.events ++ block;
+      packets = before.packets ++ pushed.packets;
+      read = take_join place 16 numbers
+          ∙ ap (λ ns. ns ++ take 16 (drop place numbers)) before.read
+          ∙ ap (λ ns. map numbers_of_event before.events ++ ns) (sym is)
+          ∙ sym (map-append numbers_of_event before.events block);
+      goes = goes_more words first middle after before.events block before.packets pushed.packets before.goes
+          pushed.goes;
+      still = λ none. absurd (omega (arith, none));
+      counted = ap (λ n. n + more) before.counted
+          ∙ ap (λ n. length before.packets + n) pushed.counted
+          ∙ sym (length-append before.packets pushed.packets);
+      two = omega (arith, few, sixteen, two_before);
+      fit = omega (arith, few, sixteen, fits, left, room, fit_before);
+      written = back
+          ∙ subst (λ n. take count now ++ tail
+          ≡ map numbers_of (before.packets ++ pushed.packets) ++ drop (count + n) old) (sym pushed.counted)
+          (front_more numbers_of old before.packets pushed.packets count now tail (sym before.counted) before.written
+          (pushed.written
+          ∙ ap (λ ns. map numbers_of pushed.packets ++ drop more ns) lent
+          ∙ ap (λ n. map numbers_of pushed.packets ++ drop n (drop count now)) pushed.counted));
+    })

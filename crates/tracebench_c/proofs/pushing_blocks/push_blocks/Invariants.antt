@@ -1,0 +1,9 @@
+-- The first blocks were pushed.
+use Rattle.std.proofs.Common.{◌*◌}
+use Rattle.rvclass.specs.Fetch.{words_of}
+use Rattle.tracebench_c.specs.steps.PushingAll.{ArePushed}
+use Rattle.tracebench_c.proofs.pushing_blocks.push_blocks.Given as goal
+
+abbrev pub invariant-loop-place : goal.invariant-loop-place
+invariant-loop-place l =
+    ArePushed (words_of l.program) l.fn.encoder l.events (l.place * 16) l.encoder l.written l.fn.packets l.packets
