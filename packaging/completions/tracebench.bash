@@ -23,7 +23,7 @@ _tracebench() {
     audit) options="--packets --unnumbered --summary --format --progress --help" ;;
     measure) options="--base --period --full --long --progress --help" ;;
     list) options="--base --harts --symbols --salvage --progress --help" ;;
-    salvage) options="--base --harts --summary --progress --help" ;;
+    salvage) options="--base --harts --summary --format --progress --help" ;;
     capture) options="--v1 --full --period --harts --help" ;;
     compare) options="--base --harts --long --progress --help" ;;
     help)

@@ -90,6 +90,7 @@ complete -c tracebench -n '__tracebench_given salvage' -F
 complete -c tracebench -n '__tracebench_given salvage' -l base -x -d 'Address of the image'\''s first byte, in hexadecimal'
 complete -c tracebench -n '__tracebench_given salvage' -l harts -x -d 'How many harts a capture with no valid header has, 1 to 1024; without it, those of its messages'
 complete -c tracebench -n '__tracebench_given salvage' -l summary -d 'Leave out the texts of the logs'
+complete -c tracebench -n '__tracebench_given salvage' -l format -x -d 'What is printed: text, or csv, a table'
 complete -c tracebench -n '__tracebench_given salvage' -l progress -d 'Show how far the capture is worked through, where standard error is a terminal'
 
 complete -c tracebench -n '__tracebench_given capture' -F

@@ -174,6 +174,19 @@ def of_salvaged(maker, harts, capture):
     uncounted = ["--base", f"{maker.program.base:x}", "--summary", "image", "case"]
     yield Run(["salvage", *uncounted], status, text.encode(), error)
     yield of_lossy_capture(maker, harts, capture, ["decode", "--lossy", *words])
+    for summary in ([], ["--summary"]):
+        yield of_salvaged_table(maker, harts, capture, ["salvage", "--format", "csv", *summary, *words])
+
+
+def of_salvaged_table(maker, harts, capture, words):
+    """What `salvage` prints as a table: it is read as the rows of the lines, whether a summary is asked for or not."""
+    status, text, error = salvages.salvage(maker.program, harts, capture, True)
+    ends = salvages.modes_and_ends(maker.program, harts, capture)
+
+    def wanted(answer):
+        is_good = salvages.is_table_of(answer, text, ends)
+        return status, answer if is_good else text.encode(), error
+    return Run(words, None, wanted, None)
 
 
 def of_treated(maker, harts, case):
@@ -315,7 +328,7 @@ FLAGS = {
     "audits": ("--packets", "--summary"),
     "measures": ("--hex", "--full", "--period 2", *PERIODS),
     "lists": (*FEW_HARTS, "--symbols symbols"),
-    "salvages": (*FEW_HARTS, "--summary", "--lossy"),
+    "salvages": (*FEW_HARTS, "--summary", "--lossy", "--format csv"),
     "treated": (*FEW_HARTS, "--salvage"),
     "lines": ("--v1", "--full", "--period 7", *(f"--harts {count}" for count in (1, 2, 64, 65, 1024))),
     "dumps": ("--search",),

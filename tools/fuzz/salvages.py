@@ -1,5 +1,9 @@
 """What `tracebench salvage` prints, read by whole lists of messages, and damaged captures for it."""
 
+import csv
+import io
+import re
+
 import cases
 import frames
 import reading
@@ -203,6 +207,56 @@ def salvage(program, harts, capture, is_summary=False):
     error = fault or next(open_harts, None)
     is_good = not error and not runs and len(found) == len(own) and all(it.is_whole() for it in left)
     return (0 if is_good else 1), text, error
+
+
+COLUMNS = ("kind", "hart", "number", "last", "count", "offset", "second", "mode", "closed", "reason")
+LINES = (
+    (re.compile(r"(mode): \w+, the header says (\w+)"), ("kind", "mode")),
+    (re.compile(r"(stretch): (\d+) events, numbers (\d+) to (\d+)"), ("kind", "count", "number", "last")),
+    (re.compile(r"(gap|copies|late|strangers): (\d+) messages"), ("kind", "count")),
+    (re.compile(r"(bad): number (\d+) at (\w+): (.*)"), ("kind", "number", "offset", "reason")),
+    (re.compile(r"(doubtful): number (\d+) at (\w+) and (\w+)"), ("kind", "number", "offset", "second")),
+    (re.compile(r"(alone): number (\d+) at (\w+)"), ("kind", "number", "offset")),
+    (re.compile(r"(bytes): (\d+) at (\w+)"), ("kind", "count", "offset")),
+)
+
+
+def rows_of(text, harts):
+    """The rows of a table by the lines of a summary. Of each hart, in `harts`, its mode and whether it is closed are said
+    in its row alone."""
+    rows, hart = [], ""
+    for line in text.splitlines():
+        if line.startswith("hart "):
+            hart = line.removeprefix("hart ")
+            mode, closed = harts[int(hart)]
+            said = {"kind": "hart", "mode": mode, "closed": "yes" if closed else "no"}
+        else:
+            found, names = next((found, names) for form, names in LINES if (found := form.fullmatch(line)))
+            said = dict(zip(names, found.groups()))
+        of_hart = "" if said["kind"] in ("bytes", "strangers") else hart
+        rows.append(dict.fromkeys(COLUMNS, "") | {"hart": of_hart} | said)
+    return rows
+
+
+def is_table_of(table, text, harts):
+    """Whether the bytes of a table are read as the rows of a summary, under the names of the columns."""
+    lines = table.decode()
+    if tuple(lines.partition("\n")[0].split(",")) != COLUMNS:
+        return False
+    return list(csv.DictReader(io.StringIO(lines, newline=""))) == rows_of(text, harts)
+
+
+def modes_and_ends(program, harts, capture):
+    """Of each hart of a capture in which mode it is read, and whether it is closed."""
+    header, at, _ = frames.start(capture)
+    found = [span for span in frames.spans(capture, header, at) if not isinstance(span[1], int)]
+    count = harts_of(found, header, harts)
+    read = []
+    for hart in range(count):
+        mine = [message[1:] for _, message in found if message[0] == hart and not is_stranger(message, count)]
+        it = Salvage(program, header[0] if header else reading.DIFFERENTIAL, mine)
+        read.append((MODES[it.mode], it.closed))
+    return read
 
 
 def kind_of(text, error):

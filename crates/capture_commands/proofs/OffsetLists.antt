@@ -11,7 +11,8 @@ use Rattle.std.specs.declared.alloc.Global.{Global}
 use Rattle.std.specs.declared.vec.Vec.{Vec}
 use Rattle.frames.specs.declared.span.Span.{Span}
 use Rattle.frames.specs.declared.span.Span.TheVariants.{Frame, Bytes}
-use Rattle.capture_commands.specs.Frames.{AreFrames, is_run, messages_in, offsets_in}
+use Rattle.capture_commands.specs.Frames.{AreFrames, is_run, messages_in}
+use Rattle.salvaged_table.specs.Offsets.{offsets_in}
 use Rattle.capture_commands.specs.declared.frame_reading.Frames.{Frames}
 use Rattle.capture_commands.specs.steps.Reading.{AddsOffset, AddsSpan}
 

@@ -7,21 +7,30 @@ use Rattle.frames.specs.declared.span.Span.{Span}
 use Rattle.output.proofs.Beginnings.{begun_kept}
 use Rattle.output.specs.Begun.{AppendsBeginning}
 use Rattle.rvclass.specs.Image.{Image}
+use Rattle.message.specs.declared.header.Header.{Header}
+use Rattle.salvaged_table.specs.Rows.{columns}
+use Rattle.salvaged_table.specs.Table.{hart_rows, harts_rows, rest_rows}
+use Rattle.salvaging.specs.declared.salvaged.SalvagedHart.{SalvagedHart}
 use Rattle.searching.specs.Start.{spans_of}
+use Rattle.std.specs.declared.alloc.Global.{Global}
+use Rattle.tables.specs.Fields.{fields_line}
+use Rattle.subcommands.specs.declared.words.Format.{Format}
+use Rattle.subcommands.specs.declared.words.Format.TheVariants.{Csv, Other, Text}
 use Rattle.subcommands.specs.declared.words.Salvage.{Salvage}
 use Rattle.command_inputs.proofs.Beginnings.{cut_leads, printed_begun}
 use Rattle.command_inputs.proofs.Runs.{leads_on}
 use Rattle.command_inputs.specs.Begun.{IsCutOf}
-use Rattle.command_inputs.specs.Found.{IsBase, IsProgramAt, IsRead}
+use Rattle.command_inputs.specs.Found.{IsAskedBase, IsProgramAt, IsRead}
 use Rattle.files.specs.Known.{Content}
 use Rattle.command_inputs.specs.Printed.{PrintsUnlessDenied}
 use Rattle.capture_commands.specs.Faults.{Fault, Printed}
 use Rattle.command_inputs.specs.declared.status.Status.{Status}
 use Rattle.capture_commands.specs.EachHart.{hart_line, numbered_harts}
-use Rattle.capture_commands.specs.Frames.{offsets_in, offsets_or, own_offsets}
+use Rattle.salvaged_table.specs.Offsets.{offsets_in, offsets_or, own_offsets}
+use Rattle.capture_commands.specs.SalvagedFormats.{salvaged_in}
 use Rattle.capture_commands.specs.SalvagedText.{hart_text, rest_text, salvaged_text}
 use Rattle.capture_commands.specs.Salvaging.{CanSalvage, Salvages, WritesSalvaged, end_of_salvage}
-use Rattle.capture_commands.specs.steps.Reading.{IsFound, found_text}
+use Rattle.capture_commands.specs.steps.Reading.{IsFound, found_in, found_text}
 use Rattle.capture_commands.specs.declared.salvaging_capture.Found.{Found}
 use Rattle.capture_commands.specs.declared.reason.CaptureReason.{CaptureReason}
 
@@ -41,13 +50,23 @@ some_within [] i within = let none : ⊥ = omega (arith, within) in absurd none
 some_within (x ∷ xs) zero within = (x, refl)
 some_within (x ∷ xs) (suc i) within = some_within xs i (omega (arith, within))
 
-module _ (asked : Option ℕ) (summary : Bool) (program : Image) (bytes : List ℕ) (found : Found)
+-- The rows of harts are the same where the offsets of each are.
+same_rows : (header : Option Header) (offsets other : ℕ → List ℕ) (hart : ℕ) (harts : List (SalvagedHart Global))
+    → ((k : ℕ) → k < hart + length harts → offsets k ≡ other k)
+    → harts_rows header offsets hart harts ≡ harts_rows header other hart harts
+same_rows header offsets other hart [] same = refl
+same_rows header offsets other hart (own ∷ harts) same =
+    ap (λ l. hart_rows header hart l own ++ harts_rows header offsets (hart + 1) harts) (same hart (omega arith))
+    ∙ ap (λ l. hart_rows header hart (other hart) own ++ l)
+    (same_rows header offsets other (hart + 1) harts (λ k within. same k (omega (arith, within))))
+
+module _ (format : Format) (asked : Option ℕ) (summary : Bool) (program : Image) (bytes : List ℕ) (found : Found)
     (is : IsFound asked program bytes found) where
   abbrev spans : List Span
   spans = spans_of found.header bytes
 
   abbrev text : List ℕ
-  text = salvaged_text summary found.header spans found.salvaged
+  text = salvaged_in format summary found.header spans found.salvaged
 
   -- The offsets of the lists are those of the frames.
   same_offsets : (hart : ℕ) → hart < length found.salvaged.harts.items
@@ -58,17 +77,29 @@ module _ (asked : Option ℕ) (summary : Bool) (program : Image) (bytes : List �
       let own = some_within found.frames.offsets.items hart (omega (arith, within, many, count)) in
       ap offsets_or own.1 ∙ is.frames.offsets hart own.0 own.1
 
-  pub text_same : found_text summary found bytes ≡ text
-  text_same =
+  lines_same : found_text summary found bytes ≡ salvaged_text summary found.header spans found.salvaged
+  lines_same =
       ap (λ l. l ++ rest_text spans found.salvaged.strangers)
       (same_harts (λ hart. hart_text summary found.header (own_offsets found.frames.offsets.items hart))
       (λ hart. hart_text summary found.header (offsets_in hart spans)) 0 found.salvaged.harts.items
       (λ k own within. ap (λ l. hart_text summary found.header l own) (same_offsets k (omega (arith, within)))))
 
+  in_same : (which : Format) → found_in which summary found bytes
+      ≡ salvaged_in which summary found.header spans found.salvaged
+  in_same Csv =
+      ap (λ l. fields_line columns ++ (l ++ rest_rows spans found.salvaged.strangers))
+      (same_rows found.header (own_offsets found.frames.offsets.items) (λ hart. offsets_in hart spans) 0
+      found.salvaged.harts.items (λ k within. same_offsets k (omega (arith, within))))
+  in_same Text = lines_same
+  in_same Other = lines_same
+
+  pub text_same : found_in format summary found bytes ≡ text
+  text_same = in_same format
+
   -- What is salvaged is printed, and the end is that of salvaging.
   pub salvaged_printed : (ended : Result Status Fault)
       → ended ≡ end_of_salvage found.fault found.frames.runs found.salvaged
-      → WritesSalvaged asked summary program bytes (record { text = text; ended = ended })
+      → WritesSalvaged format asked summary program bytes (record { text = text; ended = ended })
   salvaged_printed ended end = record {
     header = found.header;
     why = found.fault;
@@ -79,35 +110,35 @@ module _ (asked : Option ℕ) (summary : Bool) (program : Image) (bytes : List �
   }
 
   -- A beginning of it was written, and then nothing more.
-  pub salvaged_cut : (old mid new : Option (List ℕ)) → AppendsBeginning (found_text summary found bytes) old mid
-      → Keeps mid new → IsCutOf (WritesSalvaged asked summary program bytes) old new
+  pub salvaged_cut : (old mid new : Option (List ℕ)) → AppendsBeginning (found_in format summary found bytes) old mid
+      → Keeps mid new → IsCutOf (WritesSalvaged format asked summary program bytes) old new
   salvaged_cut old mid new begun kept =
       let ended = end_of_salvage found.fault found.frames.runs found.salvaged in
-      inr (printed_begun (WritesSalvaged asked summary program bytes) text ended old new
+      inr (printed_begun (WritesSalvaged format asked summary program bytes) text ended old new
       (salvaged_printed ended refl)
       (begun_kept text old mid new (subst (λ l. AppendsBeginning l old mid) text_same begun) kept))
 
 module _ (content : Content) (asked : Salvage) (base : ℕ) (program : Image) (bytes : List ℕ)
-    (based : IsBase {W = CaptureReason} asked.base.now (Ok base))
+    (based : IsAskedBase {W = CaptureReason} asked.format asked.base.now (Ok base))
     (found : IsProgramAt {W = CaptureReason} content base asked.image (Ok program))
     (read : IsRead {W = CaptureReason} content asked.capture (Ok bytes)) where
   -- What is written of the capture is what `salvage` prints.
-  capture_leads : (printed : Printed) → WritesSalvaged asked.harts asked.summary program bytes printed
+  capture_leads : (printed : Printed) → WritesSalvaged asked.format asked.harts asked.summary program bytes printed
       → Salvages content asked printed
   capture_leads printed writes = (Ok base, based, (Ok program, found, (Ok bytes, read, writes)))
 
   -- What is printed of the capture is what `salvage` prints.
   pub capture_printed : (ended : Result Status Fault) (old new : Option (List ℕ))
-      → PrintsUnlessDenied (WritesSalvaged asked.harts asked.summary program bytes) ⊤ ended old new
+      → PrintsUnlessDenied (WritesSalvaged asked.format asked.harts asked.summary program bytes) ⊤ ended old new
       → PrintsUnlessDenied (Salvages content asked) (CanSalvage content asked) ended old new
   capture_printed ended old new =
-      leads_on (WritesSalvaged asked.harts asked.summary program bytes) (Salvages content asked) ⊤ (CanSalvage content
+      leads_on (WritesSalvaged asked.format asked.harts asked.summary program bytes) (Salvages content asked) ⊤ (CanSalvage content
       asked) ended
       old new capture_leads (λ can. (base, based, (program, found, (bytes, read, can))))
 
   -- And a cut of it is one of that.
-  pub capture_cut : (old new : Option (List ℕ)) → IsCutOf (WritesSalvaged asked.harts asked.summary program bytes) old
+  pub capture_cut : (old new : Option (List ℕ)) → IsCutOf (WritesSalvaged asked.format asked.harts asked.summary program bytes) old
       new
       → IsCutOf (Salvages content asked) old new
   capture_cut old new =
-      cut_leads (WritesSalvaged asked.harts asked.summary program bytes) (Salvages content asked) old new capture_leads
+      cut_leads (WritesSalvaged asked.format asked.harts asked.summary program bytes) (Salvages content asked) old new capture_leads

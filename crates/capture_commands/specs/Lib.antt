@@ -10,6 +10,7 @@ pub mod ListedSalvaged
 pub mod Listed
 pub mod Frames
 pub mod SalvagedText
+pub mod SalvagedFormats
 pub mod Salvaging
 pub mod KeptToo
 pub mod steps

@@ -18,7 +18,7 @@ use Rattle.salvaging.specs.declared.reason.Reason.{Reason}
 use Rattle.salvaging.specs.declared.salvaged.Salvaged.{Salvaged}
 use Rattle.salvaging.specs.declared.salvaged.SalvagedHart.{SalvagedHart}
 use Rattle.capture_commands.specs.EachHart.{numbered_harts}
-use Rattle.capture_commands.specs.Frames.{offset_at, offsets_in}
+use Rattle.salvaged_table.specs.Offsets.{offset_at, offsets_in}
 use Rattle.capture_commands.specs.Pieces.{messages_line}
 
 -- The line of a stretch: how many events it has, and its first and its last number.

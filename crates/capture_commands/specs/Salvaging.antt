@@ -15,18 +15,19 @@ use Rattle.salvaging.specs.declared.salvaged.Salvaged.{Salvaged}
 use Rattle.salvaging.specs.declared.salvaged.SalvagedHart.{SalvagedHart}
 use Rattle.searching.specs.Harts.{harts_counted}
 use Rattle.searching.specs.Start.{IsStart, spans_of}
+use Rattle.subcommands.specs.declared.words.Format.{Format}
 use Rattle.subcommands.specs.declared.words.Salvage.{Salvage}
-use Rattle.command_inputs.specs.Found.{IsBase, IsProgramAt, IsRead}
+use Rattle.command_inputs.specs.Found.{IsAskedBase, IsProgramAt, IsRead}
 use Rattle.files.specs.Known.{Content}
 use Rattle.command_inputs.specs.Meaning.{writing_at_once}
-use Rattle.command_inputs.specs.Order.{base_fault}
+use Rattle.command_inputs.specs.Order.{format_or_base_fault}
 use Rattle.command_inputs.specs.Printed.{First}
 use Rattle.capture_commands.specs.Faults.{Fault, Meaning, Once, Printed, capture_fault}
 use Rattle.command_inputs.specs.declared.status.Status.{Status}
 use Rattle.capture_commands.specs.Decoding.{end_of_harts}
 use Rattle.capture_commands.specs.Frames.{is_run, messages_in}
 use Rattle.capture_commands.specs.Pieces.{end_with_gaps, mode_of_header}
-use Rattle.capture_commands.specs.SalvagedText.{salvaged_text}
+use Rattle.capture_commands.specs.SalvagedFormats.{salvaged_in}
 
 -- The part is no stretch: numbers did not come, or one is bad, doubtful or alone.
 abbrev pub is_no_stretch : LeftPart → Bool
@@ -61,32 +62,33 @@ pub record IsSalvagedCapture (asked : Option ℕ) (program : Image) (bytes : Lis
   pub left : GivesSalvaged program (harts_counted asked header bytes) (mode_of_header header)
       (messages_in (spans_of header bytes)) salvaged
 
--- What is salvaged of a capture is written, as a summary or not, and the run ends by its header and by what is salvaged.
-pub record WritesSalvaged (asked : Option ℕ) (summary : Bool) (program : Image) (bytes : List ℕ) (printed : Printed)
-    : Type 0 where
+-- What is salvaged of a capture is written in a format, as a summary or not, and the run ends by its header and by what is
+-- salvaged.
+pub record WritesSalvaged (format : Format) (asked : Option ℕ) (summary : Bool) (program : Image) (bytes : List ℕ)
+    (printed : Printed) : Type 0 where
   pub header : Option Header
   pub why : Option MessageFault
   pub salvaged : Salvaged Global
   pub found : IsSalvagedCapture asked program bytes header why salvaged
-  pub text : printed.text ≡ salvaged_text summary header (spans_of header bytes) salvaged
+  pub text : printed.text ≡ salvaged_in format summary header (spans_of header bytes) salvaged
   pub ended : printed.ended ≡ end_of_salvage why (list_any is_run (spans_of header bytes)) salvaged
 
--- The base is looked at first, then the image and the capture. Where there is no fault, what is salvaged of the capture
--- is written.
+-- The format is looked at first, then the base, the image and the capture. Where there is no fault, what is salvaged of
+-- the capture is written in that format.
 abbrev pub Salvages : Content → Salvage → Printed → Type 0
 Salvages content asked =
-    First (IsBase asked.base.now) (λ base.
+    First (IsAskedBase asked.format asked.base.now) (λ base.
     First (IsProgramAt content base asked.image) (λ program.
-    First (IsRead content asked.capture) (WritesSalvaged asked.harts asked.summary program)))
+    First (IsRead content asked.capture) (WritesSalvaged asked.format asked.harts asked.summary program)))
 
 -- `salvage` writes once it has the program and the capture.
 abbrev pub CanSalvage : Content → Salvage → Type 0
 CanSalvage content asked =
-    Once (IsBase asked.base.now) (λ base.
+    Once (IsAskedBase asked.format asked.base.now) (λ base.
     Once (IsProgramAt content base asked.image) (λ program.
     Once (IsRead content asked.capture) (λ bytes. ⊤)))
 
 -- What `salvage` means.
 abbrev pub salvage_meaning : Salvage → Meaning
-salvage_meaning asked = writing_at_once (base_fault (number_of asked.base.now)) (λ content. Salvages content asked)
+salvage_meaning asked = writing_at_once (format_or_base_fault asked.format (number_of asked.base.now)) (λ content. Salvages content asked)
     (λ content. CanSalvage content asked)

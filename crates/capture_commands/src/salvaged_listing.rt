@@ -45,7 +45,7 @@ pub(crate) fn list_salvaged<'a, F: Files, O: Write>(
     ensures cut { IsCutOf (WritesTreated harts program.now (option_map (λ file. file.now) symbols.entry) bytes.now)
         (O.contents out.old) (O.contents out.new) }
 {
-    let found = find(alloc, progress, program, harts, bytes)?;
+    let found = find(alloc, progress, 2, program, harts, bytes)?;
     let treated = treat_found(alloc, progress, program, harts, &found, bytes)?;
     write_treated(
         symbols,
@@ -80,7 +80,8 @@ fn treat_found<F: Files>(
     )
 }
 
-/// What is done with each of these messages. How far they are worked through is shown, where that is asked for.
+/// What is done with each of these messages. How far they are worked through is shown, where that is asked for, as the last
+/// round over them.
 fn treat_shown<F: Files>(
     alloc: Global,
     progress: &MessageProgress<'_, F>,
@@ -91,7 +92,6 @@ fn treat_shown<F: Files>(
 ) -> Result<Vec<Treated>, AllocError>
     ensures { IfOk result (λ treated. AreTreated (words_of program.now) mode harts messages.now treated.items) }
 {
-    progress.begin(messages.len() as u64);
     let treated = treat_watched(alloc, program, harts, mode, messages, progress);
     progress.end();
     treated

@@ -7,7 +7,7 @@ ghost use Rattle.output.specs.Begun.{AppendsBeginning};
 ghost use Rattle.salvaging.specs.LeftParts.{Events};
 ghost use Rattle.salvaging.specs.PartsIn.{part_of, parts_in};
 ghost use Rattle.capture_commands.specs.EachHart.{numbered_harts};
-ghost use Rattle.capture_commands.specs.Frames.{offset_at, own_offsets};
+ghost use Rattle.salvaged_table.specs.Offsets.{offset_at, own_offsets};
 ghost use Rattle.capture_commands.specs.SalvagedText.{alone_line, bad_line, counted_line, doubtful_line, hart_text};
 ghost use Rattle.capture_commands.specs.SalvagedText.{left_text, mode_line, parts_and_counts, rows_text, run_text};
 ghost use Rattle.command_inputs.specs.declared.fault.Fault.TheVariants as Fault;
@@ -20,6 +20,7 @@ use message::Header;
 use output::write_text;
 use payload::Mode;
 use retire::{Event, LOG_ROOM, write_log_in};
+use salvaged_table::{offset_at, offsets_of};
 use salvaging::{Part, Reason, SalvagedHart};
 use std::io::Write;
 
@@ -46,16 +47,6 @@ pub(crate) fn write_harts<'a, O: Write>(
         write_hart(room, summary, header, offsets_of(offsets, hart), own, out)?;
     }
     Ok(())
-}
-
-/// The offsets of a hart's messages; none of a hart that is not listed.
-fn offsets_of(offsets: &[Vec<usize>], hart: usize) -> &[usize]
-    ensures { result.now ≡ own_offsets offsets.now hart }
-{
-    match offsets.get(hart) {
-        Some(own) => own.as_slice(),
-        None => &[],
-    }
 }
 
 /// Writes in which mode a hart is read, where it is another than the header's, and then what is left of its log.
@@ -185,16 +176,6 @@ fn write_part<'a, O: Write>(
             offset_at(offsets, *second),
             out,
         ),
-    }
-}
-
-/// The offset at this place; 0 where there is none.
-fn offset_at(offsets: &[usize], place: usize) -> u64
-    ensures { result ≡ offset_at offsets.now place }
-{
-    match offsets.get(place) {
-        Some(offset) => *offset as u64,
-        None => 0,
     }
 }
 

@@ -8,14 +8,14 @@ ghost use Rattle.retire.specs.Number.{number_of};
 ghost use Rattle.salvaging.specs.Salvages.{GivesSalvaged};
 ghost use Rattle.salvaging.specs.PartsIn.{parts_in};
 ghost use Rattle.command_inputs.specs.Begun.{IsCutOf};
-ghost use Rattle.command_inputs.specs.Order.{base_fault};
+ghost use Rattle.command_inputs.specs.Order.{format_or_base_fault};
 ghost use Rattle.command_inputs.specs.Printed.{PrintsUnlessDenied};
 ghost use Rattle.capture_commands.specs.Faults.{final_status};
 ghost use Rattle.capture_commands.specs.Decoding.{end_of_harts};
 ghost use Rattle.capture_commands.specs.SalvagedText.{rest_text};
 ghost use Rattle.capture_commands.specs.Salvaging.{CanSalvage, Salvages, WritesSalvaged};
 ghost use Rattle.capture_commands.specs.Salvaging.{closed_harts, end_of_salvage, has_loss, is_damaged, is_no_stretch};
-ghost use Rattle.capture_commands.specs.steps.Reading.{IsFound, found_text};
+ghost use Rattle.capture_commands.specs.steps.Reading.{IsFound, found_in, found_table, found_text};
 ghost use Rattle.command_inputs.specs.declared.fault.Fault.TheVariants as Fault;
 
 use crate::frame_reading::{Frames, frames_of};
@@ -24,17 +24,18 @@ use crate::reason::{CaptureReason, Fault};
 use crate::salvaged_writing::{write_counted, write_harts, write_runs};
 use crate::stopping::capture_fault;
 use captures::CaptureFault;
-use command_inputs::{Files, MessageProgress, Status, base_of, content_of, program_of};
+use command_inputs::{Files, MessageProgress, Status, asked_base, content_of, program_of};
 use frames::Spans;
 use message::{Header, Message, MessageFault};
 use payload::Mode;
 use retire::LOG_ROOM;
 use rvclass::ProgramOver;
+use salvaged_table::write_salvaged_table;
 use salvaging::{Part, Salvaged, SalvagedHart, salvage_watched};
 use searching::{harts_counted, spans_of, start_of};
 use std::alloc::{AllocError, Global};
 use std::io::Write;
-use subcommands::Salvage;
+use subcommands::{Format, Salvage};
 
 /// Writes what is left of the log of each hart, whatever happened to the bytes of a capture. Its messages are the frames
 /// among its bytes, after a valid header, and without one from the first byte on. Returns that all is done if each hart
@@ -48,7 +49,7 @@ pub fn salvage<'a, F: Files, O: Write>(
     asked: &Salvage<'a>,
     out: &mut O,
 ) -> Result<Status, Fault<'a>>
-    ensures early { IfSome (base_fault (number_of asked.now.base.now)) (λ fault. result ≡ Err fault) }
+    ensures early { IfSome (format_or_base_fault asked.now.format (number_of asked.now.base.now)) (λ fault. result ≡ Err fault) }
     ensures refused { final_status result ≡ Status.Refused → out.new ≡ out.old }
     ensures untouched { result ≡ Err Fault.Memory → out.new ≡ out.old }
     ensures printed { PrintsUnlessDenied (Salvages (F.content files.old) asked.now)
@@ -56,7 +57,7 @@ pub fn salvage<'a, F: Files, O: Write>(
         (O.contents out.old) (O.contents out.new) }
     ensures cut { IsCutOf (Salvages (F.content files.old) asked.now) (O.contents out.old) (O.contents out.new) }
 {
-    let base = base_of(asked.base)?;
+    let base = asked_base(asked.format, asked.base)?;
     let program = program_of(files, base, asked.image)?;
     let bytes = content_of(files, asked.capture)?;
     let progress = MessageProgress::new(&*files, asked.progress);
@@ -64,6 +65,7 @@ pub fn salvage<'a, F: Files, O: Write>(
         alloc,
         &progress,
         &program,
+        asked.format,
         asked.harts,
         asked.summary,
         bytes.as_slice(),
@@ -76,6 +78,7 @@ fn salvage_capture<'a, F: Files, O: Write>(
     alloc: Global,
     progress: &MessageProgress<'_, F>,
     program: &ProgramOver,
+    format: Format,
     harts: Option<u16>,
     summary: bool,
     bytes: &[u8],
@@ -83,20 +86,61 @@ fn salvage_capture<'a, F: Files, O: Write>(
 ) -> Result<Status, Fault<'a>>
     ensures never_refused { final_status result ≢ Status.Refused }
     ensures untouched { result ≡ Err Fault.Memory → out.new ≡ out.old }
-    ensures printed { PrintsUnlessDenied (WritesSalvaged harts summary program.now bytes.now) ⊤ result
+    ensures printed { PrintsUnlessDenied (WritesSalvaged format harts summary program.now bytes.now) ⊤ result
         (O.contents out.old) (O.contents out.new) }
-    ensures cut { IsCutOf (WritesSalvaged harts summary program.now bytes.now) (O.contents out.old)
+    ensures cut { IsCutOf (WritesSalvaged format harts summary program.now bytes.now) (O.contents out.old)
         (O.contents out.new) }
 {
-    let found = find(alloc, progress, program, harts, bytes)?;
+    let found = find(alloc, progress, 1, program, harts, bytes)?;
     let mut room = Vec::with_capacity(alloc, LOG_ROOM)?;
-    write_found(&mut room, summary, &found, bytes, out)?;
+    write_in(format, &mut room, summary, &found, bytes, out)?;
     out.flush()?;
     ended(&found)
 }
 
-/// Writes what was found of the bytes of a capture. It does not allocate, since the buffer `room` is large enough for
-/// the text of a log.
+/// Writes what was found of the bytes of a capture in a format. It does not allocate, since the buffer `room` is large
+/// enough for the text of a log.
+fn write_in<'a, O: Write>(
+    format: Format,
+    room: &mut Vec<u8>,
+    summary: bool,
+    found: &Found,
+    bytes: &[u8],
+    out: &mut O,
+) -> Result<(), Fault<'a>>
+    requires { LOG_ROOM ≤ vec_capacity room.old }
+    ensures output { IfErr result (λ fault. fault ≡ Fault.Output) }
+    ensures text { OnOk result
+        (Appends (O.contents out.old) (O.contents out.new) (found_in format summary found.now bytes.now)) }
+    ensures begun { AppendsBeginning (found_in format summary found.now bytes.now) (O.contents out.old)
+        (O.contents out.new) }
+{
+    match format {
+        Format::Csv => write_table(found, bytes, out),
+        Format::Text | Format::Other => write_found(room, summary, found, bytes, out),
+    }
+}
+
+/// Writes the table of what was found of the bytes of a capture.
+fn write_table<'a, O: Write>(found: &Found, bytes: &[u8], out: &mut O) -> Result<(), Fault<'a>>
+    ensures output { IfErr result (λ fault. fault ≡ Fault.Output) }
+    ensures text { OnOk result
+        (Appends (O.contents out.old) (O.contents out.new) (found_table found.now bytes.now)) }
+    ensures begun { AppendsBeginning (found_table found.now bytes.now) (O.contents out.old) (O.contents out.new) }
+{
+    write_salvaged_table(
+        found.header,
+        spans_of(bytes, found.header),
+        found.frames.offsets.as_slice(),
+        found.salvaged.harts.as_slice(),
+        found.salvaged.strangers,
+        out,
+    )?;
+    Ok(())
+}
+
+/// Writes the lines of what was found of the bytes of a capture. It does not allocate, since the buffer `room` is large
+/// enough for the text of a log.
 fn write_found<'a, O: Write>(
     room: &mut Vec<u8>,
     summary: bool,
@@ -150,10 +194,12 @@ pub(crate) struct Found {
     pub(crate) salvaged: Salvaged,
 }
 
-/// What is salvaged of the messages of a capture's frames.
+/// What is salvaged of the messages of a capture's frames. How far they are worked through is shown, where that is asked
+/// for, as the first of so many rounds over them. Whoever makes a last round ends that.
 pub(crate) fn find<F: Files>(
     alloc: Global,
     progress: &MessageProgress<'_, F>,
+    rounds: u64,
     program: &ProgramOver,
     harts: Option<u16>,
     bytes: &[u8],
@@ -166,6 +212,7 @@ pub(crate) fn find<F: Files>(
     let salvaged = salvage_shown(
         alloc,
         progress,
+        rounds,
         program,
         count,
         mode_of_header(start.header),
@@ -179,10 +226,12 @@ pub(crate) fn find<F: Files>(
     })
 }
 
-/// What is salvaged of these messages. How far they are worked through is shown, where that is asked for.
+/// What is salvaged of these messages. How far they are worked through is shown, where that is asked for, as the first of
+/// so many rounds over them. That is ended where there is no other round, or this one failed.
 fn salvage_shown<F: Files>(
     alloc: Global,
     progress: &MessageProgress<'_, F>,
+    rounds: u64,
     program: &ProgramOver,
     harts: u16,
     mode: Mode,
@@ -190,10 +239,17 @@ fn salvage_shown<F: Files>(
 ) -> Result<Salvaged, AllocError>
     ensures { IfOk result (GivesSalvaged program.now harts mode messages.now) }
 {
-    progress.begin(messages.len() as u64);
+    progress.begin((messages.len() as u64).saturating_mul(rounds));
     let salvaged = salvage_watched(alloc, program, harts, mode, messages, progress);
-    progress.end();
+    end_round(progress, rounds, salvaged.is_err());
     salvaged
+}
+
+/// Ends what is shown where there is no other round, or this one failed.
+fn end_round<F: Files>(progress: &MessageProgress<'_, F>, rounds: u64, has_failed: bool) {
+    if rounds < 2 || has_failed {
+        progress.end();
+    }
 }
 
 /// How salvaging ended: at a header that is not valid, or else at the first hart that is not closed, or else by whether

@@ -152,7 +152,8 @@ Asks name rows (Listing asked) = (name ≡ codes "list")
     × (asked.image.now ≡ text_of (codes "IMAGE") rows) × (asked.capture.now ≡ text_of (codes "CAPTURE") rows)
 Asks name rows (Salvage asked) = (name ≡ codes "salvage")
     × (asked.base.now ≡ text_of (codes "base") rows) × IsGivenHarts (one_of (codes "harts") rows) asked.harts
-    × IsFlag (one_of (codes "summary") rows) asked.summary × IsFlag (one_of (codes "progress") rows) asked.progress
+    × IsFlag (one_of (codes "summary") rows) asked.summary
+    × IsFormat (text_of (codes "format") rows) asked.format × IsFlag (one_of (codes "progress") rows) asked.progress
     × (asked.image.now ≡ text_of (codes "IMAGE") rows) × (asked.capture.now ≡ text_of (codes "CAPTURE") rows)
 Asks name rows (Capture asked) = (name ≡ codes "capture")
     × IsVersion (one_of (codes "v1") rows) asked.version × IsMode (one_of (codes "full") rows) asked.mode

@@ -63,10 +63,10 @@ abbrev pub list_app : App
 list_app = with_arguments (codes "list") (base_rule ∷ given_harts_rule ∷ symbols_rule ∷ salvage_rule ∷
     progress_rule ∷ image_rule ∷ capture_rule ∷ [])
 
--- `salvage --base B [--harts N] [--summary] [--progress] IMAGE CAPTURE`.
+-- `salvage --base B [--harts N] [--summary] [--format FORMAT] [--progress] IMAGE CAPTURE`.
 abbrev pub salvage_app : App
-salvage_app = with_arguments (codes "salvage") (base_rule ∷ given_harts_rule ∷ summary_rule ∷ progress_rule ∷
-    image_rule ∷ capture_rule ∷ [])
+salvage_app = with_arguments (codes "salvage") (base_rule ∷ given_harts_rule ∷ summary_rule ∷ format_rule ∷
+    progress_rule ∷ image_rule ∷ capture_rule ∷ [])
 
 -- `capture [--v1] [--full] [--period N] [--harts N] LINES`.
 abbrev pub capture_app : App

@@ -285,6 +285,7 @@ fn salvage_asked<'a>(given: &ArgMatches<'a>) -> Asked<'a>
         base: text(given, "base"),
         harts: given_harts(given, "harts"),
         summary: flag(given, "summary"),
+        format: format(given),
         progress: flag(given, "progress"),
         image: text(given, "IMAGE"),
         capture: text(given, "CAPTURE"),

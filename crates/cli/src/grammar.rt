@@ -242,6 +242,7 @@ fn salvage<'a>(alloc: Global) -> Result<Command<'a>, AllocError>
         base(alloc),
         salvaged_harts(alloc),
         without_logs(alloc),
+        format(alloc),
         capture_progress(alloc),
         image(alloc),
         capture(alloc),

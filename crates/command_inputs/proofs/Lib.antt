@@ -1,5 +1,6 @@
 pub mod Beginnings
 pub mod FirstSteps
+pub mod Formats
 pub mod FromFiles
 pub mod Runs
 pub mod StreamLemmas

@@ -15,6 +15,7 @@ at_path path text = path.now ++ (codes ": " ++ text)
 -- Why a subcommand stops, as a line of text. The text of a reason of its own is given.
 abbrev pub fault_text : {W : Type 0} → (W → List ℕ) → Fault W → List ℕ
 fault_text own (fault.Own why) = own why
+fault_text own fault.Format = codes "format is not text or csv"
 fault_text own fault.Base = codes "base is not a number"
 fault_text own fault.NoLogs = codes "no logs"
 fault_text own (fault.ManyLogs most) = codes "more than " ++ (decimal most ++ codes " logs")

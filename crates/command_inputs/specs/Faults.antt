@@ -56,6 +56,7 @@ final_status own (Err fault) = status_of own fault
 -- The same fault, with this reason in place of one of the subcommand's own.
 abbrev pub map_own : {V W : Type 0} → (V → W) → Fault V → Fault W
 map_own to (fault.Own why) = fault.Own (to why)
+map_own to fault.Format = fault.Format
 map_own to fault.Base = fault.Base
 map_own to fault.NoLogs = fault.NoLogs
 map_own to (fault.ManyLogs most) = fault.ManyLogs most

@@ -6,10 +6,21 @@ use Rattle.files.specs.Known.{Content, MayHold, MayLack}
 use Rattle.retire.specs.Number.{number_of}
 use Rattle.rvclass.specs.Image.{Image}
 use Rattle.rvclass.specs.Program.{program_of}
+use Rattle.subcommands.specs.declared.words.Format.{Format}
+use Rattle.subcommands.specs.declared.words.Format.TheVariants.{Other}
 use Rattle.command_inputs.specs.Faults.{Path}
 use Rattle.command_inputs.specs.Finding.{After}
 use Rattle.command_inputs.specs.declared.fault.Fault.{Fault}
 use Rattle.command_inputs.specs.declared.fault.Fault.TheVariants as fault
+
+-- There is a format, or the argument names none.
+abbrev pub format_at : {W : Type 0} → Format → Result (Unit {0}) (Fault W)
+format_at Other = Err fault.Format
+format_at format = Ok tt
+
+-- Whether there is a format is found.
+abbrev pub IsFormat : {W : Type 0} → Format → Result (Unit {0}) (Fault W) → Type 0
+IsFormat format found = found ≡ format_at format
 
 -- The number that a base spells, or the fault where it spells none.
 abbrev pub base_at : {W : Type 0} → Option ℕ → Result ℕ (Fault W)
@@ -19,6 +30,10 @@ base_at (Some base) = Ok base
 -- The number of the text of a base is found.
 abbrev pub IsBase : {W : Type 0} → List ℕ → Result ℕ (Fault W) → Type 0
 IsBase text found = found ≡ base_at (number_of text)
+
+-- The format is looked at, and then the number of the text of a base is found.
+abbrev pub IsAskedBase : {W : Type 0} → Format → List ℕ → Result ℕ (Fault W) → Type 0
+IsAskedBase format text = After (IsFormat format) (λ _. IsBase text)
 
 -- The fault of no log, or of more logs than `most`; else none.
 abbrev pub count_at : {W : Type 0} → ℕ → ℕ → Result (Unit {0}) (Fault W)

@@ -21,6 +21,8 @@ use std::{fmt, io};
 /// `W` is what only some subcommands stop at: a reason of their own.
 #[derive(Clone, Copy, Debug, PartialEq, Eq)]
 pub enum Fault<'a, W> {
+    /// The argument names no format.
+    Format,
     /// The base is not written as a number of a log is.
     Base,
     /// No log is given. A command line that `cli` reads leads to no such fault.
@@ -82,7 +84,8 @@ impl<W: Reason> Fault<'_, W> {
         ensures { result ≡ status_of W.status self.now }
     {
         match self {
-            Fault::Base
+            Fault::Format
+            | Fault::Base
             | Fault::NoLogs
             | Fault::ManyLogs(_)
             | Fault::Image(_)
@@ -99,6 +102,7 @@ impl<W: Reason> fmt::Display for Fault<'_, W> {
 
     fn fmt<O: fmt::Write>(&self, f: &mut fmt::Formatter<O>) -> fmt::Result {
         match self {
+            Fault::Format => f.write_str("format is not text or csv"),
             Fault::Base => f.write_str("base is not a number"),
             Fault::NoLogs => f.write_str("no logs"),
             Fault::ManyLogs(most) => write!(f, "more than {most} logs"),

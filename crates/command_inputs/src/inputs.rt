@@ -1,15 +1,38 @@
 //! The inputs of a subcommand: a base, a file and an image.
 
-ghost use Rattle.std.specs.Prelude.{◌≡◌, ◌⊎◌, ◌≤◌, ◌<◌, IfErr, IfOk, IfSome, Err, Ok, Some, length};
+ghost use Rattle.std.specs.Prelude.{◌≡◌, ◌⊎◌, ◌≤◌, ◌<◌, IfErr, IfOk, IfSome, Err, None, Ok, Some, length};
 ghost use Rattle.command_inputs.specs.declared.fault.Fault.TheVariants as fault;
-ghost use Rattle.command_inputs.specs.Found.{AreFew, IsAskedProgram, IsBase, IsProgramAt, IsRead};
-ghost use Rattle.command_inputs.specs.Order.{logs_fault};
+ghost use Rattle.command_inputs.specs.Found.{AreFew, IsAskedBase, IsAskedProgram, IsBase, IsFormat, IsProgramAt, IsRead};
+ghost use Rattle.command_inputs.specs.Order.{format_fault, format_or_base_fault, logs_fault};
 ghost use Rattle.retire.specs.Number.{number_of};
 
 use crate::fault::Fault;
 use files::Files;
 use retire::number;
 use rvclass::Program;
+use subcommands::Format;
+
+/// Refuses an argument that names no format.
+pub fn check_format<'a, W>(format: Format) -> Result<(), Fault<'a, W>>
+    ensures found { IsFormat format result }
+    ensures some { IfOk result (λ _. format_fault {W = W} format ≡ None) }
+    ensures none { IfErr result (λ why. format_fault format ≡ Some why) }
+{
+    match format {
+        Format::Text | Format::Csv => Ok(()),
+        Format::Other => Err(Fault::Format),
+    }
+}
+
+/// The number that a base is, where there is a format. The format is looked at first.
+pub fn asked_base<'a, W>(format: Format, text: &str) -> Result<u64, Fault<'a, W>>
+    ensures found { IsAskedBase format text.now result }
+    ensures number { IfOk result (λ base. format_or_base_fault {W = W} format (number_of text.now) ≡ None) }
+    ensures none { IfErr result (λ why. format_or_base_fault format (number_of text.now) ≡ Some why) }
+{
+    check_format(format)?;
+    base_of(text)
+}
 
 /// The number that a base is.
 pub fn base_of<'a, W>(text: &str) -> Result<u64, Fault<'a, W>>

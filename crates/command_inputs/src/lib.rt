@@ -18,7 +18,7 @@ mod status;
 pub use error_reporting::report_error;
 pub use fault::Fault;
 pub use files::{FileFault, FileReader, Files};
-pub use inputs::{asked_program, base_of, content_of, program_of};
+pub use inputs::{asked_base, asked_program, base_of, check_format, content_of, program_of};
 pub use legal_logs::legal_logs_of;
 pub use progress::{MessageProgress, begin_progress};
 pub use reason::Reason;

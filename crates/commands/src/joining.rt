@@ -86,6 +86,7 @@ fn joined_fault<'a, W: Family<'a>>(why: AnyFault<'a, W>) -> Fault<'a>
     ensures { result ≡ inputs.map_own W.joined why.entry }
 {
     match why {
+        AnyFault::Format => AnyFault::Format,
         AnyFault::Base => AnyFault::Base,
         AnyFault::NoLogs => AnyFault::NoLogs,
         AnyFault::ManyLogs(most) => AnyFault::ManyLogs(most),

@@ -1,37 +1,16 @@
 -- What `audit` prints, from the format that is asked for.
-use Rattle.std.proofs.Common.{◌≡◌, ◌∙◌, ap, inr, refl, subst, sym, Bool, List, ℕ, Option, Result, Ok, Err}
-use Rattle.std.specs.Prelude.{IfSome}
+use Rattle.std.proofs.Common.{◌≡◌, inr, refl, subst, sym, Bool, List, ℕ, Option, Result, Ok, Err}
 use Rattle.files.specs.Known.{Content}
 use Rattle.subcommands.specs.declared.words.Audit.{Audit}
-use Rattle.subcommands.specs.declared.words.Format.{Format}
-use Rattle.subcommands.specs.declared.words.Format.TheVariants.{Csv, Other, Text}
 use Rattle.command_inputs.proofs.Beginnings.{cut_leads}
 use Rattle.command_inputs.proofs.Runs.{ends_silently, leads_on}
 use Rattle.command_inputs.specs.Begun.{IsCutOf}
+use Rattle.command_inputs.specs.Found.{IsFormat}
 use Rattle.command_inputs.specs.Printed.{PrintsUnlessDenied}
 use Rattle.command_inputs.specs.declared.status.Status.{Status}
-use Rattle.path_commands.specs.Audited.{Audits, AuditsBy, CanAudit, IsFormat, Writes, format_at, format_fault}
+use Rattle.path_commands.specs.Audited.{Audits, AuditsBy, CanAudit, Writes}
 use Rattle.path_commands.specs.Faults.{Fault, Printed}
-
-same_fault : {A : Type 0} (x y : Fault) → ◌≡◌ {A = Result A Fault} (Err x) (Err y) → x ≡ y
-same_fault x y is = cc
-
-never_both : {A : Type 0} (value : A) (why : Fault) → ◌≡◌ {A = Result A Fault} (Ok value) (Err why) → ⊥
-never_both value why is = cc
-
--- The run ends at the fault of the format, where there is one.
-pub format_ends : (format : Format) (why : Fault) (ended : Result Status Fault) → IsFormat format (Err why)
-    → ended ≡ Err why → IfSome (format_fault format) (λ fault. ended ≡ Err fault)
-format_ends Text why ended found is = tt
-format_ends Csv why ended found is = tt
-format_ends Other why ended found is = is ∙ ap Err (same_fault why _ found)
-
--- There is none where there is a format.
-pub format_passes : (format : Format) (ended : Result Status Fault) → IsFormat format (Ok tt)
-    → IfSome (format_fault format) (λ fault. ended ≡ Err fault)
-format_passes Text ended found = tt
-format_passes Csv ended found = tt
-format_passes Other ended found = absurd (never_both tt _ found)
+use Rattle.path_commands.specs.declared.reason.PathReason.{PathReason}
 
 module _ (content : Content) (asked : Audit) where
   -- The argument names no format.
@@ -42,7 +21,8 @@ module _ (content : Content) (asked : Audit) where
       ends_silently (Audits content asked) (CanAudit content asked) (IsFormat asked.format (Err why)) why ended old is
       (inr found) (λ found. (Err why, found, refl))
 
-  module _ (found : IsFormat asked.format (Ok tt)) (unnumbered : Bool) (is : asked.unnumbered ≡ unnumbered) where
+  module _ (found : IsFormat {W = PathReason} asked.format (Ok tt)) (unnumbered : Bool)
+      (is : asked.unnumbered ≡ unnumbered) where
     leads : (printed : Printed) → AuditsBy (Writes asked.format unnumbered asked) content asked printed
         → Audits content asked printed
     leads printed prints = (

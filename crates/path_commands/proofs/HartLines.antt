@@ -5,7 +5,7 @@ use Rattle.std.specs.Prelude.{◌&&◌}
 use Rattle.std.specs.Io.KnownBytes.{Appends}
 use Rattle.std.specs.List.{flat_map, list_all, range_with_len}
 use Rattle.output.specs.Begun.{AppendsBeginning}
-use Rattle.path_commands.proofs.Parts.{HasWritten, part_all, part_begun, part_more}
+use Rattle.tables.proofs.Parts.{HasWritten, part_all, part_begun, part_more}
 
 -- The next hart and those behind it.
 pub next_hart : (hart count : ℕ) → hart < count

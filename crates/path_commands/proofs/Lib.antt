@@ -6,7 +6,6 @@ pub mod Formats
 pub mod HartLines
 pub mod MatchedLines
 pub mod MatchedRuns
-pub mod Parts
 pub mod PlainRows
 pub mod Rests
 pub mod SpanLines

@@ -11,7 +11,7 @@ use Rattle.message.specs.declared.message.Message.{Message}
 use Rattle.resuming.specs.Counted.{bytes_in, messages_in, runs_in, span_size}
 use Rattle.auditing.specs.Audits.{Audits}
 use Rattle.auditing.specs.Ledger.{Ledger}
-use Rattle.path_commands.proofs.Parts.{HasWritten, part_all, part_begun, part_more, part_none}
+use Rattle.tables.proofs.Parts.{HasWritten, part_all, part_begun, part_more, part_none}
 use Rattle.path_commands.specs.AuditText.{span_line, span_lines}
 use Rattle.path_commands.specs.declared.received.Progress.{Progress}
 use Rattle.path_commands.specs.steps.Reading.{progress_after}

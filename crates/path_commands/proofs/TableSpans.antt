@@ -9,9 +9,10 @@ use Rattle.message.specs.declared.message.Message.{Message}
 use Rattle.resuming.specs.Counted.{bytes_in, messages_in, runs_in, span_size}
 use Rattle.auditing.specs.Audits.{Audits}
 use Rattle.auditing.specs.Ledger.{Ledger}
-use Rattle.path_commands.proofs.Parts.{HasWritten, part_all, part_begun, part_more, part_none}
+use Rattle.tables.proofs.Parts.{HasWritten, part_all, part_begun, part_more, part_none}
 use Rattle.path_commands.proofs.SpanLines.{IsProgress, progress_more}
-use Rattle.path_commands.specs.AuditRows.{columns, fields_line, span_row, span_rows}
+use Rattle.tables.specs.Fields.{fields_line}
+use Rattle.path_commands.specs.AuditRows.{columns, span_row, span_rows}
 use Rattle.path_commands.specs.AuditTable.{front_rows}
 use Rattle.path_commands.specs.declared.received.Progress.{Progress}
 use Rattle.path_commands.specs.steps.Reading.{progress_after}

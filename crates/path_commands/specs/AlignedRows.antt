@@ -9,7 +9,8 @@ use Rattle.unnumbered.specs.declared.counting.AlignedTotal.{AlignedTotal}
 use Rattle.unnumbered.specs.declared.counting.HartCounts.{HartCounts}
 use Rattle.unnumbered.specs.declared.line.Line.{Line}
 use Rattle.unnumbered.specs.declared.line.Line.TheVariants as line
-use Rattle.path_commands.specs.AuditRows.{columns, fields_line, message_fields, result_fields, run_rows}
+use Rattle.tables.specs.Fields.{fields_line}
+use Rattle.path_commands.specs.AuditRows.{columns, message_fields, result_fields, run_rows}
 use Rattle.path_commands.specs.AuditText.{unless_summary, verdict_text}
 use Rattle.path_commands.specs.UnnumberedText.{first_place_of, texts_from, unmatched_runs}
 

@@ -16,14 +16,9 @@ use Rattle.auditing.specs.declared.finding.Finding.{Finding}
 use Rattle.auditing.specs.declared.finding.Finding.TheVariants as finding
 use Rattle.auditing.specs.declared.lost.Lost.{Lost}
 use Rattle.auditing.specs.declared.row.HartRow.{HartRow}
-use Rattle.path_commands.specs.AuditText.{bytes_text, harts_below, sent_bytes, unless_summary, verdict_text}
+use Rattle.tables.specs.Fields.{bytes_text, fields_line, number_field}
+use Rattle.path_commands.specs.AuditText.{harts_below, sent_bytes, unless_summary, verdict_text}
 use Rattle.path_commands.specs.declared.total.Total.{Total}
-
--- A line of a table: its fields with a comma between each two, and a line feed.
-abbrev pub fields_line : List (List ℕ) → List ℕ
-fields_line [] = codes "\n"
-fields_line (field ∷ []) = field ++ codes "\n"
-fields_line (field ∷ next ∷ more) = field ++ (codes "," ++ fields_line (next ∷ more))
 
 -- The columns of the table.
 abbrev pub columns : List (List ℕ)
@@ -137,11 +132,6 @@ all_fields total =
     codes "all" ∷ [] ∷ [] ∷ [] ∷ [] ∷ [] ∷ [] ∷ [] ∷ [] ∷ []
     ∷ decimal total.sent ∷ decimal total.came ∷ decimal total.lost ∷ decimal total.repeated
     ∷ decimal total.late ∷ decimal total.changed ∷ decimal total.strange ∷ [] ∷ [] ∷ [] ∷ verdict_text total.whole ∷ []
-
--- A number, where there is one.
-abbrev pub number_field : Option ℕ → List ℕ
-number_field None = []
-number_field (Some number) = decimal number
 
 -- Whether headers differ.
 abbrev pub headers_field : Bool → List ℕ

@@ -9,7 +9,8 @@ use Rattle.auditing.specs.Findings.{first_found}
 use Rattle.auditing.specs.Judged.{strangers_in}
 use Rattle.auditing.specs.Known.{known_all}
 use Rattle.auditing.specs.Sent.{harts_of}
-use Rattle.path_commands.specs.AuditRows.{all_run_rows, columns, fields_line, hart_rows, last_rows, span_rows}
+use Rattle.tables.specs.Fields.{fields_line}
+use Rattle.path_commands.specs.AuditRows.{all_run_rows, columns, hart_rows, last_rows, span_rows}
 use Rattle.path_commands.specs.AuditText.{total_of, unless_summary}
 use Rattle.path_commands.specs.Came.{Came, IsCame, is_whole_result}
 use Rattle.path_commands.specs.Faults.{Printed}

@@ -21,15 +21,8 @@ use Rattle.auditing.specs.declared.finding.Finding.{Finding}
 use Rattle.auditing.specs.declared.finding.Finding.TheVariants as finding
 use Rattle.auditing.specs.declared.lost.Lost.{Lost}
 use Rattle.auditing.specs.declared.row.HartRow.{HartRow}
+use Rattle.tables.specs.Fields.{bytes_text}
 use Rattle.path_commands.specs.declared.total.Total.{Total}
-
--- The two hexadecimal digits of a byte, in lower case.
-abbrev pub byte_text : ℕ → List ℕ
-byte_text byte = digits 16 false (byte / 16) ++ digits 16 false (byte % 16)
-
--- The hexadecimal digits of bytes.
-abbrev pub bytes_text : List ℕ → List ℕ
-bytes_text bytes = flat_map byte_text bytes
 
 -- The payload that was sent, none where there is no such message.
 abbrev pub sent_bytes : Option (List ℕ) → List ℕ

@@ -1,23 +1,24 @@
 -- What `audit` prints, and how it ends.
-use Rattle.std.specs.Prelude.{◌≡◌, ⊤, ℕ, ◌++◌, Bool, true, false, List, [], Option, Some, None, Result, Ok, Err}
+use Rattle.std.specs.Prelude.{◌≡◌, ⊤, ℕ, ◌++◌, Bool, true, false, List, []}
 use Rattle.alike.specs.declared.by.By.{By}
 use Rattle.resuming.specs.Counted.{bytes_in, messages_in, runs_in}
 use Rattle.subcommands.specs.declared.words.Audit.{Audit}
 use Rattle.subcommands.specs.declared.words.Format.{Format}
-use Rattle.subcommands.specs.declared.words.Format.TheVariants.{Csv, Other}
+use Rattle.subcommands.specs.declared.words.Format.TheVariants.{Csv}
 use Rattle.auditing.specs.Findings.{first_found}
 use Rattle.auditing.specs.Judged.{strangers_in}
 use Rattle.auditing.specs.Known.{known_all}
 use Rattle.auditing.specs.Sent.{harts_of}
-use Rattle.command_inputs.specs.Found.{IsRead}
+use Rattle.command_inputs.specs.Found.{IsFormat, IsRead}
 use Rattle.files.specs.Known.{Content}
 use Rattle.command_inputs.specs.Meaning.{writing_at_once}
+use Rattle.command_inputs.specs.Order.{format_fault}
 use Rattle.command_inputs.specs.Printed.{First}
 use Rattle.path_commands.specs.AlignedTable.{WritesAlignedTable}
 use Rattle.path_commands.specs.AuditTable.{WritesTable}
 use Rattle.path_commands.specs.AuditText.{all_lost_lines, ending_text, row_lines, span_lines, total_of, unless_summary}
 pub use Rattle.path_commands.specs.Came.{Came, IsCame, is_undamaged, is_whole_result}
-use Rattle.path_commands.specs.Faults.{Fault, Meaning, Once, Printed, no_format}
+use Rattle.path_commands.specs.Faults.{Fault, Meaning, Once, Printed}
 use Rattle.path_commands.specs.Sides.{IsFoundSent, Sent, by_packets, end_of_audit, heads_differ}
 use Rattle.path_commands.specs.Unnumbered.{WritesUnnumbered}
 
@@ -70,20 +71,6 @@ WritesAligned _ asked = WritesUnnumbered asked
 abbrev pub Writes : Format → Bool → Audit → Sent → List ℕ → Printed → Type 0
 Writes format false asked = WritesNumbered format asked
 Writes format true asked = WritesAligned format asked
-
--- There is a format, or the argument names none.
-abbrev pub format_at : Format → Result (Unit {0}) Fault
-format_at Other = Err no_format
-format_at format = Ok tt
-
--- Whether there is a format is found.
-abbrev pub IsFormat : Format → Result (Unit {0}) Fault → Type 0
-IsFormat format found = found ≡ format_at format
-
--- The fault that is found without the files: the argument names no format.
-abbrev pub format_fault : Format → Option Fault
-format_fault Other = Some no_format
-format_fault format = None
 
 -- The format is looked at, and then SENT is read and checked, and then RECEIVED is read. Where there is no fault, what
 -- became of the messages is written in that format: by their numbers, or as it is asked, by their payloads alone.

@@ -6,11 +6,10 @@ use Rattle.message.specs.FaultText.{message_fault_text}
 use Rattle.message.specs.declared.fault.MessageFault.TheVariants.{BadHeader}
 use Rattle.command_inputs.specs.FaultText.{at_path}
 use Rattle.path_commands.specs.declared.reason.PathReason.{PathReason}
-use Rattle.path_commands.specs.declared.reason.PathReason.TheVariants.{Damaged, Format, Sent, Unread}
+use Rattle.path_commands.specs.declared.reason.PathReason.TheVariants.{Damaged, Sent, Unread}
 
 -- A reason that only `audit` has, as a line of text.
 abbrev pub path_reason_text : PathReason → List ℕ
-path_reason_text Format = codes "format is not text or csv"
 path_reason_text (Damaged path) = at_path path (message_fault_text BadHeader)
 path_reason_text (Unread path number why) =
     at_path path (codes "message " ++ (decimal number ++ (codes ": " ++ message_fault_text why)))

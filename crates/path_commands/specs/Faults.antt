@@ -13,7 +13,7 @@ use Rattle.command_inputs.specs.declared.fault.Fault.TheVariants as fault
 use Rattle.command_inputs.specs.declared.status.Status.{Status}
 use Rattle.command_inputs.specs.declared.status.Status.TheVariants.{NotWhole, Refused}
 use Rattle.path_commands.specs.declared.reason.PathReason.{PathReason}
-use Rattle.path_commands.specs.declared.reason.PathReason.TheVariants.{Damaged, Format, Sent, Unread}
+use Rattle.path_commands.specs.declared.reason.PathReason.TheVariants.{Damaged, Sent, Unread}
 
 -- A fault of `audit`.
 abbrev pub Fault : Type 0
@@ -31,10 +31,9 @@ Meaning = meaning.Meaning PathReason
 abbrev pub Once : {A : Type 0} → (Result A Fault → Type 0) → (A → Type 0) → Type 0
 Once Finds Holds = finding.Once Finds Holds
 
--- The status at a reason of `audit`'s own. What is no format and SENT are refused; where RECEIVED's header is not valid or it is not read to its
+-- The status at a reason of `audit`'s own. SENT is refused; where RECEIVED's header is not valid or it is not read to its
 -- end, that capture is not good.
 abbrev pub path_reason_status : PathReason → Status
-path_reason_status Format = Refused
 path_reason_status (Sent path why) = Refused
 path_reason_status (Damaged path) = NotWhole
 path_reason_status (Unread path number why) = NotWhole
@@ -46,10 +45,6 @@ status_of why = inputs.status_of path_reason_status why
 -- The status that `audit` ended with: the one that it returned, or the one of its fault.
 abbrev pub final_status : Result Status Fault → Status
 final_status ended = inputs.final_status path_reason_status ended
-
--- The fault of an argument that names no format.
-abbrev pub no_format : Fault
-no_format = fault.Own Format
 
 -- The fault of a capture that does not hold, whole and in order, what was sent.
 abbrev pub sent_fault : Path → SentFault → Fault

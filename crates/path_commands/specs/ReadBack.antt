@@ -1,23 +1,15 @@
 -- The rows of an audit's table are read back.
-use Rattle.std.specs.Prelude.{◌≡◌, ℕ, ◌++◌, Bool, List, [], Option, Some}
-use Rattle.csv.specs.Machine.{next_record}
-use Rattle.csv.specs.Reading.{default_config}
-use Rattle.csv.specs.declared.parser.State.TheVariants.{StartRecord}
+use Rattle.std.specs.Prelude.{ℕ, Bool, List, Option}
 use Rattle.auditing.specs.declared.finding.Finding.{Finding}
 use Rattle.auditing.specs.declared.lost.Lost.{Lost}
 use Rattle.auditing.specs.declared.row.HartRow.{HartRow}
 use Rattle.unnumbered.specs.declared.counting.AlignedTotal.{AlignedTotal}
 use Rattle.unnumbered.specs.declared.counting.HartCounts.{HartCounts}
 use Rattle.unnumbered.specs.declared.line.Line.{Line}
+use Rattle.tables.specs.ReadBack.{IsReadBack}
 use Rattle.path_commands.specs.AlignedRows.{aligned_all_fields, aligned_fields, arrival_fields}
 use Rattle.path_commands.specs.AuditRows as row
 use Rattle.path_commands.specs.declared.total.Total.{Total}
-
--- Where a line of these fields comes next, `csv` reads just these fields as a record, and goes on after the line, whatever
--- follows.
-abbrev pub IsReadBack : List (List ℕ) → Type 0
-IsReadBack fields = (rest : List ℕ)
-    → next_record default_config StartRecord [] [] (row.fields_line fields ++ rest) ≡ Some (fields, StartRecord, rest)
 
 -- Each row that the table of an audit may have is read back by `csv`, and so are the names of its columns.
 pub record AreReadBack : Type 0 where

@@ -2,8 +2,9 @@
 
 ghost use Rattle.std.specs.Prelude.{[], Some, codes};
 ghost use Rattle.std.specs.Fmt.{decimal};
+ghost use Rattle.tables.specs.Fields.{fields_line};
 ghost use Rattle.path_commands.specs.AlignedRows.{aligned_all_fields, aligned_fields, aligned_last, arrival_row};
-ghost use Rattle.path_commands.specs.AuditRows.{fields_line, message_fields};
+ghost use Rattle.path_commands.specs.AuditRows.{message_fields};
 
 use crate::ending::verdict_text;
 use crate::table_rows::ResultRow;

@@ -6,7 +6,7 @@ ghost use Rattle.std.specs.List.{flat_map};
 ghost use Rattle.output.specs.Begun.{AppendsBeginning};
 ghost use Rattle.path_commands.specs.AlignedRows.{aligned_fields, aligned_hart, aligned_rows, aligned_table};
 ghost use Rattle.path_commands.specs.AlignedRows.{arrival_row, single_rows, unmatched_rows};
-ghost use Rattle.path_commands.specs.AuditRows.{fields_line};
+ghost use Rattle.tables.specs.Fields.{fields_line};
 ghost use Rattle.path_commands.specs.AuditText.{unless_summary};
 ghost use Rattle.path_commands.specs.UnnumberedText.{texts_from};
 

@@ -2,18 +2,19 @@
 
 ghost use Rattle.std.specs.Prelude.{◌≡◌, Err, IfSome};
 ghost use Rattle.command_inputs.specs.Begun.{IsCutOf};
+ghost use Rattle.command_inputs.specs.Order.{format_fault};
 ghost use Rattle.command_inputs.specs.Printed.{PrintsUnlessDenied};
-ghost use Rattle.path_commands.specs.Audited.{Audits, CanAudit, IsFormat, format_fault};
+ghost use Rattle.path_commands.specs.Audited.{Audits, CanAudit};
 ghost use Rattle.path_commands.specs.Faults.{final_status};
 ghost use Rattle.command_inputs.specs.declared.fault.Fault.TheVariants as Fault;
 
 use crate::comparing::audit_numbered;
 use crate::matching::audit_unnumbered;
-use crate::reason::{Fault, PathReason};
-use command_inputs::{Files, Status};
+use crate::reason::Fault;
+use command_inputs::{Files, Status, check_format};
 use std::alloc::Global;
 use std::io::Write;
-use subcommands::{Audit as Asked, Format};
+use subcommands::Audit as Asked;
 
 /// Writes what became of the messages of SENT in RECEIVED: a line for each message of RECEIVED that is not in order or
 /// skips a number and for each run of bytes of no message, one for each longest run of numbers of a hart that were lost,
@@ -48,14 +49,4 @@ pub fn audit<'a, F: Files, O: Write>(
         return audit_unnumbered(alloc, files, asked, out);
     }
     audit_numbered(alloc, files, asked, out)
-}
-
-/// Refuses an argument that names no format.
-fn check_format<'a>(format: Format) -> Result<(), Fault<'a>>
-    ensures { IsFormat format result }
-{
-    match format {
-        Format::Text | Format::Csv => Ok(()),
-        Format::Other => Err(Fault::Own(PathReason::Format)),
-    }
 }

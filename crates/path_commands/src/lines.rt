@@ -1,41 +1,13 @@
 //! The lines of messages and of harts.
 
 ghost use Rattle.std.specs.Prelude.{◌≡◌, Some, option_map};
-ghost use Rattle.path_commands.specs.AuditText.{byte_text, bytes_text, finding_text, late_line, lost_line};
+ghost use Rattle.path_commands.specs.AuditText.{finding_text, late_line, lost_line};
 ghost use Rattle.path_commands.specs.AuditText.{numbers_text, row_counts, row_text, runs_line};
 
 use crate::ending::verdict_text;
 use auditing::{Finding, HartRow, Lost};
 use std::fmt;
-
-/// The hexadecimal digits of bytes.
-#[derive(Clone, Copy)]
-pub(crate) struct Digits<'a>(pub(crate) &'a [u8]);
-
-impl fmt::Display for Digits<'_> {
-    ghost output = { λ digits. Some (bytes_text digits.0.now) };
-
-    fn fmt<W: fmt::Write>(&self, f: &mut fmt::Formatter<W>) -> fmt::Result {
-        for place in 0..self.0.len() {
-            write!(f, "{}", Byte(self.0[place]))?;
-        }
-        Ok(())
-    }
-}
-
-/// The two hexadecimal digits of a byte.
-#[derive(Clone, Copy)]
-struct Byte(u8);
-
-impl fmt::Display for Byte {
-    ghost output = { λ byte. Some (byte_text byte.0) };
-
-    fn fmt<W: fmt::Write>(&self, f: &mut fmt::Formatter<W>) -> fmt::Result {
-        let high = self.0 / 16;
-        let low = self.0 % 16;
-        write!(f, "{high:x}{low:x}")
-    }
-}
+use tables::Digits;
 
 /// What is found of a message, where SENT has the first payload and the second came.
 #[derive(Clone, Copy)]

@@ -15,8 +15,6 @@ pub type Fault<'a> = command_inputs::Fault<'a, PathReason<'a>>;
 /// What only `audit` stops at.
 #[derive(Clone, Copy, Debug, PartialEq, Eq)]
 pub enum PathReason<'a> {
-    /// The argument names no format.
-    Format,
     /// RECEIVED, at this path, begins as a capture of version 2 does, and its header is cut or not valid.
     Damaged(&'a str),
     /// RECEIVED, at this path, is read by the lengths of its messages, and after so many there is no complete message,
@@ -31,7 +29,6 @@ impl fmt::Display for PathReason<'_> {
 
     fn fmt<W: fmt::Write>(&self, f: &mut fmt::Formatter<W>) -> fmt::Result {
         match self {
-            PathReason::Format => f.write_str("format is not text or csv"),
             PathReason::Damaged(path) => write!(f, "{path}: {}", MessageFault::BadHeader),
             PathReason::Unread(path, number, why) => {
                 write!(f, "{path}: message {number}: {why}")
@@ -49,7 +46,7 @@ impl Reason for PathReason<'_> {
     fn status(&self) -> Status {
         match self {
             PathReason::Damaged(_) | PathReason::Unread(..) => Status::NotWhole,
-            PathReason::Format | PathReason::Sent(..) => Status::Refused,
+            PathReason::Sent(..) => Status::Refused,
         }
     }
 

@@ -2,14 +2,15 @@
 
 ghost use Rattle.std.specs.Prelude.{◌≡◌, Some, option_map};
 ghost use Rattle.path_commands.specs.AuditRows.{all_fields, by_field, bytes_fields, came_field, columns, fate_field};
-ghost use Rattle.path_commands.specs.AuditRows.{fields_line, finding_fields, hart_fields, headers_field, last_rows};
-ghost use Rattle.path_commands.specs.AuditRows.{number_field, result_fields, run_fields, sent_field};
+ghost use Rattle.path_commands.specs.AuditRows.{finding_fields, hart_fields, headers_field, last_rows};
+ghost use Rattle.path_commands.specs.AuditRows.{result_fields, run_fields, sent_field};
+ghost use Rattle.tables.specs.Fields.{fields_line};
 
 use crate::ending::verdict_text;
-use crate::lines::Digits;
 use crate::total::Total;
 use auditing::{Finding, HartRow, Lost};
 use std::fmt;
+use tables::{Digits, Number};
 
 /// The names of the columns.
 #[derive(Clone, Copy)]
@@ -248,21 +249,6 @@ impl fmt::Display for ResultRow {
         let verdict = verdict_text(self.whole);
         write!(f, "result,{messages},,,{first},,{headers},{bytes},,,")?;
         write!(f, ",,,,,,{strangers},{runs},,,{verdict}\n")
-    }
-}
-
-/// A number, where there is one.
-#[derive(Clone, Copy)]
-struct Number(Option<u64>);
-
-impl fmt::Display for Number {
-    ghost output = { λ number. Some (number_field number.0) };
-
-    fn fmt<W: fmt::Write>(&self, f: &mut fmt::Formatter<W>) -> fmt::Result {
-        match self.0 {
-            Some(number) => write!(f, "{number}"),
-            None => f.write_str(""),
-        }
     }
 }
 

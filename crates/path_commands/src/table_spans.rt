@@ -9,7 +9,8 @@ ghost use Rattle.auditing.specs.Seen.{sight_of};
 ghost use Rattle.resuming.specs.Borrowed.{message_of, span_of};
 ghost use Rattle.resuming.specs.Counted.{bytes_in, messages_in, runs_in};
 ghost use Rattle.resuming.specs.Passages.{spans_left};
-ghost use Rattle.path_commands.specs.AuditRows.{bytes_fields, fields_line, row_or_none, span_row};
+ghost use Rattle.tables.specs.Fields.{fields_line};
+ghost use Rattle.path_commands.specs.AuditRows.{bytes_fields, row_or_none, span_row};
 ghost use Rattle.path_commands.specs.AuditTable.{front_rows};
 ghost use Rattle.path_commands.specs.AuditText.{unless_summary};
 

@@ -189,8 +189,8 @@ pub struct Listing<'a> {
     pub capture: &'a str,
 }
 
-/// `salvage --base B [--harts N] [--summary] [--progress] IMAGE CAPTURE`: what is left of the log of each hart after any
-/// damage to a capture.
+/// `salvage --base B [--harts N] [--summary] [--format FORMAT] [--progress] IMAGE CAPTURE`: what is left of the log of
+/// each hart after any damage to a capture.
 #[derive(Debug, Drop)]
 pub struct Salvage<'a> {
     /// The address of the image's first byte, not yet read as a number.
@@ -199,6 +199,8 @@ pub struct Salvage<'a> {
     pub harts: Option<u16>,
     /// Whether the texts of the logs are left out.
     pub summary: bool,
+    /// Whether lines of text or a table are wanted.
+    pub format: Format,
     /// Whether a terminal is shown how far the capture is worked through.
     pub progress: bool,
     /// The path of the image.

@@ -26,7 +26,7 @@ use Rattle.commands.specs.declared.reason.CommandReason.TheVariants.{Capture, Li
 use Rattle.log_commands.specs.Encoding.{AreLogsOf, ArePartLogs, IsMostLogs, IsPart, WritesMessages}
 use Rattle.command_inputs.specs.Faults.{Path as FilePath}
 use Rattle.command_inputs.specs.Finding.{After, IsFoundFrom}
-use Rattle.command_inputs.specs.Found.{AreFew, IsAskedProgram, IsBase, IsProgramAt, IsRead, program_at}
+use Rattle.command_inputs.specs.Found.{AreFew, IsAskedBase, IsAskedProgram, IsBase, IsFormat, IsProgramAt, IsRead, program_at}
 use Rattle.command_inputs.specs.FoundLogs.{AreAskedLogsUpTo, AreLegalLogsUpTo}
 use Rattle.files.specs.Known.{Content, content_in}
 use Rattle.command_inputs.specs.Printed.{First, GoesOn, Printed as AnyPrinted}
@@ -34,7 +34,7 @@ use Rattle.log_commands.specs.Measuring.{WritesTable}
 use Rattle.log_commands.specs.Most.{most_of}
 use Rattle.retire.specs.Log.{most_rows}
 use Rattle.log_commands.specs.Replaying.{ReplaysLogs}
-use Rattle.path_commands.specs.Audited.{AuditsBy, IsFormat, Writes}
+use Rattle.path_commands.specs.Audited.{AuditsBy, Writes}
 use Rattle.path_commands.specs.Sides.{IsFoundSent}
 use Rattle.command_inputs.specs.Status.{code_of}
 use Rattle.command_inputs.specs.declared.fault.Fault.{Fault as AnyFault}
@@ -195,10 +195,10 @@ not_ended (Listing asked) status old new done =
 not_ended (Salvage asked) status old new done =
     let own = done.prints.own in
     let ends = ends_so Capture done.text status own done.prints.is in
-    not_first (IsBase asked.base.now) (λ base. First (IsProgramAt none base asked.image) (λ program.
-    First (IsRead none asked.capture) (WritesSalvaged asked.harts asked.summary program))) own status ends
+    not_first (IsAskedBase asked.format asked.base.now) (λ base. First (IsProgramAt none base asked.image) (λ program.
+    First (IsRead none asked.capture) (WritesSalvaged asked.format asked.harts asked.summary program))) own status ends
     (λ base is prints. not_first (IsProgramAt none base asked.image) (λ program.
-    First (IsRead none asked.capture) (WritesSalvaged asked.harts asked.summary program)) own status ends
+    First (IsRead none asked.capture) (WritesSalvaged asked.format asked.harts asked.summary program)) own status ends
     (λ program made left. no_program base asked.image program made) prints) done.prints.prints
 not_ended (asked_for.Capture asked) status old new done =
     let own = done.prints.own in
@@ -229,7 +229,6 @@ reason_faulty (Capture (capture.Message number why)) = λ is. omega arith
 reason_faulty (Capture (capture.Unclosed hart)) = λ is. omega arith
 reason_faulty (Capture (capture.Symbols path why)) = λ is. omega arith
 reason_faulty (Capture (capture.Logs logs harts)) = λ is. omega arith
-reason_faulty (Path audit.Format) = λ is. omega arith
 reason_faulty (Path (audit.Damaged path)) = λ is. omega arith
 reason_faulty (Path (audit.Unread path number why)) = λ is. omega arith
 reason_faulty (Path (audit.Sent sent why)) = λ is. omega arith
@@ -238,6 +237,7 @@ reason_faulty (Line why) = λ is. omega arith
 -- No fault ends with status 0.
 faulty : (why : Fault) → code_of (status_of why) ≢ 0
 faulty (fault.Own why) = reason_faulty why
+faulty fault.Format = λ is. omega arith
 faulty fault.Base = λ is. omega arith
 faulty fault.NoLogs = λ is. omega arith
 faulty (fault.ManyLogs most) = λ is. omega arith

@@ -5,10 +5,14 @@ use Rattle.std.specs.declared.vec.Vec.{Vec}
 use Rattle.frames.specs.declared.span.Span.{Span}
 use Rattle.frames.specs.declared.span.Span.TheVariants.{Frame, Bytes}
 use Rattle.rvclass.specs.Image.{Image}
+use Rattle.salvaged_table.specs.Table.{salvaged_table}
 use Rattle.searching.specs.Harts.{harts_counted}
 use Rattle.searching.specs.Start.{spans_of}
+use Rattle.subcommands.specs.declared.words.Format.{Format}
+use Rattle.subcommands.specs.declared.words.Format.TheVariants.{Csv}
 use Rattle.capture_commands.specs.EachHart.{numbered_harts}
-use Rattle.capture_commands.specs.Frames.{AreFrames, own_offsets}
+use Rattle.capture_commands.specs.Frames.{AreFrames}
+use Rattle.salvaged_table.specs.Offsets.{own_offsets}
 use Rattle.capture_commands.specs.SalvagedText.{hart_text, rest_text}
 use Rattle.capture_commands.specs.Salvaging.{IsSalvagedCapture}
 use Rattle.capture_commands.specs.declared.frame_reading.Frames.{Frames}
@@ -44,3 +48,13 @@ found_harts summary found =
 abbrev pub found_text : Bool → Found → List ℕ → List ℕ
 found_text summary found bytes =
     found_harts summary found ++ rest_text (spans_of found.header bytes) found.salvaged.strangers
+
+-- The same in a format.
+abbrev pub found_table : Found → List ℕ → List ℕ
+found_table found bytes =
+    salvaged_table found.header (spans_of found.header bytes) (own_offsets found.frames.offsets.items)
+    found.salvaged.harts.items found.salvaged.strangers
+
+abbrev pub found_in : Format → Bool → Found → List ℕ → List ℕ
+found_in Csv summary found bytes = found_table found bytes
+found_in _ summary found bytes = found_text summary found bytes

@@ -16,7 +16,7 @@ pub(crate) const TEXT: &str = r#"
 % tracebench list image.bin run.capture --harts 2 --salvage --base 0 --symbols nm.txt
 > Listing(Listing { base: "0", harts: Some(2), symbols: Some("nm.txt"), salvage: true, progress: false, image: "image.bin", capture: "run.capture" })
 % tracebench salvage --base 0 image.bin run.capture --progress
-> Salvage(Salvage { base: "0", harts: None, summary: false, progress: true, image: "image.bin", capture: "run.capture" })
+> Salvage(Salvage { base: "0", harts: None, summary: false, format: Text, progress: true, image: "image.bin", capture: "run.capture" })
 % tracebench audit --progress sent.capture received.capture
 > Audit(Audit { packets: false, unnumbered: false, summary: false, format: Text, progress: true, sent: "sent.capture", received: "received.capture" })
 
@@ -33,6 +33,8 @@ pub(crate) const TEXT: &str = r#"
 > Audit(Audit { packets: false, unnumbered: true, summary: true, format: Text, progress: false, sent: "sent.capture", received: "received.capture" })
 % tracebench audit --format CSV sent.capture received.capture
 > Audit(Audit { packets: false, unnumbered: false, summary: false, format: Other, progress: false, sent: "sent.capture", received: "received.capture" })
+% tracebench salvage --base 0 image.bin run.capture --format=xml
+> Salvage(Salvage { base: "0", harts: None, summary: false, format: Other, progress: false, image: "image.bin", capture: "run.capture" })
 % tracebench audit sent.capture received.capture --format
 ! error: a value is required for '--format <FORMAT>' but none was supplied
 !

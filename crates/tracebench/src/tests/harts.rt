@@ -30,7 +30,12 @@ $ tracebench decode --base 80000000 --harts 1024 image.bin messages.capture
 $ tracebench list --base 80000000 image.bin log.capture
 > capture 2 mode=diff period=1024 harts=1024
 >*1024 @{00000010+34} @ 0 open => nothing\n@{0000001c+34} @ 1 sync addr=80000000 priv=3 branch=1 => 1 event, 80000000\n@{0000002c+34} @ 2 address diff=4 map=- plain => nothing, waits\n@{00000038+34} @ 3 close ended_rep => 1 event, 80000004, closed
+$ tracebench list --base 80000000 --salvage image.bin log.capture
+> capture 2 mode=diff period=1024 harts=1024
+>*1024 @{00000010+34} @ 0 open => nothing\n@{0000001c+34} @ 1 sync addr=80000000 priv=3 branch=1 => 1 event, 80000000\n@{0000002c+34} @ 2 address diff=4 map=- plain => nothing, waits\n@{00000038+34} @ 3 close ended_rep => 1 event, 80000004, closed
 $ tracebench list --base 80000000 --harts 1024 image.bin messages.capture
+>*1024 @{00000000+34} @ 0 open => nothing\n@{0000000c+34} @ 1 sync addr=80000000 priv=3 branch=1 => 1 event, 80000000\n@{0000001c+34} @ 2 address diff=4 map=- plain => nothing, waits\n@{00000028+34} @ 3 close ended_rep => 1 event, 80000004, closed
+$ tracebench list --base 80000000 --salvage --harts 1024 image.bin messages.capture
 >*1024 @{00000000+34} @ 0 open => nothing\n@{0000000c+34} @ 1 sync addr=80000000 priv=3 branch=1 => 1 event, 80000000\n@{0000001c+34} @ 2 address diff=4 map=- plain => nothing, waits\n@{00000028+34} @ 3 close ended_rep => 1 event, 80000004, closed
 $ tracebench salvage --base 80000000 image.bin log.capture
 >*1024 hart @\nstretch: 2 events, numbers 0 to 3\naddr,itype,priv,cause,tval\n80000000,0,3,,\n80000004,0,3,,
@@ -48,6 +53,9 @@ $ tracebench encode --base 80000000 --full --hex image.bin 1024*log.csv
 $ tracebench decode --base 80000000 image.bin full.capture
 >*1024 hart @\naddr,itype,priv,cause,tval\n80000000,0,3,,\n80000004,0,3,,
 $ tracebench list --base 80000000 image.bin full.capture
+> capture 2 mode=full period=1024 harts=1024
+>*1024 @{00000010+39} @ 0 open full => nothing\n@{0000001d+39} @ 1 sync addr=80000000 priv=3 branch=1 => 1 event, 80000000\n@{0000002d+39} @ 2 address addr=80000004 map=- plain => nothing, waits\n@{0000003d+39} @ 3 close ended_rep => 1 event, 80000004, closed
+$ tracebench list --base 80000000 --salvage image.bin full.capture
 > capture 2 mode=full period=1024 harts=1024
 >*1024 @{00000010+39} @ 0 open full => nothing\n@{0000001d+39} @ 1 sync addr=80000000 priv=3 branch=1 => 1 event, 80000000\n@{0000002d+39} @ 2 address addr=80000004 map=- plain => nothing, waits\n@{0000003d+39} @ 3 close ended_rep => 1 event, 80000004, closed
 $ tracebench salvage --base 80000000 image.bin full.capture

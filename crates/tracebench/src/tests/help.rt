@@ -248,11 +248,12 @@ $ tracebench salvage --help
 !   <CAPTURE>  File of trace messages
 !
 ! Options:
-!       --base <B>   Address of the image's first byte, in hexadecimal
-!       --harts <N>  How many harts a capture with no valid header has, 1 to 1024; without it, those of its messages
-!       --summary    Leave out the texts of the logs
-!       --progress   Show how far the capture is worked through, where standard error is a terminal
-!   -h, --help       Print help
+!       --base <B>         Address of the image's first byte, in hexadecimal
+!       --harts <N>        How many harts a capture with no valid header has, 1 to 1024; without it, those of its messages
+!       --summary          Leave out the texts of the logs
+!       --format <FORMAT>  What is printed: text, or csv, a table [default: text]
+!       --progress         Show how far the capture is worked through, where standard error is a terminal
+!   -h, --help             Print help
 !
 ! Example:
 !   tracebench salvage --base 80000000 examples/loop/image.bin examples/loop/log.capture

@@ -220,6 +220,12 @@ $ tracebench list --base 80000000 image.bin log.capture
 > 0000001c 0 2 address diff=2 map=- plain => nothing, waits
 >*{3..70000} @{00000004+c} 0 @ address diff=2 map=- plain => 1 event, @{7ffffffc+2}, waits
 > 000cd150 0 70001 close ended_ntr => 1 event, 800222de, closed
+$ tracebench list --base 80000000 --salvage image.bin log.capture
+> 00000000 0 0 open => nothing
+> 0000000c 0 1 sync addr=80000000 priv=3 branch=1 => 1 event, 80000000
+> 0000001c 0 2 address diff=2 map=- plain => nothing, waits
+>*{3..70000} @{00000004+c} 0 @ address diff=2 map=- plain => 1 event, @{7ffffffc+2}, waits
+> 000cd150 0 70001 close ended_ntr => 1 event, 800222de, closed
 
 # Two symbols at each place, the second half of the places in front of the first.
 file nm.txt

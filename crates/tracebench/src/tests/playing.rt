@@ -12,7 +12,7 @@ use std::sync::Wait;
 use std::thread::Threads;
 
 /// The subcommands that read a capture and show how far they are.
-const READERS: [&str; 5] = ["dump", "decode", "list", "salvage", "audit"];
+const READERS: [&str; 6] = ["dump", "decode", "list", "salvage", "audit", "compare"];
 
 /// Those of them that work through all messages, also where one of them is not good.
 const TO_THE_END: [&str; 3] = ["dump", "salvage", "audit"];
@@ -243,8 +243,8 @@ fn each_is_read_once(rt: &impl Abort, shelf: &Shelf, words: &[String], line: &st
     }
 }
 
-/// Progress was begun once at most, where the arguments ask for it, and where all is done just once. What was begun was
-/// ended.
+/// Progress was begun once at most, where the arguments ask for it, and where all is done just once; of `compare` twice,
+/// for the capture and then for the logs. What was begun was ended.
 fn progress_is_as_asked(
     rt: &impl Abort,
     shelf: &Shelf,
@@ -253,7 +253,8 @@ fn progress_is_as_asked(
     is_done: bool,
 ) {
     let (begun, ended) = shelf.progress();
-    let asked = times("--progress", words) as u64;
+    let rounds = if is_among(words, &["compare"]) { 2 } else { 1 };
+    let asked = (times("--progress", words) as u64).saturating_mul(rounds);
     assert!(rt; begun == ended, "{line}: progress is not ended");
     assert!(rt; begun <= asked, "{line}: progress is begun {begun} times");
     assert!(rt; begun == asked || !is_done, "{line}: progress is not begun");

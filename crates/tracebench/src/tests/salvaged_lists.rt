@@ -195,6 +195,59 @@ $ tracebench list --base 80000000 --salvage image.bin log.capture
 ! tracebench: hart 1: no closing packet
 ? 1
 
+# A count of harts is not looked at behind a valid header: the messages of hart 2 are bytes. A bad message that came twice
+# is a copy, and a payload that is no packet is bad also where a synchronisation is looked for. Hart 0 opens in another
+# mode than the header says, and the text of its packets is by the header.
+file log.capture
+|= ffff7276747261636532000002000100
+|~ 0 0 1f01
+|~ 2 0 1f
+|~ 2 0 1f
+|~ 0 1 00
+|~ 0 1 00
+|~ 0 2 00
+|~ 0 3 0a00000001
+|~ 0 4 7302000020
+|~ 0 5 cf00000000
+$ tracebench list --base 80000000 --salvage --harts 3 image.bin log.capture
+> capture 2 mode=diff period=2 harts=1
+> 00000010 0 0 open full => nothing
+> 0000001d bytes: 24
+> 00000035 0 1 bad Unsupported => bad: bad packet: Unsupported
+> 00000041 0 1 bad Unsupported => copy
+> 0000004d 0 2 bad Unsupported => bad: bad packet: Unsupported
+> 00000059 0 3 address diff=80000004 map=- plain => passed
+> 00000069 0 4 sync addr=80000008 priv=3 branch=1 => 1 event, 80000008
+> 00000079 0 5 close ended_ntr => nothing, closed
+? 1
+
+# The header of three harts is not valid: there are as many harts as are asked for, and the third is a stranger, also with
+# a message that came twice.
+file log.capture
+|= ffff7276747261636532000202000100
+|~ 0 0 1f
+|~ 0 1 7300000020
+|~ 0 2 cf00
+|~ 1 0 1f
+|~ 1 1 7300000020
+|~ 1 2 cf00
+|~ 2 0 1f
+|~ 2 0 1f
+|~ 2 2 cf00
+$ tracebench list --base 80000000 --salvage --harts 2 image.bin log.capture
+> 00000000 bytes: 16
+> 00000010 0 0 open => nothing
+> 0000001c 0 1 sync addr=80000000 priv=3 branch=1 => 1 event, 80000000
+> 0000002c 0 2 close ended_ntr => nothing, closed
+> 00000039 1 0 open => nothing
+> 00000045 1 1 sync addr=80000000 priv=3 branch=1 => 1 event, 80000000
+> 00000055 1 2 close ended_ntr => nothing, closed
+> 00000062 2 0 open => stranger
+> 0000006e 2 0 open => stranger
+> 0000007a 2 2 close ended_ntr => stranger
+! tracebench: capture header is not valid
+? 1
+
 # Bytes are before the first message and after the last. Then the header is not valid: its error comes at the end.
 file log.capture
 |= ffff7276747261636532000002000100

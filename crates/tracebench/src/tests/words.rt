@@ -340,11 +340,11 @@ pub(crate) const TEXT: &str = r#"
 
 # `salvage`: its count of harts, its summary, and what it does not take.
 % tracebench salvage --base 80000000 image.bin run.capture
-> Salvage(Salvage { base: "80000000", harts: None, summary: false, progress: false, image: "image.bin", capture: "run.capture" })
+> Salvage(Salvage { base: "80000000", harts: None, summary: false, format: Text, progress: false, image: "image.bin", capture: "run.capture" })
 % tracebench salvage --harts 1024 --base 0 image.bin run.capture
-> Salvage(Salvage { base: "0", harts: Some(1024), summary: false, progress: false, image: "image.bin", capture: "run.capture" })
+> Salvage(Salvage { base: "0", harts: Some(1024), summary: false, format: Text, progress: false, image: "image.bin", capture: "run.capture" })
 % tracebench salvage --base 0 image.bin --summary run.capture
-> Salvage(Salvage { base: "0", harts: None, summary: true, progress: false, image: "image.bin", capture: "run.capture" })
+> Salvage(Salvage { base: "0", harts: None, summary: true, format: Text, progress: false, image: "image.bin", capture: "run.capture" })
 % tracebench salvage --base 0 --harts 1025 image.bin run.capture
 ! error: invalid value '1025' for '--harts <N>': 1025 is not in 1..=1024
 !

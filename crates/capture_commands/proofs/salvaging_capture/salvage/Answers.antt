@@ -3,10 +3,12 @@ use Rattle.std.proofs.Common.{Err, Ok, ap, arith, inr, refl, subst, sym, ◌≡�
 use Rattle.std.proofs.lemmas.Grind.{common_steps}
 use Rattle.std.specs.Prelude.{⊤, IfSome}
 use Rattle.command_inputs.specs.Begun.{IsCutOf}
-use Rattle.command_inputs.specs.Found.{IsBase, IsProgramAt, IsRead}
-use Rattle.command_inputs.specs.Order.{base_fault}
+use Rattle.command_inputs.specs.Found.{IsAskedBase, IsProgramAt, IsRead}
+use Rattle.command_inputs.specs.Order.{format_or_base_fault}
 use Rattle.command_inputs.specs.Printed.{PrintsUnlessDenied}
 use Rattle.command_inputs.specs.declared.fault.Fault.TheVariants as fault
+use Rattle.command_inputs.proofs.Formats.{found_ends}
+use Rattle.retire.specs.Number.{number_of}
 use Rattle.command_inputs.proofs.Runs.{ends_silently}
 use Rattle.capture_commands.specs.Salvaging.{CanSalvage, Salvages, WritesSalvaged}
 use Rattle.capture_commands.specs.declared.reason.CaptureReason.{CaptureReason}
@@ -17,9 +19,9 @@ pub returns-in_err-base-clause-early : goal.returns-in_err-base-clause-early
 returns-in_err-base-clause-early g c =
     let why = c.in_err-base.field-0.0 in
     let is : c.from_residual.result ≡ Err why = grind (arith, common_steps) in
-    let none = c.in_err-base.ensures.none in
-    subst (λ number. IfSome (base_fault number) (λ fault. c.from_residual.result ≡ Err fault)) (sym none.1)
-    (is ∙ ap Err none.0)
+    let asked = c.args.asked.now in
+    found_ends (format_or_base_fault asked.format (number_of asked.base.now)) why c.from_residual.result
+    c.in_err-base.ensures.none is
 
 pub returns-in_err-base-clause-printed : goal.returns-in_err-base-clause-printed
 returns-in_err-base-clause-printed g c =
@@ -27,7 +29,7 @@ returns-in_err-base-clause-printed g c =
     let content = g.F.Files.content c.args.files.now in
     let why = c.in_err-base.field-0.0 in
     let is : c.from_residual.result ≡ Err why = grind (arith, common_steps) in
-    ends_silently (Salvages content asked) (CanSalvage content asked) (IsBase asked.base.now (Err why)) why
+    ends_silently (Salvages content asked) (CanSalvage content asked) (IsAskedBase asked.format asked.base.now (Err why)) why
     c.from_residual.result (g.O.Write.contents c.args.out.now) is (inr c.in_err-base.ensures.found)
     (λ none. (Err why, none, refl))
 
@@ -72,7 +74,7 @@ returns-clause-printed g c =
     c.in_ok-bytes.ensures.held in
     capture_printed content asked c.in_ok-base.base program c.in_ok-bytes.bytes.items c.in_ok-base.ensures.found
     c.in_ok-program.ensures.program read c.salvage_capture.result old new
-    (subst (λ bytes. PrintsUnlessDenied (WritesSalvaged asked.harts asked.summary program bytes) ⊤
+    (subst (λ bytes. PrintsUnlessDenied (WritesSalvaged asked.format asked.harts asked.summary program bytes) ⊤
     c.salvage_capture.result old new) c.as_slice.ensures.value c.salvage_capture.ensures.printed)
 
 pub returns-clause-cut : goal.returns-clause-cut
@@ -87,5 +89,5 @@ returns-clause-cut g c =
     c.in_ok-bytes.ensures.held in
     capture_cut content asked c.in_ok-base.base program c.in_ok-bytes.bytes.items c.in_ok-base.ensures.found
     c.in_ok-program.ensures.program read old new
-    (subst (λ bytes. IsCutOf (WritesSalvaged asked.harts asked.summary program bytes) old new)
+    (subst (λ bytes. IsCutOf (WritesSalvaged asked.format asked.harts asked.summary program bytes) old new)
     c.as_slice.ensures.value c.salvage_capture.ensures.cut)

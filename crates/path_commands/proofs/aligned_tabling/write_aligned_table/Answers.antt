@@ -2,9 +2,10 @@
 use Rattle.std.proofs.Common.{List, ℕ}
 use Rattle.std.specs.Prelude.{Bool}
 use Rattle.output.proofs.Beginnings.{begun_behind, begun_in_front}
-use Rattle.path_commands.proofs.MatchedLines.{ok_behind}
+use Rattle.tables.proofs.Items.{ok_behind}
 use Rattle.path_commands.specs.AlignedRows.{aligned_rows}
-use Rattle.path_commands.specs.AuditRows.{columns, fields_line}
+use Rattle.tables.specs.Fields.{fields_line}
+use Rattle.path_commands.specs.AuditRows.{columns}
 use Rattle.path_commands.specs.declared.matched_report.Matched.{Matched}
 use Rattle.path_commands.proofs.aligned_tabling.write_aligned_table.Goals as goal
 

@@ -1,7 +1,7 @@
 -- The rows of the messages so far are written.
 use Rattle.std.proofs.Common.{drop}
 use Rattle.std.specs.List.{flat_map}
-use Rattle.path_commands.proofs.Parts.{HasWritten}
+use Rattle.tables.proofs.Parts.{HasWritten}
 use Rattle.path_commands.specs.AlignedRows.{arrival_row}
 use Rattle.path_commands.proofs.aligned_tabling.write_arrival_rows.Given as goal
 

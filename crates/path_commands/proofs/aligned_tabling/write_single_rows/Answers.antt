@@ -5,7 +5,7 @@ use Rattle.std.specs.List.{flat_map}
 use Rattle.std.specs.Prelude.{OnOk}
 use Rattle.output.specs.Begun.{AppendsBeginning}
 use Rattle.output.proofs.Beginnings.{begun_behind, begun_in_front}
-use Rattle.path_commands.proofs.MatchedLines.{ok_behind}
+use Rattle.tables.proofs.Items.{ok_behind}
 use Rattle.path_commands.specs.AlignedRows.{arrival_row, single_rows, unmatched_rows}
 use Rattle.path_commands.specs.AuditText.{unless_summary}
 use Rattle.path_commands.specs.UnnumberedText.{texts_from}

@@ -1,6 +1,6 @@
 -- The rows of the harts so far are written.
 use Rattle.std.proofs.Common.{drop}
-use Rattle.path_commands.proofs.Parts.{HasWritten}
+use Rattle.tables.proofs.Parts.{HasWritten}
 use Rattle.path_commands.specs.AlignedRows.{unmatched_rows}
 use Rattle.path_commands.specs.UnnumberedText.{texts_from}
 use Rattle.path_commands.proofs.aligned_tabling.write_unmatched_rows.Given as goal

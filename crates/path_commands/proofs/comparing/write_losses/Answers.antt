@@ -7,7 +7,7 @@ use Rattle.output.proofs.Beginnings.{whole_begun}
 use Rattle.auditing.specs.Known.{known_all}
 use Rattle.auditing.specs.Losing.{lost_runs}
 use Rattle.path_commands.proofs.HartLines.{hart_begun, hart_more, harts_all}
-use Rattle.path_commands.proofs.Parts.{HasWritten, part_none}
+use Rattle.tables.proofs.Parts.{HasWritten, part_none}
 use Rattle.path_commands.specs.AuditText.{all_lost_lines, lost_lines}
 use Rattle.path_commands.proofs.comparing.write_losses.Goals as goal
 

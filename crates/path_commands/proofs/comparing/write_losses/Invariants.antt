@@ -5,7 +5,7 @@ use Rattle.message.specs.declared.message.Message.{Message}
 use Rattle.auditing.specs.Known.{known_all}
 use Rattle.auditing.specs.Audits.{Audits}
 use Rattle.auditing.specs.Losing.{lost_runs}
-use Rattle.path_commands.proofs.Parts.{HasWritten}
+use Rattle.tables.proofs.Parts.{HasWritten}
 use Rattle.path_commands.specs.AuditText.{all_lost_lines, lost_lines}
 use Rattle.path_commands.proofs.comparing.write_losses.Given as goal
 

@@ -5,7 +5,7 @@ use Rattle.message.specs.declared.message.Message.{Message}
 use Rattle.auditing.specs.Known.{known_all}
 use Rattle.auditing.specs.Audits.{Audits}
 use Rattle.auditing.specs.HartRows.{row_of}
-use Rattle.path_commands.proofs.Parts.{HasWritten}
+use Rattle.tables.proofs.Parts.{HasWritten}
 use Rattle.path_commands.proofs.Sums.{IsTotal}
 use Rattle.path_commands.specs.AuditText.{row_lines, row_text}
 use Rattle.path_commands.proofs.comparing.write_rows.Given as goal

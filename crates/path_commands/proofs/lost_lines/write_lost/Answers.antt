@@ -1,7 +1,7 @@
 -- The lines are written one after the other: by lemmas on parts of a text, which no tactic finds.
 use Rattle.std.proofs.Common.{refl, subst}
 use Rattle.output.proofs.Beginnings.{whole_begun}
-use Rattle.path_commands.proofs.Parts.{HasWritten, part_all, part_begun, part_more, part_none}
+use Rattle.tables.proofs.Parts.{HasWritten, part_all, part_begun, part_more, part_none}
 use Rattle.path_commands.specs.AuditText.{lost_line, lost_lines}
 use Rattle.path_commands.proofs.lost_lines.write_lost.Goals as goal
 

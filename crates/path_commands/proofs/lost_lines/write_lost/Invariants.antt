@@ -1,6 +1,6 @@
 -- The lines of the runs so far are written.
 use Rattle.std.proofs.Common.{length}
-use Rattle.path_commands.proofs.Parts.{HasWritten}
+use Rattle.tables.proofs.Parts.{HasWritten}
 use Rattle.path_commands.specs.AuditText.{lost_lines}
 use Rattle.path_commands.proofs.lost_lines.write_lost.Given as goal
 

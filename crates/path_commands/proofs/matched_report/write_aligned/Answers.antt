@@ -5,7 +5,7 @@ use Rattle.output.specs.Begun.{AppendsBeginning}
 use Rattle.std.proofs.lemmas.List.{get_or_read}
 use Rattle.output.proofs.Beginnings.{whole_begun}
 use Rattle.path_commands.proofs.MatchedLines.{own_begun, own_more, owns_all}
-use Rattle.path_commands.proofs.Parts.{part_none}
+use Rattle.tables.proofs.Parts.{part_none}
 use Rattle.path_commands.specs.UnnumberedText.{aligned_lines, texts_from}
 use Rattle.path_commands.proofs.matched_report.write_aligned.Goals as goal
 

@@ -2,8 +2,8 @@
 use Rattle.std.proofs.Common.{◌≡◌, ◌<◌, ◌≤◌, arith, length}
 use Rattle.std.specs.List.{flat_map}
 use Rattle.output.proofs.Beginnings.{whole_begun}
-use Rattle.path_commands.proofs.MatchedLines.{item_begun, item_more, items_all}
-use Rattle.path_commands.proofs.Parts.{part_none}
+use Rattle.tables.proofs.Items.{item_begun, item_more, items_all}
+use Rattle.tables.proofs.Parts.{part_none}
 use Rattle.path_commands.specs.UnnumberedText.{arrival_text}
 use Rattle.path_commands.proofs.matched_report.write_arrivals.Goals as goal
 

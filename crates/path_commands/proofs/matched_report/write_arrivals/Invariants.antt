@@ -1,7 +1,7 @@
 -- The lines of the messages so far are written.
 use Rattle.std.proofs.Common.{drop}
 use Rattle.std.specs.List.{flat_map}
-use Rattle.path_commands.proofs.Parts.{HasWritten}
+use Rattle.tables.proofs.Parts.{HasWritten}
 use Rattle.path_commands.specs.UnnumberedText.{arrival_text}
 use Rattle.path_commands.proofs.matched_report.write_arrivals.Given as goal
 

@@ -8,7 +8,7 @@ use Rattle.path_commands.specs.AuditText.{lost_lines}
 use Rattle.std.proofs.lemmas.List.{get_or_read}
 use Rattle.output.proofs.Beginnings.{whole_begun}
 use Rattle.path_commands.proofs.MatchedLines.{own_begun, own_more, owns_all}
-use Rattle.path_commands.proofs.Parts.{part_none}
+use Rattle.tables.proofs.Parts.{part_none}
 use Rattle.path_commands.specs.UnnumberedText.{texts_from, unmatched_lines}
 use Rattle.path_commands.proofs.matched_report.write_unmatched.Goals as goal
 

@@ -1,6 +1,6 @@
 -- The lines of the harts so far are written.
 use Rattle.std.proofs.Common.{drop}
-use Rattle.path_commands.proofs.Parts.{HasWritten}
+use Rattle.tables.proofs.Parts.{HasWritten}
 use Rattle.path_commands.specs.UnnumberedText.{texts_from, unmatched_lines}
 use Rattle.path_commands.proofs.matched_report.write_unmatched.Given as goal
 

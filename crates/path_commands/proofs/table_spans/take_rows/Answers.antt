@@ -9,7 +9,8 @@ use Rattle.resuming.specs.Passages.{Left, spans_from, spans_left}
 use Rattle.auditing.proofs.Sights.{sight_kept}
 use Rattle.auditing.specs.Seen.{sight_of}
 use Rattle.path_commands.proofs.TableSpans.{HasTaken, take_all, take_begun, take_more, take_none, take_text}
-use Rattle.path_commands.specs.AuditRows.{columns, fields_line, span_row, span_rows}
+use Rattle.tables.specs.Fields.{fields_line}
+use Rattle.path_commands.specs.AuditRows.{columns, span_row, span_rows}
 use Rattle.path_commands.specs.AuditTable.{front_rows}
 use Rattle.path_commands.proofs.table_spans.take_rows.Goals as goal
 

@@ -7,7 +7,7 @@ use Rattle.output.proofs.Beginnings.{whole_begun}
 use Rattle.auditing.specs.Known.{known_all}
 use Rattle.auditing.specs.Losing.{lost_runs}
 use Rattle.path_commands.proofs.HartLines.{hart_begun, hart_more, harts_all}
-use Rattle.path_commands.proofs.Parts.{HasWritten, part_none}
+use Rattle.tables.proofs.Parts.{HasWritten, part_none}
 use Rattle.path_commands.specs.AuditRows.{all_run_rows, run_rows}
 use Rattle.path_commands.proofs.tabling.write_all_runs.Goals as goal
 

@@ -7,9 +7,10 @@ use Rattle.output.proofs.Beginnings.{whole_begun}
 use Rattle.auditing.specs.Known.{known_all}
 use Rattle.auditing.specs.HartRows.{row_of}
 use Rattle.path_commands.proofs.HartLines.{hart_begun, hart_more, harts_all}
-use Rattle.path_commands.proofs.Parts.{HasWritten, part_none}
+use Rattle.tables.proofs.Parts.{HasWritten, part_none}
 use Rattle.path_commands.proofs.Sums.{AreFew, IsTotal, few_by, total_all, total_more, total_none}
-use Rattle.path_commands.specs.AuditRows.{fields_line, hart_fields, hart_rows}
+use Rattle.tables.specs.Fields.{fields_line}
+use Rattle.path_commands.specs.AuditRows.{hart_fields, hart_rows}
 use Rattle.path_commands.specs.steps.Summing.{added}
 use Rattle.path_commands.proofs.tabling.write_hart_rows.Goals as goal
 

@@ -5,9 +5,10 @@ use Rattle.message.specs.declared.message.Message.{Message}
 use Rattle.auditing.specs.Known.{known_all}
 use Rattle.auditing.specs.Audits.{Audits}
 use Rattle.auditing.specs.HartRows.{row_of}
-use Rattle.path_commands.proofs.Parts.{HasWritten}
+use Rattle.tables.proofs.Parts.{HasWritten}
 use Rattle.path_commands.proofs.Sums.{IsTotal}
-use Rattle.path_commands.specs.AuditRows.{fields_line, hart_fields, hart_rows}
+use Rattle.tables.specs.Fields.{fields_line}
+use Rattle.path_commands.specs.AuditRows.{hart_fields, hart_rows}
 use Rattle.path_commands.proofs.tabling.write_hart_rows.Given as goal
 
 abbrev pub invariant-loop-hart : goal.invariant-loop-hart

@@ -1,8 +1,9 @@
 -- The rows are written one after the other: by lemmas on parts of a text, which no tactic finds.
 use Rattle.std.proofs.Common.{refl, subst}
 use Rattle.output.proofs.Beginnings.{whole_begun}
-use Rattle.path_commands.proofs.Parts.{HasWritten, part_all, part_begun, part_more, part_none}
-use Rattle.path_commands.specs.AuditRows.{fields_line, run_fields, run_rows}
+use Rattle.tables.proofs.Parts.{HasWritten, part_all, part_begun, part_more, part_none}
+use Rattle.tables.specs.Fields.{fields_line}
+use Rattle.path_commands.specs.AuditRows.{run_fields, run_rows}
 use Rattle.path_commands.proofs.tabling.write_runs_of.Goals as goal
 
 pub loop-run-init : goal.loop-run-init

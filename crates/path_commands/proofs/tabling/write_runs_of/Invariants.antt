@@ -1,6 +1,6 @@
 -- The rows of the runs so far are written.
 use Rattle.std.proofs.Common.{length}
-use Rattle.path_commands.proofs.Parts.{HasWritten}
+use Rattle.tables.proofs.Parts.{HasWritten}
 use Rattle.path_commands.specs.AuditRows.{run_rows}
 use Rattle.path_commands.proofs.tabling.write_runs_of.Given as goal
 

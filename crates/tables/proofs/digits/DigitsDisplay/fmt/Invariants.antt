@@ -1,8 +1,8 @@
 -- The digits of the bytes so far are written.
 use Rattle.std.proofs.Common.{take}
 use Rattle.std.specs.Fmt.{HasWritten, IsPlainFormatter}
-use Rattle.path_commands.specs.AuditText.{bytes_text}
-use Rattle.path_commands.proofs.lines.DigitsDisplay.fmt.Given as goal
+use Rattle.tables.specs.Fields.{bytes_text}
+use Rattle.tables.proofs.digits.DigitsDisplay.fmt.Given as goal
 
 abbrev pub invariant-loop-place : goal.invariant-loop-place
 invariant-loop-place g l =

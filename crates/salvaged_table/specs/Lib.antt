@@ -1,0 +1,4 @@
+pub mod Offsets
+pub mod Rows
+pub mod Table
+pub mod ReadBack

@@ -1,0 +1,4 @@
+pub mod Fields
+pub mod Quoted
+pub mod ReadBack
+pub mod steps
