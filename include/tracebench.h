@@ -35,7 +35,8 @@
  * - Else a call takes time in proportion to the bytes that it is given and the events that it settles, the same if it
  *   only asks for the size. tracebench_decode and tracebench_audit go through all harts to answer for one.
  * - tracebench_encoder, tracebench_push, tracebench_push_checked, tracebench_push_all, tracebench_finish,
- *   tracebench_follow, tracebench_check_events and tracebench_decoder take no memory.
+ *   tracebench_follow, tracebench_check_events and tracebench_decoder take no memory. Over an image in two pieces or
+ *   more, a call takes memory for the list of the pieces while it runs.
  */
 #ifndef TRACEBENCH_H
 #define TRACEBENCH_H
@@ -106,14 +107,26 @@ extern "C" {
 /* No packet of the profile has these numbers. */
 #define TRACEBENCH_NO_PACKET 38u
 
-/* An image has an odd base. */
+/* An image, or a piece of one, has an odd base. */
 #define TRACEBENCH_ODD_BASE 48u
 
-/* An image has more than 2^24 bytes. */
+/* An image, or a piece of one, has more than 2^24 bytes. */
 #define TRACEBENCH_TOO_LARGE 49u
 
-/* The address after an image's last byte is 2^64 or more. */
+/* The address after the last byte of an image, or of a piece of one, is 2^64 or more. */
 #define TRACEBENCH_PAST_END 50u
+
+/* A byte of a piece has the address of a byte of a piece before it. */
+#define TRACEBENCH_OVERLAP 51u
+
+/* Pieces have more than 2^26 bytes in all. */
+#define TRACEBENCH_TOO_MUCH 52u
+
+/* There are more than 1,024 pieces. */
+#define TRACEBENCH_TOO_MANY_PIECES 53u
+
+/* A piece's base is below that of the piece before it. */
+#define TRACEBENCH_NOT_SORTED 54u
 
 /* The first record of a log is not addr,itype,priv,cause,tval, or there is none. */
 #define TRACEBENCH_WRONG_HEADER 64u
@@ -238,6 +251,10 @@ static inline const char *tracebench_status_text(uint32_t status) {
     case TRACEBENCH_ODD_BASE: return "base is odd";
     case TRACEBENCH_TOO_LARGE: return "image is larger than 16777216 bytes";
     case TRACEBENCH_PAST_END: return "image runs past the last address";
+    case TRACEBENCH_OVERLAP: return "overlaps";
+    case TRACEBENCH_TOO_MUCH: return "more than 67108864 bytes in all";
+    case TRACEBENCH_TOO_MANY_PIECES: return "more than 1024 pieces";
+    case TRACEBENCH_NOT_SORTED: return "a piece's base is below that of the piece before it";
     case TRACEBENCH_WRONG_HEADER: return "wrong header";
     case TRACEBENCH_WRONG_FIELDS: return "wrong number of fields";
     case TRACEBENCH_NO_NUMBER: return "not a number";
@@ -784,6 +801,94 @@ struct tracebench_audit_end {
  */
 uint32_t tracebench_audit(const uint8_t *sent, size_t sent_length, const uint8_t *received, size_t received_length,
                           uint16_t hart, struct tracebench_tally *tally, struct tracebench_audit_end *ended);
+
+/* Programs in several memories. */
+
+/*
+ * A piece of an image: bytes from an address on. A program in several memories, as a boot ROM, flash and RAM, is an
+ * array of these, sorted by base. Pieces that touch act as one: an instruction may begin in one and end in the next. A
+ * piece without bytes overlaps nothing. Without any piece, a program has no instruction.
+ */
+struct tracebench_piece {
+    uint64_t base;        /* the address of the first byte, which is even */
+    const uint8_t *bytes; /* the bytes; not null, also where there are none */
+    size_t length;        /* how many bytes there are */
+};
+
+/*
+ * Each call that takes an image has one that takes pieces in its place, and does the same. No pointer of a piece is
+ * null. All pieces are checked before any of their bytes is looked at. Where the other call says what is wrong with the
+ * image, this one does so with the first of these that applies:
+ *
+ * - TRACEBENCH_NOT_SORTED where a piece's base is below that of the piece before it;
+ * - of the first piece at fault, TRACEBENCH_ODD_BASE, TRACEBENCH_TOO_LARGE, TRACEBENCH_PAST_END, TRACEBENCH_OVERLAP
+ *   where it has a byte at an address of a piece before it, TRACEBENCH_TOO_MUCH where the pieces up to it have more than
+ *   2^26 bytes, or TRACEBENCH_TOO_MANY_PIECES where it is piece 1,025.
+ *
+ * With one piece, a call is as the one over an image. With two or more it takes memory for their list, also where the
+ * call over an image takes none, and the status may be TRACEBENCH_MEMORY. Then nothing was written but `*taken` and
+ * `*count` of tracebench_push_all_over_pieces and tracebench_feed_all_over_pieces, which are 0, and the row or place.
+ * tracebench_encode_over_pieces copies the pieces once; no other call copies any. The time in which a call checks the
+ * pieces grows with the square of their number: a bench with hundreds of pieces hands in many events at once.
+ *
+ *     const struct tracebench_piece pieces[] = {
+ *         {0x1000, rom, rom_length}, {0x20000000, flash, flash_length}, {0x80000000, ram, ram_length}};
+ *     uint32_t status = tracebench_push_over_pieces(pieces, 3, &state, &event, packets, 2, &count);
+ */
+uint32_t tracebench_push_over_pieces(const struct tracebench_piece *pieces, size_t pieces_length,
+                                     struct tracebench_encoder_state *state, const struct tracebench_event *event,
+                                     struct tracebench_packet *packets, size_t packets_length, uint64_t *count);
+
+uint32_t tracebench_push_checked_over_pieces(const struct tracebench_piece *pieces, size_t pieces_length,
+                                             struct tracebench_encoder_state *state,
+                                             const struct tracebench_event *event, struct tracebench_packet *packets,
+                                             size_t packets_length, uint64_t *count);
+
+uint32_t tracebench_push_all_over_pieces(const struct tracebench_piece *pieces, size_t pieces_length,
+                                         struct tracebench_encoder_state *state, const struct tracebench_event *events,
+                                         size_t events_length, struct tracebench_packet *packets,
+                                         size_t packets_length, uint64_t *taken, uint64_t *count);
+
+uint32_t tracebench_finish_over_pieces(const struct tracebench_piece *pieces, size_t pieces_length,
+                                       const struct tracebench_encoder_state *state, struct tracebench_packet *packets,
+                                       size_t packets_length, uint64_t *count);
+
+uint32_t tracebench_follow_over_pieces(const struct tracebench_piece *pieces, size_t pieces_length,
+                                       uint32_t has_before, const struct tracebench_event *before,
+                                       const struct tracebench_event *event);
+
+uint32_t tracebench_check_events_over_pieces(const struct tracebench_piece *pieces, size_t pieces_length,
+                                             const struct tracebench_event *events, size_t events_length,
+                                             uint64_t *row);
+
+uint32_t tracebench_feed_over_pieces(const struct tracebench_piece *pieces, size_t pieces_length,
+                                     struct tracebench_decoder_state *state, const uint8_t *payload,
+                                     size_t payload_length, struct tracebench_event *events, size_t events_length,
+                                     uint64_t *count);
+
+uint32_t tracebench_feed_all_over_pieces(const struct tracebench_piece *pieces, size_t pieces_length,
+                                         struct tracebench_decoder_state *state, const uint8_t *payloads,
+                                         size_t payloads_length, const uint64_t *ends, size_t ends_length,
+                                         struct tracebench_event *events, size_t events_length, uint64_t *taken,
+                                         uint64_t *count);
+
+uint32_t tracebench_receive_over_pieces(const struct tracebench_piece *pieces, size_t pieces_length,
+                                        struct tracebench_hart_state *hart, uint64_t number, const uint8_t *payload,
+                                        size_t payload_length, struct tracebench_event *events, size_t events_length,
+                                        uint64_t *count, uint64_t *missing);
+
+uint32_t tracebench_check_over_pieces(const struct tracebench_piece *pieces, size_t pieces_length, const uint8_t *log,
+                                      size_t log_length, uint64_t *row);
+
+uint32_t tracebench_encode_over_pieces(const struct tracebench_piece *pieces, size_t pieces_length,
+                                       const uint8_t *logs, size_t logs_length, const uint64_t *ends,
+                                       size_t ends_length, uint16_t period, uint32_t mode, uint32_t version,
+                                       uint8_t *buffer, size_t buffer_length, uint64_t *wanted,
+                                       struct tracebench_log_place *place);
+
+uint32_t tracebench_decode_over_pieces(const struct tracebench_piece *pieces, size_t pieces_length, uint16_t harts,
+                                       const uint8_t *capture, size_t capture_length, uint16_t hart, uint8_t *buffer,
+                                       size_t buffer_length, uint64_t *wanted, struct tracebench_decode_end *ended);
 
 #ifdef __cplusplus
 }

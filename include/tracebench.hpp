@@ -68,6 +68,10 @@ enum class [[nodiscard]] status : std::uint32_t {
     OddBase = TRACEBENCH_ODD_BASE,
     TooLarge = TRACEBENCH_TOO_LARGE,
     PastEnd = TRACEBENCH_PAST_END,
+    Overlap = TRACEBENCH_OVERLAP,
+    TooMuch = TRACEBENCH_TOO_MUCH,
+    TooManyPieces = TRACEBENCH_TOO_MANY_PIECES,
+    NotSorted = TRACEBENCH_NOT_SORTED,
     WrongHeader = TRACEBENCH_WRONG_HEADER,
     WrongFields = TRACEBENCH_WRONG_FIELDS,
     NoNumber = TRACEBENCH_NO_NUMBER,
@@ -473,6 +477,135 @@ inline status audit(span<const std::uint8_t> sent, span<const std::uint8_t> rece
                     audit_end &ended) noexcept {
     return status{tracebench_audit(detail::at(sent), sent.size(), detail::at(received), received.size(), hart, &counts,
                                    &ended)};
+}
+
+/* Programs in several memories: the same calls over pieces. */
+
+/* A piece of an image, whose bytes somebody else owns. */
+using piece = ::tracebench_piece;
+
+/* The piece of these bytes from an address on. */
+inline piece piece_of(std::uint64_t base, span<const std::uint8_t> bytes) noexcept {
+    return {base, detail::at(bytes), bytes.size()};
+}
+
+/* An image in pieces, which are sorted by base. */
+struct program_in_pieces {
+    span<const piece> pieces;
+};
+
+inline status push(const program_in_pieces &of, encoder_state &state, const event &next, due &packets) noexcept {
+    return detail::into(packets, [&](auto room, auto &count) {
+        return status{tracebench_push_over_pieces(detail::at(of.pieces), of.pieces.size(), &state, &next, room.data(),
+                                                  room.size(), &count)};
+    });
+}
+
+inline status push_checked(const program_in_pieces &of, encoder_state &state, const event &next,
+                           due &packets) noexcept {
+    return detail::into(packets, [&](auto room, auto &count) {
+        return status{tracebench_push_checked_over_pieces(detail::at(of.pieces), of.pieces.size(), &state, &next,
+                                                          room.data(), room.size(), &count)};
+    });
+}
+
+/* Events at once, into so much room, which has the packets of those that are taken. */
+inline status push_all(const program_in_pieces &of, encoder_state &state, span<const event> nexts, span<packet> room,
+                       std::uint64_t &taken, std::uint64_t &count) noexcept {
+    return status{tracebench_push_all_over_pieces(detail::at(of.pieces), of.pieces.size(), &state, detail::at(nexts),
+                                                  nexts.size(), detail::at(room), room.size(), &taken, &count)};
+}
+
+/* The same into a buffer, which has room for the packets of all of them. */
+inline status push_all(const program_in_pieces &of, encoder_state &state, span<const event> nexts,
+                       buffer<packet> &packets, std::uint64_t &taken) noexcept {
+    taken = 0;
+    packets.keep(0);
+    if (packets.room().size() / 2 < nexts.size() && !packets.grow(2 * std::uint64_t{nexts.size()}))
+        return status::Memory;
+    std::uint64_t count = 0;
+    const status said = push_all(of, state, nexts, packets.room(), taken, count);
+    packets.keep(count);
+    return said;
+}
+
+/* Whether an event is legal as the first of a log, and whether it is after the event before. */
+inline status follow(const program_in_pieces &of, const event &first) noexcept {
+    return status{tracebench_follow_over_pieces(detail::at(of.pieces), of.pieces.size(), 0, &first, &first)};
+}
+
+inline status follow(const program_in_pieces &of, const event &before, const event &next) noexcept {
+    return status{tracebench_follow_over_pieces(detail::at(of.pieces), of.pieces.size(), 1, &before, &next)};
+}
+
+inline status check(const program_in_pieces &of, span<const event> events, std::uint64_t &row) noexcept {
+    return status{tracebench_check_events_over_pieces(detail::at(of.pieces), of.pieces.size(), detail::at(events),
+                                                      events.size(), &row)};
+}
+
+inline status finish(const program_in_pieces &of, const encoder_state &state, due &packets) noexcept {
+    return detail::into(packets, [&](auto room, auto &count) {
+        return status{tracebench_finish_over_pieces(detail::at(of.pieces), of.pieces.size(), &state, room.data(),
+                                                    room.size(), &count)};
+    });
+}
+
+inline status feed(const program_in_pieces &of, decoder_state &state, span<const std::uint8_t> given, span<event> room,
+                   std::uint64_t &count) noexcept {
+    return status{tracebench_feed_over_pieces(detail::at(of.pieces), of.pieces.size(), &state, detail::at(given),
+                                              given.size(), detail::at(room), room.size(), &count)};
+}
+
+inline status feed(const program_in_pieces &of, decoder_state &state, span<const std::uint8_t> given,
+                   buffer<event> &events) noexcept {
+    return detail::into(events, [&](auto room, auto &count) { return feed(of, state, given, room, count); });
+}
+
+/* Payloads at once, into so much room, which has the events of those that are taken. */
+inline status feed_all(const program_in_pieces &of, decoder_state &state, const payloads &given, span<event> room,
+                       std::uint64_t &taken, std::uint64_t &count) noexcept {
+    return status{tracebench_feed_all_over_pieces(detail::at(of.pieces), of.pieces.size(), &state,
+                                                  detail::at(given.bytes), given.bytes.size(), detail::at(given.ends),
+                                                  given.ends.size(), detail::at(room), room.size(), &taken, &count)};
+}
+
+inline status receive(const program_in_pieces &of, hart_state &hart, std::uint64_t number,
+                      span<const std::uint8_t> given, buffer<event> &events, std::uint64_t &missing) noexcept {
+    return detail::into(events, [&](auto room, auto &count) {
+        return status{tracebench_receive_over_pieces(detail::at(of.pieces), of.pieces.size(), &hart, number,
+                                                     detail::at(given), given.size(), detail::at(room), room.size(),
+                                                     &count, &missing)};
+    });
+}
+
+inline status check(const program_in_pieces &of, span<const std::uint8_t> log, std::uint64_t &row) noexcept {
+    return status{
+        tracebench_check_over_pieces(detail::at(of.pieces), of.pieces.size(), detail::at(log), log.size(), &row)};
+}
+
+inline status encode(const program_in_pieces &of, const logs &given, const settings &how, span<std::uint8_t> room,
+                     std::uint64_t &wanted, log_place &place) noexcept {
+    return status{tracebench_encode_over_pieces(
+        detail::at(of.pieces), of.pieces.size(), detail::at(given.texts), given.texts.size(), detail::at(given.ends),
+        given.ends.size(), how.period, static_cast<std::uint32_t>(how.mode), static_cast<std::uint32_t>(how.version),
+        detail::at(room), room.size(), &wanted, &place)};
+}
+
+inline status encode(const program_in_pieces &of, const logs &given, const settings &how, bytes &capture,
+                     log_place &place) noexcept {
+    return detail::into(capture, [&](auto room, auto &wanted) { return encode(of, given, how, room, wanted, place); });
+}
+
+inline status decode(const program_in_pieces &of, std::uint16_t harts, span<const std::uint8_t> capture,
+                     std::uint16_t hart, span<std::uint8_t> room, std::uint64_t &wanted, decode_end &ended) noexcept {
+    return status{tracebench_decode_over_pieces(detail::at(of.pieces), of.pieces.size(), harts, detail::at(capture),
+                                                capture.size(), hart, detail::at(room), room.size(), &wanted, &ended)};
+}
+
+inline status decode(const program_in_pieces &of, std::uint16_t harts, span<const std::uint8_t> capture,
+                     std::uint16_t hart, bytes &log, decode_end &ended) noexcept {
+    return detail::into(log,
+                        [&](auto room, auto &wanted) { return decode(of, harts, capture, hart, room, wanted, ended); });
 }
 
 } // namespace TRACEBENCH_SPANS

@@ -16,10 +16,10 @@ extern "C" {
 /* The bytes of the longest payload. */
 #define MOST_BYTES 18
 
-/* An image: its bytes come after it. */
+/* An image in pieces, which are sorted by base. The bytes of each are in a block of its own. */
 struct image {
-    uint64_t base;
-    size_t length;
+    struct tracebench_piece *pieces;
+    size_t count;
 };
 
 static_assert(sizeof(struct tracebench_packet) == 56, "the bits of packet_t");
@@ -28,22 +28,47 @@ static_assert(sizeof(struct tracebench_encoder_state) == 56, "the bits of encode
 static_assert(sizeof(struct tracebench_decoder_state) == 72, "the bits of decoder_state_t");
 static_assert(sizeof(struct tracebench_hart_state) == 80, "the bits of hart_state_t");
 
-static const uint8_t *bytes_of(const struct image *image) { return (const uint8_t *)(image + 1); }
-
 const char *tracebench_dpi_status_text(uint32_t status) { return tracebench_status_text(status); }
 
-void *tracebench_dpi_new_image(uint64_t base, const svOpenArrayHandle bytes) {
-    const size_t length = (size_t)svSize(bytes, 1);
-    struct image *image = (struct image *)malloc(sizeof *image + length);
-    if (image == NULL) return NULL;
-    image->base = base;
-    image->length = length;
-    uint8_t *to = (uint8_t *)(image + 1);
-    for (size_t i = 0; i < length; i++) to[i] = *(const uint8_t *)svGetArrElemPtr1(bytes, svLow(bytes, 1) + (int)i);
-    return image;
+/* A copy of an array of SystemVerilog, in a block that is never empty. */
+static uint8_t *copied(const svOpenArrayHandle bytes, size_t length) {
+    uint8_t *copy = (uint8_t *)malloc(length + 1);
+    for (size_t i = 0; copy != NULL && i < length; i++)
+        copy[i] = *(const uint8_t *)svGetArrElemPtr1(bytes, svLow(bytes, 1) + (int)i);
+    return copy;
 }
 
-void tracebench_dpi_free_image(void *image) { free(image); }
+uint32_t tracebench_dpi_add_piece(void *image, uint64_t base, const svOpenArrayHandle bytes) {
+    struct image *of = (struct image *)image;
+    if (of == NULL) return TRACEBENCH_MEMORY;
+    const size_t length = (size_t)svSize(bytes, 1);
+    void *pieces = realloc(of->pieces, (of->count + 1) * sizeof *of->pieces);
+    if (pieces == NULL) return TRACEBENCH_MEMORY;
+    of->pieces = (struct tracebench_piece *)pieces;
+    uint8_t *copy = copied(bytes, length);
+    if (copy == NULL) return TRACEBENCH_MEMORY;
+    size_t place = of->count++;
+    for (; place != 0 && base < of->pieces[place - 1].base; place--) of->pieces[place] = of->pieces[place - 1];
+    of->pieces[place].base = base;
+    of->pieces[place].bytes = copy;
+    of->pieces[place].length = length;
+    return TRACEBENCH_DONE;
+}
+
+void tracebench_dpi_free_image(void *image) {
+    struct image *of = (struct image *)image;
+    if (of == NULL) return;
+    for (size_t i = 0; i < of->count; i++) free((void *)(uintptr_t)of->pieces[i].bytes);
+    free(of->pieces);
+    free(of);
+}
+
+void *tracebench_dpi_new_image(uint64_t base, const svOpenArrayHandle bytes) {
+    struct image *image = (struct image *)calloc(1, sizeof *image);
+    if (tracebench_dpi_add_piece(image, base, bytes) == TRACEBENCH_DONE) return image;
+    tracebench_dpi_free_image(image);
+    return NULL;
+}
 
 uint32_t tracebench_dpi_pack(const svBitVecVal *packet, svBitVecVal *payload, uint32_t *length) {
     struct tracebench_packet given;
@@ -78,7 +103,7 @@ uint32_t tracebench_dpi_encoder(uint16_t period, uint32_t mode, svBitVecVal *sta
 }
 
 /* A call that takes the next event of a log. */
-typedef uint32_t push_call(uint64_t base, const uint8_t *image, size_t image_length,
+typedef uint32_t push_call(const struct tracebench_piece *pieces, size_t pieces_length,
                            struct tracebench_encoder_state *state, const struct tracebench_event *event,
                            struct tracebench_packet *packets, size_t packets_length, uint64_t *count);
 
@@ -92,7 +117,7 @@ static uint32_t push_by(push_call *call, const struct image *of, svBitVecVal *st
     memcpy(&kept, state, sizeof kept);
     memcpy(&event, next, sizeof event);
     const uint32_t status = of == NULL ? TRACEBENCH_MEMORY
-                                       : call(of->base, bytes_of(of), of->length, &kept, &event, due, 2, &made);
+                                       : call(of->pieces, of->count, &kept, &event, due, 2, &made);
     memcpy(state, &kept, sizeof kept);
     memcpy(packets, due, sizeof due);
     *count = (uint32_t)made;
@@ -101,12 +126,12 @@ static uint32_t push_by(push_call *call, const struct image *of, svBitVecVal *st
 
 uint32_t tracebench_dpi_push(void *image, svBitVecVal *state, const svBitVecVal *next, svBitVecVal *packets,
                              uint32_t *count) {
-    return push_by(tracebench_push, (const struct image *)image, state, next, packets, count);
+    return push_by(tracebench_push_over_pieces, (const struct image *)image, state, next, packets, count);
 }
 
 uint32_t tracebench_dpi_push_checked(void *image, svBitVecVal *state, const svBitVecVal *next, svBitVecVal *packets,
                                      uint32_t *count) {
-    return push_by(tracebench_push_checked, (const struct image *)image, state, next, packets, count);
+    return push_by(tracebench_push_checked_over_pieces, (const struct image *)image, state, next, packets, count);
 }
 
 uint32_t tracebench_dpi_follow(void *image, uint32_t has_before, const svBitVecVal *before, const svBitVecVal *next) {
@@ -116,7 +141,7 @@ uint32_t tracebench_dpi_follow(void *image, uint32_t has_before, const svBitVecV
     memcpy(&earlier, before, sizeof earlier);
     memcpy(&event, next, sizeof event);
     return of == NULL ? TRACEBENCH_MEMORY
-                      : tracebench_follow(of->base, bytes_of(of), of->length, has_before, &earlier, &event);
+                      : tracebench_follow_over_pieces(of->pieces, of->count, has_before, &earlier, &event);
 }
 
 uint32_t tracebench_dpi_finish(void *image, const svBitVecVal *state, svBitVecVal *packets, uint32_t *count) {
@@ -127,7 +152,7 @@ uint32_t tracebench_dpi_finish(void *image, const svBitVecVal *state, svBitVecVa
     memset(due, 0, sizeof due);
     memcpy(&kept, state, sizeof kept);
     const uint32_t status =
-        of == NULL ? TRACEBENCH_MEMORY : tracebench_finish(of->base, bytes_of(of), of->length, &kept, due, 2, &made);
+        of == NULL ? TRACEBENCH_MEMORY : tracebench_finish_over_pieces(of->pieces, of->count, &kept, due, 2, &made);
     memcpy(packets, due, sizeof due);
     *count = (uint32_t)made;
     return status;
@@ -162,7 +187,7 @@ uint32_t tracebench_dpi_feed(void *image, svBitVecVal *state, const svBitVecVal 
         return TRACEBENCH_MEMORY;
     }
     memcpy(&kept, state, sizeof kept);
-    const uint32_t status = tracebench_feed(of->base, bytes_of(of), of->length, &kept, (const uint8_t *)payload, length,
+    const uint32_t status = tracebench_feed_over_pieces(of->pieces, of->count, &kept, (const uint8_t *)payload, length,
                                             at, room, &settled);
     memcpy(state, &kept, sizeof kept);
     if (status == TRACEBENCH_DONE) hand_out(at, settled, events);
@@ -186,7 +211,7 @@ uint32_t tracebench_dpi_receive(void *image, svBitVecVal *hart, uint64_t number,
         return TRACEBENCH_MEMORY;
     }
     memcpy(&kept, hart, sizeof kept);
-    const uint32_t status = tracebench_receive(of->base, bytes_of(of), of->length, &kept, number,
+    const uint32_t status = tracebench_receive_over_pieces(of->pieces, of->count, &kept, number,
                                                (const uint8_t *)payload, length, at, room, &settled, missing);
     memcpy(hart, &kept, sizeof kept);
     if (status == TRACEBENCH_DONE) hand_out(at, settled, events);

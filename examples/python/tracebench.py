@@ -4,12 +4,13 @@
     library = tracebench.Library("libtracebench.so")
     capture = library.encode(0x80000000, image, [log], 1024, tracebench.DIFFERENTIAL, tracebench.VERSION_TWO)
 
-An image, a log, a capture or a payload is any object that lends its bytes in one piece: bytes, bytearray, memoryview,
+An image (or `Pieces` of one), a log, a capture or a payload is any object that lends its bytes in one piece: bytes, bytearray, memoryview,
 mmap.mmap, an array. A call reads them where they are; `encode` joins the logs, since C wants them one after the other.
 arrays.py has events and packets as arrays of NumPy.
 """
 import ctypes
 from ctypes import POINTER, byref, c_char_p, c_int, c_size_t, c_ssize_t, c_uint8, c_uint16, c_uint32, c_uint64, c_void_p
+from functools import partial
 from itertools import accumulate
 from typing import Annotated, Any, Callable, Iterable, List, Optional, Sequence, Tuple, Type, TypeVar, get_type_hints
 
@@ -184,6 +185,25 @@ class Borrowed:
         ctypes.pythonapi.PyBuffer_Release(byref(self.view))
 
 
+class Piece(ctypes.Structure):
+    """A piece of an image, as C takes it."""
+    _fields_ = [("base", c_uint64), ("bytes", c_void_p), ("length", c_size_t)]
+
+
+class Pieces:
+    """An image in several memories, as a boot ROM, flash and RAM: where each begins and what lends its bytes, sorted by
+    base. It is handed in for an image, and the base beside it is not looked at:
+
+        library.push(0, tracebench.Pieces((0x1000, rom), (0x80000000, ram)), state, event)
+    """
+
+    def __init__(self, *pieces: Tuple[int, Lender]) -> None:
+        self.borrowed = [Borrowed(lender) for _, lender in pieces]
+        self.array = (Piece * (len(pieces) or 1))(*((base, *of.slice)
+                                                    for (base, _), of in zip(pieces, self.borrowed)))
+        self.count = len(pieces)
+
+
 SLICE = [c_void_p, c_size_t]
 ROOM = [c_void_p, c_size_t, POINTER(c_uint64)]
 TAKEN = [c_void_p, c_size_t, POINTER(c_uint64), POINTER(c_uint64)]
@@ -210,6 +230,10 @@ PARAMETERS = {
     "decode": [c_uint64, *SLICE, c_uint16, *SLICE, c_uint16, *ROOM, POINTER(DecodeEnd)],
     "audit": [*SLICE, *SLICE, c_uint16, POINTER(Tally), POINTER(AuditEnd)],
 }
+# Calls that take a base and an image, and their like over pieces.
+OVER = "push", "push_checked", "push_all", "follow", "check_events", "finish", "feed", "feed_all", "receive", "check", \
+    "encode", "decode"
+PARAMETERS.update({f"{name}_over_pieces": [POINTER(Piece), c_size_t, *PARAMETERS[name][3:]] for name in OVER})
 Call = Callable[..., int]
 
 
@@ -237,6 +261,15 @@ class Library:
         call = getattr(shared, f"tracebench_{name}")
         call.argtypes, call.restype = PARAMETERS[name], None if name == "decoder" else c_uint32
         return call  # type: ignore[no-any-return]
+
+    def _over(self, name: str, base: int, image: Lender) -> Call:
+        """A call over an image, or over pieces, which stay as long as the call does."""
+        if isinstance(image, Pieces):
+            return partial(self.calls[f"{name}_over_pieces"], image.array, image.count)
+        of = Borrowed(image)
+        call = partial(self.calls[name], base, *of.slice)
+        call.of = of  # type: ignore[attr-defined]
+        return call
 
     def version(self) -> str:
         """The version of the library."""
@@ -277,8 +310,8 @@ class Library:
         return self._pushed("push_checked", base, image, state, event)
 
     def _pushed(self, call: str, base: int, image: Lender, state: EncoderState, event: Event) -> List[Packet]:
-        of, packets, count = Borrowed(image), (Packet * 2)(), c_uint64()
-        if status := self.calls[call](base, *of.slice, byref(state), byref(event), packets, 2, byref(count)):
+        packets, count = (Packet * 2)(), c_uint64()
+        if status := self._over(call, base, image)(byref(state), byref(event), packets, 2, byref(count)):
             raise Refused(status)
         return packets[: count.value]
 
@@ -287,9 +320,9 @@ class Library:
         """Pushes events, which lend their bytes, as long as their packets fit into what lends the bytes of packets: the
         status, which is not 0 where an event has no room or is refused, how many events were taken, and how many
         packets were written. `state` then has taken those events."""
-        of, given, room, taken, count = Borrowed(image), Borrowed(events), Borrowed(packets), c_uint64(), c_uint64()
-        status = self.calls["push_all"](base, *of.slice, byref(state), *given.of(Event), *room.of(Packet), byref(taken),
-                                        byref(count))
+        given, room, taken, count = Borrowed(events), Borrowed(packets), c_uint64(), c_uint64()
+        call = self._over("push_all", base, image)
+        status = call(byref(state), *given.of(Event), *room.of(Packet), byref(taken), byref(count))
         return status, taken.value, count.value
 
     def feed_all(self, base: int, image: Lender, state: DecoderState, payloads: Lender, ends: Lender,
@@ -298,32 +331,32 @@ class Library:
         bytes of events: the status, which is not 0 where a payload has no room or is refused, how many payloads were
         taken, and how many events were written. `ends` lends numbers of 64 bits. `state` then has taken those
         payloads."""
-        of, given, to, room = Borrowed(image), Borrowed(payloads), Borrowed(ends), Borrowed(events)
+        given, to, room = Borrowed(payloads), Borrowed(ends), Borrowed(events)
         taken, count = c_uint64(), c_uint64()
-        status = self.calls["feed_all"](base, *of.slice, byref(state), *given.slice, *to.of(c_uint64), *room.of(Event),
-                                        byref(taken), byref(count))
+        call = self._over("feed_all", base, image)
+        status = call(byref(state), *given.slice, *to.of(c_uint64), *room.of(Event), byref(taken), byref(count))
         return status, taken.value, count.value
 
     def follow(self, base: int, image: Lender, before: Optional[Event], event: Event) -> int:
         """The status of an event after the event before, or as the first of a log: 0 where it is legal, and else why it
         is not."""
-        of, earlier = Borrowed(image), before or Event()
-        status = self.calls["follow"](base, *of.slice, before is not None, byref(earlier), byref(event))
+        earlier = before or Event()
+        status = self._over("follow", base, image)(before is not None, byref(earlier), byref(event))
         if status != DONE and not OFF_PROGRAM <= status <= WRONG_EPC:
             raise Refused(status)
         return status
 
     def check_events(self, base: int, image: Lender, events: Lender) -> int:
         """How many events a legal log has, whose events lend their bytes: an array of `Event`, or one of NumPy."""
-        of, given, row = Borrowed(image), Borrowed(events), c_uint64()
-        if status := self.calls["check_events"](base, *of.slice, *given.of(Event), byref(row)):
+        given, row = Borrowed(events), c_uint64()
+        if status := self._over("check_events", base, image)(*given.of(Event), byref(row)):
             raise Refused(status, row=row.value)
         return row.value
 
     def finish(self, base: int, image: Lender, state: EncoderState) -> List[Packet]:
         """The packets that are left at the end of a log."""
-        of, packets, count = Borrowed(image), (Packet * 2)(), c_uint64()
-        if status := self.calls["finish"](base, *of.slice, byref(state), packets, 2, byref(count)):
+        packets, count = (Packet * 2)(), c_uint64()
+        if status := self._over("finish", base, image)(byref(state), packets, 2, byref(count)):
             raise Refused(status)
         return packets[: count.value]
 
@@ -342,10 +375,10 @@ class Library:
                 payload: Lender) -> Tuple["ctypes.Array[Event]", int]:
         """The same, as an array that begins with these events, and how many they are. If the first array is too small,
         the call is repeated with one that is not."""
-        of, given, room, count = Borrowed(image), Borrowed(payload), 64, c_uint64()
+        call, given, room, count = self._over("feed", base, image), Borrowed(payload), 64, c_uint64()
         while True:
             events = (Event * room)()
-            status = self.calls["feed"](base, *of.slice, byref(state), *given.slice, events, room, byref(count))
+            status = call(byref(state), *given.slice, events, room, byref(count))
             if status == DONE:
                 return events, count.value
             if status != TOO_SMALL:
@@ -356,11 +389,11 @@ class Library:
                 payload: Lender) -> Tuple[List[Event], int]:
         """The events that the message of a hart with this number settles, and 0. Or numbers are missing before it: no
         event, and how many. Then the message was not taken: end the stretch, call `resume`, and hand it in again."""
-        of, given, room, count, missing = Borrowed(image), Borrowed(payload), 64, c_uint64(), c_uint64()
+        call, given, room = self._over("receive", base, image), Borrowed(payload), 64
+        count, missing = c_uint64(), c_uint64()
         while True:
             events = (Event * room)()
-            status = self.calls["receive"](base, *of.slice, byref(hart), number, *given.slice, events, room,
-                                           byref(count), byref(missing))
+            status = call(byref(hart), number, *given.slice, events, room, byref(count), byref(missing))
             if status == GAP:
                 return [], missing.value
             if status == DONE:
@@ -376,17 +409,17 @@ class Library:
 
     def check(self, base: int, image: Lender, log: Lender) -> int:
         """How many events a legal log has."""
-        of, text, row = Borrowed(image), Borrowed(log), c_uint64()
-        if status := self.calls["check"](base, *of.slice, *text.slice, byref(row)):
+        text, row = Borrowed(log), c_uint64()
+        if status := self._over("check", base, image)(*text.slice, byref(row)):
             raise Refused(status, row=row.value)
         return row.value
 
     def encode(self, base: int, image: Lender, logs: Sequence[Lender], period: int, mode: int, version: int) -> bytes:
         """The capture of harts' logs, hart 0 first."""
-        of, texts, place = Borrowed(image), Borrowed(b"".join(logs)), LogPlace()
+        texts, place = Borrowed(b"".join(logs)), LogPlace()
         ends = (c_uint64 * (len(logs) + 1))(*accumulate(memoryview(log).nbytes for log in logs))
-        words = base, *of.slice, *texts.slice, ends, len(logs), period, mode, version
-        status, capture = handed_out(self.calls["encode"], *words, more=(place,))
+        words = *texts.slice, ends, len(logs), period, mode, version
+        status, capture = handed_out(self._over("encode", base, image), *words, more=(place,))
         if status != DONE:
             raise Refused(status, place.log, place.row)
         return capture
@@ -401,9 +434,9 @@ class Library:
 
     def decode(self, base: int, image: Lender, harts: int, capture: Lender, hart: int) -> Tuple[bytes, DecodeEnd]:
         """The log of a hart as text, and how decoding ended. A capture without a header has so many harts."""
-        of, given, ended = Borrowed(image), Borrowed(capture), DecodeEnd()
-        words = base, *of.slice, harts, *given.slice, hart
-        status, text = handed_out(self.calls["decode"], *words, more=(ended,))
+        given, ended = Borrowed(capture), DecodeEnd()
+        words = harts, *given.slice, hart
+        status, text = handed_out(self._over("decode", base, image), *words, more=(ended,))
         if status != DONE:
             raise Refused(status)
         return text, ended

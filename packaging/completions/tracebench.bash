@@ -14,18 +14,18 @@ _tracebench() {
         return
     fi
     case ${COMP_WORDS[1]} in
-    check) options="--base --explain --long --progress --help" ;;
-    encode) options="--base --period --full --v1 --hex --first --of --long --progress --help" ;;
+    check) options="--base --also --explain --long --progress --help" ;;
+    encode) options="--base --also --period --full --v1 --hex --first --of --long --progress --help" ;;
     dump) options="--search --progress --help" ;;
-    decode) options="--base --harts --lossy --progress --help" ;;
-    replay) options="--base --period --full --capacity --progress --help" ;;
-    bench) options="--base --period --full --capacity --progress --help" ;;
+    decode) options="--base --also --harts --lossy --progress --help" ;;
+    replay) options="--base --also --period --full --capacity --progress --help" ;;
+    bench) options="--base --also --period --full --capacity --progress --help" ;;
     audit) options="--packets --unnumbered --summary --format --progress --help" ;;
-    measure) options="--base --period --full --long --progress --help" ;;
-    list) options="--base --harts --symbols --salvage --progress --help" ;;
-    salvage) options="--base --harts --summary --format --progress --help" ;;
+    measure) options="--base --also --period --full --long --progress --help" ;;
+    list) options="--base --also --harts --symbols --salvage --format --progress --help" ;;
+    salvage) options="--base --also --harts --summary --format --progress --help" ;;
     capture) options="--v1 --full --period --harts --help" ;;
-    compare) options="--base --harts --long --progress --help" ;;
+    compare) options="--base --also --harts --long --progress --help" ;;
     help)
         mapfile -t COMPREPLY < <(compgen -W "$subcommands" -- "$current")
         return
@@ -39,7 +39,7 @@ _tracebench() {
         previous=${COMP_WORDS[COMP_CWORD - 2]}
     fi
     case $previous in
-    --base | --capacity | --first | --format | --harts | --of | --period) return ;;
+    --also | --base | --capacity | --first | --format | --harts | --of | --period) return ;;
     esac
     case $current in
     -*) mapfile -t COMPREPLY < <(compgen -W "$options" -- "$current") ;;

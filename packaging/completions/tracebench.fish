@@ -26,12 +26,14 @@ complete -c tracebench -n '__tracebench_given help' -a 'check encode dump decode
 
 complete -c tracebench -n '__tracebench_given check' -F
 complete -c tracebench -n '__tracebench_given check' -l base -x -d 'Address of the image'\''s first byte, in hexadecimal'
+complete -c tracebench -n '__tracebench_given check' -l also -x -d 'Further piece of the image, any number of times: address in hexadecimal, =, file'
 complete -c tracebench -n '__tracebench_given check' -l explain -d 'Print below an illegal row what is there and what may follow'
 complete -c tracebench -n '__tracebench_given check' -l long -d 'Take logs of up to 4294967295 rows, not 16777216'
 complete -c tracebench -n '__tracebench_given check' -l progress -d 'Show how far the logs are read, where standard error is a terminal'
 
 complete -c tracebench -n '__tracebench_given encode' -F
 complete -c tracebench -n '__tracebench_given encode' -l base -x -d 'Address of the image'\''s first byte, in hexadecimal'
+complete -c tracebench -n '__tracebench_given encode' -l also -x -d 'Further piece of the image, any number of times: address in hexadecimal, =, file'
 complete -c tracebench -n '__tracebench_given encode' -l period -x -d 'Retirements from one periodic synchronisation to the next, 1 to 65535'
 complete -c tracebench -n '__tracebench_given encode' -l full -d 'Report addresses in full, not as differences'
 complete -c tracebench -n '__tracebench_given encode' -l v1 -d 'Write a capture of version 1, which has no header, of at most 64 logs'
@@ -47,12 +49,14 @@ complete -c tracebench -n '__tracebench_given dump' -l progress -d 'Show how far
 
 complete -c tracebench -n '__tracebench_given decode' -F
 complete -c tracebench -n '__tracebench_given decode' -l base -x -d 'Address of the image'\''s first byte, in hexadecimal'
+complete -c tracebench -n '__tracebench_given decode' -l also -x -d 'Further piece of the image, any number of times: address in hexadecimal, =, file'
 complete -c tracebench -n '__tracebench_given decode' -l harts -x -d 'How many harts a capture of version 1 may have, 1 to 1024'
 complete -c tracebench -n '__tracebench_given decode' -l lossy -d 'Go on where messages are missing, and print how many are'
 complete -c tracebench -n '__tracebench_given decode' -l progress -d 'Show how far the capture is worked through, where standard error is a terminal'
 
 complete -c tracebench -n '__tracebench_given replay' -F
 complete -c tracebench -n '__tracebench_given replay' -l base -x -d 'Address of the image'\''s first byte, in hexadecimal'
+complete -c tracebench -n '__tracebench_given replay' -l also -x -d 'Further piece of the image, any number of times: address in hexadecimal, =, file'
 complete -c tracebench -n '__tracebench_given replay' -l period -x -d 'Retirements from one periodic synchronisation to the next, 1 to 65535'
 complete -c tracebench -n '__tracebench_given replay' -l full -d 'Report addresses in full, not as differences'
 complete -c tracebench -n '__tracebench_given replay' -l capacity -x -d 'How many messages the funnel holds, 1 to 65536'
@@ -60,6 +64,7 @@ complete -c tracebench -n '__tracebench_given replay' -l progress -d 'Show how f
 
 complete -c tracebench -n '__tracebench_given bench' -F
 complete -c tracebench -n '__tracebench_given bench' -l base -x -d 'Address of the image'\''s first byte, in hexadecimal'
+complete -c tracebench -n '__tracebench_given bench' -l also -x -d 'Further piece of the image, any number of times: address in hexadecimal, =, file'
 complete -c tracebench -n '__tracebench_given bench' -l period -x -d 'Retirements from one periodic synchronisation to the next, 1 to 65535'
 complete -c tracebench -n '__tracebench_given bench' -l full -d 'Report addresses in full, not as differences'
 complete -c tracebench -n '__tracebench_given bench' -l capacity -x -d 'How many messages the funnel holds, 1 to 65536'
@@ -74,6 +79,7 @@ complete -c tracebench -n '__tracebench_given audit' -l progress -d 'Show how fa
 
 complete -c tracebench -n '__tracebench_given measure' -F
 complete -c tracebench -n '__tracebench_given measure' -l base -x -d 'Address of the image'\''s first byte, in hexadecimal'
+complete -c tracebench -n '__tracebench_given measure' -l also -x -d 'Further piece of the image, any number of times: address in hexadecimal, =, file'
 complete -c tracebench -n '__tracebench_given measure' -l period -x -d 'Retirements from one periodic synchronisation to the next, 1 to 65535'
 complete -c tracebench -n '__tracebench_given measure' -l full -d 'Report addresses in full, not as differences'
 complete -c tracebench -n '__tracebench_given measure' -l long -d 'Take logs of up to 4294967295 rows, not 16777216'
@@ -81,13 +87,16 @@ complete -c tracebench -n '__tracebench_given measure' -l progress -d 'Show how 
 
 complete -c tracebench -n '__tracebench_given list' -F
 complete -c tracebench -n '__tracebench_given list' -l base -x -d 'Address of the image'\''s first byte, in hexadecimal'
+complete -c tracebench -n '__tracebench_given list' -l also -x -d 'Further piece of the image, any number of times: address in hexadecimal, =, file'
 complete -c tracebench -n '__tracebench_given list' -l harts -x -d 'How many harts a capture of version 1 may have, 1 to 1024; without it, 1, with --salvage those of its messages'
 complete -c tracebench -n '__tracebench_given list' -l symbols -r -F -d 'File of the program'\''s symbols, as `nm` prints them'
 complete -c tracebench -n '__tracebench_given list' -l salvage -d 'List every message that is found, and what `salvage` does with it'
+complete -c tracebench -n '__tracebench_given list' -l format -x -d 'What is printed: text, or csv, a table'
 complete -c tracebench -n '__tracebench_given list' -l progress -d 'Show how far the capture is worked through, where standard error is a terminal'
 
 complete -c tracebench -n '__tracebench_given salvage' -F
 complete -c tracebench -n '__tracebench_given salvage' -l base -x -d 'Address of the image'\''s first byte, in hexadecimal'
+complete -c tracebench -n '__tracebench_given salvage' -l also -x -d 'Further piece of the image, any number of times: address in hexadecimal, =, file'
 complete -c tracebench -n '__tracebench_given salvage' -l harts -x -d 'How many harts a capture with no valid header has, 1 to 1024; without it, those of its messages'
 complete -c tracebench -n '__tracebench_given salvage' -l summary -d 'Leave out the texts of the logs'
 complete -c tracebench -n '__tracebench_given salvage' -l format -x -d 'What is printed: text, or csv, a table'
@@ -101,6 +110,7 @@ complete -c tracebench -n '__tracebench_given capture' -l harts -x -d 'How many 
 
 complete -c tracebench -n '__tracebench_given compare' -F
 complete -c tracebench -n '__tracebench_given compare' -l base -x -d 'Address of the image'\''s first byte, in hexadecimal'
+complete -c tracebench -n '__tracebench_given compare' -l also -x -d 'Further piece of the image, any number of times: address in hexadecimal, =, file'
 complete -c tracebench -n '__tracebench_given compare' -l harts -x -d 'How many harts a capture of version 1 may have, 1 to 1024'
 complete -c tracebench -n '__tracebench_given compare' -l long -d 'Take logs of up to 4294967295 rows, not 16777216'
 complete -c tracebench -n '__tracebench_given compare' -l progress -d 'Show how far the logs are read, where standard error is a terminal'

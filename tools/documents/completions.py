@@ -72,7 +72,8 @@ def zsh_argument(argument, place):
     action = ":_files" if argument.is_file() else ": "
     if not argument.value:
         return quoted(f"--{argument.name}[{about}]")
-    return quoted(f"--{argument.name}=[{about}]:{argument.value}{action}")
+    many = "*" * argument.is_many
+    return quoted(f"{many}--{argument.name}=[{about}]:{argument.value}{action}")
 
 
 def for_zsh(subcommands):

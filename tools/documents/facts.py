@@ -13,7 +13,7 @@ DOCUMENT = "docs/FORMATS.md"
 README = "README.md"
 HELP = "crates/cli/src/help.rt"
 # Which limits README has, by the first column of their table.
-LIMITS_OF_README = ("an image", "a log", "a log of `check`, `encode`, `measure` with `--long`",
+LIMITS_OF_README = ("a piece of an image", "an image", "pieces of an image", "a log", "a log of `check`, `encode`, `measure` with `--long`",
                     "logs of a run, harts of a capture")
 # The texts of faults that the program does not report: of calls of the library, and of runs that it never begins.
 NOT_REPORTED = {

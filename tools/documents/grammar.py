@@ -21,7 +21,7 @@ class Unread(Exception):
 
 
 class Argument:
-    """An argument: an option `--NAME`, with a value where it has one, or a file."""
+    """An argument: an option `--NAME`, with a value where it has one, or a file. Of `is_many` there may be several."""
 
     def __init__(self, name, about, value=None, default=None, is_option=True, is_required=False, is_many=False):
         self.name, self.about, self.value, self.default = name, about, value, default
@@ -51,11 +51,12 @@ class Subcommand:
         return [argument for argument in self.arguments if not argument.is_option]
 
     def synopsis(self):
-        """The command line: what may be left out is in brackets."""
+        """The command line: what may be left out is in brackets, and dots follow an option that may be repeated."""
         words = [self.name]
         for argument in self.arguments:
             needed = argument.is_required or not argument.is_option
-            words.append(argument.spelled() if needed else f"[{argument.spelled()}]")
+            dots = "..." * (argument.is_option and argument.is_many)
+            words.append((argument.spelled() if needed else f"[{argument.spelled()}]") + dots)
         return " ".join(words)
 
 

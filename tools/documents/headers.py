@@ -21,6 +21,8 @@ OF_LIBRARY = {"crates/tracebench_c/src/version.rt": r'VERSION: \[u8; \d+\] = \*b
               "crates/tracebench_c/specs/VersionText.antt": r'^version_text = codes "(.*)"$'}
 # What the program says before the name of a fault of a payload.
 BEFORE = {"pack": "bad packet: "}
+# What has faults of an image beside its own, which keep the texts of an image.
+PIECES = "piece"
 # Constants of captures, which the package for SystemVerilog does not have.
 NOT_OF_PACKAGE = {"VERSION_ONE", "VERSION_TWO"}
 
@@ -76,6 +78,8 @@ def wanted_texts():
     texts, wanted = program_texts(), {}
     for head, fault, status in re.findall(r"^(\w+)_status \(?(?:\w+\.)?([A-Z]\w*)[^=\n]*= ([A-Z_]+)$",
                                           grammar.content(FAULTS), re.MULTILINE):
+        if head == PIECES and status in wanted:
+            continue
         if (head, fault) in texts:
             wanted.setdefault(status, set()).add(BEFORE.get(head, "") + texts[head, fault])
     for name, (comment, _) in of_source().items():

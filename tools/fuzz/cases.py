@@ -22,10 +22,16 @@ def image(random):
     return random.choice(BASES), bytes(made[: len(made) - random.choice((0, 0, 0, 1))])
 
 
+def any_place(random, program, more=1):
+    """An even address of a piece, or one of so many behind it."""
+    base, image = program.pieces[0] if len(program.pieces) == 1 else random.choice(program.pieces)
+    return base + 2 * random.randrange(len(image) // 2 + more)
+
+
 def any_retirement(random, program, privileges):
     """A retirement at one of these privileges, wherever the program has one; None where a few throws find none."""
     for _ in range(8):
-        address = program.base + 2 * random.randrange(len(program.image) // 2 + 1)
+        address = any_place(random, program)
         if found := retirement_at(random, program, address, privileges):
             return found
     return None
@@ -193,7 +199,7 @@ def header(mode, period, harts):
 
 def any_packet(random, program):
     """A packet that may or may not fit."""
-    near = lambda: program.base + 2 * random.randrange(len(program.image) // 2 + 2)
+    near = lambda: any_place(random, program, 2)
     outcomes = lambda count: tuple(random.random() < 0.5 for _ in range(count))
     privilege = random.choice((0, 1, 3, 3))
     kind = random.choice(("sync", "trap", "address", "address", "address", "map", "open", "ended_rep", "ended_ntr"))
@@ -215,11 +221,11 @@ def any_packet(random, program):
 
 
 class Maker:
-    """Cases over one program."""
+    """Cases over one program, a random one if none is given."""
 
-    def __init__(self, random):
+    def __init__(self, random, program=None):
         self.random = random
-        self.program = reading.Program(*image(random))
+        self.program = program or reading.Program(*image(random))
         self.logs = [legal_log(random, self.program, random.choice((0, 1, 2, 5, 20, 80))) for _ in range(24)]
         self.payloads = {mode: [self.payloads_of(log, mode) for log in self.logs] for mode in reading.MODES}
 

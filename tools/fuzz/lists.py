@@ -6,6 +6,9 @@ import reading
 
 CAPTURE, SYMBOLS = "case", "symbols"
 SYMBOL = re.compile(rb"([0-9a-fA-F]{1,16}) (?:(?:[0-9a-fA-F]{8}|[0-9a-fA-F]{16}) )?[tTwW] ([^$].*)", re.DOTALL)
+NAMES = (
+    b"main", b"a b", b"", b" x", b"_start", b"\xff\x80", b"x<+>", b"$x", b"f<1, 2>()", b'say "so"', b'"', b"a\rb", b",", b"\xc3",
+)
 NO_SYMBOL = "no symbol of code: give it what nm prints"
 
 
@@ -79,7 +82,7 @@ def any_symbols(random, program):
         address = (program.base + random.randrange(-4, len(program.image) + 4)) & reading.MASK
         address = random.choice((address, address, address, 0, 1 << 63, reading.MASK))
         kind = random.choice((b"t", b"T", b"T", b"w", b"W", b"d", b"B", b"", b"tt"))
-        name = random.choice((b"main", b"a b", b"", b" x", b"_start", b"\xff\x80", b"x<+>", b"$x"))
+        name = random.choice(NAMES)
         end = random.choice((b"\n", b"\n", b"\n", b"\r\n", b"", b"\r"))
         digits = random.choice((b"%x", b"%X", b"%016x", b"0x%x", b"%017x")) % address
         size = random.choice((b"", b"", b"", b"00000010 ", b"00000000000000aB ", b"000000010 ", b"0000001g "))

@@ -26,28 +26,35 @@ CB = (12, 8, 1), (10, 3, 2), (5, 6, 2), (3, 1, 2), (2, 5, 1)
 
 
 class Program:
-    """An image at its base; `at` gives the class, the target where there is one, and the length."""
+    """An image at its base, and other pieces of it, each with its own; `at` gives the class, the target where there is one,
+    and the length."""
 
-    def __init__(self, base, image):
+    def __init__(self, base, image, also=()):
         self.base, self.image, self.known = base, image, {}
+        self.pieces = [(base, image), *also]
 
     def at(self, address):
         if address not in self.known:
             self.known[address] = self.looked_up(address)
         return self.known[address]
 
+    def bytes_at(self, address, count):
+        """So many bytes from an address on, whichever pieces they are in; None where one of them is in none."""
+        found = [image[at - base] for at in range(address, address + count)
+                 for base, image in self.pieces if 0 <= at - base < len(image)]
+        return bytes(found) if len(found) == count else None
+
     def looked_up(self, address):
-        place = address - self.base
-        if address % 2 or place < 0 or place + 2 > len(self.image):
+        first = None if address % 2 else self.bytes_at(address, 2)
+        if first is None:
             return None
-        half = int.from_bytes(self.image[place : place + 2], "little")
+        half = int.from_bytes(first, "little")
         if half & 3 != 3:
             return self.short_word(half, address)
         if half & 0x1F == 0x1F:
             return "not retirable", None, 2
-        if place + 4 > len(self.image):
-            return None
-        return self.long_word(int.from_bytes(self.image[place : place + 4], "little"), address)
+        whole = self.bytes_at(address, 4)
+        return whole and self.long_word(int.from_bytes(whole, "little"), address)
 
     def short_word(self, half, address):
         quadrant, funct3 = half & 3, bits(half, 13, 3)

@@ -10,8 +10,10 @@ import cases
 import comparisons
 import frames
 import line_texts
+import list_tables
 import lists
 import measures
+import memories
 import reading
 import salvages
 import treated
@@ -199,8 +201,10 @@ def of_treated(maker, harts, case):
         if not known:
             yield Run(words, 2, b"", f"{lists.SYMBOLS}: {lists.NO_SYMBOL}")
             return
-    yield Run([*words, "--harts", str(harts)], *treated.listing(maker.program, harts, capture, known))
-    yield Run(words, *treated.listing(maker.program, None, capture, known))
+    for asked, count in (["--harts", str(harts)], harts), ([], None):
+        found = treated.listing(maker.program, count, capture, known)
+        yield Run([*words, *asked], *found)
+        yield Run([*words, *asked, "--format", "csv"], None, list_table_of(found, True), None)
 
 
 def of_searched(_, __, capture):
@@ -256,7 +260,20 @@ def of_listed(maker, harts, case):
         if not known:
             yield Run(words, 2, b"", f"{lists.SYMBOLS}: {lists.NO_SYMBOL}")
             return
-    yield Run(words, *lists.listing(maker.program, harts, capture, known))
+    found = lists.listing(maker.program, harts, capture, known)
+    yield Run(words, *found)
+    yield Run([*words, "--format", "csv"], None, list_table_of(found, False), None)
+
+
+def list_table_of(found, is_salvaged):
+    """What a run has to be that prints the table of a list in text, by the status, the text and the error of that: the
+    table says what the text says."""
+    status, text, error = found
+
+    def wanted(answer):
+        fault = list_tables.fault_of(answer, text, is_salvaged)
+        return status, fault.encode() if fault else answer, error
+    return wanted
 
 
 def of_lines(_, __, case):
@@ -288,8 +305,32 @@ def of_comparison(maker, _, case):
     yield Run(["compare", *flags, *base, "image", comparisons.CAPTURE, *names], status, text.encode(), error)
 
 
+def of_threads(maker, _, logs):
+    """What `replay` and `bench` print of some legal logs, each of which comes back whole."""
+    period, mode = maker.random.choice((1, 3, 8, 1024, 0xFFFF)), maker.random.choice(reading.MODES)
+    payloads = [payloads_of(maker, events, period, mode) for events in logs]
+    lines = [f"{len(events)} events, {len(own)} packets, {sum(map(len, own))} payload bytes, decoded {len(events)}, whole\n"
+             for events, own in zip(logs, payloads)]
+    out = "".join(f"hart {hart}: {line}" for hart, line in enumerate(lines)) + "result: whole\n"
+    options = [*options_of(maker, period, mode), "--capacity", str(maker.random.choice((1, 2, 16)))]
+    *names, turns = files_of("threads", logs)
+    yield Run(["replay", *options, "image", turns, *names], 0, out.encode(), None)
+    yield Run(["bench", *options, "image", *names], 0, out.encode(), None)
+
+
+def of_memories(maker, harts, case):
+    """What comes of a case of another kind, over an image and over pieces of it."""
+    inner = OF_CASE[case.kind](maker, harts, case.case)
+    yield from (Run(*run) for run in memories.runs(maker, case, inner))
+
+
 def files_of(kind, case):
     """The files that the runs over a case read, but for the image."""
+    if kind == "memories":
+        return files_of(case.kind, case.case) | memories.files_of(case.pieces)
+    if kind == "threads":
+        turns = "".join(f"{hart} c\n" * (len(events) + 3) for hart, events in enumerate(case))
+        return files_of("measures", case) | {"turns": turns.encode()}
     if kind == "comparisons":
         _, capture, logs = case
         return {comparisons.CAPTURE: capture} | {comparisons.name_of(hart): text for hart, text in enumerate(logs)}
@@ -312,39 +353,9 @@ def answer(binary, folder, words):
 OF_CASE = {
     "captures": of_capture, "logs": of_log, "audits": of_pair, "measures": of_measured, "lists": of_listed,
     "salvages": of_salvaged, "lines": of_lines, "dumps": of_searched, "unnumbered": of_unnumbered, "parts": of_parts,
-    "tables": of_table, "treated": of_treated, "comparisons": of_comparison,
+    "tables": of_table, "treated": of_treated, "comparisons": of_comparison, "threads": of_threads,
+    "memories": of_memories,
 }
-
-
-PERIODS = ("--period 1", "--period 3", "--period 8", "--period 1024", "--period 65535")
-FORMS = ("--v1", "--hex", "--full")
-FEW_HARTS = ("--harts 1", "--harts 2", "--harts 3")
-FEW_PARTS = ("--of 1", "--of 2", "--of 3", "--of 5", "--of 8")
-
-# The flags that the runs of a kind have to take, but for the base: each at least once, and with each of these values.
-FLAGS = {
-    "captures": (*FEW_HARTS, "--lossy"),
-    "logs": (*FORMS, *PERIODS),
-    "audits": ("--packets", "--summary"),
-    "measures": ("--hex", "--full", "--period 2", *PERIODS),
-    "lists": (*FEW_HARTS, "--symbols symbols"),
-    "salvages": (*FEW_HARTS, "--summary", "--lossy", "--format csv"),
-    "treated": (*FEW_HARTS, "--salvage"),
-    "lines": ("--v1", "--full", "--period 7", *(f"--harts {count}" for count in (1, 2, 64, 65, 1024))),
-    "dumps": ("--search",),
-    "unnumbered": ("--unnumbered", "--packets", "--summary"),
-    "parts": (*FORMS, *PERIODS, *FEW_PARTS, *(f"--first {hart}" for hart in range(8))),
-    "tables": ("--format text", "--format csv", "--packets", "--summary", "--unnumbered"),
-    "comparisons": ("--long", "--progress", *(f"--harts {count}" for count in comparisons.ASKED_HARTS)),
-}
-# The flags that a value follows.
-VALUED = ("--base", "--period", "--harts", "--symbols", "--first", "--of", "--format")
-
-
-def flags_of(words):
-    """The flags of a run, each with its value, but for the base."""
-    found = (f"{it} {words[at + 1]}" if it in VALUED else it for at, it in enumerate(words) if it.startswith("--"))
-    return [flag for flag in found if not flag.startswith("--base ")]
 
 
 def compared(binary, kind, maker, harts, made):

@@ -7,8 +7,8 @@ from paging import tables
 from recording.unusable import Unusable
 
 MAKER = "list --format csv"
-PACKET = "packet", "format"  # the column that says which packet a message has
-PACKETS = ("sync",)
+WORDS, NUMBERS = ("kind", "packet"), ("hart", "number", "added")
+KINDS, PACKETS = ("message",), ("sync",)
 
 
 @dataclass
@@ -27,17 +27,17 @@ class Listed:
 def read(path, show=None):
     """The rows that each message of a list takes away where it alone is lost."""
     harts, added, syncs = [], [], []
-    packet = tables.column_of(path, PACKET)
-    for block in tables.blocks(path, MAKER, (packet,), ("hart", "number", "added"), show, may_quote=True):
-        columns = {name: block.numbers(name) for name in ("hart", "number", "added")}
-        block.refuse((columns["hart"] < 0) | (columns["number"] < 0), "no hart or no number")
-        harts.append(columns["hart"].astype(numpy.int32))
-        added.append(numpy.maximum(columns["added"], 0))
-        syncs.append(block.words(packet, PACKETS) == 0)
+    for block in tables.blocks(path, MAKER, WORDS, NUMBERS, show, may_quote=True):
+        columns = {name: block.numbers(name) for name in NUMBERS}
+        is_message = block.words("kind", KINDS) == 0
+        block.refuse(is_message & ((columns["hart"] < 0) | (columns["number"] < 0)), "no hart or no number")
+        harts.append(columns["hart"][is_message].astype(numpy.int32))
+        added.append(numpy.maximum(columns["added"][is_message], 0))
+        syncs.append(block.words("packet", PACKETS)[is_message] == 0)
     if not harts:
         return Listed(numpy.empty(0, numpy.int32), numpy.empty(0, numpy.int64))
     if not any(sync.any() for sync in syncs) and any(part.any() for part in added):
-        raise Unusable(f"{path}: no message is a sync, by the column {packet}")
+        raise Unusable(f"{path}: no message is a sync")
     return rows_taken(numpy.concatenate(harts), numpy.concatenate(added), numpy.concatenate(syncs))
 
 

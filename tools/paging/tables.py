@@ -64,13 +64,6 @@ def blocks(path, maker, words, numbers, show=None, may_quote=False):
             yield block
 
 
-def column_of(path, names):
-    """The first of these columns that a table has, else the first name."""
-    with open(path, "rb") as file:
-        header = file.readline().decode("ascii", "replace").rstrip("\r\n").split(",")
-    return next((name for name in names if name in header), names[0])
-
-
 def header_of(path, line, maker, wanted):
     """The columns of a table."""
     if not line:

@@ -64,6 +64,8 @@ BODIES = [
     ("salvage Memory past 65,536 messages", "salvaging", "salvaging.rt",
         *unless("messages.len() > 65_536", "AllocError",
                 "    let mut lists = distribute(alloc, harts, messages)?;\n")),
+    ("treat_watched Memory past 1 hart", "salvaging", "treating.rt",
+        *unless("harts > 1", "AllocError", "    let mut lists = distribute(alloc, harts, messages)?;\n")),
     ("Receiver::new Memory past 64 harts", "receiver", "receiving.rt",
         *unless("harts > 64", "AllocError", "        let count = usize::from(harts);\n")),
     ("Receiver::decode Memory past 65,536 events", "receiver", "receiving.rt",

@@ -6,6 +6,11 @@ def memory_first(line, condition):
     return line, f"    if {condition} {{\n        return Err(Fault::Memory);\n    }}\n{line}"
 
 
+def refused_first(line, condition):
+    """A line, and the same behind a failed allocation where this holds, of which nothing else is said."""
+    return line, f"    if {condition} {{\n        return Err(AllocError);\n    }}\n{line}"
+
+
 def read_twice(line, path):
     """A line that reads a file, and the same behind one that reads it too."""
     return line, f"    drop(content_of(files, {path})?);\n{line}"
@@ -20,6 +25,7 @@ CAPTURE = "    let bytes = content_of(files, asked.capture)?;\n"
 IMAGE = "    let bytes = content_of(files, image)?;\n"
 SENT = "    let sent = content_of(files, asked.sent)?;\n"
 LINES = "    let text = content_of(files, asked.lines)?;\n"
+TREATED = "    let treated = treat_watched(alloc, program, harts, mode, messages, progress);\n"
 
 BODIES = [
     # Several logs in full mode, at another period, and large inputs, for which an allocation fails at will.
@@ -44,9 +50,13 @@ BODIES = [
     ("list Memory past 4,096 bytes", "capture_commands", "message_listing.rt",
         *memory_first("    write_listing(\n", "bytes.len() > 4096")),
     ("the salvage of the program Memory past 3 harts", "capture_commands", "salvaging_capture.rt",
-        "    let salvaged = salvage_shown(\n",
-        "    if count > 3 {\n        return Err(AllocError);\n    }\n"
-        "    let salvaged = salvage_shown(\n"),
+        *refused_first("    let salvaged = salvage_shown(\n", "count > 3")),
+    ("list --salvage Memory past 2 harts", "capture_commands", "salvaged_listing.rt",
+        *refused_first(TREATED, "harts > 2")),
+    ("list --salvage Memory past 64 messages", "capture_commands", "salvaged_listing.rt",
+        *refused_first(TREATED, "messages.len() > 64")),
+    ("list --salvage Memory in full mode", "capture_commands", "salvaged_listing.rt",
+        *refused_first(TREATED, "matches!(mode, Mode::Full)")),
     ("audit Memory past 1 MiB", "path_commands", "comparing.rt",
         *memory_first("    let mut path = match Audit::with(alloc, sent.as_slice(), by_packets(asked.packets)) {\n",
                       "sent.len() > 1 << 20")),
@@ -107,6 +117,8 @@ BODIES = [
         "&encoding);\n        all_made(made)\n    } else {"),
     ("progress is not ended by dump", "capture_commands", "dumping.rt",
         "    progress.end();\n    dumped\n", "    dumped\n"),
+    ("progress is not ended by list --salvage", "capture_commands", "salvaged_listing.rt",
+        "    progress.end();\n    treated\n", "    treated\n"),
     ("audit tells of a message twice", "path_commands", "received.rt",
         "        watch.note(1);\n", "        watch.note(2);\n"),
     ("audit --unnumbered tells of no stranger", "path_commands", "matching.rt",
@@ -114,6 +126,8 @@ BODIES = [
     ("salvage tells of no copy", "salvaging", "trail.rt", "        watch.note(count);\n", "        watch.note(1);\n"),
     ("salvage tells of nothing after an end", "salvaging", "hart.rt", "    watch.note(beyond.len());\n", ""),
     ("salvage tells of no stranger", "salvaging", "salvaging.rt", "    watch.note(all.strangers);\n", ""),
+    ("treat_watched tells of no stranger", "salvaging", "treating.rt",
+        "    watch.note(strangers(harts, messages));\n", ""),
     ("progress is written at each read", "tracebench", "progress_line.rt",
         "        self.written.store(now, Ordering::SeqCst);\n        self.is_shown", "        self.is_shown"),
     ("progress is written before it is begun", "tracebench", "progress_line.rt",

@@ -1,7 +1,8 @@
-"""ELF files: the image that their loadable segments make, and their symbols. `pyelftools` reads them."""
+"""ELF files: the pieces that their loadable segments make, and their symbols. `pyelftools` reads them."""
 from contextlib import contextmanager
 
 from recording.image import LARGEST_IMAGE
+from recording.pieces import MOST_BYTES
 from recording.unusable import Unusable
 
 EXECUTABLE = 1  # the flag of a segment
@@ -51,32 +52,41 @@ def segments_of(elf):
     return sorted(segments)
 
 
-def length(segments):
-    """How many bytes there are from the lowest address to the end of the highest."""
-    return max(address + len(data) for address, data, _ in segments) - segments[0][0]
-
-
 def joined(segments):
-    """The lowest address and the bytes from there on, zeros between segments."""
-    base = segments[0][0]
-    content = bytearray(length(segments))
+    """Address and bytes of pieces: segments that touch are in one, where the later bytes count if two have the same address."""
+    pieces = []
     for address, data, _ in segments:
-        content[address - base : address - base + len(data)] = data
-    return base, bytes(content)
+        if pieces and address <= pieces[-1][0] + len(pieces[-1][1]):
+            base, content = pieces[-1]
+            content[address - base : address - base + len(data)] = data
+        else:
+            pieces.append((address, bytearray(data)))
+    return pieces
 
 
-def image_in(path):
-    """Base and bytes of the image in an ELF file: all that is loaded, or where that is too large, what may be executed."""
+def cut(pieces):
+    """The pieces, each in parts that are not larger than a piece may be, and without a first byte at an odd address: no
+    instruction has it, since none begins there."""
+    for base, content in pieces:
+        odd = base % 2
+        for at in range(odd, len(content), LARGEST_IMAGE):
+            yield base + at, bytes(content[at : at + LARGEST_IMAGE])
+
+
+def pieces_in(path):
+    """Base and bytes of each piece in an ELF file, that with the entry point first: all that is loaded, or where that is too
+    large, what may be executed."""
     with opened(path) as elf:
         if elf["e_machine"] != "EM_RISCV" or not elf.little_endian:
             raise Unusable(f"{path} is an ELF file of another machine than RISC-V")
         if elf["e_type"] != "ET_EXEC":
             raise Unusable(f"{path} has no fixed address: link it with -static -no-pie, or give the base and the raw image")
-        segments = segments_of(elf)
+        segments, entry = segments_of(elf), elf["e_entry"]
     for kept in (segments, [part for part in segments if part[2] & EXECUTABLE]):
-        if kept and length(kept) <= LARGEST_IMAGE:
-            return joined(kept)
-    raise Unusable(f"{path}: its segments do not lie within {LARGEST_IMAGE} bytes: give the base and the raw image of a part")
+        pieces = [*cut(joined(kept))]
+        if pieces and sum(len(content) for _, content in pieces) <= MOST_BYTES:
+            return sorted(pieces, key=lambda piece: not piece[0] <= entry < piece[0] + len(piece[1]))
+    raise Unusable(f"{path}: its segments do not lie within {MOST_BYTES} bytes: give the base and the raw image of a part")
 
 
 def letter_of(elf, symbol):

@@ -1,10 +1,11 @@
 """The image, and what its words say of the rows of a log."""
+from bisect import bisect_right
 
 SRET, MRET, ECALL, EBREAK, NOP = 0x10200073, 0x30200073, 0x73, 0x100073, 0x13
 COMPRESSED_EBREAK = 0x9002
 NOWHERE = -1  # an address to which nothing leads
 HIGHEST_LEVEL = {SRET: 1, MRET: 3}  # that a return leads to
-LARGEST_IMAGE = 16_777_216  # bytes
+LARGEST_IMAGE = 16_777_216  # bytes, and of each other piece
 NONE, BACK_FROM_TRAP, NOT_TAKEN, TAKEN_BRANCH, UNINFERABLE = 0, 3, 4, 5, 6  # the types of retirements
 
 
@@ -132,22 +133,67 @@ def row(address, itype, level):
     return b"%x,%d,%d,,\n" % (address, itype, level)
 
 
-class Image:
-    """The bytes of a program from its base address on. Of a program of user level alone, whose calls no trap shows, each
-    call that is executed is written over with a word that does nothing."""
+class Piece:
+    """Bytes of a program from an address on."""
 
-    def __init__(self, base, content, is_user=False):
-        self.base, self.content, self.is_user = base, bytearray(content) if is_user else content, is_user
+    __slots__ = ("base", "content")
+
+    def __init__(self, base, content):
+        self.base, self.content = base, content
+
+    def end(self):
+        """The address behind the last byte."""
+        return self.base + len(self.content)
+
+
+class Image:
+    """The bytes of a program: a piece from its base address on, and others, each with its own. No two of them overlap, and
+    those that touch act as one. Of a program of user level alone, whose calls no trap shows, each call that is executed is
+    written over with a word that does nothing."""
+
+    def __init__(self, base, content, is_user=False, also=()):
+        self.is_user = is_user
+        self.pieces = [Piece(at, bytearray(data) if is_user else data) for at, data in ((base, content), *also)]
+        self.first = self.pieces[0]
+        self.by_address = sorted((piece for piece in self.pieces if piece.content), key=lambda piece: piece.base)
+        self.bases = [piece.base for piece in self.by_address]
+
+    @property
+    def base(self):
+        return self.first.base
+
+    @property
+    def content(self):
+        return self.first.content
+
+    def piece_at(self, address):
+        """The piece that has the byte at an address; None where none has."""
+        place = bisect_right(self.bases, address) - 1
+        return self.by_address[place] if place >= 0 and address < self.by_address[place].end() else None
 
     def __contains__(self, address):
-        return 0 <= address - self.base < len(self.content)
+        return self.piece_at(address) is not None
+
+    def bytes_at(self, address, count):
+        """So many bytes from an address on, or as many as there are in a row."""
+        found = b""
+        while len(found) < count and (piece := self.piece_at(address + len(found))):
+            place = address + len(found) - piece.base
+            found += piece.content[place : place + count - len(found)]
+        return found
+
+    def write_over(self, address, data):
+        """Puts other bytes from an address on, where there are some."""
+        for at, byte in enumerate(data, address):
+            piece = self.piece_at(at)
+            piece.content[at - piece.base] = byte
 
     def word(self, address):
         """The word at an address of the image: 16 bits of it, or 32 where its two lowest bits are 11."""
-        place = address - self.base
-        word = int.from_bytes(self.content[place : place + 4], "little")
-        if word == ECALL and self.is_user:
-            self.content[place : place + 4] = NOP.to_bytes(4, "little")
+        found = self.bytes_at(address, 4)
+        word = int.from_bytes(found, "little")
+        if word == ECALL and self.is_user and len(found) == 4:
+            self.write_over(address, NOP.to_bytes(4, "little"))
             word = NOP
         return word if word & 3 == 3 else word & 0xFFFF
 

@@ -19,7 +19,6 @@ SUMS = re.compile(r"(?:hart (\d+)|all): (\d+) sent, (\d+) came, (\d+) lost, (\d+
 RUNS = re.compile(r"hart (\d+): lost in (\d+) runs, the longest of (\d+)")
 LATE = re.compile(r"hart (\d+): late by at most (\d+)")
 CHANGED = re.compile(r"changed, sent ([0-9a-f]+) came ([0-9a-f]+)")
-LISTED = re.compile(r"([0-9a-f]{8,}) (\d+) (\d+) (\w+)\b.* => (nothing|(\d+) events?)\b.*")
 COUNTED = "sent", "came", "lost", "repeated", "late", "changed", "strange"
 HARTS = 4
 SUMMED = {"late": "late", "repeat": "repeated", "changed": "changed", "stranger": "strange", "skips": "lost"}
@@ -63,13 +62,6 @@ def message(place, hart, number, what):
     if found := CHANGED.fullmatch(what):
         return row("message", fate="changed", sent_payload=found[1], came_payload=found[2], **fields)
     return row("message", fate=fate, by=by.removeprefix("by "), **fields)
-
-
-def list_table_of(text):
-    """The columns of a table of `list` that a page needs, of the lines of `list`."""
-    found = [LISTED.fullmatch(line) for line in text.splitlines() if not line.startswith("capture ")]
-    rows = [f"{int(line[1], 16)},{line[2]},{line[3]},{line[4]},{line[6] or 0}\n" for line in found]
-    return "offset,hart,number,packet,added\n" + "".join(rows)
 
 
 def write_large(out, total, faults, are_late=False):

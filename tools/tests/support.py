@@ -65,12 +65,14 @@ def exception(cause, place, value=0, hart=0):
 class Run:
     """What `record` makes of lines, in a folder that lasts as long as the run."""
 
-    def __init__(self, image, lines, form=qemu, has_pieces=False, has_inside=False, is_user=False, base=BASE, **how):
+    def __init__(
+        self, image, lines, form=qemu, has_pieces=False, has_inside=False, is_user=False, base=BASE, also=(), **how
+    ):
         self.folder = tempfile.mkdtemp()
         weakref.finalize(self, shutil.rmtree, self.folder)
         self.warnings = []
-        self.program = reading.Program(base, image)
-        self.image = Image(base, image, is_user)
+        self.program = reading.Program(base, image, also)
+        self.image = Image(base, image, is_user, also)
         self.harts = Harts(self.image, form, self.folder, self.warnings.append, has_pieces, has_inside, **how)
         self.harts.take([line.encode() for line in lines])
         self.harts.finish()

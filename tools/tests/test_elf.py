@@ -9,17 +9,21 @@ from unittest import mock
 from support import BASE, NOP, RECORDED, image_of, record, recorded
 
 from recording import elf
+from recording.image import LARGEST_IMAGE
 from recording.inputs import image_at
+from recording.pieces import MOST_BYTES
 from recording.unusable import Unusable
 
 HAS_LIBRARY = importlib.util.find_spec("elftools") is not None
 RISCV, EXECUTABLE_FILE, SHARED = 243, 2, 3
 READ_EXECUTE, READ_WRITE = 5, 6
+FLASH = 0x20000000
 
 
-def elf_of(*segments, machine=RISCV, kind=EXECUTABLE_FILE):
+def elf_of(*segments, machine=RISCV, kind=EXECUTABLE_FILE, entry=0):
     """An ELF file with no sections. A segment is its address, its bytes and its flags."""
-    head = struct.pack("<4s5B7xHHIQQQIHHHHHH", b"\x7fELF", 2, 1, 1, 0, 0, kind, machine, 1, 0, 64, 0, 0, 64, 56, len(segments), 0, 0, 0)
+    file = kind, machine, 1, entry, 64, 0, 0, 64, 56, len(segments), 0, 0, 0
+    head = struct.pack("<4s5B7xHHIQQQIHHHHHH", b"\x7fELF", 2, 1, 1, 0, 0, *file)
     place, table, content = 64 + 56 * len(segments), b"", b""
     for address, data, flags in segments:
         at = place + len(content)
@@ -54,21 +58,59 @@ class Read(Files):
     def test_a_segment(self):
         self.assertEqual(self.image(elf_of((BASE, image_of(NOP), READ_EXECUTE))), (BASE, image_of(NOP)))
 
-    def test_zeros_between_segments(self):
-        content = elf_of((BASE + 8, b"\x01\x02", READ_WRITE), (BASE, image_of(NOP), READ_EXECUTE))
-        self.assertEqual(self.image(content), (BASE, image_of(NOP) + bytes(4) + b"\x01\x02"))
+    def pieces(self, *segments, **how):
+        found = image_at(None, self.file(elf_of(*segments, **how)))
+        return [(piece.base, bytes(piece.content)) for piece in found.pieces]
+
+    def test_each_segment_is_a_piece(self):
+        flash, ram = (FLASH, image_of(NOP), READ_EXECUTE), (BASE, b"data", READ_WRITE)
+        self.assertEqual(self.pieces(ram, flash), [(FLASH, image_of(NOP)), (BASE, b"data")])
+
+    def test_nothing_is_between_segments(self):
+        pieces = self.pieces((BASE + 8, b"\x01\x02", READ_WRITE), (BASE, image_of(NOP), READ_EXECUTE))
+        self.assertEqual(pieces, [(BASE, image_of(NOP)), (BASE + 8, b"\x01\x02")])
+
+    def test_segments_that_touch_are_one_piece(self):
+        rest, first = (BASE + 4, b"\x01\x02\x03", READ_WRITE), (BASE, image_of(NOP), READ_EXECUTE)
+        self.assertEqual(self.pieces(rest, first, (BASE + 7, b"\x04", 4)), [(BASE, image_of(NOP) + b"\x01\x02\x03\x04")])
+
+    def test_the_piece_with_the_entry_point_is_the_first(self):
+        segments = [(FLASH, b"rom ", 4), (FLASH + 8, image_of(NOP, NOP), READ_EXECUTE), (BASE, b"data", READ_WRITE)]
+        for entry in (FLASH + 8, FLASH + 15):
+            self.assertEqual([base for base, _ in self.pieces(*segments, entry=entry)], [FLASH + 8, FLASH, BASE])
+        for entry in (FLASH + 3, FLASH + 5, FLASH + 16):
+            self.assertEqual([base for base, _ in self.pieces(*segments, entry=entry)], [FLASH, FLASH + 8, BASE])
+
+    def test_the_first_byte_at_an_odd_address_is_left_out(self):
+        pieces = self.pieces((BASE, image_of(NOP), READ_EXECUTE), (BASE + 9, b"\x01\x02\x03", 4), (BASE + 17, b"\x04", 4))
+        self.assertEqual(pieces, [(BASE, image_of(NOP)), (BASE + 10, b"\x02\x03")])
+
+    def test_a_large_segment_is_several_pieces(self):
+        content = bytes(range(256)) * (LARGEST_IMAGE // 256) + b"the rest"
+        self.assertEqual(self.pieces((BASE, content, READ_EXECUTE)), [
+            (BASE, content[:LARGEST_IMAGE]), (BASE + LARGEST_IMAGE, b"the rest")])
 
     def test_a_segment_without_bytes_is_nothing(self):
         content = elf_of((0x100, b"", READ_WRITE), (BASE, image_of(NOP), READ_EXECUTE))
         self.assertEqual(self.image(content), (BASE, image_of(NOP)))
 
-    def test_data_that_lie_far_away_are_left_out(self):
-        content = elf_of((0x20000000, image_of(NOP), READ_EXECUTE), (BASE, b"data", READ_WRITE))
-        self.assertEqual(self.image(content), (0x20000000, image_of(NOP)))
+    def test_data_are_left_out_where_all_is_too_large(self):
+        code = (FLASH, image_of(NOP), READ_EXECUTE)
+        data = (BASE, bytes(MOST_BYTES - 3), READ_WRITE)
+        self.assertEqual(self.pieces(code, data), [(FLASH, image_of(NOP))])
 
-    def test_code_that_lies_far_away_is_refused(self):
-        content = elf_of((0x20000000, image_of(NOP), READ_EXECUTE), (BASE, image_of(NOP), READ_EXECUTE))
-        self.refused(content, "do not lie within 16777216 bytes")
+    def test_all_bytes_that_there_may_be(self):
+        code = (FLASH, image_of(NOP), READ_EXECUTE)
+        pieces = self.pieces(code, (BASE, bytes(MOST_BYTES - 4), READ_WRITE))
+        self.assertEqual([len(content) for _, content in pieces], [4, *3 * [LARGEST_IMAGE], LARGEST_IMAGE - 4])
+
+    def test_code_that_is_too_large(self):
+        self.refused(elf_of((BASE, bytes(MOST_BYTES + 1), READ_EXECUTE)), "do not lie within 67108864 bytes")
+
+    def test_too_many_segments(self):
+        segments = [(BASE + 4 * place, b"\x01\0", READ_EXECUTE) for place in range(1025)]
+        self.refused(elf_of(*segments), "more than 1024 pieces")
+        self.assertEqual(len(self.pieces(*segments[1:])), 1024)
 
     def test_headers_that_are_loaded_are_left_out(self):
         """The first segment of this file begins with the file's own headers, and the file has no sections."""

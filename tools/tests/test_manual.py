@@ -9,7 +9,8 @@ import support
 
 from documents import completions, grammar, manual
 
-BASH = [("sal", "salvage"), ("list --s", "--symbols --salvage"), ("list --sy", "--symbols"), ("help de", "decode"), ("list --base 8", "")]
+BASH = [("sal", "salvage"), ("list --s", "--symbols --salvage"), ("list --sy", "--symbols"), ("help de", "decode"), ("list --base 8", ""),
+        ("list --f", "--format"), ("compare --a", "--also"), ("compare --also 1", "")]
 LIST = "vec![in alloc; search(alloc), capture_progress(alloc), capture(alloc)]?"
 # A file of the crates, a text of it, what stands in its place, and what some line says then.
 CHANGES = [
@@ -23,6 +24,8 @@ CHANGES = [
     (grammar.GRAMMAR, '"salvage",', '"rescue",', "tracebench-salvage.1.scd: no subcommand has this page"),
     (grammar.GRAMMAR, "        salvage(alloc)?,\n", "", "tracebench.1.scd: SUBCOMMANDS has"),
     (grammar.RULES, '"16"', '"17"', "help.rt: the help of bench has"),
+    (grammar.RULES, "ArgAction::Append", "ArgAction::Set", "tracebench-check.1.scd: SYNOPSIS is not"),
+    (grammar.RULES, '"B2=FILE"', '"FILE"', "help.rt: the help of list has"),
     (manual.HEADER, "tracebench_pack(", "tracebench_packed(", "tracebench.3.scd: no word of tracebench_packed"),
     ("tools/record", '"--user"', '"--users"', "tracebench-record.1.scd: OPTIONS has"),
 ]

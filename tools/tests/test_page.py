@@ -23,13 +23,14 @@ MEASURED = """hart,events,retirements,traps,branches,packets,payload_bytes
 1,8,8,0,0,4,20
 all,17,16,1,0,8,30
 """
-LISTED = """offset,hart,number,packet,added,first,last
-28,0,0,open,0,,
-40,0,1,sync,1,80000000,80000000
-56,0,2,address,0,,
-70,0,3,address,5,80000004,80000014
-84,0,4,sync,4,80000018,80000024
-96,0,5,close,2,"80000028 <f(int, int)>",8000002c
+LISTED = """kind,offset,hart,number,packet,added,first,last,first_symbol
+message,00000010,0,0,open,0,,,
+message,0000001c,0,1,sync,1,80000000,80000000,main
+message,0000002c,0,2,address,0,,,
+message,00000039,0,3,address,5,80000004,80000014,main
+message,00000045,0,4,sync,4,80000018,80000024,main
+message,00000055,0,5,close,2,80000028,8000002c,"f(int, int)"
+incomplete,00000060,,,,,,,
 """
 COMPARED = """hart 0: 20 events, 5 packets, 30 payload bytes, decoded 10, beginning
 hart 1: 20 events, 5 packets, 30 payload bytes, decoded 20, whole
@@ -222,8 +223,9 @@ class Page(unittest.TestCase):
             left = self.file("left.capture", capture[:len(wire.header())] + b"".join(messages[:lost] + messages[lost + 1:]))
             text = self.of_program("decode", "--lossy", "--base", f"{BASE:x}", image, left).decode()
             gone.append(300 - sum(line.startswith("8000") for line in text.splitlines()))
-        listed = self.of_program("list", "--base", f"{BASE:x}", image, self.file("sent.capture", capture)).decode()
-        page = Reader(self.made(of_example(), "--list", self.file("list.csv", audit_tables.list_table_of(listed))))
+        sent = self.file("sent.capture", capture)
+        listed = self.of_program("list", "--format", "csv", "--base", f"{BASE:x}", image, sent)
+        page = Reader(self.made(of_example(), "--list", self.file("list.csv", listed)))
         self.assertGreater(max(gone), 32)
         self.assertEqual(page.tables[0][1][-1], f"{sum(gone) / len(gone):,.1f}")
         self.assertEqual([int(count) for _, count in page.tables[4][1:]], in_classes(gone))
@@ -256,10 +258,10 @@ class Page(unittest.TestCase):
     def test_another_file_that_is_none(self):
         good = of_example()
         self.refused("list.csv: line 1: the column added is lacking: give it what `list --format csv` writes", good,
-                     "--list", self.file("list.csv", "hart,number,packet\n"))
+                     "--list", self.file("list.csv", "kind,hart,number,packet\n"))
         self.refused("list.csv: line 3: number is not a number", good,
-                     "--list", self.file("list.csv", LISTED.replace("40,0,1", "40,0,one")))
-        self.refused("list.csv: no message is a sync, by the column packet", good,
+                     "--list", self.file("list.csv", LISTED.replace("1c,0,1", "1c,0,one")))
+        self.refused("list.csv: no message is a sync", good,
                      "--list", self.file("list.csv", LISTED.replace(",sync,", ",3,")))
         self.refused("--measure m.csv: PERIOD=FILE is wanted, with a period of 1 to 65535", good, "--measure", "m.csv")
         self.refused("m.csv: line 3: 2 fields, not 7", good,

@@ -118,6 +118,22 @@ class StandIn(unittest.TestCase):
             self.assertEqual(call[1:7], ["--base", "80000000", "--period", period, "--full", self.image])
             self.assertEqual(call[7:], self.paths)
 
+    def test_pieces_are_handed_on_to_each_command(self):
+        also = [f"20000000={self.file('rom=1.bin', 'raw')}", f"1000={self.file('ram.bin', 'raw')}"]
+        ran = self.run_with(words=["--also", also[0], f"--also={also[1]}"])
+        self.assertEqual((ran.returncode, ran.stderr), (0, ""))
+        calls = self.commands()
+        self.assertEqual([call[0] for call in calls], ["check", "encode", "decode", "bench", "measure"])
+        for call in calls:
+            self.assertEqual(call[1:7], ["--base", "80000000", "--also", also[0], "--also", also[1]])
+            self.assertEqual(call.count(self.image), 1)
+
+    def test_a_piece_that_is_an_elf_file_is_refused(self):
+        elf = self.file("program.elf", "\x7fELF")
+        ran = self.run_with(words=["--also", f"20000000={elf}"])
+        want = f"verdict: {elf} is an ELF file; tools/record --image FILE writes the raw image of one\n"
+        self.assertEqual((ran.returncode, ran.stdout, ran.stderr), (2, "", want))
+
     def test_long_is_handed_on_to_those_that_take_it(self):
         ran = self.run_with(words=["--long", "--full"])
         self.assertEqual((ran.returncode, ran.stderr), (0, ""))

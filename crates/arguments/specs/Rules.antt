@@ -21,6 +21,14 @@ base_rule = record (new_rule (codes "base")) {
   required = true;
 }
 
+-- `--also B2=FILE`, any number of times.
+abbrev pub also_rule : Rule
+also_rule = record (new_rule (codes "also")) {
+  long = Some (codes "also");
+  action = Some Append;
+  value_names = 1;
+}
+
 -- `--hex`.
 abbrev pub hex_rule : Rule
 hex_rule =

@@ -1,11 +1,11 @@
 //! One function for each argument.
 
-ghost use Rattle.arguments.specs.Rules.{IsReadBy, base_rule, capacity_rule, capture_rule, explain_rule, first_rule};
-ghost use Rattle.arguments.specs.Rules.{format_rule, full_rule, given_harts_rule, harts_rule, hex_rule, image_rule, lines_rule};
-ghost use Rattle.arguments.specs.Rules.{logs_rule, long_rule, lossy_rule, of_rule, packets_rule};
-ghost use Rattle.arguments.specs.Rules.{period_rule, progress_rule, received_rule, schedule_rule};
-ghost use Rattle.arguments.specs.Rules.{salvage_rule, search_rule, sent_rule, summary_rule, symbols_rule, unnumbered_rule};
-ghost use Rattle.arguments.specs.Rules.{version_one_rule};
+ghost use Rattle.arguments.specs.Rules.{IsReadBy, also_rule, base_rule, capacity_rule, capture_rule, explain_rule};
+ghost use Rattle.arguments.specs.Rules.{first_rule, format_rule, full_rule, given_harts_rule, harts_rule, hex_rule};
+ghost use Rattle.arguments.specs.Rules.{image_rule, lines_rule, logs_rule, long_rule, lossy_rule, of_rule};
+ghost use Rattle.arguments.specs.Rules.{packets_rule, period_rule, progress_rule, received_rule, salvage_rule};
+ghost use Rattle.arguments.specs.Rules.{schedule_rule, search_rule, sent_rule, summary_rule, symbols_rule};
+ghost use Rattle.arguments.specs.Rules.{unnumbered_rule, version_one_rule};
 
 use crate::forms::{
     count_of_harts, file, flag, full_with, given_harts, number, period_with, progress_with,
@@ -15,6 +15,18 @@ use clap::{Arg, ArgAction, value_parser};
 use message::MOST_CAPACITY;
 use std::alloc::Global;
 use subcommands::{GREATEST_FIRST, SMALLEST_CAPACITY};
+
+/// `--also B2=FILE`, a further piece of the image, with the address of its first byte. It may be given any number of
+/// times, or left out.
+pub fn also<'a>(alloc: Global) -> Arg<'a>
+    ensures { IsReadBy also_rule result }
+{
+    Arg::new(alloc, "also")
+        .long("also")
+        .value_name("B2=FILE")
+        .action(ArgAction::Append)
+        .help("Further piece of the image, any number of times: address in hexadecimal, =, file")
+}
 
 /// `--base B`, the address of the image's first byte, which has to be given.
 pub fn base<'a>(alloc: Global) -> Arg<'a>

@@ -32,8 +32,8 @@ decodes harts program bytes lists closed stop decoded = record {
 }
 
 module _ (content : Content) (asked : Decode) (base : ℕ) (program : Image) (bytes : List ℕ)
-    (based : IsBase {W = CaptureReason} asked.base.now (Ok base))
-    (found : IsProgramAt {W = CaptureReason} content base asked.image (Ok program))
+    (based : IsBase {W = CaptureReason} asked.base.now asked.also.items (Ok base))
+    (found : IsProgramAt {W = CaptureReason} content base asked.image asked.also.items (Ok program))
     (read : IsRead {W = CaptureReason} content asked.capture (Ok bytes)) where
   -- What is written of the capture is what `decode` prints.
   logs_lead : (lossy : Bool) → asked.lossy ≡ lossy → (printed : Printed)

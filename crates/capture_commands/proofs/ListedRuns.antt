@@ -4,16 +4,19 @@ use Rattle.std.specs.Io.KnownBytes.{Keeps}
 use Rattle.std.specs.Prelude.{⊤}
 use Rattle.rvclass.specs.Fetch.{words_of}
 use Rattle.rvclass.specs.Image.{Image}
-use Rattle.listing.specs.Begun.{BeginsPart, IsPartOfListing}
-use Rattle.listing.specs.Begun.IsPartOfListing.{OfAll}
-use Rattle.listing.specs.Listing.{AppendsListing, IsListing}
+use Rattle.listing.specs.Begun.{BeginsPart}
+use Rattle.listing.specs.Begun.IsPartOfListing.{OfAll as OfAllLines}
+use Rattle.listing.specs.Listing.{AppendsListing}
+use Rattle.listing_table.specs.Part.IsPartOfTable.{OfAll as OfAllRows}
 use Rattle.captures.specs.declared.outcome.CaptureFault.{CaptureFault}
 use Rattle.output.proofs.Beginnings.{begun_kept, whole_begun}
+use Rattle.subcommands.specs.declared.words.Format.{Format}
+use Rattle.subcommands.specs.declared.words.Format.TheVariants.{Csv, Other, Text}
 use Rattle.subcommands.specs.declared.words.Listing.{Listing}
 use Rattle.command_inputs.proofs.Beginnings.{cut_leads}
 use Rattle.command_inputs.proofs.Runs.{appends-keeps, leads_on}
 use Rattle.command_inputs.specs.Begun.{IsCutOf}
-use Rattle.command_inputs.specs.Found.{IsBase, IsProgramAt, IsRead}
+use Rattle.command_inputs.specs.Found.{IsAskedBase, IsProgramAt, IsRead}
 use Rattle.files.specs.Known.{Content}
 use Rattle.command_inputs.specs.Printed.{IsPrinted, PrintsUnlessDenied}
 use Rattle.capture_commands.specs.Faults.{Fault, Printed}
@@ -23,16 +26,17 @@ use Rattle.command_inputs.specs.declared.status.Status.{Status}
 use Rattle.capture_commands.specs.Decoding.{end_of_capture}
 use Rattle.capture_commands.specs.Listed.{CanList, Lists, ListsInPart, ListsUpToMemory, WritesListing, WritesPart}
 use Rattle.capture_commands.specs.Listed.{WritesListed, WritesListedPart}
+use Rattle.capture_commands.specs.ListedFormats.{IsListedIn, IsPartListedIn}
 use Rattle.capture_commands.specs.declared.reason.CaptureReason.{CaptureReason}
 
 module _ (content : Content) (asked : Listing) (base : ℕ) (program : Image) (symbols : Option (List ℕ))
     (bytes : List ℕ)
-    (based : IsBase {W = CaptureReason} asked.base.now (Ok base))
-    (found : IsProgramAt {W = CaptureReason} content base asked.image (Ok program))
+    (based : IsAskedBase {W = CaptureReason} asked.format asked.base.now asked.also.items (Ok base))
+    (found : IsProgramAt {W = CaptureReason} content base asked.image asked.also.items (Ok program))
     (named : AreSymbols content asked.symbols (Ok symbols))
     (read : IsRead {W = CaptureReason} content asked.capture (Ok bytes)) where
   -- What is written of the capture is what `list` prints.
-  list_leads : (printed : Printed) → WritesListed asked.salvage asked.harts program symbols bytes printed
+  list_leads : (printed : Printed) → WritesListed asked.format asked.salvage asked.harts program symbols bytes printed
       → Lists content asked printed
   list_leads printed writes =
       (Ok base, based, (Ok program, found, (Ok symbols, named, (Ok bytes, read, writes))))
@@ -42,21 +46,21 @@ module _ (content : Content) (asked : Listing) (base : ℕ) (program : Image) (s
   can_list = (base, based, (program, found, (symbols, named, (bytes, read, tt))))
 
   -- A part of the capture's listing is a part of what `list` prints.
-  part_leads : (printed : Printed) → WritesListedPart asked.salvage asked.harts program symbols bytes printed
+  part_leads : (printed : Printed) → WritesListedPart asked.format asked.salvage asked.harts program symbols bytes printed
       → ListsInPart content asked printed
   part_leads printed part = (base, based, (program, found, (symbols, named, (bytes, read, part))))
 
   -- What is printed of the capture is what `list` prints.
   pub list_printed : (ended : Result Status Fault) (old new : Option (List ℕ))
-      → PrintsUnlessDenied (WritesListed asked.salvage asked.harts program symbols bytes) ⊤ ended old new
+      → PrintsUnlessDenied (WritesListed asked.format asked.salvage asked.harts program symbols bytes) ⊤ ended old new
       → PrintsUnlessDenied (Lists content asked) (CanList content asked) ended old new
   list_printed ended old new =
-      leads_on (WritesListed asked.salvage asked.harts program symbols bytes) (Lists content asked) ⊤
+      leads_on (WritesListed asked.format asked.salvage asked.harts program symbols bytes) (Lists content asked) ⊤
       (CanList content asked) ended old new list_leads (λ _. can_list)
 
   -- What is written where an allocation fails is what `list` writes then.
   pub list_begun : (old new : Option (List ℕ))
-      → ListsUpToMemory (WritesListed asked.salvage asked.harts program symbols bytes) old new
+      → ListsUpToMemory (WritesListed asked.format asked.salvage asked.harts program symbols bytes) old new
       → ListsUpToMemory (Lists content asked) old new
   list_begun old new (inl kept) = inl kept
   list_begun old new (inr is) = inr (record {
@@ -67,37 +71,45 @@ module _ (content : Content) (asked : Listing) (base : ℕ) (program : Image) (s
 
   -- A cut of it is one of what `list` prints.
   pub list_cut : (old new : Option (List ℕ))
-      → IsCutOf (WritesListedPart asked.salvage asked.harts program symbols bytes) old new
+      → IsCutOf (WritesListedPart asked.format asked.salvage asked.harts program symbols bytes) old new
       → IsCutOf (ListsInPart content asked) old new
   list_cut old new =
-      cut_leads (WritesListedPart asked.salvage asked.harts program symbols bytes) (ListsInPart content asked) old new
+      cut_leads (WritesListedPart asked.format asked.salvage asked.harts program symbols bytes) (ListsInPart content asked) old new
       part_leads
 
-module _ (harts : ℕ) (program : Image) (symbols : Option (List ℕ)) (bytes : List ℕ) where
+module _ (format : Format) (harts : ℕ) (program : Image) (symbols : Option (List ℕ)) (bytes : List ℕ) where
   -- The beginning of a part of a listing was written.
   pub part_cut : (old new : Option (List ℕ))
-      → BeginsPart (IsPartOfListing (words_of program) harts symbols bytes) old new
-      → IsCutOf (WritesPart harts program symbols bytes) old new
+      → BeginsPart (IsPartListedIn format (words_of program) harts symbols bytes) old new
+      → IsCutOf (WritesPart format harts program symbols bytes) old new
   part_cut old new begins = inr (record {
     printed = record { text = begins.text; ended = Err fault.Output };
     prints = begins.part;
     begun = begins.begun;
   })
 
+  -- A whole listing is a part of it.
+  whole_part : (which : Format) (closed : List _) (stop : Option (ℕ × CaptureFault)) (text : List ℕ)
+      → IsListedIn which (words_of program) harts symbols bytes closed stop text
+      → IsPartListedIn which (words_of program) harts symbols bytes text
+  whole_part Csv closed stop text is = OfAllRows closed stop is
+  whole_part Text closed stop text is = OfAllLines closed stop is
+  whole_part Other closed stop text is = OfAllLines closed stop is
+
   module _ (closed : List _) (stop : Option (ℕ × CaptureFault)) (old mid new : Option (List ℕ))
-      (appends : AppendsListing (IsListing (words_of program) harts symbols bytes) closed stop old mid)
+      (appends : AppendsListing (IsListedIn format (words_of program) harts symbols bytes) closed stop old mid)
       (kept : Keeps mid new) where
     -- The whole listing was written, and then nothing more.
-    pub whole_cut : IsCutOf (WritesPart harts program symbols bytes) old new
+    pub whole_cut : IsCutOf (WritesPart format harts program symbols bytes) old new
     whole_cut = inr (record {
       printed = record { text = appends.text; ended = end_of_capture stop closed };
-      prints = OfAll closed stop appends.listed;
+      prints = whole_part format closed stop appends.text appends.listed;
       begun = begun_kept appends.text old mid new (whole_begun appends.text old mid appends.appended) kept;
     })
 
     -- And the run ends as decoding does.
     pub whole_printed : (ended : Result Status Fault) → ended ≡ end_of_capture stop closed
-        → IsPrinted (WritesListing harts program symbols bytes) ended old new
+        → IsPrinted (WritesListing format harts program symbols bytes) ended old new
     whole_printed ended is = record {
       text = appends.text;
       prints = record { closed = closed; stop = stop; listing = appends.listed; ended = is };

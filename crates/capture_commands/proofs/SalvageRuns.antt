@@ -119,8 +119,8 @@ module _ (format : Format) (asked : Option ℕ) (summary : Bool) (program : Imag
       (begun_kept text old mid new (subst (λ l. AppendsBeginning l old mid) text_same begun) kept))
 
 module _ (content : Content) (asked : Salvage) (base : ℕ) (program : Image) (bytes : List ℕ)
-    (based : IsAskedBase {W = CaptureReason} asked.format asked.base.now (Ok base))
-    (found : IsProgramAt {W = CaptureReason} content base asked.image (Ok program))
+    (based : IsAskedBase {W = CaptureReason} asked.format asked.base.now asked.also.items (Ok base))
+    (found : IsProgramAt {W = CaptureReason} content base asked.image asked.also.items (Ok program))
     (read : IsRead {W = CaptureReason} content asked.capture (Ok bytes)) where
   -- What is written of the capture is what `salvage` prints.
   capture_leads : (printed : Printed) → WritesSalvaged asked.format asked.harts asked.summary program bytes printed

@@ -4,28 +4,29 @@ use Rattle.std.specs.Io.KnownBytes.{Keeps}
 use Rattle.output.proofs.Beginnings.{begun_kept}
 use Rattle.output.specs.Begun.{AppendsBeginning}
 use Rattle.rvclass.specs.Image.{Image}
-use Rattle.salvaged_lines.specs.Lines.{treated_text}
 use Rattle.salvaging.specs.declared.treatment.Treated.{Treated}
 use Rattle.searching.specs.Start.{spans_of}
 use Rattle.command_inputs.proofs.Beginnings.{printed_begun}
 use Rattle.command_inputs.specs.Begun.{IsCutOf}
 use Rattle.command_inputs.specs.declared.status.Status.{Status}
+use Rattle.subcommands.specs.declared.words.Format.{Format}
 use Rattle.capture_commands.specs.Faults.{Fault}
+use Rattle.capture_commands.specs.ListedFormats.{treated_in}
 use Rattle.capture_commands.specs.ListedSalvaged.{AreTreatedIn, WritesTreated}
 use Rattle.capture_commands.specs.Salvaging.{end_of_salvage}
 use Rattle.capture_commands.specs.steps.Reading.{IsFound}
 use Rattle.capture_commands.specs.declared.salvaging_capture.Found.{Found}
 
-module _ (asked : Option ℕ) (program : Image) (symbols : Option (List ℕ)) (bytes : List ℕ) (found : Found)
+module _ (format : Format) (asked : Option ℕ) (program : Image) (symbols : Option (List ℕ)) (bytes : List ℕ) (found : Found)
     (is : IsFound asked program bytes found) (treated : List Treated)
     (done : AreTreatedIn asked program found.header bytes treated) where
   abbrev text : List ℕ
-  text = treated_text symbols found.header (spans_of found.header bytes) treated
+  text = treated_in format symbols found.header (spans_of found.header bytes) treated
 
   -- What is done with each message is printed, and the end is that of salvaging.
   pub treated_printed : (ended : Result Status Fault)
       → ended ≡ end_of_salvage found.fault found.frames.runs found.salvaged
-      → WritesTreated asked program symbols bytes (record { text = text; ended = ended })
+      → WritesTreated format asked program symbols bytes (record { text = text; ended = ended })
   treated_printed ended end = record {
     header = found.header;
     why = found.fault;
@@ -39,8 +40,8 @@ module _ (asked : Option ℕ) (program : Image) (symbols : Option (List ℕ)) (b
 
   -- A beginning of it was written, and then nothing more.
   pub treated_cut : (old mid new : Option (List ℕ)) → AppendsBeginning text old mid → Keeps mid new
-      → IsCutOf (WritesTreated asked program symbols bytes) old new
+      → IsCutOf (WritesTreated format asked program symbols bytes) old new
   treated_cut old mid new begun kept =
       let ended = end_of_salvage found.fault found.frames.runs found.salvaged in
-      inr (printed_begun (WritesTreated asked program symbols bytes) text ended old new
+      inr (printed_begun (WritesTreated format asked program symbols bytes) text ended old new
       (treated_printed ended refl) (begun_kept text old mid new begun kept))

@@ -4,13 +4,13 @@ use Rattle.std.specs.Io.KnownBytes.{Keeps}
 use Rattle.captures.specs.Decoded.{IsDecoded}
 use Rattle.captures.specs.declared.outcome.CaptureFault.{CaptureFault}
 use Rattle.retire.specs.LogText.{log_text}
-use Rattle.retire.specs.Number.{number_of}
 use Rattle.retire.specs.declared.event.Event.{Event}
 use Rattle.rvclass.specs.Fetch.{words_of}
 use Rattle.rvclass.specs.Image.{Image}
 use Rattle.subcommands.specs.declared.words.Decode.{Decode}
 use Rattle.command_inputs.specs.Begun.{BeginsPrinted}
 use Rattle.command_inputs.specs.Found.{IsBase, IsProgramAt, IsRead}
+use Rattle.command_inputs.specs.FurtherPieces.{base_number}
 use Rattle.files.specs.Known.{Content}
 use Rattle.command_inputs.specs.Order.{base_fault}
 use Rattle.command_inputs.specs.Printed.{First}
@@ -38,12 +38,12 @@ abbrev pub WritesLogs : Bool → ℕ → Image → List ℕ → Printed → Type
 WritesLogs true harts program bytes = WritesPieces harts program bytes
 WritesLogs false harts program bytes = WritesDecoded harts program bytes
 
--- The base is looked at first, then the image and the capture. Where there is no fault, what the capture has of the
--- logs is written.
+-- The bases are looked at first, then the image with its further pieces, and the capture. Where there is no fault, what
+-- the capture has of the logs is written.
 abbrev pub Decodes : Content → Decode → Printed → Type 0
 Decodes content asked =
-    First (IsBase asked.base.now) (λ base.
-    First (IsProgramAt content base asked.image) (λ program.
+    First (IsBase asked.base.now asked.also.items) (λ base.
+    First (IsProgramAt content base asked.image asked.also.items) (λ program.
     First (IsRead content asked.capture) (WritesLogs asked.lossy asked.harts program)))
 
 -- Where messages may be lost, `decode` writes once what is left of the logs is collected.
@@ -54,15 +54,15 @@ CanWriteLogs false harts program bytes = ⊤
 -- `decode` writes once it has the program and the capture.
 abbrev pub CanDecode : Content → Decode → Type 0
 CanDecode content asked =
-    Once (IsBase asked.base.now) (λ base.
-    Once (IsProgramAt content base asked.image) (λ program.
+    Once (IsBase asked.base.now asked.also.items) (λ base.
+    Once (IsProgramAt content base asked.image asked.also.items) (λ program.
     Once (IsRead content asked.capture) (λ bytes.
     CanWriteLogs asked.lossy asked.harts program bytes)))
 
 -- What `decode` means. It takes memory for the text of a log once the logs before it are written.
 abbrev pub decode_meaning : Decode → Meaning
 decode_meaning asked = record {
-  early = base_fault (number_of asked.base.now);
+  early = base_fault (base_number asked.base.now asked.also.items);
   Prints = λ content. Decodes content asked;
   CanWrite = λ content. CanDecode content asked;
   Begins = λ content old new. Keeps old new ⊎ BeginsPrinted (Decodes content asked) old new;

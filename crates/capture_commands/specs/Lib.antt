@@ -7,6 +7,7 @@ pub mod Decoding
 pub mod Pieces
 pub mod Decoded
 pub mod ListedSalvaged
+pub mod ListedFormats
 pub mod Listed
 pub mod Frames
 pub mod SalvagedText

@@ -6,14 +6,15 @@ use Rattle.message.specs.declared.fault.MessageFault.{MessageFault}
 use Rattle.message.specs.declared.header.Header.{Header}
 use Rattle.rvclass.specs.Fetch.{words_of}
 use Rattle.rvclass.specs.Image.{Image}
-use Rattle.salvaged_lines.specs.Lines.{treated_text}
 use Rattle.salvaging.specs.Treatments.{AreTreated}
 use Rattle.salvaging.specs.declared.salvaged.Salvaged.{Salvaged}
 use Rattle.salvaging.specs.declared.treatment.Treated.{Treated}
 use Rattle.searching.specs.Harts.{harts_counted}
 use Rattle.searching.specs.Start.{spans_of}
+use Rattle.subcommands.specs.declared.words.Format.{Format}
 use Rattle.capture_commands.specs.Faults.{Printed}
 use Rattle.capture_commands.specs.Frames.{is_run, messages_in}
+use Rattle.capture_commands.specs.ListedFormats.{treated_in}
 use Rattle.capture_commands.specs.Pieces.{mode_of_header}
 use Rattle.capture_commands.specs.Salvaging.{IsSalvagedCapture, end_of_salvage}
 
@@ -23,9 +24,9 @@ AreTreatedIn asked program header bytes treated =
     AreTreated (words_of program) (mode_of_header header) (harts_counted asked header bytes)
     (messages_in (spans_of header bytes)) treated
 
--- What salvaging does with each message of a capture is written, and the run ends as one of `salvage` does: by the
+-- What salvaging does with each message of a capture is written in a format, and the run ends as one of `salvage` does: by the
 -- capture's header and by what is salvaged of it.
-pub record WritesTreated (asked : Option ℕ) (program : Image) (symbols : Option (List ℕ)) (bytes : List ℕ)
+pub record WritesTreated (format : Format) (asked : Option ℕ) (program : Image) (symbols : Option (List ℕ)) (bytes : List ℕ)
     (printed : Printed) : Type 0 where
   pub header : Option Header
   pub why : Option MessageFault
@@ -33,5 +34,5 @@ pub record WritesTreated (asked : Option ℕ) (program : Image) (symbols : Optio
   pub found : IsSalvagedCapture asked program bytes header why salvaged
   pub treated : List Treated
   pub done : AreTreatedIn asked program header bytes treated
-  pub text : printed.text ≡ treated_text symbols header (spans_of header bytes) treated
+  pub text : printed.text ≡ treated_in format symbols header (spans_of header bytes) treated
   pub ended : printed.ended ≡ end_of_salvage why (list_any is_run (spans_of header bytes)) salvaged

@@ -6,7 +6,6 @@ use Rattle.std.specs.declared.alloc.Global.{Global}
 use Rattle.captures.specs.declared.outcome.CaptureFault.TheVariants as capture
 use Rattle.message.specs.declared.fault.MessageFault.{MessageFault}
 use Rattle.message.specs.declared.header.Header.{Header}
-use Rattle.retire.specs.Number.{number_of}
 use Rattle.rvclass.specs.Image.{Image}
 use Rattle.salvaging.specs.LeftParts.{LeftPart, Events}
 use Rattle.salvaging.specs.PartsIn.{parts_in}
@@ -18,6 +17,7 @@ use Rattle.searching.specs.Start.{IsStart, spans_of}
 use Rattle.subcommands.specs.declared.words.Format.{Format}
 use Rattle.subcommands.specs.declared.words.Salvage.{Salvage}
 use Rattle.command_inputs.specs.Found.{IsAskedBase, IsProgramAt, IsRead}
+use Rattle.command_inputs.specs.FurtherPieces.{base_number}
 use Rattle.files.specs.Known.{Content}
 use Rattle.command_inputs.specs.Meaning.{writing_at_once}
 use Rattle.command_inputs.specs.Order.{format_or_base_fault}
@@ -73,22 +73,23 @@ pub record WritesSalvaged (format : Format) (asked : Option ℕ) (summary : Bool
   pub text : printed.text ≡ salvaged_in format summary header (spans_of header bytes) salvaged
   pub ended : printed.ended ≡ end_of_salvage why (list_any is_run (spans_of header bytes)) salvaged
 
--- The format is looked at first, then the base, the image and the capture. Where there is no fault, what is salvaged of
--- the capture is written in that format.
+-- The format is looked at first, then the bases, the image with its further pieces, and the capture. Where there is no
+-- fault, what is salvaged of the capture is written in that format.
 abbrev pub Salvages : Content → Salvage → Printed → Type 0
 Salvages content asked =
-    First (IsAskedBase asked.format asked.base.now) (λ base.
-    First (IsProgramAt content base asked.image) (λ program.
+    First (IsAskedBase asked.format asked.base.now asked.also.items) (λ base.
+    First (IsProgramAt content base asked.image asked.also.items) (λ program.
     First (IsRead content asked.capture) (WritesSalvaged asked.format asked.harts asked.summary program)))
 
 -- `salvage` writes once it has the program and the capture.
 abbrev pub CanSalvage : Content → Salvage → Type 0
 CanSalvage content asked =
-    Once (IsAskedBase asked.format asked.base.now) (λ base.
-    Once (IsProgramAt content base asked.image) (λ program.
+    Once (IsAskedBase asked.format asked.base.now asked.also.items) (λ base.
+    Once (IsProgramAt content base asked.image asked.also.items) (λ program.
     Once (IsRead content asked.capture) (λ bytes. ⊤)))
 
 -- What `salvage` means.
 abbrev pub salvage_meaning : Salvage → Meaning
-salvage_meaning asked = writing_at_once (format_or_base_fault asked.format (number_of asked.base.now)) (λ content. Salvages content asked)
-    (λ content. CanSalvage content asked)
+salvage_meaning asked = writing_at_once
+    (format_or_base_fault asked.format (base_number asked.base.now asked.also.items))
+    (λ content. Salvages content asked) (λ content. CanSalvage content asked)

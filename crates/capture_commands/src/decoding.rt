@@ -6,8 +6,8 @@ ghost use Rattle.captures.specs.Decoded.{IsDecoded};
 ghost use Rattle.receiver.specs.Received.{events_in};
 ghost use Rattle.rvclass.specs.Fetch.{words_of};
 ghost use Rattle.output.specs.Begun.{AppendsBeginning};
-ghost use Rattle.retire.specs.Number.{number_of};
 ghost use Rattle.command_inputs.specs.Begun.{BeginsPrinted, IsCutOf};
+ghost use Rattle.command_inputs.specs.FurtherPieces.{base_number};
 ghost use Rattle.command_inputs.specs.Printed.{IsPrintingDenied, PrintsUnlessDenied};
 ghost use Rattle.capture_commands.specs.Faults.{final_status, status_of};
 ghost use Rattle.command_inputs.specs.Order.{base_fault};
@@ -42,7 +42,8 @@ pub fn decode<'a, F: Files, O: Write>(
     asked: &Decode<'a>,
     out: &mut O,
 ) -> Result<Status, Fault<'a>>
-    ensures early { IfSome (base_fault (number_of asked.now.base.now)) (λ fault. result ≡ Err fault) }
+    ensures early { IfSome (base_fault (base_number asked.now.base.now asked.now.also.items))
+        (λ fault. result ≡ Err fault) }
     ensures refused { final_status result ≡ Status.Refused → out.new ≡ out.old }
     ensures printed { PrintsUnlessDenied (Decodes (F.content files.old) asked.now)
         (CanDecode (F.content files.old) asked.now) result
@@ -51,8 +52,8 @@ pub fn decode<'a, F: Files, O: Write>(
         ⊎ BeginsPrinted (Decodes (F.content files.old) asked.now) (O.contents out.old) (O.contents out.new) }
     ensures cut { IsCutOf (Decodes (F.content files.old) asked.now) (O.contents out.old) (O.contents out.new) }
 {
-    let base = base_of(asked.base)?;
-    let program = program_of(files, base, asked.image)?;
+    let base = base_of(asked.base, &asked.also)?;
+    let program = program_of(alloc, files, base, asked.image, &asked.also)?;
     let bytes = content_of(files, asked.capture)?;
     let capture = bytes.as_slice();
     let progress = MessageProgress::new(&*files, asked.progress);

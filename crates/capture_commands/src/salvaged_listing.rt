@@ -1,11 +1,14 @@
 //! The subcommand `list` with `--salvage`.
 
-ghost use Rattle.std.specs.Prelude.{⊤, ◌≡◌, ◌≢◌, Err, IfOk, option_map};
+ghost use Rattle.std.specs.Prelude.{⊤, ◌≡◌, ◌≢◌, Err, IfErr, IfOk, OnOk, option_map};
+ghost use Rattle.std.specs.Io.KnownBytes.{Appends};
+ghost use Rattle.output.specs.Begun.{AppendsBeginning};
 ghost use Rattle.command_inputs.specs.Begun.{IsCutOf};
 ghost use Rattle.command_inputs.specs.Printed.{PrintsUnlessDenied};
 ghost use Rattle.rvclass.specs.Fetch.{words_of};
 ghost use Rattle.salvaging.specs.Treatments.{AreTreated};
 ghost use Rattle.capture_commands.specs.Faults.{final_status};
+ghost use Rattle.capture_commands.specs.ListedFormats.{treated_in};
 ghost use Rattle.capture_commands.specs.ListedSalvaged.{AreTreatedIn, WritesTreated};
 ghost use Rattle.capture_commands.specs.steps.Reading.{IsFound};
 ghost use Rattle.command_inputs.specs.declared.fault.Fault.TheVariants as Fault;
@@ -14,15 +17,19 @@ use crate::lossy_decoding::mode_of_header;
 use crate::reason::Fault;
 use crate::salvaging_capture::{Found, ended, find};
 use command_inputs::{Files, MessageProgress, Status};
-use message::Message;
+use frames::Spans;
+use message::{Header, Message};
 use payload::Mode;
+use retire::WriteFault;
 use rvclass::ProgramOver;
 use salvaged_lines::write_treated;
 use salvaging::{Treated, treat_watched};
 use searching::{harts_counted, spans_of};
 use std::alloc::{AllocError, Global};
 use std::io::Write;
+use subcommands::Format;
 use symbols::Symbols;
+use treated_table::write_treated_table;
 
 /// Writes what salvaging does with each message of a capture's bytes, and returns how salvaging them ends. The messages
 /// are worked through twice: once for what is salvaged of them, and once for what is done with each.
@@ -32,6 +39,7 @@ pub(crate) fn list_salvaged<'a, F: Files, O: Write>(
     alloc: Global,
     progress: &MessageProgress<'_, F>,
     program: &ProgramOver,
+    format: Format,
     harts: Option<u16>,
     symbols: Option<&Symbols>,
     bytes: &[u8],
@@ -40,14 +48,15 @@ pub(crate) fn list_salvaged<'a, F: Files, O: Write>(
     ensures never_refused { final_status result ≢ Status.Refused }
     ensures untouched { result ≡ Err Fault.Memory → out.new ≡ out.old }
     ensures printed { PrintsUnlessDenied
-        (WritesTreated harts program.now (option_map (λ file. file.now) symbols.entry) bytes.now) ⊤ result
+        (WritesTreated format harts program.now (option_map (λ file. file.now) symbols.entry) bytes.now) ⊤ result
         (O.contents out.old) (O.contents out.new) }
-    ensures cut { IsCutOf (WritesTreated harts program.now (option_map (λ file. file.now) symbols.entry) bytes.now)
+    ensures cut { IsCutOf (WritesTreated format harts program.now (option_map (λ file. file.now) symbols.entry) bytes.now)
         (O.contents out.old) (O.contents out.new) }
 {
     let found = find(alloc, progress, 2, program, harts, bytes)?;
     let treated = treat_found(alloc, progress, program, harts, &found, bytes)?;
-    write_treated(
+    write_treated_in(
+        format,
         symbols,
         found.header,
         spans_of(bytes, found.header),
@@ -56,6 +65,28 @@ pub(crate) fn list_salvaged<'a, F: Files, O: Write>(
     )?;
     out.flush()?;
     ended(&found)
+}
+
+/// Writes what salvaging does with each message in a format.
+fn write_treated_in<O: Write>(
+    format: Format,
+    symbols: Option<&Symbols>,
+    header: Option<Header>,
+    spans: Spans<'_>,
+    treated: &[Treated],
+    sink: &mut O,
+) -> Result<(), WriteFault>
+    ensures text { OnOk result (Appends (O.contents sink.old) (O.contents sink.new)
+        (treated_in format (option_map (λ file. file.now) symbols.entry) header spans.entry treated.now)) }
+    ensures begun { AppendsBeginning
+        (treated_in format (option_map (λ file. file.now) symbols.entry) header spans.entry treated.now)
+        (O.contents sink.old) (O.contents sink.new) }
+    ensures fault { IfErr result (λ fault. fault ≡ WriteFault.Write) }
+{
+    match format {
+        Format::Csv => write_treated_table(symbols, header, spans, treated, sink),
+        Format::Text | Format::Other => write_treated(symbols, header, spans, treated, sink),
+    }
 }
 
 /// What is done with each message that was found of a capture's bytes.

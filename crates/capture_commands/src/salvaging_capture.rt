@@ -4,10 +4,10 @@ ghost use Rattle.std.specs.Prelude.{⊤, ◌≡◌, ◌≢◌, ◌≤◌, Err, I
 ghost use Rattle.std.specs.Io.KnownBytes.{Appends};
 ghost use Rattle.std.specs.List.{list_any};
 ghost use Rattle.output.specs.Begun.{AppendsBeginning};
-ghost use Rattle.retire.specs.Number.{number_of};
 ghost use Rattle.salvaging.specs.Salvages.{GivesSalvaged};
 ghost use Rattle.salvaging.specs.PartsIn.{parts_in};
 ghost use Rattle.command_inputs.specs.Begun.{IsCutOf};
+ghost use Rattle.command_inputs.specs.FurtherPieces.{base_number};
 ghost use Rattle.command_inputs.specs.Order.{format_or_base_fault};
 ghost use Rattle.command_inputs.specs.Printed.{PrintsUnlessDenied};
 ghost use Rattle.capture_commands.specs.Faults.{final_status};
@@ -49,7 +49,9 @@ pub fn salvage<'a, F: Files, O: Write>(
     asked: &Salvage<'a>,
     out: &mut O,
 ) -> Result<Status, Fault<'a>>
-    ensures early { IfSome (format_or_base_fault asked.now.format (number_of asked.now.base.now)) (λ fault. result ≡ Err fault) }
+    ensures early { IfSome
+        (format_or_base_fault asked.now.format (base_number asked.now.base.now asked.now.also.items))
+        (λ fault. result ≡ Err fault) }
     ensures refused { final_status result ≡ Status.Refused → out.new ≡ out.old }
     ensures untouched { result ≡ Err Fault.Memory → out.new ≡ out.old }
     ensures printed { PrintsUnlessDenied (Salvages (F.content files.old) asked.now)
@@ -57,8 +59,8 @@ pub fn salvage<'a, F: Files, O: Write>(
         (O.contents out.old) (O.contents out.new) }
     ensures cut { IsCutOf (Salvages (F.content files.old) asked.now) (O.contents out.old) (O.contents out.new) }
 {
-    let base = asked_base(asked.format, asked.base)?;
-    let program = program_of(files, base, asked.image)?;
+    let base = asked_base(asked.format, asked.base, &asked.also)?;
+    let program = program_of(alloc, files, base, asked.image, &asked.also)?;
     let bytes = content_of(files, asked.capture)?;
     let progress = MessageProgress::new(&*files, asked.progress);
     salvage_capture(

@@ -1,10 +1,10 @@
 //! Queues and channels, in one thread and in several.
 
+mod allocations;
 mod calling;
 mod dropped;
 mod limits;
 mod made;
-mod memory;
 mod one_thread;
 mod queue;
 mod room;

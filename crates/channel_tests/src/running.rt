@@ -1,5 +1,6 @@
 //! What the bench makes of messages, of replays and of runs.
 
+mod allocations;
 mod calls;
 mod came;
 mod collect;
@@ -7,7 +8,6 @@ mod ends;
 mod gates;
 mod large;
 mod made;
-mod memory;
 mod no_memory;
 mod refused;
 mod replays;

@@ -98,13 +98,17 @@ IsGivenHarts value given = (value ≡ None → given ≡ None)
 -- What is asked is the subcommand of this name, with the values that these rows have for its arguments.
 abbrev pub Asks : Text → List Row → Asked → Type 0
 Asks name rows (Check asked) = (name ≡ codes "check")
-    × (asked.base.now ≡ text_of (codes "base") rows) × IsFlag (one_of (codes "explain") rows) asked.explain
+    × (asked.base.now ≡ text_of (codes "base") rows)
+    × (map (λ piece. piece.now) asked.also.items ≡ texts_of (codes "also") rows)
+    × IsFlag (one_of (codes "explain") rows) asked.explain
     × IsFlag (one_of (codes "long") rows) asked.long
     × IsFlag (one_of (codes "progress") rows) asked.progress
     × (asked.image.now ≡ text_of (codes "IMAGE") rows)
     × (map (λ log. log.now) asked.logs.items ≡ texts_of (codes "LOG") rows)
 Asks name rows (Encode asked) = (name ≡ codes "encode")
-    × (asked.base.now ≡ text_of (codes "base") rows) × IsPeriod (one_of (codes "period") rows) asked.period
+    × (asked.base.now ≡ text_of (codes "base") rows)
+    × (map (λ piece. piece.now) asked.also.items ≡ texts_of (codes "also") rows)
+    × IsPeriod (one_of (codes "period") rows) asked.period
     × IsMode (one_of (codes "full") rows) asked.mode × IsVersion (one_of (codes "v1") rows) asked.version
     × IsFlag (one_of (codes "hex") rows) asked.hex × IsGivenFirst (one_of (codes "first") rows) asked.first
     × IsGivenHarts (one_of (codes "of") rows) asked.of × IsFlag (one_of (codes "long") rows) asked.long
@@ -115,19 +119,25 @@ Asks name rows (Dump asked) = (name ≡ codes "dump") × IsFlag (one_of (codes "
     × IsFlag (one_of (codes "progress") rows) asked.progress
     × (asked.capture.now ≡ text_of (codes "CAPTURE") rows)
 Asks name rows (Decode asked) = (name ≡ codes "decode")
-    × (asked.base.now ≡ text_of (codes "base") rows) × IsHarts (one_of (codes "harts") rows) asked.harts
+    × (asked.base.now ≡ text_of (codes "base") rows)
+    × (map (λ piece. piece.now) asked.also.items ≡ texts_of (codes "also") rows)
+    × IsHarts (one_of (codes "harts") rows) asked.harts
     × IsFlag (one_of (codes "lossy") rows) asked.lossy × IsFlag (one_of (codes "progress") rows) asked.progress
     × (asked.image.now ≡ text_of (codes "IMAGE") rows)
     × (asked.capture.now ≡ text_of (codes "CAPTURE") rows)
 Asks name rows (Replay asked) = (name ≡ codes "replay")
-    × (asked.base.now ≡ text_of (codes "base") rows) × IsPeriod (one_of (codes "period") rows) asked.period
+    × (asked.base.now ≡ text_of (codes "base") rows)
+    × (map (λ piece. piece.now) asked.also.items ≡ texts_of (codes "also") rows)
+    × IsPeriod (one_of (codes "period") rows) asked.period
     × IsMode (one_of (codes "full") rows) asked.mode
     × IsCapacity (one_of (codes "capacity") rows) asked.capacity
     × IsFlag (one_of (codes "progress") rows) asked.progress
     × (asked.image.now ≡ text_of (codes "IMAGE") rows) × (asked.schedule.now ≡ text_of (codes "SCHEDULE") rows)
     × (map (λ log. log.now) asked.logs.items ≡ texts_of (codes "LOG") rows)
 Asks name rows (Bench asked) = (name ≡ codes "bench")
-    × (asked.base.now ≡ text_of (codes "base") rows) × IsPeriod (one_of (codes "period") rows) asked.period
+    × (asked.base.now ≡ text_of (codes "base") rows)
+    × (map (λ piece. piece.now) asked.also.items ≡ texts_of (codes "also") rows)
+    × IsPeriod (one_of (codes "period") rows) asked.period
     × IsMode (one_of (codes "full") rows) asked.mode
     × IsCapacity (one_of (codes "capacity") rows) asked.capacity
     × IsFlag (one_of (codes "progress") rows) asked.progress
@@ -139,19 +149,26 @@ Asks name rows (Audit asked) = (name ≡ codes "audit") × IsFlag (one_of (codes
     × IsFormat (text_of (codes "format") rows) asked.format × IsFlag (one_of (codes "progress") rows) asked.progress
     × (asked.sent.now ≡ text_of (codes "SENT") rows) × (asked.received.now ≡ text_of (codes "RECEIVED") rows)
 Asks name rows (Measure asked) = (name ≡ codes "measure")
-    × (asked.base.now ≡ text_of (codes "base") rows) × IsPeriod (one_of (codes "period") rows) asked.period
+    × (asked.base.now ≡ text_of (codes "base") rows)
+    × (map (λ piece. piece.now) asked.also.items ≡ texts_of (codes "also") rows)
+    × IsPeriod (one_of (codes "period") rows) asked.period
     × IsMode (one_of (codes "full") rows) asked.mode × IsFlag (one_of (codes "long") rows) asked.long
     × IsFlag (one_of (codes "progress") rows) asked.progress
     × (asked.image.now ≡ text_of (codes "IMAGE") rows)
     × (map (λ log. log.now) asked.logs.items ≡ texts_of (codes "LOG") rows)
 Asks name rows (Listing asked) = (name ≡ codes "list")
-    × (asked.base.now ≡ text_of (codes "base") rows) × IsGivenHarts (one_of (codes "harts") rows) asked.harts
+    × (asked.base.now ≡ text_of (codes "base") rows)
+    × (map (λ piece. piece.now) asked.also.items ≡ texts_of (codes "also") rows)
+    × IsGivenHarts (one_of (codes "harts") rows) asked.harts
     × (option_map (λ path. path.now) asked.symbols ≡ first_of (codes "symbols") rows)
     × IsFlag (one_of (codes "salvage") rows) asked.salvage
+    × IsFormat (text_of (codes "format") rows) asked.format
     × IsFlag (one_of (codes "progress") rows) asked.progress
     × (asked.image.now ≡ text_of (codes "IMAGE") rows) × (asked.capture.now ≡ text_of (codes "CAPTURE") rows)
 Asks name rows (Salvage asked) = (name ≡ codes "salvage")
-    × (asked.base.now ≡ text_of (codes "base") rows) × IsGivenHarts (one_of (codes "harts") rows) asked.harts
+    × (asked.base.now ≡ text_of (codes "base") rows)
+    × (map (λ piece. piece.now) asked.also.items ≡ texts_of (codes "also") rows)
+    × IsGivenHarts (one_of (codes "harts") rows) asked.harts
     × IsFlag (one_of (codes "summary") rows) asked.summary
     × IsFormat (text_of (codes "format") rows) asked.format × IsFlag (one_of (codes "progress") rows) asked.progress
     × (asked.image.now ≡ text_of (codes "IMAGE") rows) × (asked.capture.now ≡ text_of (codes "CAPTURE") rows)
@@ -160,7 +177,9 @@ Asks name rows (Capture asked) = (name ≡ codes "capture")
     × IsPeriod (one_of (codes "period") rows) asked.period
     × IsGivenHarts (one_of (codes "harts") rows) asked.harts × (asked.lines.now ≡ text_of (codes "LINES") rows)
 Asks name rows (Compare asked) = (name ≡ codes "compare")
-    × (asked.base.now ≡ text_of (codes "base") rows) × IsHarts (one_of (codes "harts") rows) asked.harts
+    × (asked.base.now ≡ text_of (codes "base") rows)
+    × (map (λ piece. piece.now) asked.also.items ≡ texts_of (codes "also") rows)
+    × IsHarts (one_of (codes "harts") rows) asked.harts
     × IsFlag (one_of (codes "long") rows) asked.long × IsFlag (one_of (codes "progress") rows) asked.progress
     × (asked.image.now ≡ text_of (codes "IMAGE") rows) × (asked.capture.now ≡ text_of (codes "CAPTURE") rows)
     × (map (λ log. log.now) asked.logs.items ≡ texts_of (codes "LOG") rows)

@@ -6,77 +6,76 @@ use Rattle.clap.specs.Words.{with_rule, with_subcommand}
 use Rattle.clap.specs.Simple.{on_top}
 use Rattle.clap.specs.declared.builder.command.Command.{Command}
 use Rattle.clap.specs.declared.builder.command.Command.TheViews.{out-Command as fields_of}
-use Rattle.arguments.specs.Rules.{base_rule, capacity_rule, capture_rule, explain_rule, first_rule, format_rule}
-use Rattle.arguments.specs.Rules.{full_rule, given_harts_rule, harts_rule, hex_rule, image_rule, lines_rule, logs_rule, long_rule}
-use Rattle.arguments.specs.Rules.{lossy_rule, of_rule, packets_rule, period_rule, progress_rule, received_rule}
-use Rattle.arguments.specs.Rules.{salvage_rule, schedule_rule, search_rule, sent_rule, summary_rule, symbols_rule}
-use Rattle.arguments.specs.Rules.{unnumbered_rule, version_one_rule}
+use Rattle.arguments.specs.Rules.{also_rule, base_rule, capacity_rule, capture_rule, explain_rule, first_rule}
+use Rattle.arguments.specs.Rules.{format_rule, full_rule, given_harts_rule, harts_rule, hex_rule, image_rule}
+use Rattle.arguments.specs.Rules.{lines_rule, logs_rule, long_rule, lossy_rule, of_rule, packets_rule, period_rule}
+use Rattle.arguments.specs.Rules.{progress_rule, received_rule, salvage_rule, schedule_rule, search_rule, sent_rule}
+use Rattle.arguments.specs.Rules.{summary_rule, symbols_rule, unnumbered_rule, version_one_rule}
 
 -- A subcommand of this name with arguments that are read by these rules.
 abbrev pub with_arguments : Text → List Rule → App
 with_arguments name rules = fold with_rule (new_app name) rules
 
--- `check --base B [--explain] [--long] [--progress] IMAGE LOG...`.
+-- `check --base B [--also B2=FILE]... [--explain] [--long] [--progress] IMAGE LOG...`.
 abbrev pub check_app : App
-check_app = with_arguments (codes "check") (base_rule ∷ explain_rule ∷ long_rule ∷ progress_rule ∷ image_rule ∷
-    logs_rule ∷ [])
+check_app = with_arguments (codes "check") (base_rule ∷ also_rule ∷ explain_rule ∷ long_rule ∷ progress_rule ∷
+    image_rule ∷ logs_rule ∷ [])
 
--- `encode --base B [--period N] [--full] [--v1] [--hex] [--first H] [--of N] [--long] [--progress] IMAGE LOG...`.
+-- `encode --base B [--also B2=FILE]... [--period N] [--full] [--v1] [--hex] [--first H] [--of N] [--long] [--progress]
+-- IMAGE LOG...`.
 abbrev pub encode_app : App
-encode_app = with_arguments (codes "encode") (base_rule ∷ period_rule ∷ full_rule ∷ version_one_rule ∷ hex_rule ∷
-    first_rule ∷ of_rule ∷ long_rule ∷ progress_rule ∷ image_rule ∷ logs_rule ∷ [])
+encode_app = with_arguments (codes "encode") (base_rule ∷ also_rule ∷ period_rule ∷ full_rule ∷ version_one_rule ∷
+    hex_rule ∷ first_rule ∷ of_rule ∷ long_rule ∷ progress_rule ∷ image_rule ∷ logs_rule ∷ [])
 
 -- `dump [--search] [--progress] CAPTURE`.
 abbrev pub dump_app : App
 dump_app = with_arguments (codes "dump") (search_rule ∷ progress_rule ∷ capture_rule ∷ [])
 
--- `decode --base B [--harts N] [--lossy] [--progress] IMAGE CAPTURE`.
+-- `decode --base B [--also B2=FILE]... [--harts N] [--lossy] [--progress] IMAGE CAPTURE`.
 abbrev pub decode_app : App
-decode_app = with_arguments (codes "decode") (base_rule ∷ harts_rule ∷ lossy_rule ∷ progress_rule ∷ image_rule ∷
-    capture_rule ∷ [])
+decode_app = with_arguments (codes "decode") (base_rule ∷ also_rule ∷ harts_rule ∷ lossy_rule ∷ progress_rule ∷
+    image_rule ∷ capture_rule ∷ [])
 
--- `replay --base B [--period N] [--full] [--capacity N] [--progress] IMAGE SCHEDULE LOG...`.
+-- `replay --base B [--also B2=FILE]... [--period N] [--full] [--capacity N] [--progress] IMAGE SCHEDULE LOG...`.
 abbrev pub replay_app : App
-replay_app = with_arguments (codes "replay") (base_rule ∷ period_rule ∷ full_rule ∷ capacity_rule ∷ progress_rule ∷
-    image_rule ∷
-    schedule_rule ∷ logs_rule ∷ [])
+replay_app = with_arguments (codes "replay") (base_rule ∷ also_rule ∷ period_rule ∷ full_rule ∷ capacity_rule ∷
+    progress_rule ∷ image_rule ∷ schedule_rule ∷ logs_rule ∷ [])
 
--- `bench --base B [--period N] [--full] [--capacity N] [--progress] IMAGE LOG...`.
+-- `bench --base B [--also B2=FILE]... [--period N] [--full] [--capacity N] [--progress] IMAGE LOG...`.
 abbrev pub bench_app : App
-bench_app = with_arguments (codes "bench") (base_rule ∷ period_rule ∷ full_rule ∷ capacity_rule ∷ progress_rule ∷
-    image_rule ∷
-    logs_rule ∷ [])
+bench_app = with_arguments (codes "bench") (base_rule ∷ also_rule ∷ period_rule ∷ full_rule ∷ capacity_rule ∷
+    progress_rule ∷ image_rule ∷ logs_rule ∷ [])
 
 -- `audit [--packets] [--unnumbered] [--summary] [--format FORMAT] [--progress] SENT RECEIVED`.
 abbrev pub audit_app : App
 audit_app = with_arguments (codes "audit") (packets_rule ∷ unnumbered_rule ∷ summary_rule ∷ format_rule ∷
     progress_rule ∷ sent_rule ∷ received_rule ∷ [])
 
--- `measure --base B [--period N] [--full] [--long] [--progress] IMAGE LOG...`.
+-- `measure --base B [--also B2=FILE]... [--period N] [--full] [--long] [--progress] IMAGE LOG...`.
 abbrev pub measure_app : App
-measure_app = with_arguments (codes "measure") (base_rule ∷ period_rule ∷ full_rule ∷ long_rule ∷ progress_rule ∷
-    image_rule ∷
-    logs_rule ∷ [])
+measure_app = with_arguments (codes "measure") (base_rule ∷ also_rule ∷ period_rule ∷ full_rule ∷ long_rule ∷
+    progress_rule ∷ image_rule ∷ logs_rule ∷ [])
 
--- `list --base B [--harts N] [--symbols FILE] [--salvage] [--progress] IMAGE CAPTURE`.
+-- `list --base B [--also B2=FILE]... [--harts N] [--symbols FILE] [--salvage] [--format FORMAT] [--progress] IMAGE
+-- CAPTURE`.
 abbrev pub list_app : App
-list_app = with_arguments (codes "list") (base_rule ∷ given_harts_rule ∷ symbols_rule ∷ salvage_rule ∷
-    progress_rule ∷ image_rule ∷ capture_rule ∷ [])
+list_app = with_arguments (codes "list") (base_rule ∷ also_rule ∷ given_harts_rule ∷ symbols_rule ∷ salvage_rule ∷
+    format_rule ∷ progress_rule ∷ image_rule ∷ capture_rule ∷ [])
 
--- `salvage --base B [--harts N] [--summary] [--format FORMAT] [--progress] IMAGE CAPTURE`.
+-- `salvage --base B [--also B2=FILE]... [--harts N] [--summary] [--format FORMAT] [--progress] IMAGE CAPTURE`.
 abbrev pub salvage_app : App
-salvage_app = with_arguments (codes "salvage") (base_rule ∷ given_harts_rule ∷ summary_rule ∷ format_rule ∷
-    progress_rule ∷ image_rule ∷ capture_rule ∷ [])
+salvage_app = with_arguments (codes "salvage") (base_rule ∷ also_rule ∷ given_harts_rule ∷ summary_rule ∷
+    format_rule ∷ progress_rule ∷ image_rule ∷ capture_rule ∷ [])
 
 -- `capture [--v1] [--full] [--period N] [--harts N] LINES`.
 abbrev pub capture_app : App
 capture_app = with_arguments (codes "capture") (version_one_rule ∷ full_rule ∷ period_rule ∷ given_harts_rule ∷
     lines_rule ∷ [])
 
--- `compare --base B [--harts N] [--long] [--progress] IMAGE CAPTURE LOG...`.
+-- `compare --base B [--also B2=FILE]... [--harts N] [--long] [--progress] IMAGE CAPTURE LOG...`.
 abbrev pub compare_app : App
-compare_app = with_arguments (codes "compare") (base_rule ∷ harts_rule ∷ long_rule ∷ progress_rule ∷ image_rule ∷
-    capture_rule ∷ logs_rule ∷ [])
+compare_app = with_arguments (codes "compare") (base_rule ∷ also_rule ∷ harts_rule ∷ long_rule ∷ progress_rule ∷
+    image_rule ∷ capture_rule ∷ logs_rule ∷ [])
 
 -- The program's subcommands, in the order in which help lists them.
 abbrev pub all_apps : List App

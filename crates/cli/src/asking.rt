@@ -76,6 +76,7 @@ fn check_asked<'a>(alloc: Global, given: &ArgMatches<'a>) -> Result<Asked<'a>, A
 {
     Ok(Asked::Check(Check {
         base: text(given, "base"),
+        also: texts(alloc, given, "also")?,
         explain: flag(given, "explain"),
         long: flag(given, "long"),
         progress: flag(given, "progress"),
@@ -112,6 +113,7 @@ fn encode_asked<'a>(alloc: Global, given: &ArgMatches<'a>) -> Result<Asked<'a>, 
 {
     Ok(Asked::Encode(Encode {
         base: text(given, "base"),
+        also: texts(alloc, given, "also")?,
         period: period(given),
         mode: mode(given),
         version: version(given),
@@ -167,17 +169,18 @@ fn given_first<'a>(given: &ArgMatches<'a>) -> Option<u16>
 }
 
 /// What was asked of `decode`.
-fn decode_asked<'a>(given: &ArgMatches<'a>) -> Asked<'a>
-    ensures { Asks (codes "decode") (rows_of (found_of given.now)) result }
+fn decode_asked<'a>(alloc: Global, given: &ArgMatches<'a>) -> Result<Asked<'a>, AllocError>
+    ensures { IfOk result (Asks (codes "decode") (rows_of (found_of given.now))) }
 {
-    Asked::Decode(Decode {
+    Ok(Asked::Decode(Decode {
         base: text(given, "base"),
+        also: texts(alloc, given, "also")?,
         harts: harts(given),
         lossy: flag(given, "lossy"),
         progress: flag(given, "progress"),
         image: text(given, "IMAGE"),
         capture: text(given, "CAPTURE"),
-    })
+    }))
 }
 
 /// The capacity, 1 to 65536 by the range that `clap` keeps.
@@ -196,6 +199,7 @@ fn replay_asked<'a>(alloc: Global, given: &ArgMatches<'a>) -> Result<Asked<'a>, 
 {
     Ok(Asked::Replay(Replay {
         base: text(given, "base"),
+        also: texts(alloc, given, "also")?,
         period: period(given),
         mode: mode(given),
         capacity: capacity(given),
@@ -212,6 +216,7 @@ fn bench_asked<'a>(alloc: Global, given: &ArgMatches<'a>) -> Result<Asked<'a>, A
 {
     Ok(Asked::Bench(Bench {
         base: text(given, "base"),
+        also: texts(alloc, given, "also")?,
         period: period(given),
         mode: mode(given),
         capacity: capacity(given),
@@ -253,6 +258,7 @@ fn measure_asked<'a>(alloc: Global, given: &ArgMatches<'a>) -> Result<Asked<'a>,
 {
     Ok(Asked::Measure(Measure {
         base: text(given, "base"),
+        also: texts(alloc, given, "also")?,
         period: period(given),
         mode: mode(given),
         long: flag(given, "long"),
@@ -263,33 +269,36 @@ fn measure_asked<'a>(alloc: Global, given: &ArgMatches<'a>) -> Result<Asked<'a>,
 }
 
 /// What was asked of `list`.
-fn list_asked<'a>(given: &ArgMatches<'a>) -> Asked<'a>
-    ensures { Asks (codes "list") (rows_of (found_of given.now)) result }
+fn list_asked<'a>(alloc: Global, given: &ArgMatches<'a>) -> Result<Asked<'a>, AllocError>
+    ensures { IfOk result (Asks (codes "list") (rows_of (found_of given.now))) }
 {
-    Asked::Listing(Listing {
+    Ok(Asked::Listing(Listing {
         base: text(given, "base"),
+        also: texts(alloc, given, "also")?,
         harts: given_harts(given, "harts"),
         symbols: given.get_str("symbols"),
         salvage: flag(given, "salvage"),
+        format: format(given),
         progress: flag(given, "progress"),
         image: text(given, "IMAGE"),
         capture: text(given, "CAPTURE"),
-    })
+    }))
 }
 
 /// What was asked of `salvage`.
-fn salvage_asked<'a>(given: &ArgMatches<'a>) -> Asked<'a>
-    ensures { Asks (codes "salvage") (rows_of (found_of given.now)) result }
+fn salvage_asked<'a>(alloc: Global, given: &ArgMatches<'a>) -> Result<Asked<'a>, AllocError>
+    ensures { IfOk result (Asks (codes "salvage") (rows_of (found_of given.now))) }
 {
-    Asked::Salvage(Salvage {
+    Ok(Asked::Salvage(Salvage {
         base: text(given, "base"),
+        also: texts(alloc, given, "also")?,
         harts: given_harts(given, "harts"),
         summary: flag(given, "summary"),
         format: format(given),
         progress: flag(given, "progress"),
         image: text(given, "IMAGE"),
         capture: text(given, "CAPTURE"),
-    })
+    }))
 }
 
 /// What was asked of `capture`.
@@ -311,6 +320,7 @@ fn compare_asked<'a>(alloc: Global, given: &ArgMatches<'a>) -> Result<Asked<'a>,
 {
     Ok(Asked::Compare(Compare {
         base: text(given, "base"),
+        also: texts(alloc, given, "also")?,
         harts: harts(given),
         long: flag(given, "long"),
         progress: flag(given, "progress"),
@@ -329,13 +339,13 @@ fn asked_of<'a>(alloc: Global, name: &str, given: &ArgMatches<'a>) -> Result<Ask
         "check" => check_asked(alloc, given),
         "encode" => encode_asked(alloc, given),
         "dump" => Ok(dump_asked(given)),
-        "decode" => Ok(decode_asked(given)),
+        "decode" => decode_asked(alloc, given),
         "replay" => replay_asked(alloc, given),
         "bench" => bench_asked(alloc, given),
         "audit" => Ok(audit_asked(given)),
         "measure" => measure_asked(alloc, given),
-        "list" => Ok(list_asked(given)),
-        "salvage" => Ok(salvage_asked(given)),
+        "list" => list_asked(alloc, given),
+        "salvage" => salvage_asked(alloc, given),
         "capture" => Ok(capture_asked(given)),
         "compare" => compare_asked(alloc, given),
         _ => unreachable!("clap knows no other subcommand"),

@@ -16,10 +16,10 @@ use crate::help::{
     SALVAGE_EXAMPLE, VERSION,
 };
 use arguments::{
-    base, capacity, capture, capture_progress, counted_harts, explain, first, format, full, harts,
-    headed_full, headed_period, headless, hex, image, lines, listed_harts, logs, long, lossy, of,
-    packets, period, progress, received, salvaged, salvaged_harts, schedule, search, sent, summary,
-    symbols, unnumbered, version_one, without_logs,
+    also, base, capacity, capture, capture_progress, counted_harts, explain, first, format, full,
+    harts, headed_full, headed_period, headless, hex, image, lines, listed_harts, logs, long,
+    lossy, of, packets, period, progress, received, salvaged, salvaged_harts, schedule, search,
+    sent, summary, symbols, unnumbered, version_one, without_logs,
 };
 use clap::{Arg, Command};
 use std::alloc::{AllocError, Global};
@@ -47,6 +47,7 @@ fn check<'a>(alloc: Global) -> Result<Command<'a>, AllocError>
 {
     let args = vec![in alloc;
         base(alloc),
+        also(alloc),
         explain(alloc),
         long(alloc),
         progress(alloc),
@@ -68,6 +69,7 @@ fn encode<'a>(alloc: Global) -> Result<Command<'a>, AllocError>
 {
     let args = vec![in alloc;
         base(alloc),
+        also(alloc),
         period(alloc),
         full(alloc),
         version_one(alloc),
@@ -108,6 +110,7 @@ fn decode<'a>(alloc: Global) -> Result<Command<'a>, AllocError>
 {
     let args = vec![in alloc;
         base(alloc),
+        also(alloc),
         harts(alloc),
         lossy(alloc),
         capture_progress(alloc),
@@ -129,6 +132,7 @@ fn replay<'a>(alloc: Global) -> Result<Command<'a>, AllocError>
 {
     let args = vec![in alloc;
         base(alloc),
+        also(alloc),
         period(alloc),
         full(alloc),
         capacity(alloc),
@@ -152,6 +156,7 @@ fn bench<'a>(alloc: Global) -> Result<Command<'a>, AllocError>
 {
     let args = vec![in alloc;
         base(alloc),
+        also(alloc),
         period(alloc),
         full(alloc),
         capacity(alloc),
@@ -196,6 +201,7 @@ fn measure<'a>(alloc: Global) -> Result<Command<'a>, AllocError>
 {
     let args = vec![in alloc;
         base(alloc),
+        also(alloc),
         period(alloc),
         full(alloc),
         long(alloc),
@@ -218,9 +224,11 @@ fn list<'a>(alloc: Global) -> Result<Command<'a>, AllocError>
 {
     let args = vec![in alloc;
         base(alloc),
+        also(alloc),
         listed_harts(alloc),
         symbols(alloc),
         salvaged(alloc),
+        format(alloc),
         capture_progress(alloc),
         image(alloc),
         capture(alloc),
@@ -240,6 +248,7 @@ fn salvage<'a>(alloc: Global) -> Result<Command<'a>, AllocError>
 {
     let args = vec![in alloc;
         base(alloc),
+        also(alloc),
         salvaged_harts(alloc),
         without_logs(alloc),
         format(alloc),
@@ -282,6 +291,7 @@ fn compare<'a>(alloc: Global) -> Result<Command<'a>, AllocError>
 {
     let args = vec![in alloc;
         base(alloc),
+        also(alloc),
         harts(alloc),
         long(alloc),
         progress(alloc),

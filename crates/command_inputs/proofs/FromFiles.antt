@@ -10,31 +10,31 @@ use Rattle.rvclass.specs.Image.{Image}
 use Rattle.rvclass.specs.Program.{program_of}
 use Rattle.rvclass.specs.declared.fault.ProgramFault.{ProgramFault}
 use Rattle.command_inputs.specs.Faults.{Path, log_fault}
-use Rattle.command_inputs.specs.Found.{IsProgramAt, IsRead}
+use Rattle.command_inputs.specs.Found.{IsImageAt, IsRead}
 use Rattle.command_inputs.specs.FoundLogs.{IsLegalLogUpTo, IsLogUpTo}
 use Rattle.files.specs.Known.{Content}
 use Rattle.command_inputs.specs.declared.fault.Fault.{Fault}
 use Rattle.command_inputs.specs.declared.fault.Fault.TheVariants as fault
 
 -- An image that is not read makes no program.
-pub program_unread : {W : Type 0} (content : Content) (base : ℕ) (path : Path) (why : Fault W)
-    → (why ≡ fault.Memory) ⊎ IsRead content path (Err why) → (why ≡ fault.Memory) ⊎ IsProgramAt content base path
+pub image_unread : {W : Type 0} (content : Content) (base : ℕ) (path : Path) (why : Fault W)
+    → (why ≡ fault.Memory) ⊎ IsRead content path (Err why) → (why ≡ fault.Memory) ⊎ IsImageAt content base path
     (Err why)
-program_unread content base path why (inl denied) = inl denied
-program_unread content base path why (inr read) = inr (record { bytes = Err why; read = read; made = refl })
+image_unread content base path why (inl denied) = inl denied
+image_unread content base path why (inr read) = inr (record { bytes = Err why; read = read; made = refl })
 
 -- An image that is refused makes no program.
-pub program_refused : {W : Type 0} (content : Content) (base : ℕ) (path : Path) (bytes : List ℕ) (why : ProgramFault)
+pub image_refused : {W : Type 0} (content : Content) (base : ℕ) (path : Path) (bytes : List ℕ) (why : ProgramFault)
     → IsRead {W = W} content path (Ok bytes) → Err why ≡ program_of base bytes
-    → IsProgramAt {W = W} content base path (Err (fault.Image why))
-program_refused content base path bytes why read is =
+    → IsImageAt {W = W} content base path (Err (fault.Image why))
+image_refused content base path bytes why read is =
     record { bytes = Ok bytes; read = read; made = ap (result_map_both (λ program. program) fault.Image) is }
 
 -- An image that is taken makes the program.
-pub program_made : {W : Type 0} (content : Content) (base : ℕ) (path : Path) (bytes : List ℕ) (program : Image)
+pub image_made : {W : Type 0} (content : Content) (base : ℕ) (path : Path) (bytes : List ℕ) (program : Image)
     → IsRead {W = W} content path (Ok bytes) → Ok program ≡ program_of base bytes
-    → IsProgramAt {W = W} content base path (Ok program)
-program_made content base path bytes program read is =
+    → IsImageAt {W = W} content base path (Ok program)
+image_made content base path bytes program read is =
     record { bytes = Ok bytes; read = read; made = ap (result_map_both (λ program. program) fault.Image) is }
 
 -- A log that is not read has no events.

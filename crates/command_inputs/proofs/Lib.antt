@@ -2,5 +2,6 @@ pub mod Beginnings
 pub mod FirstSteps
 pub mod Formats
 pub mod FromFiles
+pub mod PiecesAdded
 pub mod Runs
 pub mod StreamLemmas

@@ -5,6 +5,8 @@ use Rattle.files.specs.declared.fault.FileFault.{FileFault}
 use Rattle.files.specs.declared.fault.FileFault.TheVariants as file
 use Rattle.log_streams.specs.declared.stop.Stop.{Stop}
 use Rattle.log_streams.specs.declared.stop.Stop.TheVariants as stop
+use Rattle.memory.specs.declared.fault.PieceFault.{PieceFault}
+use Rattle.memory.specs.declared.fault.PieceFault.TheVariants as piece
 use Rattle.retire.specs.declared.fault.LogFault.{LogFault}
 use Rattle.retire.specs.declared.fault.LogFault.TheVariants as log
 use Rattle.retire.specs.declared.fault.WriteFault.{WriteFault}
@@ -22,6 +24,11 @@ Path = Bor (List ℕ)
 abbrev pub file_fault : {W : Type 0} → Path → FileFault → Fault W
 file_fault path file.CannotRead = fault.Unreadable path
 file_fault path file.Memory = fault.Memory
+
+-- The fault of a piece that was not added to the image.
+abbrev pub piece_fault : {W : Type 0} → Path → PieceFault → Fault W
+piece_fault path piece.Memory = fault.Memory
+piece_fault path why = fault.Piece path why
 
 -- The fault of a log that was not read.
 abbrev pub log_fault : {W : Type 0} → Path → LogFault → Fault W
@@ -62,6 +69,7 @@ map_own to fault.NoLogs = fault.NoLogs
 map_own to (fault.ManyLogs most) = fault.ManyLogs most
 map_own to (fault.Unreadable path) = fault.Unreadable path
 map_own to (fault.Image why) = fault.Image why
+map_own to (fault.Piece path why) = fault.Piece path why
 map_own to (fault.Log path why) = fault.Log path why
 map_own to (fault.Illegal path why) = fault.Illegal path why
 map_own to fault.Output = fault.Output

@@ -2,6 +2,7 @@ pub mod Status
 pub mod Faults
 pub mod FaultText
 pub mod Order
+pub mod FurtherPieces
 pub mod Finding
 pub mod Found
 pub mod FoundLogs

@@ -2,7 +2,7 @@
 
 ghost use Rattle.std.specs.Prelude.{◌≡◌, List, ℕ, Some};
 ghost use Rattle.command_inputs.specs.FaultText.{fault_text};
-ghost use Rattle.command_inputs.specs.Faults.{file_fault, log_fault, map_own, status_of, stop_fault, write_fault};
+ghost use Rattle.command_inputs.specs.Faults.{file_fault, log_fault, map_own, piece_fault, status_of, stop_fault, write_fault};
 ghost use Rattle.command_inputs.specs.declared.fault.Fault.TheVariants as fault;
 
 use crate::reason::Reason;
@@ -11,7 +11,7 @@ use files::FileFault;
 use legalpath::PathFault;
 use log_streams::Stop;
 use retire::{LogFault, WriteFault};
-use rvclass::ProgramFault;
+use rvclass::{PieceFault, ProgramFault};
 use std::alloc::AllocError;
 use std::error::Error;
 use std::{fmt, io};
@@ -23,7 +23,7 @@ use std::{fmt, io};
 pub enum Fault<'a, W> {
     /// The argument names no format.
     Format,
-    /// The base is not written as a number of a log is.
+    /// The base, or that of a further piece, is not written as a number of a log is.
     Base,
     /// No log is given. A command line that `cli` reads leads to no such fault.
     NoLogs,
@@ -33,6 +33,8 @@ pub enum Fault<'a, W> {
     Unreadable(&'a str),
     /// The image makes no program at the base.
     Image(ProgramFault),
+    /// The piece at this path is not added to the image.
+    Piece(&'a str, PieceFault),
     /// The file at this path is no log.
     Log(&'a str, LogFault),
     /// The log at this path is not legal for the program.
@@ -53,6 +55,16 @@ impl<'a, W> Fault<'a, W> {
         match why {
             FileFault::CannotRead => Fault::Unreadable(path),
             FileFault::Memory => Fault::Memory,
+        }
+    }
+
+    /// Why the piece at a path is not added to the image.
+    pub(crate) fn of_piece(path: &'a str, why: PieceFault) -> Fault<'a, W>
+        ensures { result ≡ piece_fault path.entry why }
+    {
+        match why {
+            PieceFault::Memory => Fault::Memory,
+            _ => Fault::Piece(path, why),
         }
     }
 
@@ -89,6 +101,7 @@ impl<W: Reason> Fault<'_, W> {
             | Fault::NoLogs
             | Fault::ManyLogs(_)
             | Fault::Image(_)
+            | Fault::Piece(..)
             | Fault::Log(..)
             | Fault::Illegal(..) => Status::Refused,
             Fault::Own(why) => why.status(),
@@ -108,6 +121,11 @@ impl<W: Reason> fmt::Display for Fault<'_, W> {
             Fault::ManyLogs(most) => write!(f, "more than {most} logs"),
             Fault::Unreadable(path) => write!(f, "{path}: cannot be read"),
             Fault::Image(why) => write!(f, "{why}"),
+            Fault::Piece(path, why) => match why {
+                // That there are too many pieces is no fault of the file.
+                PieceFault::TooMany => write!(f, "{why}"),
+                _ => write!(f, "{path}: {why}"),
+            },
             Fault::Log(path, why) => write!(f, "{path}: {why}"),
             Fault::Illegal(path, why) => write!(f, "{path}: {why}"),
             Fault::Own(why) => write!(f, "{why}"),

@@ -1,15 +1,17 @@
-//! The inputs of a subcommand: a base, a file and an image.
+//! The inputs of a subcommand: a base, a file and an image with its further pieces.
 
 ghost use Rattle.std.specs.Prelude.{◌≡◌, ◌⊎◌, ◌≤◌, ◌<◌, IfErr, IfOk, IfSome, Err, None, Ok, Some, length};
 ghost use Rattle.command_inputs.specs.declared.fault.Fault.TheVariants as fault;
-ghost use Rattle.command_inputs.specs.Found.{AreFew, IsAskedBase, IsAskedProgram, IsBase, IsFormat, IsProgramAt, IsRead};
+ghost use Rattle.command_inputs.specs.Found.{AreFew, IsAskedBase, IsAskedProgram, IsBase, IsFormat, IsImageAt, IsProgramAt, IsRead};
+ghost use Rattle.command_inputs.specs.FurtherPieces.{base_number};
 ghost use Rattle.command_inputs.specs.Order.{format_fault, format_or_base_fault, logs_fault};
-ghost use Rattle.retire.specs.Number.{number_of};
 
 use crate::fault::Fault;
+use crate::pieces::{add_pieces, give_pieces};
 use files::Files;
 use retire::number;
 use rvclass::Program;
+use std::alloc::Global;
 use subcommands::Format;
 
 /// Refuses an argument that names no format.
@@ -25,21 +27,26 @@ pub fn check_format<'a, W>(format: Format) -> Result<(), Fault<'a, W>>
 }
 
 /// The number that a base is, where there is a format. The format is looked at first.
-pub fn asked_base<'a, W>(format: Format, text: &str) -> Result<u64, Fault<'a, W>>
-    ensures found { IsAskedBase format text.now result }
-    ensures number { IfOk result (λ base. format_or_base_fault {W = W} format (number_of text.now) ≡ None) }
-    ensures none { IfErr result (λ why. format_or_base_fault format (number_of text.now) ≡ Some why) }
+pub fn asked_base<'a, W>(format: Format, text: &str, also: &Vec<&str>) -> Result<u64, Fault<'a, W>>
+    ensures found { IsAskedBase format text.now also.now.items result }
+    ensures number { IfOk result
+        (λ base. format_or_base_fault {W = W} format (base_number text.now also.now.items) ≡ None) }
+    ensures none { IfErr result
+        (λ why. format_or_base_fault format (base_number text.now also.now.items) ≡ Some why) }
 {
     check_format(format)?;
-    base_of(text)
+    base_of(text, also)
 }
 
-/// The number that a base is.
-pub fn base_of<'a, W>(text: &str) -> Result<u64, Fault<'a, W>>
-    ensures found { IsBase text.now result }
-    ensures number { IfOk result (λ base. number_of text.now ≡ Some base) }
-    ensures none { IfErr result (λ fault. (fault ≡ Fault.Base) × (number_of text.now ≡ None)) }
+/// The number that a base is, where each of the further arguments gives a piece with a base that is a number too.
+pub fn base_of<'a, W>(text: &str, also: &Vec<&str>) -> Result<u64, Fault<'a, W>>
+    ensures found { IsBase text.now also.now.items result }
+    ensures number { IfOk result (λ base. base_number text.now also.now.items ≡ Some base) }
+    ensures none { IfErr result (λ fault. (fault ≡ Fault.Base) × (base_number text.now also.now.items ≡ None)) }
 {
+    if !give_pieces(also.as_slice()) {
+        return Err(Fault::Base);
+    }
     match number(text.as_bytes()) {
         Some(base) => Ok(base),
         None => Err(Fault::Base),
@@ -76,41 +83,63 @@ pub fn content_of<'a, W, F: Files>(files: &mut F, path: &'a str) -> Result<Vec<u
     }
 }
 
-/// The program of an image at a base.
-pub fn program_of<'a, W, F: Files>(
+/// The program of an image at a base, with no further piece.
+fn image_of<'a, W, F: Files>(
     files: &mut F,
     base: u64,
     image: &'a str,
 ) -> Result<Program, Fault<'a, W>>
     ensures program { IfOk result
-        (λ program. IsProgramAt {W = W} (F.content files.old) base image.entry (Ok program)) }
+        (λ program. IsImageAt {W = W} (F.content files.old) base image.entry (Ok program)) }
     ensures fault { IfErr result
-        (λ why. (why ≡ Fault.Memory) ⊎ IsProgramAt (F.content files.old) base image.entry (Err why)) }
+        (λ why. (why ≡ Fault.Memory) ⊎ IsImageAt (F.content files.old) base image.entry (Err why)) }
     ensures kept { F.content files.new ≡ F.content files.old }
 {
     let bytes = content_of(files, image)?;
     Ok(Program::new(base, bytes)?)
 }
 
-/// The program that is asked for together with logs. The base is looked at first, then the count of logs, then the
-/// image.
+/// The program of an image at a base, with the further pieces that these arguments give. Each piece is read and added
+/// before the next is looked at.
+pub fn program_of<'a, W, F: Files>(
+    alloc: Global,
+    files: &mut F,
+    base: u64,
+    image: &'a str,
+    also: &Vec<&'a str>,
+) -> Result<Program, Fault<'a, W>>
+    ensures program { IfOk result
+        (λ program. IsProgramAt {W = W} (F.content files.old) base image.entry also.now.items (Ok program)) }
+    ensures fault { IfErr result (λ why.
+        (why ≡ Fault.Memory) ⊎ IsProgramAt (F.content files.old) base image.entry also.now.items (Err why)) }
+    ensures kept { F.content files.new ≡ F.content files.old }
+{
+    let program = image_of(files, base, image)?;
+    add_pieces(alloc, files, program, also.as_slice())
+}
+
+/// The program that is asked for together with logs. The bases are looked at first, then the count of logs, then the
+/// image and its further pieces.
 pub fn asked_program<'a, W, F: Files>(
+    alloc: Global,
     files: &mut F,
     most: u16,
     base: &str,
+    also: &Vec<&'a str>,
     image: &'a str,
     paths: &[&'a str],
 ) -> Result<Program, Fault<'a, W>>
-    ensures early { IfSome (logs_fault most (number_of base.now) (length paths.now)) (λ fault. result ≡ Err fault) }
+    ensures early { IfSome (logs_fault most (base_number base.now also.now.items) (length paths.now))
+        (λ fault. result ≡ Err fault) }
     ensures program { IfOk result (λ program.
-        IsAskedProgram {W = W} (F.content files.old) most base.now image.entry paths.now (Ok program)) }
-    ensures fault { IfErr result (λ why.
-        (why ≡ Fault.Memory) ⊎ IsAskedProgram (F.content files.old) most base.now image.entry paths.now (Err why)) }
+        IsAskedProgram {W = W} (F.content files.old) most base.now also.now.items image.entry paths.now (Ok program)) }
+    ensures fault { IfErr result (λ why. (why ≡ Fault.Memory)
+        ⊎ IsAskedProgram (F.content files.old) most base.now also.now.items image.entry paths.now (Err why)) }
     ensures some { IfOk result (λ _. 1 ≤ length paths.now) }
     ensures few { IfOk result (λ _. length paths.now ≤ most) }
     ensures kept { F.content files.new ≡ F.content files.old }
 {
-    let base = base_of(base)?;
+    let base = base_of(base, also)?;
     check_count(paths, most)?;
-    program_of(files, base, image)
+    program_of(alloc, files, base, image, also)
 }

@@ -1,9 +1,9 @@
 //! How the subcommands of `tracebench` begin and end, whatever they do in between.
 //!
-//! A subcommand reads its inputs from [`Files`]: a base, an image, logs or a capture, each in order, or a [`Fault`]
-//! that ends it. It ends with a [`Status`], or at a fault, whose line [`report_error`] writes. A subcommand stops for
-//! faults that any subcommand may have, or for a [`Reason`] of its own. What a run prints, and what it may have written
-//! where it is cut short, is said here for any subcommand.
+//! A subcommand reads its inputs from [`Files`]: a base, an image with its further pieces, logs or a capture, each in
+//! order, or a [`Fault`] that ends it. It ends with a [`Status`], or at a fault, whose line [`report_error`] writes. A
+//! subcommand stops for faults that any subcommand may have, or for a [`Reason`] of its own. What a run prints, and what
+//! it may have written where it is cut short, is said here for any subcommand.
 #![tactic(auto)]
 
 mod error_reporting;
@@ -11,6 +11,7 @@ mod fault;
 mod inputs;
 mod legal_logs;
 mod listing;
+mod pieces;
 mod progress;
 mod reason;
 mod status;

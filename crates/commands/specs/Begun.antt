@@ -5,7 +5,8 @@ use Rattle.command_inputs.specs.Begun.{IsCutOf}
 use Rattle.files.specs.Known.{Content}
 use Rattle.commands.specs.Meanings.{meaning_of}
 
--- The run may write a part of its text before allocation fails, as those of `check`, `decode` and `list` may.
+-- The run may write a part of its text before allocation fails, as those of `check` and `decode` may, and that of `list`
+-- where salvaging is not asked for.
 abbrev pub WritesInParts : Asked → Type 0
 WritesInParts asked = (meaning_of asked).WritesInParts
 

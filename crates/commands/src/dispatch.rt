@@ -21,9 +21,9 @@ use std::sync::Wait;
 use std::thread::Threads;
 use subcommands::Asked;
 
-/// Does what is asked, and returns how that ended: with a status, or at the first fault in the order base, count of
-/// logs or harts, image, symbols, each log in turn, schedule, capture or lines; of `compare` base, image, capture, count
-/// of logs, each log in turn.
+/// Does what is asked, and returns how that ended: with a status, or at the first fault in the order base, bases of
+/// further pieces, count of logs or harts, image, further pieces, symbols, each log in turn, schedule, capture or lines;
+/// of `compare` bases, image, further pieces, capture, count of logs, each log in turn.
 ///
 /// Illegal logs are no fault of `check`, which has a line for each log on `out`.
 pub fn carry_out<'a, F: Files + Sync, O: Write, R: Threads + Wait + Sync>(
@@ -43,7 +43,7 @@ where
     // Where allocation fails, nothing or a prefix of the text was written.
     ensures begun { result ≡ Err Fault.Memory
         → IsBegun (F.content files.old) asked.now (O.contents out.old) (O.contents out.new) }
-    // Where allocation fails, only `check`, `decode` and `list` may have written anything.
+    // Where allocation fails, only `check`, `decode` and `list` without `--salvage` may have written anything.
     ensures untouched { ¬ WritesInParts asked.now → result ≡ Err Fault.Memory → out.new ≡ out.old }
     // Where the input is refused, nothing is written, but for the lines of `check`.
     ensures refused { ¬ IsCheck asked.now → final_status result ≡ Status.Refused → out.new ≡ out.old }

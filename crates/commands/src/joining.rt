@@ -92,6 +92,7 @@ fn joined_fault<'a, W: Family<'a>>(why: AnyFault<'a, W>) -> Fault<'a>
         AnyFault::ManyLogs(most) => AnyFault::ManyLogs(most),
         AnyFault::Unreadable(path) => AnyFault::Unreadable(path),
         AnyFault::Image(why) => AnyFault::Image(why),
+        AnyFault::Piece(path, why) => AnyFault::Piece(path, why),
         AnyFault::Log(path, why) => AnyFault::Log(path, why),
         AnyFault::Illegal(path, why) => AnyFault::Illegal(path, why),
         AnyFault::Own(why) => AnyFault::Own(why.joined()),

@@ -39,8 +39,8 @@ as_many harts paths u are = go (length paths == harts) refl are
     go false is found = cc
 
 module _ (content : Content) (asked : Compare) (base : ℕ) (program : Image) (bytes : List ℕ)
-    (based : IsBase {W = CaptureReason} asked.base.now (Ok base))
-    (found : IsProgramAt {W = CaptureReason} content base asked.image (Ok program))
+    (based : IsBase {W = CaptureReason} asked.base.now asked.also.items (Ok base))
+    (found : IsProgramAt {W = CaptureReason} content base asked.image asked.also.items (Ok program))
     (read : IsRead {W = CaptureReason} content asked.capture (Ok bytes)) where
   -- What is written of the capture is what `compare` prints.
   capture_leads : (printed : Printed) → ComparesCapture content asked program bytes printed

@@ -5,11 +5,11 @@ use Rattle.captures.specs.declared.outcome.CaptureFault.{CaptureFault}
 use Rattle.comparing.specs.Compared.{AreGot, comparison_text, is_compared_whole}
 use Rattle.files.specs.Known.{Content}
 use Rattle.legalpath.specs.ProgramLog.{ProgramLog}
-use Rattle.retire.specs.Number.{number_of}
 use Rattle.rvclass.specs.Fetch.{words_of}
 use Rattle.rvclass.specs.Image.{Image}
 use Rattle.subcommands.specs.declared.words.Compare.{Compare}
 use Rattle.command_inputs.specs.Found.{IsBase, IsProgramAt, IsRead}
+use Rattle.command_inputs.specs.FurtherPieces.{base_number}
 use Rattle.command_inputs.specs.Meaning.{writing_at_once}
 use Rattle.command_inputs.specs.Order.{base_fault}
 use Rattle.command_inputs.specs.Printed.{First}
@@ -36,11 +36,12 @@ pub record ComparesCapture (content : Content) (asked : Compare) (program : Imag
       (AreLogsOfHarts (rows_of asked.long) content program asked.logs.items (length gots)) (WritesComparison stop gots)
       printed
 
--- The base is looked at first, then the image and the capture. Where there is no fault, the capture is compared.
+-- The bases are looked at first, then the image with its further pieces, and the capture. Where there is no fault, the
+-- capture is compared.
 abbrev pub Compares : Content → Compare → Printed → Type 0
 Compares content asked =
-    First (IsBase asked.base.now) (λ base.
-    First (IsProgramAt content base asked.image) (λ program.
+    First (IsBase asked.base.now asked.also.items) (λ base.
+    First (IsProgramAt content base asked.image asked.also.items) (λ program.
     First (IsRead content asked.capture) (ComparesCapture content asked program)))
 
 -- A capture's bytes decode to something of each hart without want of memory, and the logs of as many harts are found.
@@ -54,12 +55,12 @@ pub record CanCompareCapture (content : Content) (asked : Compare) (program : Im
 -- `compare` writes once it has the legal logs.
 abbrev pub CanCompare : Content → Compare → Type 0
 CanCompare content asked =
-    Once (IsBase asked.base.now) (λ base.
-    Once (IsProgramAt content base asked.image) (λ program.
+    Once (IsBase asked.base.now asked.also.items) (λ base.
+    Once (IsProgramAt content base asked.image asked.also.items) (λ program.
     Once (IsRead content asked.capture) (CanCompareCapture content asked program)))
 
 -- What `compare` means. Where allocation fails, it wrote nothing.
 abbrev pub compare_meaning : Compare → Meaning
 compare_meaning asked = writing_at_once
-    (base_fault (number_of asked.base.now))
+    (base_fault (base_number asked.base.now asked.also.items))
     (λ content. Compares content asked) (λ content. CanCompare content asked)

@@ -1,8 +1,8 @@
 //! The subcommand `compare`.
 
 ghost use Rattle.std.specs.Prelude.{◌≡◌, Err, IfSome};
-ghost use Rattle.retire.specs.Number.{number_of};
 ghost use Rattle.command_inputs.specs.Begun.{IsCutOf};
+ghost use Rattle.command_inputs.specs.FurtherPieces.{base_number};
 ghost use Rattle.command_inputs.specs.Order.{base_fault};
 ghost use Rattle.command_inputs.specs.Printed.{PrintsUnlessDenied};
 ghost use Rattle.command_inputs.specs.declared.fault.Fault.TheVariants as Fault;
@@ -38,7 +38,8 @@ pub fn compare<'a, F: Files + Sync, O: Write, R: Threads + Sync>(
 ) -> Result<Status, Fault<'a>>
 where
     F::Reader: Send,
-    ensures early { IfSome (base_fault (number_of asked.now.base.now)) (λ fault. result ≡ Err fault) }
+    ensures early { IfSome (base_fault (base_number asked.now.base.now asked.now.also.items))
+        (λ fault. result ≡ Err fault) }
     ensures refused { final_status result ≡ Status.Refused → out.new ≡ out.old }
     ensures untouched { result ≡ Err Fault.Memory → out.new ≡ out.old }
     ensures printed { PrintsUnlessDenied (Compares (F.content files.old) asked.now)
@@ -46,8 +47,8 @@ where
         (O.contents out.old) (O.contents out.new) }
     ensures cut { IsCutOf (Compares (F.content files.old) asked.now) (O.contents out.old) (O.contents out.new) }
 {
-    let base = base_of(asked.base)?;
-    let program = program_of(files, base, asked.image)?;
+    let base = base_of(asked.base, &asked.also)?;
+    let program = program_of(alloc, files, base, asked.image, &asked.also)?;
     let bytes = content_of(files, asked.capture)?;
     let capture = bytes.as_slice();
     compare_capture(alloc, rt, &*files, &program, asked, capture, out)

@@ -13,9 +13,11 @@ use Rattle.legalpath.specs.Backward.{jumps_back}
 use Rattle.legalpath.specs.Successor.{leads_from}
 use Rattle.legalpath.specs.declared.next.Next.TheVariants.{One}
 use Rattle.decoder.specs.Walk.{End, AtBranch, AtAddress, AtTarget}
+use Rattle.decoder.specs.steps.Lanes.{addr_of}
 use Rattle.decoder.specs.steps.Leads.{may_stay_on}
 use Rattle.decoder.specs.steps.StraightLines.{straight_on, unless_back, then_on, line_to, IsLine, AreLeaps, passes, GoesOn, IsLonger}
 use Rattle.decoder.specs.steps.Walks.{event_of, Carries}
+use Rattle.decoder.specs.declared.lanes.Lane.{Lane}
 use Rattle.decoder.specs.declared.leaps.Leap.{Leap}
 use Rattle.decoder.specs.declared.leaps.Line.{Line}
 use Rattle.decoder.specs.declared.stepping.Here.{Here}
@@ -258,20 +260,19 @@ goes_on words is_program end left here most line on = (
 )
 
 -- What each step of the table's making needs.
-pub one_step : (words : Words) (end place at next : ℕ) → straight_on (end - 2 * place) (words (end - 2 * place)) ≡ Some next →
-    next + 2 * at ≡ end → IsLine words 1 (end - 2 * place) (end - 2 * at)
-one_step words end place at next h is =
-    let there : next ≡ end - 2 * at = omega (arith, is) in
-    longer_line words 0 (end - 2 * place) next (end - 2 * at) h (ap Some there)
+pub one_step : (words : Words) (addr next to : ℕ) → straight_on addr (words addr) ≡ Some next → to ≡ next →
+    IsLine words 1 addr to
+one_step words addr next to h is = longer_line words 0 addr next to h (ap Some (sym is))
 
 -- No leaps.
-pub no_leaps : (words : Words) (end : ℕ) → AreLeaps words end []
-no_leaps words end place leap h = cc
+pub no_leaps : (words : Words) (lanes : List Lane) → AreLeaps words lanes []
+no_leaps words lanes place leap h = cc
 
 -- A leap that was read from the list.
-pub leap_read : (words : Words) (end : ℕ) (leaps : List Leap) (place : ℕ) (leap : Leap) → AreLeaps words end leaps →
-    place < length leaps → leap ≡ get_or leaps place leap → IsLine words leap.steps (end - 2 * place) (end - 2 * leap.to)
-leap_read words end leaps place leap lead within at =
+pub leap_read : (words : Words) (lanes : List Lane) (leaps : List Leap) (place : ℕ) (leap : Leap) →
+    AreLeaps words lanes leaps → place < length leaps → leap ≡ get_or leaps place leap →
+    IsLine words leap.steps (addr_of lanes place) (addr_of lanes leap.to)
+leap_read words lanes leaps place leap lead within at =
     lead place leap (slice_get_read leaps (length leaps) place leap refl within at)
 
 -- What is read of a list with one entry more is that entry, or read of the list.
@@ -287,24 +288,23 @@ get_pushed (z ∷ xs) x y (suc i) h = go (get_pushed xs x y i h)
     go (inl same) = inl same
     go (inr (last, is)) = inr (ap suc last, is)
 
-pub leaps_pushed : (words : Words) (end place : ℕ) (leaps : List Leap) (leap : Leap) → AreLeaps words end leaps →
-    length leaps ≡ place → IsLine words leap.steps (end - 2 * place) (end - 2 * leap.to) →
-    AreLeaps words end (leaps ++ leap ∷ [])
-leaps_pushed words end place leaps leap lead count line at one h = go (get_pushed leaps leap one at h)
+pub leaps_pushed : (words : Words) (lanes : List Lane) (place : ℕ) (leaps : List Leap) (leap : Leap) →
+    AreLeaps words lanes leaps → length leaps ≡ place →
+    IsLine words leap.steps (addr_of lanes place) (addr_of lanes leap.to) → AreLeaps words lanes (leaps ++ leap ∷ [])
+leaps_pushed words lanes place leaps leap lead count line at one h = go (get_pushed leaps leap one at h)
   where
     go : (slice_get leaps at ≡ Some one) ⊎ ((at ≡ length leaps) × (leap ≡ one)) →
-        IsLine words one.steps (end - 2 * at) (end - 2 * one.to)
+        IsLine words one.steps (addr_of lanes at) (addr_of lanes one.to)
     go (inl before) = lead at one before
     go (inr (last, is)) =
-        subst (λ k. IsLine words one.steps (end - 2 * k) (end - 2 * one.to)) (sym (last ∙ count))
-        (subst (λ l. IsLine words l.steps (end - 2 * place) (end - 2 * l.to)) is line)
+        subst (λ k. IsLine words one.steps (addr_of lanes k) (addr_of lanes one.to)) (sym (last ∙ count))
+        (subst (λ (l : Leap). IsLine words l.steps (addr_of lanes place) (addr_of lanes l.to)) is line)
 
 -- The line that a leap read from the list tells of, from an address on.
-pub line_read : (words : Words) (end : ℕ) (leaps : List Leap) (place : ℕ) (leap : Leap) (addr to : ℕ) →
-    AreLeaps words end leaps → place < length leaps → leap ≡ get_or leaps place leap → addr + 2 * place ≡ end →
-    to ≡ end - 2 * leap.to → IsLine words leap.steps addr to
-line_read words end leaps place leap addr to lead within at from there =
-    let here : end - 2 * place ≡ addr = omega (arith, from) in
-    subst (λ a. IsLine words leap.steps a to) here
-    (subst (λ b. IsLine words leap.steps (end - 2 * place) b) (sym there)
-    (leap_read words end leaps place leap lead within at))
+pub line_read : (words : Words) (lanes : List Lane) (leaps : List Leap) (place : ℕ) (leap : Leap) (addr to : ℕ) →
+    AreLeaps words lanes leaps → place < length leaps → leap ≡ get_or leaps place leap → addr_of lanes place ≡ addr →
+    addr_of lanes leap.to ≡ to → IsLine words leap.steps addr to
+line_read words lanes leaps place leap addr to lead within at from there =
+    subst (λ a. IsLine words leap.steps a to) from
+    (subst (λ b. IsLine words leap.steps (addr_of lanes place) b) there
+    (leap_read words lanes leaps place leap lead within at))

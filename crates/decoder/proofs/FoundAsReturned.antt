@@ -1,5 +1,5 @@
 -- What the code returns of a walk that was written as it was found is what is said of walks.
-use Rattle.std.proofs.Common.{◌≡◌, ℕ, ◌*◌, ◌/◌, ◌≤◌, Bool, List, length, Option, Some, None, Result, Ok, Err}
+use Rattle.std.proofs.Common.{◌≡◌, ℕ, ◌*◌, ◌≤◌, Bool, List, length, Option, Some, None, Result, Ok, Err}
 use Rattle.std.proofs.Common.{sym, subst, ap, ◌∙◌}
 use Rattle.retire.specs.declared.event.Event.{Event}
 use Rattle.rvclass.specs.Words.{Words, IsProgram, LiesIn}
@@ -23,16 +23,16 @@ pub record Returned (words : Words) (from : Here) (taken : List Bool) (end : End
   pub none : NoneAtFault words from taken end result
   pub adds : AddsReturned (Adds words from taken end old new) result
 
-module _ (words : Words) (good : IsProgram words) (base count : ℕ) (lies : LiesIn words base count) (from : Here)
+module _ (words : Words) (good : IsProgram words) (spot : ℕ → ℕ) (half : ℕ) (lies : LiesIn words spot half) (from : Here)
     (right : IsHere words from) (course : Course) (is_course : IsCourse course) (limit : ℕ)
-    (most : limit ≡ 32 * (count / 2)) (taken : List Bool) (goal : Goal) (outcomes : course.outcomes ≡ taken)
+    (most : limit ≡ 32 * half) (taken : List Bool) (goal : Goal) (outcomes : course.outcomes ≡ taken)
     (aim : course.goal ≡ goal) where
   few : length taken ≤ 31
   few = subst (λ l. length l ≤ 31) outcomes (subst (λ n. n ≤ 31) is_course.0 is_course.1)
 
   same : walk_within words limit (event_of from) course.outcomes (goal_end course.goal) ≡ walk_within words
-      (32 * (count / 2)) (event_of from) taken (goal_end goal)
-  same = same_walk words (event_of from) limit (32 * (count / 2)) course.outcomes taken course.goal goal most outcomes
+      (32 * half) (event_of from) taken (goal_end goal)
+  same = same_walk words (event_of from) limit (32 * half) course.outcomes taken course.goal goal most outcomes
       aim
 
   abbrev IsSummary : Result (Option Walked) DecodeFault → Type 0
@@ -45,22 +45,22 @@ module _ (words : Words) (good : IsProgram words) (base count : ℕ) (lies : Lie
   returned_finds (Err fault) summed = tt
   returned_finds (Ok None) summed = tt
   returned_finds (Ok (Some walked)) summed =
-      measure_finds words good from right taken (goal_end goal) (32 * (count / 2)) (Ok walked)
+      measure_finds words good from right taken (goal_end goal) (32 * half) (Ok walked)
       (summed ∙ ap (summary (event_of from)) same)
 
   returned_short : (result : Result (Option Walked) DecodeFault) → IsSummary result →
-      ShortReturned (32 * (count / 2)) result
+      ShortReturned (32 * half) result
   returned_short (Err fault) summed = tt
   returned_short (Ok None) summed = tt
   returned_short (Ok (Some walked)) summed =
-      measure_short words good from right taken (goal_end goal) base count lies few (Ok walked)
+      measure_short words good from right taken (goal_end goal) spot half lies few (Ok walked)
       (returned_finds (Ok (Some walked)) summed)
 
   returned_none : (result : Result (Option Walked) DecodeFault) → IsSummary result →
       NoneAtFault words from taken (goal_end goal) result
   returned_none (Ok walked) summed = tt
   returned_none (Err fault) summed =
-      measure_none words good from right taken (goal_end goal) base count lies few (Err fault)
+      measure_none words good from right taken (goal_end goal) spot half lies few (Err fault)
       (summed ∙ ap (summary (event_of from)) same)
 
   returned_adds : (old new : List Event) (result : Result (Option Walked) DecodeFault) →
@@ -69,13 +69,13 @@ module _ (words : Words) (good : IsProgram words) (base count : ℕ) (lies : Lie
   returned_adds old new (Err fault) adds = tt
   returned_adds old new (Ok None) adds = tt
   returned_adds old new (Ok (Some walked)) adds =
-      let within : AddsWithin words (32 * (count / 2)) (event_of from) taken (goal_end goal) old new =
+      let within : AddsWithin words (32 * half) (event_of from) taken (goal_end goal) old new =
       (adds.0.0, sym same ∙ adds.0.1, adds.0.2) in
-      (write_adds words good from right taken (goal_end goal) base count lies few old new within, adds.1)
+      (write_adds words good from right taken (goal_end goal) spot half lies few old new within, adds.1)
 
   pub returned : (old new : List Event) (result : Result (Option Walked) DecodeFault) → IsSummary result →
       AddsReturned (AddsWithin words limit (event_of from) course.outcomes (goal_end course.goal) old new) result →
-      Returned words from taken (goal_end goal) (32 * (count / 2)) old new result
+      Returned words from taken (goal_end goal) (32 * half) old new result
   returned old new result summed adds = record {
     finds = returned_finds result summed;
     short = returned_short result summed;

@@ -22,3 +22,4 @@ pub mod NextPacket
 pub mod StandsForOneMore
 pub mod NotOpenedReturned
 pub mod BeginsAnew
+pub mod NumberedLanes

@@ -1,5 +1,5 @@
 -- What the passes answer is what is said of walks.
-use Rattle.std.proofs.Common.{◌≡◌, ℕ, ◌*◌, ◌/◌, ◌≤◌, Bool, List, ◌++◌, length, Option, Some, None, Result, Ok, Err}
+use Rattle.std.proofs.Common.{◌≡◌, ℕ, ◌*◌, ◌≤◌, Bool, List, ◌++◌, length, Option, Some, None, Result, Ok, Err}
 use Rattle.std.proofs.Common.{refl, sym, ap, ◌∙◌, arith}
 use Rattle.std.specs.Prelude.{IfOk, IfErr}
 use Rattle.std.specs.List.{last_or}
@@ -44,35 +44,35 @@ module _ (words : Words) (good : IsProgram words) (from : Here) (right : IsHere 
             last = sym parts.1;
           }
 
-  module _ (base count : ℕ) (lies : LiesIn words base count) (few : length taken ≤ 31) where
+  module _ (spot : ℕ → ℕ) (half : ℕ) (lies : LiesIn words spot half) (few : length taken ≤ 31) where
     -- Each walk is found within the limit.
     within_limit : (w : List Event) → WalksOn words (event_of from) taken end w →
-        walk_within words (32 * (count / 2)) (event_of from) taken end ≡ Some w
+        walk_within words (32 * half) (event_of from) taken end ≡ Some w
     within_limit w walks =
-        walk_complete words good (event_of from) taken end w (32 * (count / 2)) walks
-        (walk_bound words base count good lies (event_of from) taken end w few walks.fits walks.follows)
+        walk_complete words good (event_of from) taken end w (32 * half) walks
+        (walk_bound words spot half good lies (event_of from) taken end w few walks.fits walks.follows)
 
     pub measure_short : (r : Result Walked DecodeFault) → IfOk r (λ walked. Finds words from taken end walked) →
-        IfOk r (λ walked. walked.count ≤ 32 * (count / 2))
+        IfOk r (λ walked. walked.count ≤ 32 * half)
     measure_short (Err fault) found = tt
     measure_short (Ok walked) found =
-        let short = walk_bound words base count good lies (event_of from) taken end found.walk few found.walks.fits
+        let short = walk_bound words spot half good lies (event_of from) taken end found.walk few found.walks.fits
         found.walks.follows in
         let counted = found.counted in
         omega arith
 
     pub measure_none : (r : Result Walked DecodeFault) → summary_of r ≡ summary (event_of from)
-        (walk_within words (32 * (count / 2)) (event_of from) taken end) →
+        (walk_within words (32 * half) (event_of from) taken end) →
         IfErr r (λ fault. FindsNone words from taken end)
     measure_none (Ok walked) summed = tt
     measure_none (Err fault) summed = λ w walks.
         let found = summed ∙ ap (summary (event_of from)) (within_limit w walks) in cc
 
     pub write_room : (walked len capacity : ℕ) → HasRoom words from taken end walked len capacity →
-        HasRoomWithin words (32 * (count / 2)) (event_of from) taken end walked len capacity
+        HasRoomWithin words (32 * half) (event_of from) taken end walked len capacity
     write_room walked len capacity room = (room.0, within_limit room.0 room.1, room.2, room.3)
 
-    pub write_adds : (old new : List Event) → AddsWithin words (32 * (count / 2)) (event_of from) taken end old new →
+    pub write_adds : (old new : List Event) → AddsWithin words (32 * half) (event_of from) taken end old new →
         Adds words from taken end old new
     write_adds old new added = λ w walks.
         let one : Some added.0 ≡ Some w = sym added.1 ∙ within_limit w walks in

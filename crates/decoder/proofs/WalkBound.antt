@@ -1,8 +1,9 @@
 -- How long a walk can be.
-use Rattle.std.proofs.Common.{◌≡◌, ◌≢◌, ℕ, zero, suc, ◌+◌, ◌-◌, ◌*◌, ◌/◌, ◌%◌, ◌<◌, ◌≤◌, Bool, true, false, ◌||◌, ◌==◌}
+use Rattle.std.proofs.Common.{◌≡◌, ◌≢◌, ℕ, zero, suc, ◌+◌, ◌-◌, ◌*◌, ◌<◌, ◌≤◌, Bool, true, false, ◌||◌, ◌==◌}
 use Rattle.std.proofs.Common.{List, [], ◌∷◌, ◌++◌, length, Option, Some, None, refl, sym, ap, subst, ◌∙◌, arith}
-use Rattle.std.proofs.Common.{length-append}
+use Rattle.std.proofs.Common.{length-append, nat_lt}
 use Rattle.std.specs.List.{AllByRecursion}
+use Rattle.std.proofs.lemmas.Bool.Decides.{nat_tests}
 use Rattle.retire.proofs.OutcomesLemmas.{outcomes-branch, outcomes-other, outcomes-append}
 use Rattle.retire.specs.Events.{place, privilege, is_retirement, is_branch, outcomes}
 use Rattle.retire.specs.declared.event.Event.{Event}
@@ -20,34 +21,38 @@ use Rattle.legalpath.specs.Step.{StepFrom}
 use Rattle.decoder.proofs.OneWalk.{rise_one, all_last}
 use Rattle.decoder.specs.Walk.{End, AtBranch, AtAddress, AtTarget, EndsAt, RetiresAt, IsWalk}
 
--- All words stand at the places of this many halfwords from this address on.
-record Places (words : Words) (start half : ℕ) : Type 0 where
-  at : (a : ℕ) (w : Word) → words a ≡ Some w → (i : ℕ) × (a ≡ start + (i + i)) × (i < half)
-
--- Places are counted from the first even address.
-places_of : (words : Words) (base count : ℕ) → IsProgram words → LiesIn words base count →
-    Places words (base + base % 2) (count / 2)
-places_of words base count good lies = record {
-  at = λ a w is.
-      let even = good.even a w is in
-      let long = good.long a w is in
-      let from = lies.from a w is in
-      let until = lies.until a w is in
-      ((a - (base + base % 2)) / 2, omega arith, omega arith);
-}
-
-module _ (words : Words) (good : IsProgram words) (start half : ℕ) (lies : Places words start half) where
+module _ (words : Words) (good : IsProgram words) (spot : ℕ → ℕ) (half : ℕ) (lies : LiesIn words spot half) where
   -- The place of a retirement.
   abbrev At : Event → ℕ → Type 0
-  At e i = (place e ≡ start + (i + i)) × (i < half)
+  At e i = (i ≡ spot (place e)) × (i < half)
+
+  -- There is an instruction where an event retires.
+  on_word : (e : Event) → Right words e → is_retirement e ≡ true → (w : Word) × (words (place e) ≡ Some w)
+  on_word (Retire a t p) r h = go (words a) refl r.0
+    where
+      go : (word : Option Word) → words a ≡ word → RetiresOn word t p → (w : Word) × (words a ≡ Some w)
+      go None e k = absurd k
+      go (Some w) e k = (w, e)
+  on_word (Trap p i c x v) r h = cc
 
   stands : (e : Event) → Right words e → is_retirement e ≡ true → (i : ℕ) × At e i
-  stands (Retire a t p) r h = go (words a) refl r.0
+  stands e r h = let w = on_word e r h in (spot (place e), (refl, lies.below (place e) w.0 w.1))
+
+  -- Retirements at two addresses have two places.
+  two_places : (e l : Event) → Right words e → is_retirement e ≡ true → Right words l → is_retirement l ≡ true
+      → place e ≢ place l → spot (place e) ≢ spot (place l)
+  two_places e l r h q k ne same =
+      let w = on_word e r h in
+      let v = on_word l q k in
+      go (nat_lt (place e) (place l)) refl (nat_lt (place l) (place e)) refl
+      (lies.rising (place e) (place l) w.0 v.0 w.1 v.1) (lies.rising (place l) (place e) v.0 w.0 v.1 w.1)
     where
-      go : (word : Option Word) → words a ≡ word → RetiresOn word t p → (i : ℕ) × ((a ≡ start + (i + i)) × (i < half))
-      go None e k = absurd k
-      go (Some w) e k = let z = lies.at a w e in (z.0, (z.1, z.2))
-  stands (Trap p i c x v) r h = cc
+      go : (x : Bool) → nat_lt (place e) (place l) ≡ x → (y : Bool) → nat_lt (place l) (place e) ≡ y
+          → (place e < place l → spot (place e) < spot (place l)) → (place l < place e → spot (place l) < spot (place e))
+          → ⊥
+      go true is y also up down = let less = up (grind (arith, nat_tests)) in omega (arith, less, same)
+      go false is true also up down = let less = down (grind (arith, nat_tests)) in omega (arith, less, same)
+      go false is false also up down = ne (grind (arith, nat_tests))
 
   pay : (L B H i j : ℕ) → L + 1 + j ≤ B * H + H → i < H → suc L + 1 + i ≤ suc B * H + H
   pay L B H i j h k = omega arith
@@ -90,6 +95,9 @@ module _ (words : Words) (good : IsProgram words) (start half : ℕ) (lies : Pla
       let h = head_right (Some e) front l (later s) in
       let r : place e < place (head_of front l) = rise_one words good e (head_of front l) s.follows.0 s.all.0 br
       s.forward.0 s.stays.0 h.2 in
+      let w = on_word e s.follows.0 s.all.0 in
+      let v = on_word (head_of front l) h.0 h.1 in
+      let higher = lies.rising (place e) (place (head_of front l)) w.0 v.0 w.1 v.1 r in
       let x = hi.0 in
       let y = hj.0 in
       omega arith
@@ -180,7 +188,8 @@ module _ (words : Words) (good : IsProgram words) (start half : ℕ) (lies : Pla
           let lk = stands l last.1.0 (all_last (λ e. is_retirement e ≡ true) front l s.all.1) in
           let rise = rise_all (Some e) front l j lk.0 (later s) at lk.1 eq in
           let ne = apart e l br d s.follows.0 in
-          let other : i ≢ lk.0 = (λ same. ne (h.0 ∙ ap (λ n. start + (n + n)) same ∙ sym lk.1.0)) in
+          let other : i ≢ lk.0 = (λ same. two_places e l s.follows.0 s.all.0 last.1.0
+          (all_last (λ e. is_retirement e ≡ true) front l s.all.1) ne (sym h.0 ∙ same ∙ lk.1.0)) in
           let hi = h.1 in
           let hk = lk.1.1 in
           let z : suc (length front) + 2 + i ≤ 1 * half + half = omega arith in
@@ -282,10 +291,9 @@ module _ (words : Words) (good : IsProgram words) (start half : ℕ) (lies : Pla
               (target_bound (Some e) g d l (record { follows = r2; all = a2; forward = f2; stays = none }) leaving
               few2)
 
--- A walk has at most 32 retirements for each halfword of the program.
-pub walk_bound : (words : Words) (base count : ℕ) → IsProgram words → LiesIn words base count →
+-- A walk has at most 32 retirements for each place of the program.
+pub walk_bound : (words : Words) (spot : ℕ → ℕ) (half : ℕ) → IsProgram words → LiesIn words spot half →
     (e : Event) (taken : List Bool) (end : End) (w : List Event) → length taken ≤ 31 → IsWalk words e taken end w →
-    FollowOn words (Some e) w → length w ≤ 32 * (count / 2)
-walk_bound words base count good lies e taken end w few walk follows =
-    walk_bound_by words good (base + base % 2) (count / 2) (places_of words base count good lies) e taken end w walk
-    follows few
+    FollowOn words (Some e) w → length w ≤ 32 * half
+walk_bound words spot half good lies e taken end w few walk follows =
+    walk_bound_by words good spot half lies e taken end w walk follows few

@@ -4,6 +4,7 @@ pub mod Leads
 pub mod Longest
 pub mod Walks
 pub mod WalkSteps
+pub mod Lanes
 pub mod StraightLines
 pub mod Retracing
 pub mod WritingAsFound

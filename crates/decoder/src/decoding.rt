@@ -3,6 +3,7 @@
 ghost use Rattle.std.specs.Prelude.{◌≡◌, ◌↔◌, ◌⊎◌, ◌+◌, ◌*◌, ◌/◌, ◌^◌, ◌≤◌, ◌<◌, List, [], ◌∷◌, ◌++◌, true, false};
 ghost use Rattle.std.specs.Prelude.{Some, Ok, Err, length, vec_len, vec_capacity, IfErr, OnOk, IsTrue, Option, None};
 ghost use Rattle.std.specs.Option.{unwrap_or};
+ghost use Rattle.memory.specs.Memory.{byte_count};
 ghost use Rattle.retire.specs.declared.event.Event.{Event};
 ghost use Rattle.rvclass.specs.Fetch.{words_of};
 ghost use Rattle.rvclass.specs.Words.{Words};
@@ -19,7 +20,6 @@ ghost use Rattle.decoder.specs.declared.state.DecoderState.{DecoderState as AnyS
 ghost use Rattle.decoder.specs.declared.fault.DecodeFault.TheVariants.{NotOpened, AfterClose, Memory};
 
 use crate::fault::DecodeFault;
-use crate::leaps::end_of;
 use crate::paths::{Paths, longest};
 use crate::settling::Waiting;
 use crate::state::{DecoderState, Phase};
@@ -165,7 +165,7 @@ impl Decoder {
             → result ≡ Err Memory
             → (other : List Event) × Describes (words_of program.now) (packets ++ packet.now ∷ []) other
             × (vec_capacity log.old < length other) }
-        ensures short { vec_len log.new ≤ vec_len log.old + 2 * (32 * (length program.now.bytes / 2)) + 2 }
+        ensures short { vec_len log.new ≤ vec_len log.old + 2 * (32 * (byte_count program.now / 2)) + 2 }
 
         // A closed decoder, and the mode that the packet announces which opens the trace.
         ensures after_close { (result ≡ Err AfterClose) ↔ IsClosed self.old }
@@ -213,7 +213,7 @@ impl Decoder {
         let paths = Paths {
             program,
             longest: longest(program),
-            end: end_of(program),
+            lanes: &[],
             leaps: &[],
         };
         self.feed_by(paths, packet, log)

@@ -2,6 +2,7 @@
 
 ghost use Rattle.std.specs.Prelude.{◌≡◌, ◌↔◌, ◌⊎◌, ◌+◌, ◌*◌, ◌/◌, ◌^◌, ◌≤◌, ◌<◌, List, [], ◌∷◌, ◌++◌, true, false};
 ghost use Rattle.std.specs.Prelude.{Some, Ok, Err, length, vec_len, vec_capacity, IfErr, OnOk, IsTrue, Option, None};
+ghost use Rattle.memory.specs.Memory.{byte_count};
 ghost use Rattle.retire.specs.declared.event.Event.{Event};
 ghost use Rattle.rvclass.specs.Fetch.{words_of};
 ghost use Rattle.rvclass.specs.Words.{IsProgram};
@@ -60,7 +61,7 @@ impl Decoder {
             → result ≡ Err Memory
             → (other : List Event) × Describes (words_of paths.entry.program.now) (packets ++ packet.now ∷ []) other
             × (vec_capacity log.old < length other) }
-        ensures short { vec_len log.new ≤ vec_len log.old + 2 * (32 * (length paths.entry.program.now.bytes / 2)) + 2 }
+        ensures short { vec_len log.new ≤ vec_len log.old + 2 * (32 * (byte_count paths.entry.program.now / 2)) + 2 }
 
         // A closed decoder, and the mode that the packet announces which opens the trace.
         ensures after_close { (result ≡ Err AfterClose) ↔ IsClosed self.old }
@@ -151,13 +152,13 @@ impl Decoder {
         ensures none { IfErr result (λ fault. PlansNone (words_of paths.entry.program.now) self.now packet.now fault) }
         ensures admitted { OnOk result (admitted self.now.phase packet.now ≡ Ok tt) }
         ensures short { OnOk result (stretch_count first.new + stretch_count second.new
-            ≤ 2 * (32 * (length paths.entry.program.now.bytes / 2)) + 2) }
+            ≤ 2 * (32 * (byte_count paths.entry.program.now / 2)) + 2) }
         ensures written { OnOk result
             (AddsBoth (words_of paths.entry.program.now) first.new second.new log.old.items log.new.items) }
         ensures behind { (rest : List Event) × (log.new.items ≡ log.old.items ++ rest) }
         ensures room { vec_capacity log.new ≡ vec_capacity log.old }
         ensures words { IsProgram (words_of paths.entry.program.now) }
-        ensures small { length paths.entry.program.now.bytes ≤ 2 ^ 24 }
+        ensures small { byte_count paths.entry.program.now ≤ 2 ^ 26 }
     {
         self.admit(packet)?;
         self.settled(paths, packet, first, log)?;
@@ -226,7 +227,7 @@ impl Decoder {
             (FitsWaiting (words_of paths.entry.program.now) self.now.mode self.now.last self.now.reported
             self.now.waiting packet.now)
             fault) }
-        ensures short { OnOk result (stretch_count stretch.new ≤ 32 * (length paths.entry.program.now.bytes / 2)) }
+        ensures short { OnOk result (stretch_count stretch.new ≤ 32 * (byte_count paths.entry.program.now / 2)) }
         ensures written { OnOk result (AddsSoFar (words_of paths.entry.program.now) Progress.Written stretch.new
             log.old.items log.new.items) }
         ensures behind { (rest : List Event) × (log.new.items ≡ log.old.items ++ rest) }

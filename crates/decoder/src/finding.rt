@@ -2,9 +2,11 @@
 
 ghost use Rattle.std.specs.Prelude.{◌≡◌};
 ghost use Rattle.rvclass.specs.Fetch.{words_of};
-ghost use Rattle.decoder.specs.steps.StraightLines.{AreLeaps, end_of};
+ghost use Rattle.decoder.specs.steps.Lanes.{AreLanes, lanes_in};
+ghost use Rattle.decoder.specs.steps.StraightLines.{AreLeaps};
 
-use crate::leaps::{Leap, end_of, find_leaps};
+use crate::lanes::{Lane, find_lanes, lanes_in};
+use crate::leaps::{Leap, find_leaps};
 use crate::paths::{Paths, longest};
 use rvclass::ProgramOver;
 use std::alloc::{AllocError, Allocator};
@@ -14,8 +16,10 @@ use std::alloc::{AllocError, Allocator};
 #[derive(Drop)]
 pub struct Lines<'p, A: Allocator> {
     program: &'p ProgramOver<'p>,
+    lanes: Option<Vec<Lane, A>>,
     leaps: Vec<Leap, A>,
-    ghost lead: { AreLeaps (words_of program.now) (end_of program.now) leaps.items },
+    ghost numbered: { AreLanes 0 (lanes_in lanes) },
+    ghost lead: { AreLeaps (words_of program.now) (lanes_in lanes) leaps.items },
 }
 
 impl<'p, A: Allocator> Lines<'p, A> {
@@ -25,6 +29,7 @@ impl<'p, A: Allocator> Lines<'p, A> {
     {
         Lines {
             program,
+            lanes: None,
             leaps: Vec::new(alloc),
         }
     }
@@ -36,19 +41,22 @@ impl<'p, A: Allocator> Lines<'p, A> {
         Paths {
             program: self.program,
             longest: longest(self.program),
-            end: end_of(self.program),
+            lanes: lanes_in(&self.lanes),
             leaps: self.leaps.as_slice(),
         }
     }
 }
 
 impl<'p, A: Allocator + Copy> Lines<'p, A> {
-    /// Finds the leaps, if they were not found before. It takes time for each halfword of the image, and 8 bytes.
+    /// Finds the leaps, if they were not found before. It takes time for each halfword of the image, and 8 bytes; and 16
+    /// bytes for each piece.
     pub fn find(&mut self, alloc: A) -> Result<(), AllocError>
         ensures { self.new.program ≡ self.old.program }
     {
         if self.leaps.is_empty() {
-            self.leaps = find_leaps(alloc, self.program)?;
+            let lanes = find_lanes(alloc, self.program)?;
+            self.leaps = find_leaps(alloc, self.program, lanes.as_slice())?;
+            self.lanes = Some(lanes);
         }
         Ok(())
     }

@@ -1,6 +1,6 @@
 //! What the definition of described logs promises.
 
-ghost use Rattle.std.specs.Prelude.{ℕ, ◌≡◌, ◌↔◌, ◌≤◌, ◌*◌, ◌/◌, ◌++◌, Bool, true, List, Some, length};
+ghost use Rattle.std.specs.Prelude.{ℕ, ◌≡◌, ◌↔◌, ◌≤◌, ◌*◌, ◌++◌, Bool, true, List, Some, length};
 ghost use Rattle.retire.specs.declared.event.Event.{Event};
 ghost use Rattle.rvclass.specs.Words.{Words, IsProgram, LiesIn};
 ghost use Rattle.payload.specs.ClosedTrace.{last_is_closing};
@@ -36,12 +36,12 @@ pub fn first_packets_describe_a_beginning()
         ((rest : List Event) × (log ≡ join (settled_pieces packets all.pieces) ++ rest)) }
 {}
 
-/// A walk of at most 31 branches has at most 32 retirements for each two bytes of the program.
+/// A walk of at most 31 branches has at most 32 retirements for each place that an instruction may have.
 pub fn walks_are_short()
-    ensures { (words : Words) (base count : ℕ) (before : Event) (taken : List Bool) (end : End) (walk : List Event) →
-        IsProgram words → LiesIn words base count → length taken ≤ 31 →
+    ensures { (words : Words) (place : ℕ → ℕ) (half : ℕ) (before : Event) (taken : List Bool) (end : End) (walk : List Event) →
+        IsProgram words → LiesIn words place half → length taken ≤ 31 →
         IsWalk words before taken end walk → FollowOn words (Some before) walk →
-        length walk ≤ 32 * (count / 2) }
+        length walk ≤ 32 * half }
 {}
 
 /// A decoder whose state stands for packets is closed if and only if the last of them closes the trace.

@@ -3,14 +3,16 @@
 //! Where a walk goes along such a line, no step but one to its address can end it. So a table that tells of each place
 //! how far a line goes from there saves the steps between.
 
-ghost use Rattle.std.specs.Prelude.{◌≡◌, ◌+◌, ◌*◌, ◌-◌, ◌≤◌, IfOk, IfSome};
+ghost use Rattle.std.specs.Prelude.{◌≡◌, IfOk};
 ghost use Rattle.rvclass.specs.Fetch.{words_of};
-ghost use Rattle.decoder.specs.steps.StraightLines.{AreLeaps, IsLine, end_of, straight_on};
+ghost use Rattle.decoder.specs.steps.Lanes.{AreLanes, addr_of};
+ghost use Rattle.decoder.specs.steps.StraightLines.{AreLeaps, IsLine, straight_on};
 
+use crate::lanes::{Lane, addr_at, lane_near, place_at, places_of};
 use rvclass::{Class, ProgramOver};
 use std::alloc::{AllocError, Allocator};
 
-/// A straight line from a place of the image. Places are counted back in halfwords from the image's end.
+/// A straight line from a place of the image.
 #[derive(Clone, Copy)]
 pub struct Leap {
     /// The place where it leads.
@@ -30,14 +32,6 @@ pub struct Line {
     pub next: u64,
 }
 
-/// The address behind the last whole halfword of the image.
-#[inline]
-pub fn end_of(program: &ProgramOver) -> u64
-    ensures { result ≡ end_of program.now }
-{
-    program.base() + 2 * (program.byte_count() as u64 / 2)
-}
-
 /// Where the instruction at an address leads, if it is plain or jumps forward.
 #[inline]
 pub fn straight_on(program: &ProgramOver, addr: u64) -> Option<u64>
@@ -53,39 +47,24 @@ pub fn straight_on(program: &ProgramOver, addr: u64) -> Option<u64>
     }
 }
 
-/// How many halfwords an address is before the end; none where it is behind it, or odd.
-#[inline]
-pub fn place_of(end: u64, addr: u64) -> Option<u32>
-    ensures { IfSome result (λ place. addr + 2 * place ≡ end) }
-{
-    if addr > end {
-        return None;
-    }
-    let bytes = end - addr;
-    if bytes % 2 != 0 {
-        return None;
-    }
-    match u32::try_from(bytes / 2) {
-        Ok(place) => Some(place),
-        Err(_) => None,
-    }
-}
-
-/// The leap from a place, by those from the places after it. It has as many steps as two others together and one more
-/// where these are equal, so that the leaps from a place on double.
-fn leap_from(program: &ProgramOver, end: u64, place: u32, leaps: &[Leap]) -> Leap
-    requires leaps { AreLeaps (words_of program.now) end leaps.now }
-    requires inside { 2 * place ≤ end }
-    ensures { IsLine (words_of program.now) result.steps (end - 2 * place) (end - 2 * result.to) }
+/// The leap from a place, by those from the places before it. It has as many steps as two others together and one more
+/// where these are equal, so that the leaps from a place on double. `near` is the number of the place's lane.
+fn leap_from(program: &ProgramOver, lanes: &[Lane], near: usize, place: u32, leaps: &[Leap]) -> Leap
+    requires lanes { AreLanes 0 lanes.now }
+    requires leaps { AreLeaps (words_of program.now) lanes.now leaps.now }
+    ensures { IsLine (words_of program.now) result.steps (addr_of lanes.now place) (addr_of lanes.now result.to) }
 {
     let none = Leap {
         to: place,
         steps: 0,
     };
-    let Some(next) = straight_on(program, end - 2 * u64::from(place)) else {
+    let Some(addr) = addr_at(lanes, near, place) else {
         return none;
     };
-    let Some(at) = place_of(end, next) else {
+    let Some(next) = straight_on(program, addr) else {
+        return none;
+    };
+    let Some(at) = place_at(lanes, near, next) else {
         return none;
     };
     let Some(one) = leaps.get(at as usize) else {
@@ -105,15 +84,21 @@ fn leap_from(program: &ProgramOver, end: u64, place: u32, leaps: &[Leap]) -> Lea
     }
 }
 
-/// The leaps from all places of the program, the last one first.
-pub fn find_leaps<A: Allocator>(alloc: A, program: &ProgramOver) -> Result<Vec<Leap, A>, AllocError>
-    ensures { IfOk result (λ leaps. AreLeaps (words_of program.now) (end_of program.now) leaps.items) }
+/// The leaps from all places of the program, in order of places.
+pub fn find_leaps<A: Allocator>(
+    alloc: A,
+    program: &ProgramOver,
+    lanes: &[Lane],
+) -> Result<Vec<Leap, A>, AllocError>
+    requires { AreLanes 0 lanes.now }
+    ensures { IfOk result (λ leaps. AreLeaps (words_of program.now) lanes.now leaps.items) }
 {
-    let end = end_of(program);
-    let places = (program.byte_count() / 2) as u32 + 1;
+    let places = places_of(lanes);
     let mut leaps = Vec::with_capacity(alloc, places as usize)?;
+    let mut near = 0;
     for place in 0..places {
-        let leap = leap_from(program, end, place, leaps.as_slice());
+        near = lane_near(lanes, near, place);
+        let leap = leap_from(program, lanes, near, place, leaps.as_slice());
         leaps.push_reserved(leap);
     }
     Ok(leaps)

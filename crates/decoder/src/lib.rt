@@ -7,6 +7,7 @@ mod fault;
 mod feeding;
 mod finding;
 mod kinds;
+mod lanes;
 mod laws;
 mod leaps;
 mod lines;

@@ -6,7 +6,8 @@ ghost use Rattle.decoder.specs.steps.StraightLines.{GoesOn, passes};
 ghost use Rattle.decoder.specs.steps.WalkSteps as steps;
 ghost use Rattle.decoder.specs.steps.Walks.{goal_end};
 
-use crate::leaps::{Line, place_of, straight_on};
+use crate::lanes::{addr_at, place_at};
+use crate::leaps::{Line, straight_on};
 use crate::paths::Paths;
 use crate::stepping::{Course, Goal, Here, are_used};
 use retire::ITYPE_OTHER;
@@ -42,13 +43,13 @@ pub fn line_ahead(
     if done < SHORT || here.itype != ITYPE_OTHER {
         return None;
     }
-    let place = place_of(paths.end, here.addr)?;
+    let place = place_at(paths.lanes, 0, here.addr)?;
     let leap = paths.leaps.get(place as usize)?;
     let steps = leap.steps as usize;
     if steps == 0 || steps > paths.longest.saturating_sub(done) {
         return None;
     }
-    let to = paths.end.checked_sub(2 * u64::from(leap.to))?;
+    let to = addr_at(paths.lanes, 0, leap.to)?;
     if !passes(here.addr, to, used, course) {
         return None;
     }

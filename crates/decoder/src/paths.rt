@@ -2,10 +2,12 @@
 
 ghost use Rattle.std.specs.Prelude.{◌≡◌};
 ghost use Rattle.rvclass.specs.Fetch.{words_of};
+ghost use Rattle.decoder.specs.steps.Lanes.{AreLanes};
 ghost use Rattle.decoder.specs.steps.Longest.{IsLongest};
-ghost use Rattle.decoder.specs.steps.StraightLines.{AreLeaps, end_of};
+ghost use Rattle.decoder.specs.steps.StraightLines.{AreLeaps};
 
-use crate::leaps::{Leap, end_of};
+use crate::lanes::Lane;
+use crate::leaps::Leap;
 use rvclass::ProgramOver;
 
 /// A program, how many retirements a walk in it has at most, and the leaps along its straight lines, where these were
@@ -16,12 +18,13 @@ pub struct Paths<'p> {
     pub(crate) program: &'p ProgramOver<'p>,
     /// How many retirements a walk has at most.
     pub(crate) longest: usize,
-    /// The address from which the places of leaps are counted.
-    pub(crate) end: u64,
+    /// The lanes of the places that leaps are from; none where these were not found.
+    pub(crate) lanes: &'p [Lane],
     /// The leaps from all places; none where they were not found.
     pub(crate) leaps: &'p [Leap],
     ghost bound: { IsLongest program.now longest },
-    ghost lead: { AreLeaps (words_of program.now) end leaps.now },
+    ghost numbered: { AreLanes 0 lanes.now },
+    ghost lead: { AreLeaps (words_of program.now) lanes.now leaps.now },
 }
 
 /// How many retirements a walk in this program has at most.
@@ -41,7 +44,7 @@ impl<'p> Paths<'p> {
         Paths {
             program,
             longest: longest(program),
-            end: end_of(program),
+            lanes: &[],
             leaps: &[],
         }
     }

@@ -13,7 +13,13 @@ use rvclass::ProgramOver;
 /// Takes a step of a walk that was measured, from a retirement to the next one, where `used` outcomes are used before
 /// it. `false` means that the step leads to no retirement.
 #[inline(always)]
-pub fn retrace(program: &ProgramOver, here: &mut Here, used: &mut usize, course: &Course) -> bool
+pub fn retrace(
+    program: &ProgramOver,
+    near: &mut usize,
+    here: &mut Here,
+    used: &mut usize,
+    course: &Course,
+) -> bool
     requires here { Carries (words_of program.now) here.old }
     requires course { steps.IsCourse course.now }
     ensures { Retraces (words_of program.now) course.now.outcomes here.new used.new result
@@ -21,9 +27,9 @@ pub fn retrace(program: &ProgramOver, here: &mut Here, used: &mut usize, course:
         (goal_end course.now.goal)) }
 {
     match here.next {
-        Next::One(addr) => reach(program, addr, here, used, course),
+        Next::One(addr) => reach(program, near, addr, here, used, course),
         Next::Any => match course.goal {
-            Goal::Target(addr) => reach(program, addr, here, used, course),
+            Goal::Target(addr) => reach(program, near, addr, here, used, course),
             _ => false,
         },
         Next::NoneInside => false,
@@ -34,6 +40,7 @@ pub fn retrace(program: &ProgramOver, here: &mut Here, used: &mut usize, course:
 #[inline(always)]
 fn reach(
     program: &ProgramOver,
+    near: &mut usize,
     addr: u64,
     here: &mut Here,
     used: &mut usize,
@@ -43,7 +50,7 @@ fn reach(
     ensures { Reaches (words_of program.now) course.now.outcomes here.new used.new result
         (steps.retire_on addr here.old.privilege (words_of program.now addr) (drop used.old course.now.outcomes)) }
 {
-    let Some((class, length)) = program.at(addr) else {
+    let Some((class, length)) = program.at_near(near, addr) else {
         return false;
     };
     let Ok(itype) = type_of(class, used, course) else {

@@ -1,6 +1,7 @@
 //! The events that each packet adds, after the event before and the last reported address.
 
-ghost use Rattle.std.specs.Prelude.{◌≡◌, ◌+◌, ◌*◌, ◌/◌, ◌≤◌, List, ◌++◌, None, Some, length, vec_capacity, IfErr, OnOk};
+ghost use Rattle.std.specs.Prelude.{◌≡◌, ◌+◌, ◌*◌, ◌/◌, ◌≤◌, List, ◌++◌, None, Some, vec_capacity, IfErr, OnOk};
+ghost use Rattle.memory.specs.Memory.{byte_count};
 ghost use Rattle.retire.specs.declared.event.Event.{Event as AnyEvent};
 ghost use Rattle.rvclass.specs.Fetch.{words_of};
 ghost use Rattle.decoder.specs.Fits.{Fits, FitsAddress, FitsSync};
@@ -44,7 +45,7 @@ fn walk<A: Allocator>(
         (IsWalkFrom (words_of paths.entry.program.now) before.now outcomes.now (goal_end goal)) stretch.new) }
     ensures none { IfErr result (λ fault. SuitsNone (words_of paths.entry.program.now) before.now
         (IsWalkFrom (words_of paths.entry.program.now) before.now outcomes.now (goal_end goal)) fault) }
-    ensures short { OnOk result (stretch_count stretch.new ≤ 32 * (length paths.entry.program.now.bytes / 2)) }
+    ensures short { OnOk result (stretch_count stretch.new ≤ 32 * (byte_count paths.entry.program.now / 2)) }
     ensures written { OnOk result (AddsSoFar (words_of paths.entry.program.now) ahead stretch.new log.old.items
         log.new.items) }
     ensures behind { (rest : List AnyEvent) × (log.new.items ≡ log.old.items ++ rest) }
@@ -92,7 +93,7 @@ pub fn settle<A: Allocator>(
     ensures none { IfErr result (λ fault. SuitsNone (words_of paths.entry.program.now) before.now
         (FitsAddress (words_of paths.entry.program.now) before.now outcomes.now addr (settled_by (Some packet.now)))
         fault) }
-    ensures short { OnOk result (stretch_count stretch.new ≤ 32 * (length paths.entry.program.now.bytes / 2)) }
+    ensures short { OnOk result (stretch_count stretch.new ≤ 32 * (byte_count paths.entry.program.now / 2)) }
     ensures written { OnOk result (AddsSoFar (words_of paths.entry.program.now) Progress.Written stretch.new
         log.old.items log.new.items) }
     ensures behind { (rest : List AnyEvent) × (log.new.items ≡ log.old.items ++ rest) }
@@ -131,7 +132,7 @@ fn address<A: Allocator>(
         stretch.new) }
     ensures none { IfErr result (λ fault. SuitsNone (words_of paths.entry.program.now) before.now
         (FitsAddress (words_of paths.entry.program.now) before.now outcomes.now addr (settled report None)) fault) }
-    ensures short { OnOk result (stretch_count stretch.new ≤ 32 * (length paths.entry.program.now.bytes / 2)) }
+    ensures short { OnOk result (stretch_count stretch.new ≤ 32 * (byte_count paths.entry.program.now / 2)) }
     ensures written { OnOk result (AddsSoFar (words_of paths.entry.program.now) ahead stretch.new log.old.items
         log.new.items) }
     ensures behind { (rest : List AnyEvent) × (log.new.items ≡ log.old.items ++ rest) }
@@ -200,7 +201,7 @@ pub fn events_of_packet<A: Allocator>(
         (Fits (words_of paths.entry.program.now) mode before.now last_reported packet.now None) stretch.new) }
     ensures none { IfErr result (λ fault. SuitsNone (words_of paths.entry.program.now) before.now
         (Fits (words_of paths.entry.program.now) mode before.now last_reported packet.now None) fault) }
-    ensures short { OnOk result (stretch_count stretch.new ≤ 32 * (length paths.entry.program.now.bytes / 2) + 2) }
+    ensures short { OnOk result (stretch_count stretch.new ≤ 32 * (byte_count paths.entry.program.now / 2) + 2) }
     ensures written { OnOk result (AddsSoFar (words_of paths.entry.program.now) ahead stretch.new log.old.items
         log.new.items) }
     ensures behind { (rest : List AnyEvent) × (log.new.items ≡ log.old.items ++ rest) }

@@ -81,10 +81,17 @@ pub enum Step {
 }
 
 /// Takes a step of a walk: from the retirement in `here` to the next one, which is then in `here`. `used` counts the
-/// outcomes that the walk used so far. Returns whether the walk goes on or ends there, or why there is no such walk.
+/// outcomes that the walk used so far. Returns whether the walk goes on or ends there, or why there is no such walk. `near`
+/// is what `ProgramOver::at_near` remembers of the last lookup.
 #[inline(always)]
 #[tactic(auto, unfolding(crate::specs::steps::WalkSteps::advance))]
-pub fn step_from(program: &ProgramOver, here: &mut Here, used: &mut usize, course: &Course) -> Step
+pub fn step_from(
+    program: &ProgramOver,
+    near: &mut usize,
+    here: &mut Here,
+    used: &mut usize,
+    course: &Course,
+) -> Step
     requires program { IsProgram (words_of program.now) }
     requires here { Carries (words_of program.now) here.old }
     requires course { steps.IsCourse course.now }
@@ -94,8 +101,8 @@ pub fn step_from(program: &ProgramOver, here: &mut Here, used: &mut usize, cours
     ensures carries { steps.StepCarries (words_of program.now) here.new result }
 {
     match here.next {
-        Next::One(addr) => step_on(program, addr, here, used, course),
-        Next::Any => step_last(program, here, used, course),
+        Next::One(addr) => step_on(program, near, addr, here, used, course),
+        Next::Any => step_last(program, near, here, used, course),
         Next::NoneInside => Step::Fails(DecodeFault::OffProgram),
     }
 }
@@ -104,6 +111,7 @@ pub fn step_from(program: &ProgramOver, here: &mut Here, used: &mut usize, cours
 #[inline(always)]
 fn step_on(
     program: &ProgramOver,
+    near: &mut usize,
     addr: u64,
     here: &mut Here,
     used: &mut usize,
@@ -115,7 +123,7 @@ fn step_on(
         (steps.retire_on addr here.old.privilege (words_of program.now addr) (drop used.old course.now.outcomes)) }
     ensures carries { steps.StepCarries (words_of program.now) here.new result }
 {
-    let (class, length) = match program.at(addr) {
+    let (class, length) = match program.at_near(near, addr) {
         None => return Step::Fails(DecodeFault::OffProgram),
         Some((Class::Plain, length)) => return step_plain(addr, length, here, *used, course),
         Some(word) => word,
@@ -164,7 +172,13 @@ fn step_plain(addr: u64, length: u8, here: &mut Here, used: usize, course: &Cour
 
 /// The step from a discontinuity.
 #[inline(always)]
-fn step_last(program: &ProgramOver, here: &mut Here, used: &mut usize, course: &Course) -> Step
+fn step_last(
+    program: &ProgramOver,
+    near: &mut usize,
+    here: &mut Here,
+    used: &mut usize,
+    course: &Course,
+) -> Step
     requires { steps.IsCourse course.now }
     ensures step { (word : Option Word) → may_stay_on word here.old.privilege ≡ here.old.stays
         → steps.move_of course.now.outcomes here.new used.new result
@@ -175,7 +189,7 @@ fn step_last(program: &ProgramOver, here: &mut Here, used: &mut usize, course: &
     let Goal::Target(addr) = course.goal else {
         return Step::Fails(DecodeFault::WrongPlace);
     };
-    let Some((class, _)) = program.at(addr) else {
+    let Some((class, _)) = program.at_near(near, addr) else {
         return Step::Fails(DecodeFault::OffProgram);
     };
     let itype = match type_of(class, used, course) {

@@ -1,8 +1,9 @@
 //! Walks. A walk is written as it is found, where the list's capacity is enough, and else in two passes: the first
 //! measures, the second writes.
 
-ghost use Rattle.std.specs.Prelude.{◌≡◌, ◌+◌, ◌*◌, ◌/◌, ◌≤◌, List, ◌++◌, length, vec_len, vec_capacity, IsOk};
+ghost use Rattle.std.specs.Prelude.{◌≡◌, ◌+◌, ◌*◌, ◌/◌, ◌≤◌, List, ◌++◌, vec_len, vec_capacity, IsOk};
 ghost use Rattle.std.specs.Prelude.{IfOk, IfErr};
+ghost use Rattle.memory.specs.Memory.{byte_count};
 ghost use Rattle.retire.specs.declared.event.Event.{Event as AnyEvent};
 ghost use Rattle.rvclass.specs.Fetch.{words_of};
 ghost use Rattle.rvclass.specs.Words.{IsProgram};
@@ -60,7 +61,7 @@ pub fn write_found<A: Allocator>(
     ensures adds { AddsReturned
         (Adds (words_of paths.entry.program.now) from outcomes.now (goal_end goal) log.old.items log.new.items) result }
     ensures kept { KeptWithoutRoom log.old.items log.new.items result }
-    ensures short { ShortReturned (32 * (length paths.entry.program.now.bytes / 2)) result }
+    ensures short { ShortReturned (32 * (byte_count paths.entry.program.now / 2)) result }
     ensures none { NoneAtFault (words_of paths.entry.program.now) from outcomes.now (goal_end goal) result }
     ensures named { IfErr result IsOnTheWay }
     ensures behind { (rest : List AnyEvent) × (log.new.items ≡ log.old.items ++ rest) }
@@ -85,7 +86,7 @@ pub fn measure(
     requires { IsHere (words_of paths.program.now) from }
     ensures found { IfOk result
         (λ walked. Finds (words_of paths.entry.program.now) from outcomes.now (goal_end goal) walked) }
-    ensures short { IfOk result (λ walked. walked.count ≤ 32 * (length paths.entry.program.now.bytes / 2)) }
+    ensures short { IfOk result (λ walked. walked.count ≤ 32 * (byte_count paths.entry.program.now / 2)) }
     ensures pending { IfOk result (λ walked. walked.progress ≡ Progress.Pending) }
     ensures none { IfErr result
         (λ fault. FindsNone (words_of paths.entry.program.now) from outcomes.now (goal_end goal)) }
@@ -111,6 +112,8 @@ pub fn write<A: Allocator>(
     ensures walk { Adds (words_of program.now) from outcomes.now (goal_end goal) log.old.items log.new.items }
     ensures room { vec_capacity log.new ≡ vec_capacity log.old }
 {
+    // This is called for its contract: the bytes of a program are an image.
+    let _ = program.byte_count();
     write_within(program, count, from, &Course::new(outcomes, goal), log);
 }
 
@@ -125,6 +128,7 @@ fn measure_within(paths: Paths, from: Here, course: &Course) -> Result<Walked, D
     ensures pending { IfOk result (λ walked. walked.progress ≡ Progress.Pending) }
     ensures named { IfErr result IsOnTheWay }
 {
+    let mut near = 0;
     let mut here = from;
     let mut used = 0;
     let mut done = 0;
@@ -143,7 +147,7 @@ fn measure_within(paths: Paths, from: Here, course: &Course) -> Result<Walked, D
             done += line.steps;
             continue;
         }
-        match step_from(paths.program, &mut here, &mut used, course) {
+        match step_from(paths.program, &mut near, &mut here, &mut used, course) {
             Step::Goes => done += 1,
             Step::Ends => {
                 return Ok(Walked {
@@ -182,10 +186,11 @@ fn write_found_within<A: Allocator>(
 {
     let count = log.len();
     let room = log.capacity() - count;
+    let mut near = 0;
     let mut here = from;
     let mut used = 0;
     for done in 0..limit.min(room) {
-        match step_from(program, &mut here, &mut used, course) {
+        match step_from(program, &mut near, &mut here, &mut used, course) {
             Step::Goes => log.push_reserved(event(here)),
             Step::Ends => {
                 let last = event(here);
@@ -214,18 +219,19 @@ fn write_within<A: Allocator>(
 )
     requires from { Carries (words_of program.now) from }
     requires course { steps.IsCourse course.now }
-    requires room { HasRoomWithin (words_of program.now) (32 * (length program.now.bytes / 2)) (event_of from)
+    requires room { HasRoomWithin (words_of program.now) (32 * (byte_count program.now / 2)) (event_of from)
         course.now.outcomes
         (goal_end course.now.goal) count (vec_len log.old) (vec_capacity log.old) }
-    ensures walk { AddsWithin (words_of program.now) (32 * (length program.now.bytes / 2)) (event_of from)
+    ensures walk { AddsWithin (words_of program.now) (32 * (byte_count program.now / 2)) (event_of from)
         course.now.outcomes
         (goal_end course.now.goal) log.old.items log.new.items }
     ensures room { vec_capacity log.new ≡ vec_capacity log.old }
 {
+    let mut near = 0;
     let mut here = from;
     let mut used = 0;
     for _ in 0..count {
-        if !retrace(program, &mut here, &mut used, course) {
+        if !retrace(program, &mut near, &mut here, &mut used, course) {
             return;
         }
         log.push_reserved(event(here));

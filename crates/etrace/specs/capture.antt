@@ -43,5 +43,13 @@ pub use Rattle.listing.specs.EffectText
 pub use Rattle.listing.specs.Lines as ListingLines
 pub use Rattle.listing.specs.Listing
 pub use Rattle.listing.specs.Begun as ListingBegun
+pub use Rattle.listing_table.specs.Packets as ListingTablePackets
+pub use Rattle.listing_table.specs.Rows as ListingTableRows
+pub use Rattle.listing_table.specs.Table as ListingTable
+pub use Rattle.listing_table.specs.Part as ListingTablePart
+pub use Rattle.listing_table.specs.ReadBack as ListingTableReadBack
+pub use Rattle.tables.specs.Fields as TableFields
+pub use Rattle.tables.specs.Quoted as TableQuoted
+pub use Rattle.tables.specs.ReadBack as TableReadBack
 pub use Rattle.hart_encoding.specs.HasEncoded
 pub use Rattle.output.specs.Begun

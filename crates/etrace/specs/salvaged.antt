@@ -13,6 +13,7 @@ pub use Rattle.salvaging.specs.Late
 pub use Rattle.salvaging.specs.Shares
 pub use Rattle.salvaging.specs.Treatments
 pub use Rattle.salvaging.specs.TreatedParts
+pub use Rattle.salvaging.specs.TreatedCounts
 pub use Rattle.salvaging.specs.PartsIn
 pub use Rattle.salvaging.specs.Salvaged
 pub use Rattle.salvaging.specs.FromLogs
@@ -22,6 +23,16 @@ pub use Rattle.salvaging.specs.AlikeParts
 pub use Rattle.salvaged_lines.specs.Words as SalvagedWords
 pub use Rattle.salvaged_lines.specs.Lines as SalvagedLines
 pub use Rattle.salvaged_lines.specs.Effects as SalvagedEffects
+pub use Rattle.salvaged_lines.specs.ListedAlike
+pub use Rattle.salvaged_table.specs.Offsets as SalvagedOffsets
+pub use Rattle.salvaged_table.specs.Rows as SalvagedRows
+pub use Rattle.salvaged_table.specs.Table as SalvagedTable
+pub use Rattle.salvaged_table.specs.ReadBack as SalvagedReadBack
+pub use Rattle.treated_table.specs.Fields as TreatedFields
+pub use Rattle.treated_table.specs.Rows as TreatedRows
+pub use Rattle.treated_table.specs.Table as TreatedTable
+pub use Rattle.treated_table.specs.Effects as TreatedEffects
+pub use Rattle.treated_table.specs.ReadBack as TreatedReadBack
 pub use Rattle.frames.specs.Frame
 pub use Rattle.frames.specs.Taken as FramesTaken
 pub use Rattle.frames.specs.Spans as FrameSpans

@@ -1,5 +1,5 @@
 //! Messages of several harts and the captures that hold them: writing, also from lines of text, reading, dumping,
-//! listing, decoding.
+//! listing, also as a table, and decoding.
 
 pub use capture_lines::{LineFault, LinesFault, Settings, write_capture};
 pub use captures::{
@@ -10,6 +10,7 @@ pub use captures::{
 };
 pub use hart_encoding::HartMessages;
 pub use listing::{Listed, list_capture, list_watched};
+pub use listing_table::write_listing_table;
 pub use message::{
     Demux, DemuxFault, Header, MOST_HARTS, Message, MessageFault, Messages, Start, Version,
     read_message, read_start, write_header, write_message,

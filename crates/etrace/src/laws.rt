@@ -18,16 +18,25 @@ pub use funnel::{every_state_is_lawful, live_channel_is_the_machine};
 pub use legalpath::{
     logs_split_and_join, reasons_name_illegal_rows, retirements_lead_to_one_place,
 };
+pub use listing_table::rows_are_read_back as listed_rows_are_read_back;
 pub use losses::{stretches_are_whole, stretches_stand_apart};
 pub use retire::{
     long_read_is_in_range, long_written_is_read_back, plain_is_parted, read_is_in_range,
     written_is_plain, written_is_read_back,
 };
 pub use roundtrip::first_packets_settle_the_first_events;
-pub use salvaged_lines::taken_messages_have_their_effect;
+pub use rvclass::{cut_pieces_have_the_instructions_of_one, the_bytes_decide_the_instructions};
+pub use salvaged_lines::{
+    accepted_messages_are_taken, messages_of_logs_are_taken, taken_messages_have_their_effect,
+    undamaged_captures_are_listed_alike,
+};
+pub use salvaged_table::rows_are_read_back as salvaged_rows_are_read_back;
 pub use salvaging::{
     harts_are_salvaged_in_one_way, harts_end_at_their_lowest_number,
     harts_end_where_no_stretch_comes_after, logs_are_salvaged, parts_are_what_is_done,
-    what_is_collected_is_salvaged,
+    treatments_are_counted, what_is_collected_is_salvaged,
+};
+pub use treated_table::{
+    rows_are_read_back as treated_rows_are_read_back, taken_messages_have_their_fields,
 };
 pub use unnumbered::{counts_add_up, whole_is_equal};

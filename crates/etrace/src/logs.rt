@@ -11,4 +11,4 @@ pub use retire::{
     LOG_ROOM, LogFault, MOST_ROWS, WriteFault, number, read_log, read_log_from_slice, write_log,
     write_log_in,
 };
-pub use rvclass::{Class, Instruction, Program, ProgramFault, ProgramOver, Return};
+pub use rvclass::{Class, Instruction, PieceFault, Program, ProgramFault, ProgramOver, Return};

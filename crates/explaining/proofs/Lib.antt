@@ -3,3 +3,5 @@ mod ElfLemmas
 pub mod RowLemmas
 mod WorkedLines
 pub mod ListedLemmas
+pub mod RangesLemmas
+pub mod RangeTextsLemmas

@@ -1,6 +1,7 @@
 -- Lines that were worked by hand, as the definition gives them.
 use Rattle.std.proofs.Common.{◌≡◌, ℕ, ◌+◌, true, false, List, [], ◌∷◌, ◌++◌, refl}
 use Rattle.std.specs.Prelude.{codes}
+use Rattle.memory.specs.Piece.{Piece, piece_at}
 use Rattle.retire.specs.declared.event.Event.{Event}
 use Rattle.retire.specs.declared.event.Event.TheVariants.{Retire, Trap}
 use Rattle.rvclass.specs.Fetch.{words_of}
@@ -192,6 +193,45 @@ no_elf_file : off (0x7f ∷ 0x45 ∷ 0x4c ∷ 0x47 ∷ [])
     ≡ codes "  80000020: no whole word: the image is 80000000 to 80000003\n"
 unfolding words_of class16 class32 digits
 no_elf_file = refl
+
+-- The line of the first row of a log, which is off this image.
+abbrev off_pieces : Image → List ℕ
+off_pieces pieces = explanation pieces (at 0x20 0 3 ∷ []) (record { row = 1; why = OffProgram })
+
+-- Two bytes from an address on.
+abbrev two_at : ℕ → Piece
+two_at addr = piece_at addr (0x01 ∷ 0x00 ∷ [])
+
+ranges_in_order : off_pieces (two_at 0x8000_0000 ∷ two_at 0x1000 ∷ [])
+    ≡ codes "  80000020: no whole word: the image is 1000 to 1001, 80000000 to 80000001\n"
+unfolding words_of class16 class32 digits
+ranges_in_order = refl
+
+pieces_that_touch : off_pieces (two_at 0x8000_0000 ∷ two_at 0x7fff_fffe ∷ two_at 0x8000_0002 ∷ [])
+    ≡ codes "  80000020: no whole word: the image is 7ffffffe to 80000003\n"
+unfolding words_of class16 class32 digits
+pieces_that_touch = refl
+
+a_piece_without_bytes : off_pieces (piece_at 0x10 [] ∷ two_at 0x1000 ∷ [])
+    ≡ codes "  80000020: no whole word: the image is 1000 to 1001\n"
+unfolding words_of class16 class32 digits
+a_piece_without_bytes = refl
+
+four_ranges : off_pieces (two_at 0x20 ∷ two_at 0x10 ∷ two_at 0x30 ∷ two_at 0x40 ∷ [])
+    ≡ codes "  80000020: no whole word: the image is 10 to 11, 20 to 21, 30 to 31, 40 to 41\n"
+unfolding words_of class16 class32 digits
+four_ranges = refl
+
+six_ranges : off_pieces (two_at 0x20 ∷ two_at 0x10 ∷ two_at 0x30 ∷ two_at 0x40 ∷ two_at 0x50 ∷ two_at 0x60 ∷ [])
+    ≡ codes "  80000020: no whole word: the image is 10 to 11, 20 to 21, 30 to 31, 40 to 41, and 2 more\n"
+unfolding words_of class16 class32 digits
+six_ranges = refl
+
+an_elf_file_at_the_lowest_address : off_pieces (two_at 0x1000 ∷ piece_at 0x10 (0x7f ∷ 0x45 ∷ 0x4c ∷ 0x46 ∷ []) ∷ [])
+    ≡ codes "  80000020: no whole word: the image is 10 to 13, 1000 to 1001\n"
+    ++ codes "  the image looks like an ELF file: give it the raw bytes (objcopy -O binary)\n"
+unfolding words_of class16 class32 digits
+an_elf_file_at_the_lowest_address = refl
 
 no_such_row : line (at 4 0 3 ∷ []) 2 WrongNext ≡ []
 no_such_row = refl

@@ -1,5 +1,5 @@
 -- Why a row of a log is illegal, in lines of text.
-use Rattle.std.specs.Prelude.{ℕ, ◌+◌, ◌-◌, ◌%◌, ◌++◌, ◌&&◌, ◌==◌, nat_lt, if◌then◌else◌, Bool, List, [], codes}
+use Rattle.std.specs.Prelude.{ℕ, ◌-◌, ◌%◌, ◌++◌, ◌&&◌, ◌==◌, nat_lt, if◌then◌else◌, Bool, List, [], codes}
 use Rattle.std.specs.Prelude.{Option, Some, None, length, slice_get}
 use Rattle.isa.specs.Privilege.{is_privilege}
 use Rattle.retire.specs.LogText.{hex}
@@ -19,13 +19,8 @@ use Rattle.legalpath.specs.declared.fault.Why.TheVariants.{OffProgram, NotRetira
 use Rattle.legalpath.specs.declared.fault.Why.TheVariants.{WrongPrivilege, WrongEpc}
 use Rattle.explaining.specs.ElfImage.{elf_line}
 use Rattle.explaining.specs.Following.{place_text, privileges_text}
+use Rattle.explaining.specs.Ranges.{image_text}
 use Rattle.explaining.specs.Standing.{before_text, standing_text}
-
--- The first and the last address of an image.
-abbrev pub image_text : Image → List ℕ
-image_text image =
-    if length image.bytes == 0 then codes "the image is empty" else
-    codes "the image is " ++ (hex image.base ++ (codes " to " ++ hex (image.base + length image.bytes - 1)))
 
 -- The types that a retirement of a word of this class may have.
 abbrev pub types_text : Class → List ℕ

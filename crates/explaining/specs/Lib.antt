@@ -2,6 +2,7 @@ pub mod Digits
 pub mod Standing
 pub mod Following
 pub mod ElfImage
+pub mod Ranges
 pub mod Explanation
 pub mod StandsAt
 pub mod Listed

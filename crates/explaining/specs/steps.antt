@@ -1,2 +1,4 @@
 -- What only private functions cite.
 pub mod ShortWord
+pub mod JoinedRanges
+pub mod RangeTexts

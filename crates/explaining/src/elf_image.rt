@@ -26,15 +26,12 @@ impl fmt::Display for ElfLine<'_> {
     }
 }
 
-/// Whether the image begins as an ELF file does.
+/// Whether the image begins as an ELF file does, at the lowest address of a piece.
 fn begins_as_elf(program: &ProgramOver) -> bool
     ensures { result ≡ begins_as_elf program.now }
 {
-    if program.byte_count() < 4 {
-        return false;
-    }
     let base = program.base();
-    is_short_word(program, base, 0x457f) && is_short_word(program, base + 2, 0x464c)
+    is_short_word(program, base, 0x457f) && is_short_word(program, base.saturating_add(2), 0x464c)
 }
 
 /// Whether an instruction of 2 bytes is at an address, with these bits.

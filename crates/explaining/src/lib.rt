@@ -9,6 +9,7 @@ mod elf_image;
 mod following;
 mod laws;
 mod line;
+mod ranges;
 mod retirement;
 mod standing;
 mod trap;

@@ -3,35 +3,17 @@
 ghost use Rattle.std.specs.Prelude.{◌≡◌, Some};
 ghost use Rattle.retire.specs.declared.event.Event.TheVariants.{Retire};
 ghost use Rattle.rvclass.specs.Fetch.{words_of};
-ghost use Rattle.explaining.specs.Explanation.{image_text, retirement_line, retires_at};
+ghost use Rattle.explaining.specs.Explanation.{retirement_line, retires_at};
 ghost use Rattle.explaining.specs.Explanation.{word_privileges_text, word_types_text};
 
 use crate::line::{PlaceLine, PrivilegeLine};
+use crate::ranges::ImageRanges;
 use crate::standing::Standing;
 use isa::is_privilege;
 use legalpath::{Why, may_retire_at};
 use retire::Event;
 use rvclass::{Class, ProgramOver, Return};
 use std::fmt;
-
-/// The first and the last address of a program's image.
-#[derive(Clone, Copy)]
-struct ImageRange<'a>(&'a ProgramOver<'a>);
-
-impl fmt::Display for ImageRange<'_> {
-    ghost output = { λ text. Some (image_text text.0.now) };
-
-    fn fmt<W: fmt::Write>(&self, f: &mut fmt::Formatter<W>) -> fmt::Result {
-        let first = self.0.base();
-        let count = self.0.byte_count() as u64;
-        if count == 0 {
-            f.write_str("the image is empty")
-        } else {
-            let last = first + count - 1;
-            write!(f, "the image is {first:x} to {last:x}")
-        }
-    }
-}
 
 /// Why a retirement is illegal.
 #[derive(Clone, Copy)]
@@ -58,7 +40,7 @@ impl fmt::Display for RetirementLine<'_> {
         };
         let standing = Standing { program, event };
         match self.why {
-            Why::OffProgram => write!(f, "{standing}: {}", ImageRange(program)),
+            Why::OffProgram => write!(f, "{standing}: {}", ImageRanges(program)),
             Why::NotRetirable => write!(f, "{standing}"),
             Why::WrongType => {
                 let types = types_text(program, self.addr);

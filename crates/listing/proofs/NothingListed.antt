@@ -12,7 +12,7 @@ use Rattle.receiver.specs.Holds.{AreDecoded}
 use Rattle.listing.specs.Listing.{AreMessagesListed}
 
 -- No messages decode to no events, and close no hart.
-none_decoded : (words : Words) (harts : ℕ)
+pub none_decoded : (words : Words) (harts : ℕ)
     → AreDecoded (λ hart. words) harts [] (replicate harts []) (replicate harts false)
 none_decoded words harts = record {
   lists_count = length-replicate harts [];
@@ -27,7 +27,7 @@ none_decoded words harts = record {
 }
 
 -- They have no lines.
-pub none_listed : (words : Words) (harts : ℕ) (announced : Option Mode) (symbols : Option (List ℕ)) (first : ℕ)
+unfoldable pub none_listed : (words : Words) (harts : ℕ) (announced : Option Mode) (symbols : Option (List ℕ)) (first : ℕ)
     → AreMessagesListed words harts announced symbols first [] (replicate harts false) None []
 none_listed words harts announced symbols first = record {
   messages = [];

@@ -56,7 +56,7 @@ pub record HasListed (words : Words) (harts : ℕ) (announced : Option Mode) (sy
   pub text : Appends old new (effect_lines symbols (naming_mode announced) first taken.messages taken.effects)
 
 -- The refused message behind the bytes that decode has its line.
-fault_line_is : (mode : Mode) (offset : ℕ) (m : Message) (next left : List ℕ) (why : ReceiveFault) → IsMessage m
+pub fault_line_is : (mode : Mode) (offset : ℕ) (m : Message) (next left : List ℕ) (why : ReceiveFault) → IsMessage m
     → left ≡ message_bytes m ++ next
     → IsFaultLine mode offset left (as_capture_fault why) (fault_line mode offset m why)
 fault_line_is mode offset m next left why is here = by_fault why
@@ -88,7 +88,7 @@ module _ (words : Words) (harts : ℕ) (announced : Option Mode) (symbols : Opti
       AreMessagesListed words harts announced symbols first bytes closed stop text
 
   -- At first none was.
-  pub listed_none : (received : Received) (old : Option (List ℕ)) → HasReceived (λ hart. words) harts [] received
+  unfoldable pub listed_none : (received : Received) (old : Option (List ℕ)) → HasReceived (λ hart. words) harts [] received
       → Lists bytes 0 first received old old
   listed_none received old has = record {
     taken = record {
@@ -106,7 +106,7 @@ module _ (words : Words) (harts : ℕ) (announced : Option Mode) (symbols : Opti
   }
 
   -- What was received is listed, of the bytes that were read.
-  front_listed : (left : List ℕ) (number offset : ℕ) (received : Received) → (r : Takes left number offset received)
+  unfoldable pub front_listed : (left : List ℕ) (number offset : ℕ) (received : Received) → (r : Takes left number offset received)
       → AreListed (capture r.messages) received.closed None (lines_of r.messages r.effects)
   front_listed left number offset received r = record {
     messages = r.messages;
@@ -141,7 +141,7 @@ module _ (words : Words) (harts : ℕ) (announced : Option Mode) (symbols : Opti
       }
 
   -- The fault of messages says why none stands there.
-  none_by : (left : List ℕ) (why : MessageFault) → (why ≡ message.Short) ⊎ (why ≡ message.BadLength)
+  pub none_by : (left : List ℕ) (why : MessageFault) → (why ≡ message.Short) ⊎ (why ≡ message.BadLength)
       → (why ≡ message.Short → IsCut left) → (why ≡ message.BadLength → HasBadLength left) → BeginsNone left why
   none_by left why (inl short) cut bad = subst (BeginsNone left) (sym short) (cut short)
   none_by left why (inr long) cut bad = subst (BeginsNone left) (sym long) (bad long)
@@ -158,7 +158,7 @@ module _ (words : Words) (harts : ℕ) (announced : Option Mode) (symbols : Opti
         (either : (why ≡ message.Short) ⊎ (why ≡ message.BadLength)) (cut : why ≡ message.Short → IsCut left)
         (bad : why ≡ message.BadLength → HasBadLength left) where
       -- No message stands behind them.
-      cut_listed : AreListed bytes received.closed (Some (number, fault.Message why)) (lines ++ offset_line offset)
+      unfoldable pub cut_listed : AreListed bytes received.closed (Some (number, fault.Message why)) (lines ++ offset_line offset)
       cut_listed = record {
         messages = so_far.messages;
         rest = left;
@@ -197,7 +197,7 @@ module _ (words : Words) (harts : ℕ) (announced : Option Mode) (symbols : Opti
     module _ (next : List ℕ) (after : Received) (m : Message) (is : IsMessage m) (here : left ≡ message_bytes m ++ next)
       where
         -- One more message is received.
-        taken_more : (line : List ℕ)
+        unfoldable pub taken_more : (line : List ℕ)
             → IsTaken words harts announced symbols offset so_far.messages m after line
             → Takes next (number + 1) (offset + length (message_bytes m)) after
         taken_more line taken =
@@ -242,7 +242,7 @@ module _ (words : Words) (harts : ℕ) (announced : Option Mode) (symbols : Opti
         }
 
         -- The message behind them is refused, and has its line.
-        refused_listed : (why : ReceiveFault) (line : List ℕ)
+        unfoldable pub refused_listed : (why : ReceiveFault) (line : List ℕ)
             → IsRefused words harts announced offset so_far.messages m after why line
             → AreListed bytes after.closed (Some (number, as_capture_fault why)) (lines ++ line)
         refused_listed why line refused = record {

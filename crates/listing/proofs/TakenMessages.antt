@@ -162,7 +162,7 @@ module _ (words : Words) (program : IsProgram words) (harts : ℕ) (messages : L
       (list added : List Event) (is_mode : mode ≡ naming_mode announced)
       (is_count : count ≡ length (list_at old message.hart)) (is_list : list ≡ list_at new message.hart) where
     -- Its line says what it does.
-    pub is_taken : added ≡ drop count list → Agrees announced message
+    unfoldable pub is_taken : added ≡ drop count list → Agrees announced message
         → IsTaken words harts announced symbols offset messages message new
         (effect_line symbols mode offset message (effect_of added (reading message.payload)))
     is_taken is_added agrees =

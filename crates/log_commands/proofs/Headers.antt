@@ -3,12 +3,12 @@ use Rattle.std.proofs.Common.{◌≡◌, ◌≤◌, ◌<◌, ◌^◌, ◌-◌, �
 use Rattle.std.proofs.Common.{arith, if◌then◌else◌, nat_lt, refl}
 use Rattle.std.proofs.lemmas.Bool.{ltb-false, ltb-true}
 use Rattle.captures.specs.Versions.{MayStart}
+use Rattle.command_inputs.specs.FurtherPieces.{base_number}
 use Rattle.command_inputs.specs.declared.fault.Fault.TheVariants as fault
 use Rattle.message.specs.Version.{most_harts}
 use Rattle.message.specs.declared.header.Header.{Header}
 use Rattle.message.specs.declared.header.Version.{Version}
 use Rattle.message.specs.declared.header.Version.TheVariants.{One, Two}
-use Rattle.retire.specs.Number.{number_of}
 use Rattle.subcommands.specs.declared.words.Encode.{Encode}
 use Rattle.log_commands.proofs.PartLogs.{limit_there, part_there}
 use Rattle.log_commands.specs.Faults.{Fault}
@@ -53,7 +53,7 @@ pub harts_in_part : (asked : Encode) (logs most : ℕ) → limit_of asked ≡ Ok
     → (1 ≤ all_harts asked.of logs) × (all_harts asked.of logs ≤ most_harts asked.version)
 harts_in_part asked logs most leads one few =
     let part = asked_part asked.version asked.first asked.of in
-    let base = number_of asked.base.now in
+    let base = base_number asked.base.now asked.also.items in
     let found = most_logs asked.version asked.first asked.of in
     in_part asked.version asked.first asked.of logs most (part_there part base found most leads)
     (limit_there part base found most leads) one few

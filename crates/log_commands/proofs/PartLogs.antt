@@ -2,13 +2,13 @@
 use Rattle.std.proofs.Common.{◌≡◌, ◌∙◌, ℕ, List, Option, Some, None, Result, Ok, Err, ap, length, refl}
 use Rattle.std.proofs.Common.{subst, sym}
 use Rattle.std.specs.Prelude.{IfSome}
+use Rattle.command_inputs.specs.FurtherPieces.{base_number}
 use Rattle.command_inputs.specs.Found.{base_at}
 use Rattle.command_inputs.specs.Order.{logs_fault}
 use Rattle.command_inputs.specs.declared.fault.Fault.TheVariants as fault
 use Rattle.command_inputs.specs.declared.status.Status.{Status}
 use Rattle.files.specs.Known.{Content}
 use Rattle.legalpath.specs.ProgramLog.{ProgramLog}
-use Rattle.retire.specs.Number.{number_of}
 use Rattle.subcommands.specs.declared.words.Encode.{Encode}
 use Rattle.log_commands.specs.Encoding.{AreLogsOf, ArePartLogs, CanEncode, Encodes, encode_fault}
 use Rattle.log_commands.specs.Faults.{Fault, Printed}
@@ -52,7 +52,7 @@ same_end one other is =
 
 module _ (content : Content) (asked : Encode) where
   no_logs : (part : Result (Unit {0}) Fault) (base : Option ℕ) (found : Result ℕ Fault) (why : Fault)
-      → asked_part asked.version asked.first asked.of ≡ part → number_of asked.base.now ≡ base
+      → asked_part asked.version asked.first asked.of ≡ part → base_number asked.base.now asked.also.items ≡ base
       → most_logs asked.version asked.first asked.of ≡ found → limit_at part base found ≡ Err why
       → ArePartLogs content asked (Err why)
   no_logs (Err other) base found why parted based is stops = (Err other, sym parted, same_end other why stops)
@@ -63,7 +63,7 @@ module _ (content : Content) (asked : Encode) where
 
   all_logs : (part : Result (Unit {0}) Fault) (base : Option ℕ) (found : Result ℕ Fault) (most : ℕ)
       (logs : Result (List ProgramLog) Fault)
-      → asked_part asked.version asked.first asked.of ≡ part → number_of asked.base.now ≡ base
+      → asked_part asked.version asked.first asked.of ≡ part → base_number asked.base.now asked.also.items ≡ base
       → most_logs asked.version asked.first asked.of ≡ found → limit_at part base found ≡ Ok most
       → AreLogsOf content asked most logs → ArePartLogs content asked logs
   all_logs (Err other) base found most logs parted based is leads are = cc
@@ -75,21 +75,22 @@ module _ (content : Content) (asked : Encode) where
     -- Without a limit there are no logs of the part.
     pub logs_lacking : ArePartLogs content asked (Err why)
     logs_lacking =
-        no_logs (asked_part asked.version asked.first asked.of) (number_of asked.base.now)
+        no_logs (asked_part asked.version asked.first asked.of) (base_number asked.base.now asked.also.items)
         (most_logs asked.version asked.first asked.of) why refl refl refl stops
 
     -- That is found before any file is read, and the run ends at it.
     pub early_stops : IfSome (encode_fault asked) (λ fault. ◌≡◌ {A = Result Status Fault} (Err why) (Err fault))
     early_stops =
         subst (λ seen. IfSome seen (λ fault. ◌≡◌ {A = Result Status Fault} (Err why) (Err fault)))
-        (sym (refused_early (asked_part asked.version asked.first asked.of) (number_of asked.base.now)
+        (sym (refused_early (asked_part asked.version asked.first asked.of)
+        (base_number asked.base.now asked.also.items)
         (most_logs asked.version asked.first asked.of) (length asked.logs.items) why stops)) refl
 
   module _ (most : ℕ) (leads : limit_of asked ≡ Ok most) where
     logs_of_part : (logs : Result (List ProgramLog) Fault) → AreLogsOf content asked most logs
         → ArePartLogs content asked logs
     logs_of_part logs are =
-        all_logs (asked_part asked.version asked.first asked.of) (number_of asked.base.now)
+        all_logs (asked_part asked.version asked.first asked.of) (base_number asked.base.now asked.also.items)
         (most_logs asked.version asked.first asked.of) most logs refl refl refl leads are
 
     -- What is printed of so many logs at most is what is printed of the part.
@@ -101,7 +102,8 @@ module _ (content : Content) (asked : Encode) where
     can_leads can = (can.0, logs_of_part (Ok can.0) can.1, can.2)
 
     -- The count of logs is looked at before any file is read.
-    pub early_leads : encode_fault asked ≡ logs_fault most (number_of asked.base.now) (length asked.logs.items)
+    pub early_leads : encode_fault asked
+        ≡ logs_fault most (base_number asked.base.now asked.also.items) (length asked.logs.items)
     early_leads =
-        counted_early (asked_part asked.version asked.first asked.of) (number_of asked.base.now)
+        counted_early (asked_part asked.version asked.first asked.of) (base_number asked.base.now asked.also.items)
         (most_logs asked.version asked.first asked.of) (length asked.logs.items) most leads

@@ -10,8 +10,8 @@ use Rattle.bench.specs.Stopping.{NamesOpen}
 use Rattle.bench.specs.declared.config.Config.{Config}
 use Rattle.bench.specs.declared.outcome.HartOutcome.{HartOutcome}
 use Rattle.bench.specs.declared.stop.Stop.{Stop}
-use Rattle.retire.specs.Number.{number_of}
 use Rattle.subcommands.specs.declared.words.Bench.{Bench}
+use Rattle.command_inputs.specs.FurtherPieces.{base_number}
 use Rattle.command_inputs.specs.FoundLogs.{AreAskedLogs}
 use Rattle.files.specs.Known.{Content}
 use Rattle.command_inputs.specs.Meaning.{writing_at_once}
@@ -37,11 +37,12 @@ BenchesLogs asked logs =
     First (IsSetting most_ports (length logs) (config_at asked.period asked.mode asked.capacity)) (λ _.
     WritesOutcome (config_at asked.period asked.mode asked.capacity) logs)
 
--- The base is looked at first, then the count of logs, the image and each log. Where there is no fault, the logs are
--- sent, and a report is written.
+-- The bases are looked at first, then the count of logs, the image with its further pieces, and each log. Where there
+-- is no fault, the logs are sent, and a report is written.
 abbrev pub Benches : Content → Bench → Printed → Type 0
 Benches content asked =
-    First (AreAskedLogs content most_ports asked.base.now asked.image asked.logs.items) (BenchesLogs asked)
+    First (AreAskedLogs content most_ports asked.base.now asked.also.items asked.image asked.logs.items)
+    (BenchesLogs asked)
 
 -- The report of what is received of these logs is written once it is found that they may be sent.
 abbrev pub CanBenchLogs : Bench → List ProgramLog → Type 0
@@ -51,10 +52,11 @@ CanBenchLogs asked logs =
 -- `bench` writes once it has the legal logs, and they may be sent.
 abbrev pub CanBench : Content → Bench → Type 0
 CanBench content asked =
-    Once (AreAskedLogs content most_ports asked.base.now asked.image asked.logs.items) (CanBenchLogs asked)
+    Once (AreAskedLogs content most_ports asked.base.now asked.also.items asked.image asked.logs.items)
+    (CanBenchLogs asked)
 
 -- What `bench` means. There may be as many logs as ports of the funnel.
 abbrev pub bench_meaning : Bench → Meaning
 bench_meaning asked = writing_at_once
-    (logs_fault most_ports (number_of asked.base.now) (length asked.logs.items))
+    (logs_fault most_ports (base_number asked.base.now asked.also.items) (length asked.logs.items))
     (λ content. Benches content asked) (λ content. CanBench content asked)

@@ -1,8 +1,8 @@
 -- What `encode` prints, and how it ends.
 use Rattle.std.specs.Prelude.{⊤, ◌≡◌, ℕ, List, Option, Result, Ok, length}
 use Rattle.legalpath.specs.ProgramLog.{ProgramLog}
-use Rattle.retire.specs.Number.{number_of}
 use Rattle.subcommands.specs.declared.words.Encode.{Encode}
+use Rattle.command_inputs.specs.FurtherPieces.{base_number}
 use Rattle.command_inputs.specs.Finding.{After}
 use Rattle.command_inputs.specs.Found.{IsBase}
 use Rattle.command_inputs.specs.FoundLogs.{AreAskedLogsUpTo}
@@ -36,14 +36,14 @@ IsMostLogs asked found = found ≡ most_logs asked.version asked.first asked.of
 -- The logs that are asked for, at most so many, are found.
 abbrev pub AreLogsOf : Content → Encode → ℕ → Result (List ProgramLog) Fault → Type 0
 AreLogsOf content asked most =
-    AreAskedLogsUpTo (most_of asked.long) content most asked.base.now asked.image asked.logs.items
+    AreAskedLogsUpTo (most_of asked.long) content most asked.base.now asked.also.items asked.image asked.logs.items
 
--- The logs of the part that is asked for are found. The part is looked at first, then the base, the first hart, the
--- count of logs, the image and each log.
+-- The logs of the part that is asked for are found. The part is looked at first, then the bases, the first hart, the
+-- count of logs, the image with its further pieces, and each log.
 abbrev pub ArePartLogs : Content → Encode → Result (List ProgramLog) Fault → Type 0
 ArePartLogs content asked =
     After (IsPart asked) (λ part.
-    After (IsBase asked.base.now) (λ base. After (IsMostLogs asked) (AreLogsOf content asked)))
+    After (IsBase asked.base.now asked.also.items) (λ base. After (IsMostLogs asked) (AreLogsOf content asked)))
 
 -- Where there is no fault, the messages of the logs are written.
 abbrev pub Encodes : Content → Encode → Printed → Type 0
@@ -56,7 +56,7 @@ CanEncode content asked = Once (ArePartLogs content asked) (λ _. ⊤)
 -- The fault that is found before any file is read.
 abbrev pub encode_fault : Encode → Option Fault
 encode_fault asked =
-    part_fault (asked_part asked.version asked.first asked.of) (number_of asked.base.now)
+    part_fault (asked_part asked.version asked.first asked.of) (base_number asked.base.now asked.also.items)
     (most_logs asked.version asked.first asked.of) (length asked.logs.items)
 
 -- What `encode` means.

@@ -4,8 +4,8 @@ use Rattle.legalpath.specs.ProgramLog.{ProgramLog}
 use Rattle.measuring.specs.Table.{measures_table}
 use Rattle.message.specs.Version.{most_harts}
 use Rattle.message.specs.declared.header.Version.TheVariants.{Two}
-use Rattle.retire.specs.Number.{number_of}
 use Rattle.subcommands.specs.declared.words.Measure.{Measure}
+use Rattle.command_inputs.specs.FurtherPieces.{base_number}
 use Rattle.command_inputs.specs.FoundLogs.{AreAskedLogsUpTo}
 use Rattle.files.specs.Known.{Content}
 use Rattle.command_inputs.specs.Meaning.{writing_at_once}
@@ -20,23 +20,25 @@ abbrev pub WritesTable : Measure → List ProgramLog → Printed → Type 0
 WritesTable asked logs printed =
     printed ≡ record { text = measures_table asked.period asked.mode logs; ended = Ok Whole }
 
--- The base is looked at first, then the count of logs, the image and each log. Where there is no fault, the table of
--- the logs is written.
+-- The bases are looked at first, then the count of logs, the image with its further pieces, and each log. Where there
+-- is no fault, the table of the logs is written.
 abbrev pub Measures : Content → Measure → Printed → Type 0
 Measures content asked =
     First
-    (AreAskedLogsUpTo (most_of asked.long) content (most_harts Two) asked.base.now asked.image asked.logs.items)
+    (AreAskedLogsUpTo (most_of asked.long) content (most_harts Two) asked.base.now asked.also.items asked.image
+    asked.logs.items)
     (WritesTable asked)
 
 -- `measure` writes once it has the legal logs.
 abbrev pub CanMeasure : Content → Measure → Type 0
 CanMeasure content asked =
     Once
-    (AreAskedLogsUpTo (most_of asked.long) content (most_harts Two) asked.base.now asked.image asked.logs.items)
+    (AreAskedLogsUpTo (most_of asked.long) content (most_harts Two) asked.base.now asked.also.items asked.image
+    asked.logs.items)
     (λ _. ⊤)
 
 -- What `measure` means.
 abbrev pub measure_meaning : Measure → Meaning
 measure_meaning asked = writing_at_once
-    (logs_fault (most_harts Two) (number_of asked.base.now) (length asked.logs.items))
+    (logs_fault (most_harts Two) (base_number asked.base.now asked.also.items) (length asked.logs.items))
     (λ content. Measures content asked) (λ content. CanMeasure content asked)

@@ -9,7 +9,6 @@ use Rattle.message.specs.Version.{most_harts}
 use Rattle.message.specs.declared.header.Version.TheVariants.{Two}
 use Rattle.message.specs.declared.message.Message.{Message}
 use Rattle.funnel.specs.declared.turn.Turn.{Turn}
-use Rattle.retire.specs.Number.{number_of}
 use Rattle.schedule.specs.Schedule.{schedule_of}
 use Rattle.bench.specs.Got.{Got, HasGot, got_after, kept}
 use Rattle.bench.specs.Replayed.{replayed}
@@ -17,6 +16,7 @@ use Rattle.bench.specs.Report.{is_whole, report_text}
 use Rattle.bench.specs.declared.stop.Stop.{Stop}
 use Rattle.bench.specs.declared.stop.Stop.TheVariants as stop
 use Rattle.subcommands.specs.declared.words.Replay.{Replay}
+use Rattle.command_inputs.specs.FurtherPieces.{base_number}
 use Rattle.command_inputs.specs.Faults.{Path}
 use Rattle.command_inputs.specs.Found.{IsRead}
 use Rattle.command_inputs.specs.FoundLogs.{AreAskedLogs}
@@ -87,11 +87,11 @@ ReplaysLogs content asked logs =
     First (IsSetting (most_harts Two) (length logs) (config_at asked.period asked.mode asked.capacity)) (λ _.
     WritesReport asked logs turns))
 
--- The base is looked at first, then the count of logs, the image and each log. Where there is no fault, the logs are
--- replayed.
+-- The bases are looked at first, then the count of logs, the image with its further pieces, and each log. Where there
+-- is no fault, the logs are replayed.
 abbrev pub Replays : Content → Replay → Printed → Type 0
 Replays content asked =
-    First (AreAskedLogs content (most_harts Two) asked.base.now asked.image asked.logs.items)
+    First (AreAskedLogs content (most_harts Two) asked.base.now asked.also.items asked.image asked.logs.items)
     (ReplaysLogs content asked)
 
 -- The report of a replay of these logs is written once the turns are found, and the logs may be sent.
@@ -103,11 +103,11 @@ CanReplayLogs content asked logs =
 -- `replay` writes once it has the legal logs and the turns, and the logs may be sent.
 abbrev pub CanReplay : Content → Replay → Type 0
 CanReplay content asked =
-    Once (AreAskedLogs content (most_harts Two) asked.base.now asked.image asked.logs.items)
+    Once (AreAskedLogs content (most_harts Two) asked.base.now asked.also.items asked.image asked.logs.items)
     (CanReplayLogs content asked)
 
 -- What `replay` means. There may be as many logs as harts of a capture of version 2.
 abbrev pub replay_meaning : Replay → Meaning
 replay_meaning asked = writing_at_once
-    (logs_fault (most_harts Two) (number_of asked.base.now) (length asked.logs.items))
+    (logs_fault (most_harts Two) (base_number asked.base.now asked.also.items) (length asked.logs.items))
     (λ content. Replays content asked) (λ content. CanReplay content asked)

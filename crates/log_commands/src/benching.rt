@@ -2,10 +2,10 @@
 
 ghost use Rattle.std.specs.Prelude.{◌≡◌, ◌⊎◌, IfErr, IfOk, IfSome, Ok, Err, length};
 ghost use Rattle.std.specs.Thread.{IsSync};
-ghost use Rattle.retire.specs.Number.{number_of};
 ghost use Rattle.funnel.specs.Limits.{most_ports};
 ghost use Rattle.bench.specs.Beginnings.{AreBeginnings};
 ghost use Rattle.bench.specs.Stopping.{NamesOpen};
+ghost use Rattle.command_inputs.specs.FurtherPieces.{base_number};
 ghost use Rattle.command_inputs.specs.Begun.{IsCutOf};
 ghost use Rattle.command_inputs.specs.Order.{logs_fault};
 ghost use Rattle.command_inputs.specs.Printed.{PrintsUnlessDenied};
@@ -41,7 +41,8 @@ pub fn bench<'a, F: Files + Sync, O: Write, R: Threads + Wait + Sync>(
 ) -> Result<Status, Fault<'a>>
 where
     F::Reader: Send,
-    ensures early { IfSome (logs_fault most_ports (number_of asked.now.base.now) (length asked.now.logs.items))
+    ensures early { IfSome (logs_fault most_ports (base_number asked.now.base.now asked.now.also.items)
+        (length asked.now.logs.items))
         (λ fault. result ≡ Err fault) }
     ensures refused { final_status result ≡ Status.Refused → out.new ≡ out.old }
     ensures untouched { result ≡ Err Fault.Memory → out.new ≡ out.old }
@@ -53,6 +54,7 @@ where
     let logs = AskedLogs {
         most: MOST_PORTS,
         base: asked.base,
+        also: &asked.also,
         image: asked.image,
         paths: &asked.logs,
         progress: asked.progress,

@@ -6,7 +6,7 @@ ghost use Rattle.std.specs.List.{list_any};
 ghost use Rattle.message.specs.Version.{most_harts};
 ghost use Rattle.message.specs.declared.header.Version.TheVariants.{Two};
 ghost use Rattle.output.specs.Begun.{AppendsBeginning};
-ghost use Rattle.retire.specs.Number.{number_of};
+ghost use Rattle.command_inputs.specs.FurtherPieces.{base_number};
 ghost use Rattle.command_inputs.specs.Begun.{BeginsPrinted, IsCutOf};
 ghost use Rattle.command_inputs.specs.Order.{logs_fault};
 ghost use Rattle.command_inputs.specs.Printed.{PrintsUnlessDenied};
@@ -45,7 +45,8 @@ pub fn check<'a, F: Files + Sync, O: Write, R: Threads + Sync>(
 ) -> Result<Status, Fault<'a>>
 where
     F::Reader: Send,
-    ensures early { IfSome (logs_fault (most_harts Two) (number_of asked.now.base.now) (length asked.now.logs.items))
+    ensures early { IfSome (logs_fault (most_harts Two) (base_number asked.now.base.now asked.now.also.items)
+        (length asked.now.logs.items))
         (λ fault. result ≡ Err fault) }
     ensures printed { PrintsUnlessDenied (Checks (F.content files.old) asked.now)
         (CanCheck (F.content files.old) asked.now) result
@@ -55,7 +56,15 @@ where
     ensures cut { IsCutOf (ChecksFirst (F.content files.old) asked.now) (O.contents out.old) (O.contents out.new) }
 {
     let paths = asked.logs.as_slice();
-    let program = asked_program(files, MOST_HARTS, asked.base, asked.image, paths)?;
+    let program = asked_program(
+        alloc,
+        files,
+        MOST_HARTS,
+        asked.base,
+        &asked.also,
+        asked.image,
+        paths,
+    )?;
     let ended = check_all(alloc, rt, files, &program, asked, paths, out);
     out.flush()?;
     ended

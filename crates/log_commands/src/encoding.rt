@@ -5,9 +5,9 @@ ghost use Rattle.std.specs.Io.KnownBytes.{Appends};
 ghost use Rattle.legalpath.specs.ProgramLog.{program_log};
 ghost use Rattle.message.specs.Version.{most_harts};
 ghost use Rattle.output.specs.Begun.{AppendsBeginning};
-ghost use Rattle.retire.specs.Number.{number_of};
 ghost use Rattle.rvclass.specs.Fetch.{words_of};
 ghost use Rattle.hart_encoding.specs.HasEncoded.{HasEncoded};
+ghost use Rattle.command_inputs.specs.FurtherPieces.{base_number};
 ghost use Rattle.command_inputs.specs.Begun.{IsCutOf};
 ghost use Rattle.command_inputs.specs.FoundLogs.{AreLegalLogsUpTo};
 ghost use Rattle.command_inputs.specs.Order.{logs_fault};
@@ -91,7 +91,8 @@ where
     F::Reader: Send,
     requires period { 1 ≤ asked.now.period }
     requires most { limit_of asked.now ≡ Ok most }
-    ensures early { IfSome (logs_fault most (number_of asked.now.base.now) (length asked.now.logs.items))
+    ensures early { IfSome (logs_fault most (base_number asked.now.base.now asked.now.also.items)
+        (length asked.now.logs.items))
         (λ fault. result ≡ Err fault) }
     ensures refused { final_status result ≡ Status.Refused → out.new ≡ out.old }
     ensures untouched { result ≡ Err Fault.Memory → out.new ≡ out.old }
@@ -102,7 +103,15 @@ where
         (O.contents out.old) (O.contents out.new) }
 {
     let paths = asked.logs.as_slice();
-    let program = asked_program(files, most, asked.base, asked.image, paths)?;
+    let program = asked_program(
+        alloc,
+        files,
+        most,
+        asked.base,
+        &asked.also,
+        asked.image,
+        paths,
+    )?;
     let messages = messages_of_logs(alloc, rt, &*files, &program, asked, paths)?;
     write_messages(asked, messages.as_slice(), out)
 }

@@ -2,7 +2,7 @@
 
 ghost use Rattle.std.specs.Prelude.{◌≡◌, ◌≤◌, ℕ, Err, IfSome, List, length};
 ghost use Rattle.legalpath.specs.ProgramLog.{ProgramLog};
-ghost use Rattle.retire.specs.Number.{number_of};
+ghost use Rattle.command_inputs.specs.FurtherPieces.{base_number};
 ghost use Rattle.command_inputs.specs.Begun.{IsCutOf};
 ghost use Rattle.command_inputs.specs.FoundLogs.{AreAskedLogs};
 ghost use Rattle.files.specs.Known.{Content};
@@ -27,6 +27,8 @@ pub(crate) struct AskedLogs<'a, 'b> {
     pub(crate) most: u16,
     /// The address of the image's first byte, not yet read as a number.
     pub(crate) base: &'a str,
+    /// The further pieces of the image, each as `B2=FILE`.
+    pub(crate) also: &'b Vec<&'a str>,
     /// The path of the image.
     pub(crate) image: &'a str,
     /// The paths of the logs.
@@ -73,24 +75,36 @@ pub(crate) fn over_legal_logs<'a, F: Files + Sync, O: Write, T: OnLogs<'a>, R: T
 where
     F::Reader: Send,
     requires { (count : ℕ) → 1 ≤ count → count ≤ asked.now.most → T.Takes task.now count }
-    ensures early { IfSome (logs_fault asked.now.most (number_of asked.now.base.now) (length asked.now.paths.now.items))
+    ensures early { IfSome (logs_fault asked.now.most (base_number asked.now.base.now asked.now.also.now.items)
+        (length asked.now.paths.now.items))
         (λ fault. result ≡ Err fault) }
     ensures refused { final_status result ≡ Status.Refused → out.new ≡ out.old }
     ensures untouched { result ≡ Err Fault.Memory → out.new ≡ out.old }
     ensures printed { PrintsUnlessDenied
-        (First (AreAskedLogs (F.content files.old) asked.now.most asked.now.base.now asked.now.image
+        (First (AreAskedLogs (F.content files.old) asked.now.most asked.now.base.now asked.now.also.now.items
+        asked.now.image
         asked.now.paths.now.items)
         (T.Prints task.now (F.content files.old)))
-        (Once (AreAskedLogs (F.content files.old) asked.now.most asked.now.base.now asked.now.image
+        (Once (AreAskedLogs (F.content files.old) asked.now.most asked.now.base.now asked.now.also.now.items
+        asked.now.image
         asked.now.paths.now.items)
         (T.CanWrite task.now (F.content files.old))) result (O.contents out.old) (O.contents out.new) }
     ensures cut { IsCutOf
-        (First (AreAskedLogs (F.content files.old) asked.now.most asked.now.base.now asked.now.image
+        (First (AreAskedLogs (F.content files.old) asked.now.most asked.now.base.now asked.now.also.now.items
+        asked.now.image
         asked.now.paths.now.items)
         (T.Prints task.now (F.content files.old))) (O.contents out.old) (O.contents out.new) }
 {
     let paths = asked.paths.as_slice();
-    let program = asked_program(files, asked.most, asked.base, asked.image, paths)?;
+    let program = asked_program(
+        alloc,
+        files,
+        asked.most,
+        asked.base,
+        asked.also,
+        asked.image,
+        paths,
+    )?;
     let logs = legal_logs_of(alloc, rt, files, &program, paths, asked.progress)?;
     let ended = task.go_on(alloc, files, logs.as_slice(), out);
     let bytes = bytes_of(logs.as_slice());

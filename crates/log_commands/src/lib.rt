@@ -1,7 +1,7 @@
 //! The subcommands of `tracebench` that read logs: [`check`] checks them, [`encode`] writes their messages, [`measure`]
 //! counts what these cost, [`replay`] and [`bench`] send them through the funnel and report what is received of them.
 //!
-//! Each reads a base, an image and logs, in this order, and ends at the first fault.
+//! Each reads a base, an image with its further pieces, and logs, in this order, and ends at the first fault.
 #![tactic(auto)]
 
 mod benching;

@@ -9,8 +9,8 @@ ghost use Rattle.measuring.specs.Table.{table_of};
 ghost use Rattle.message.specs.Version.{most_harts};
 ghost use Rattle.message.specs.declared.header.Version.TheVariants.{Two};
 ghost use Rattle.output.specs.Begun.{AppendsBeginning};
-ghost use Rattle.retire.specs.Number.{number_of};
 ghost use Rattle.rvclass.specs.Fetch.{words_of};
+ghost use Rattle.command_inputs.specs.FurtherPieces.{base_number};
 ghost use Rattle.command_inputs.specs.Begun.{IsCutOf};
 ghost use Rattle.command_inputs.specs.FoundLogs.{AreLegalLogsUpTo};
 ghost use Rattle.command_inputs.specs.Order.{logs_fault};
@@ -54,7 +54,8 @@ pub fn measure<'a, F: Files + Sync, O: Write, R: Threads + Sync>(
 where
     F::Reader: Send,
     requires { 1 ≤ asked.now.period }
-    ensures early { IfSome (logs_fault (most_harts Two) (number_of asked.now.base.now) (length asked.now.logs.items))
+    ensures early { IfSome (logs_fault (most_harts Two) (base_number asked.now.base.now asked.now.also.items)
+        (length asked.now.logs.items))
         (λ fault. result ≡ Err fault) }
     ensures refused { final_status result ≡ Status.Refused → out.new ≡ out.old }
     ensures untouched { result ≡ Err Fault.Memory → out.new ≡ out.old }
@@ -64,7 +65,15 @@ where
     ensures cut { IsCutOf (Measures (F.content files.old) asked.now) (O.contents out.old) (O.contents out.new) }
 {
     let paths = asked.logs.as_slice();
-    let program = asked_program(files, MOST_HARTS, asked.base, asked.image, paths)?;
+    let program = asked_program(
+        alloc,
+        files,
+        MOST_HARTS,
+        asked.base,
+        &asked.also,
+        asked.image,
+        paths,
+    )?;
     let measures = measures_of_logs(alloc, rt, &*files, &program, asked, paths)?;
     write_table(measures.as_slice(), out)
 }

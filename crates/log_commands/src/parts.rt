@@ -8,13 +8,13 @@ use crate::reason::{Fault, LogReason};
 use command_inputs::base_of;
 use subcommands::Encode;
 
-/// How many logs there may be. The error is that there is no part that is asked for, that the base is no number, or
+/// How many logs there may be. The error is that there is no part that is asked for, that a base is no number, or
 /// that the first hart is not one of all.
 pub(crate) fn limit_of<'a>(asked: &Encode<'a>) -> Result<u16, Fault<'a>>
     ensures { result ≡ limit_of asked.now }
 {
     check_part(asked)?;
-    base_of(asked.base)?;
+    base_of(asked.base, &asked.also)?;
     most_logs(asked)
 }
 

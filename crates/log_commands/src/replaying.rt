@@ -1,11 +1,11 @@
 //! The subcommand `replay`.
 
 ghost use Rattle.std.specs.Prelude.{◌≡◌, ◌⊎◌, ◌≤◌, IfErr, IfOk, IfSome, Ok, Err, length, map};
-ghost use Rattle.retire.specs.Number.{number_of};
 ghost use Rattle.message.specs.Version.{most_harts};
 ghost use Rattle.message.specs.declared.header.Version.TheVariants.{Two};
 ghost use Rattle.bench.specs.Got.{got_of};
 ghost use Rattle.bench.specs.Replayed.{replayed};
+ghost use Rattle.command_inputs.specs.FurtherPieces.{base_number};
 ghost use Rattle.command_inputs.specs.Begun.{IsCutOf};
 ghost use Rattle.command_inputs.specs.Order.{logs_fault};
 ghost use Rattle.command_inputs.specs.Printed.{PrintsUnlessDenied};
@@ -40,7 +40,8 @@ pub fn replay<'a, F: Files + Sync, O: Write, R: Threads + Sync>(
 ) -> Result<Status, Fault<'a>>
 where
     F::Reader: Send,
-    ensures early { IfSome (logs_fault (most_harts Two) (number_of asked.now.base.now) (length asked.now.logs.items))
+    ensures early { IfSome (logs_fault (most_harts Two) (base_number asked.now.base.now asked.now.also.items)
+        (length asked.now.logs.items))
         (λ fault. result ≡ Err fault) }
     ensures refused { final_status result ≡ Status.Refused → out.new ≡ out.old }
     ensures untouched { result ≡ Err Fault.Memory → out.new ≡ out.old }
@@ -52,6 +53,7 @@ where
     let logs = AskedLogs {
         most: MOST_HARTS,
         base: asked.base,
+        also: &asked.also,
         image: asked.image,
         paths: &asked.logs,
         progress: asked.progress,

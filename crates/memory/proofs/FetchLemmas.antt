@@ -1,5 +1,5 @@
 -- What stands at an address, by the bytes there.
-use Rattle.std.proofs.Common.{◌≡◌, ℕ, ◌+◌, ◌-◌, ◌*◌, ◌^◌, ◌≤◌, ◌&&◌, true, false, if◌then◌else◌}
+use Rattle.std.proofs.Common.{◌≡◌, ℕ, ◌+◌, ◌-◌, ◌*◌, ◌%◌, ◌^◌, ◌≤◌, ◌&&◌, true, false, if◌then◌else◌}
 use Rattle.std.proofs.Common.{Option, Some, None, slice_index, is_some, unwrap_or, sym, ap, ◌∙◌, arith}
 use Rattle.std.proofs.lemmas.Bool.Decides.{nat_tests}
 use Rattle.memory.proofs.BytesLemmas.{byte_there}
@@ -7,7 +7,8 @@ use Rattle.memory.specs.Fetch.{byte_at, has_bytes, half_at, word_at, fetched}
 use Rattle.memory.specs.Memory.{Memory}
 use Rattle.memory.specs.Piece.{Piece, byte_in, end_of}
 use Rattle.memory.specs.declared.fetched.Fetched.TheVariants.{Word, Half, Nothing}
-use Rattle.memory.specs.steps.Words.{word_from, word_in}
+use Rattle.memory.specs.steps.Search.{IsWordAt}
+use Rattle.memory.specs.steps.Words.{half_from, word_from, word_in}
 
 module _ (m : Memory) (addr : ℕ) where
   -- The bytes at the addresses as definitions write them.
@@ -34,7 +35,7 @@ module _ (m : Memory) (addr : ℕ) where
       (λ i. is_some (e0 i) && (is_some (e1 i) && has_bytes m (addr + 1 + 1) 0)) in
       λ i. if four i then Word (word_at m addr) else if two i then Half (half_at m addr) else Nothing
 
-  half : (b0 b1 : ℕ) → byte_at m addr ≡ Some b0 → byte_at m (addr + 1) ≡ Some b1 → half_at m addr ≡ b0 + 2 ^ 8 * b1
+  pub half : (b0 b1 : ℕ) → byte_at m addr ≡ Some b0 → byte_at m (addr + 1) ≡ Some b1 → half_at m addr ≡ b0 + 2 ^ 8 * b1
   half b0 b1 e0 e1 = λ i. unwrap_or (e0 i) 0 + 2 ^ 8 * unwrap_or (e1 i) 0
 
   two_bytes : (b0 b1 : ℕ) → byte_at m addr ≡ Some b0 → byte_at m (addr + 1) ≡ Some b1 → has_bytes m addr 2 ≡ true
@@ -91,8 +92,9 @@ word_stands p addr w e = record {
 
 -- What stands at an address where one piece of a memory has four bytes: its bytes are those of the memory.
 pub fetched_word : (m : Memory) (p : Piece) (addr w : ℕ)
-    → ((a b : ℕ) → byte_in p a ≡ Some b → byte_at m a ≡ Some b) → word_in p addr ≡ Some w → fetched m addr ≡ Word w
-fetched_word m p addr w one_of e =
+    → ((a b : ℕ) → byte_in p a ≡ Some b → byte_at m a ≡ Some b) → word_in p addr ≡ Some w
+    → w % 2 ^ 16 ≡ half_from p.bytes (addr - p.base) → IsWordAt m addr w
+fetched_word m p addr w one_of e low =
     let s = word_stands p addr w e in
     let k = addr - p.base in
     let from = s.from in
@@ -108,4 +110,7 @@ fetched_word m p addr w one_of e =
     let sum : b k + 2 ^ 8 * b (addr + 1 - p.base) + 2 ^ 16 * (b (addr + 2 - p.base) + 2 ^ 8 * b (addr + 3 - p.base))
     ≡ word_from p.bytes k =
     (λ i. b k + 2 ^ 8 * b (k1 i) + 2 ^ 16 * (b (k2 i) + 2 ^ 8 * b (k3 i))) in
-    fetched_four m addr _ _ _ _ at0 at1 at2 at3 ∙ ap Word (sum ∙ sym s.is)
+    let first : b k + 2 ^ 8 * b (addr + 1 - p.base) ≡ half_from p.bytes k = (λ i. b k + 2 ^ 8 * b (k1 i)) in (
+      fetched_four m addr _ _ _ _ at0 at1 at2 at3 ∙ ap Word (sum ∙ sym s.is),
+      low ∙ sym (half m addr _ _ at0 at1 ∙ first),
+    )

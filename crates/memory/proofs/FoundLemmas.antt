@@ -1,6 +1,6 @@
 -- What is read of a part.
-use Rattle.std.proofs.Common.{◌≡◌, ℕ, ◌+◌, ◌-◌, ◌^◌, ◌<◌, ◌≤◌, List, Option, Some, None, length, slice_index_or}
-use Rattle.std.proofs.Common.{IfSome, sym, ap, ◌∙◌, subst, arith}
+use Rattle.std.proofs.Common.{◌≡◌, ℕ, ◌+◌, ◌-◌, ◌%◌, ◌^◌, ◌<◌, ◌≤◌, List, Option, Some, None, length, slice_index_or}
+use Rattle.std.proofs.Common.{IfSome, sym, ap, ◌∙◌, subst}
 use Rattle.memory.proofs.BytesLemmas.{bounds_at, part_byte, search_last}
 use Rattle.memory.proofs.FetchLemmas.{fetched_word}
 use Rattle.memory.specs.Fetch.{byte_at}
@@ -9,7 +9,7 @@ use Rattle.memory.specs.declared.part.Part.{Part}
 use Rattle.memory.specs.steps.HeldBytes.{held_bytes}
 use Rattle.memory.specs.steps.Parts.{AreSearchable, piece_of, pieces_of}
 use Rattle.memory.specs.steps.Search.{HaveWord, IsCountUpTo}
-use Rattle.memory.specs.steps.Words.{word_in}
+use Rattle.memory.specs.steps.Words.{half_from, word_in}
 
 -- The part at a place, and its bytes.
 pub record IsAt (parts : List Part) (place : ℕ) (part : Part) (bytes : List ℕ) : Type 0 where
@@ -28,12 +28,14 @@ module _ (parts : List Part) (addr place : ℕ) (part : Part) (bytes : List ℕ)
 
   -- A word of it is one of all.
   pub at_word : (r : Option ℕ) → r ≡ word_in (piece_at part.base bytes) addr
+      → IfSome r (λ word. word % 2 ^ 16 ≡ half_from bytes (addr - part.base))
       → IfSome r (λ word. HaveWord (pieces_of parts) addr word)
-  at_word None e = tt
-  at_word (Some w) e = λ m all. fetched_word m (piece_of part) addr w
+  at_word None e low = tt
+  at_word (Some w) e low = λ m all. fetched_word m (piece_of part) addr w
       (λ a b h. all a b (part_byte parts place part a b f.searchable.apart f.inside
       (sym (ap (λ (p : Part). byte_in (piece_of p) a) f.is) ∙ h)))
       (sym (e ∙ ap (λ l. word_in (piece_at part.base l) addr) f.has))
+      (low ∙ ap (λ l. half_from l (addr - part.base)) f.has)
 
 -- The byte of the part before the place where a search ended is that of all.
 pub found_byte : (parts : List Part) (addr count : ℕ) (part : Part) (bytes : List ℕ) → IsAt parts (count - 1) part bytes

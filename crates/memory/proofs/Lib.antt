@@ -1,4 +1,5 @@
 pub mod OrderLemmas
+pub mod OrderedLemmas
 pub mod BytesLemmas
 pub mod OverlapLemmas
 pub mod FetchLemmas

@@ -1,5 +1,5 @@
 -- What stands at an address of a memory.
-use Rattle.std.specs.Prelude.{ℕ, zero, suc, ◌+◌, ◌*◌, ◌^◌, ◌&&◌, Bool, true, Option, Some, None, is_some, unwrap_or}
+use Rattle.std.specs.Prelude.{ℕ, zero, suc, ◌≡◌, ◌+◌, ◌*◌, ◌%◌, ◌^◌, ◌&&◌, Bool, true, Option, Some, None, is_some, unwrap_or}
 use Rattle.std.specs.Prelude.{[], ◌∷◌, if◌then◌else◌}
 use Rattle.memory.specs.Memory.{Memory}
 use Rattle.memory.specs.Piece.{byte_in}
@@ -39,3 +39,9 @@ fetched m addr =
     if has_bytes m addr 4 then Word (word_at m addr) else
     if has_bytes m addr 2 then Half (half_at m addr) else
     Nothing
+
+-- The 16 bits at an address are the low ones of what was fetched there.
+abbrev pub BeginsWithHalf : Memory → ℕ → Fetched → Type 0
+BeginsWithHalf m addr (Word word) = word % 2 ^ 16 ≡ half_at m addr
+BeginsWithHalf m addr (Half half) = half % 2 ^ 16 ≡ half_at m addr
+BeginsWithHalf m addr Nothing = Unit {0}

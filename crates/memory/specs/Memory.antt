@@ -51,6 +51,11 @@ placed p [] = p ∷ []
 placed p (other ∷ others) =
     if nat_lt (rank_of p) (rank_of other) then p ∷ other ∷ others else other ∷ placed p others
 
+-- A memory's pieces: those with bytes by rising base, then those without.
+abbrev pub in_order : Memory → Memory
+in_order [] = []
+in_order (first ∷ others) = placed first others
+
 -- A memory with one more piece.
 abbrev pub with_piece : Memory → Piece → Memory
 with_piece [] p = p ∷ []

@@ -15,6 +15,10 @@ piece_at base bytes = record { base = base; bytes = bytes }
 abbrev pub end_of : Piece → ℕ
 end_of p = p.base + length p.bytes
 
+-- A piece's base and its number of bytes.
+abbrev pub extent_of : Piece → ℕ × ℕ
+extent_of p = (p.base, length p.bytes)
+
 -- The bounds of every piece, by this project's profile.
 pub record IsPiece (p : Piece) : Type 0 where
   pub even : p.base % 2 ≡ 0

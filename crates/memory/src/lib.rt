@@ -1,5 +1,4 @@
-//! Bytes in several memories of a chip: pieces that do not overlap, and what stands at each address. No crate uses it
-//! yet.
+//! Bytes in several memories of a chip: pieces that do not overlap, and what stands at each address.
 #![tactic(auto)]
 
 mod adding;

@@ -1,10 +1,10 @@
 //! A memory, and what stands at each of its addresses.
 
-ghost use Rattle.std.specs.Prelude.{◌≡◌, ◌≢◌, ◌⊎◌, ◌↔◌, ◌+◌, ◌-◌, ◌%◌, ◌^◌, ◌<◌, ◌≤◌, [], ◌∷◌, length, vec_len, IsOk, IfOk, IfErr, IfSome, Ok, Err};
+ghost use Rattle.std.specs.Prelude.{◌≡◌, ◌≢◌, ◌⊎◌, ◌↔◌, ◌+◌, ◌-◌, ◌%◌, ◌^◌, ◌<◌, ◌≤◌, [], ◌∷◌, length, vec_len, option_map, slice_get, IsOk, IfOk, IfErr, IfSome, Ok, Err};
 ghost use Rattle.memory.specs.Adding.{add_piece};
-ghost use Rattle.memory.specs.Fetch.{byte_at, fetched};
-ghost use Rattle.memory.specs.Memory.{Memory, IsMemory, base_of, byte_count, with_piece};
-ghost use Rattle.memory.specs.Piece.{IsPiece, piece_at};
+ghost use Rattle.memory.specs.Fetch.{BeginsWithHalf, byte_at, fetched};
+ghost use Rattle.memory.specs.Memory.{Memory, IsMemory, base_of, byte_count, in_order, with_piece};
+ghost use Rattle.memory.specs.Piece.{IsPiece, extent_of, piece_at};
 ghost use Rattle.memory.specs.steps.HeldBytes.{held_bytes};
 ghost use Rattle.memory.specs.steps.Kept.{IsKept, kept_pieces, others_of};
 
@@ -13,7 +13,8 @@ use crate::among::{byte_among, place_near, word_near};
 use crate::fault::PieceFault;
 use crate::fetched::Fetched;
 use crate::held::Held;
-use crate::part::{Part, parts_in};
+use crate::part::{Part, extent_in, parts_in, rank_of};
+use crate::search::count_up_to;
 use crate::slices::{byte_of, word_of};
 use std::alloc::{Allocator, Global};
 use std::marker::Model;
@@ -105,6 +106,31 @@ impl<'b, A: Allocator> Memory<'b, A> {
         self.count
     }
 
+    /// The number of pieces.
+    #[inline]
+    pub fn piece_count(&self) -> usize
+        ensures { result ≡ length self.now }
+    {
+        parts_in(&self.others).len() + 1
+    }
+
+    /// The base and the number of bytes of a piece. Pieces with bytes are numbered from 0 by rising base, and those
+    /// without bytes come after them.
+    pub fn extent(&self, number: usize) -> Option<(u64, usize)>
+        ensures { result ≡ option_map extent_of (slice_get (in_order self.now) number) }
+    {
+        let length = self.bytes.bytes().len();
+        let others = parts_in(&self.others);
+        let place = count_up_to(others, rank_of(self.base, length));
+        if number == place {
+            return Some((self.base, length));
+        }
+        if number < place {
+            return extent_in(others, number);
+        }
+        extent_in(others, number - 1)
+    }
+
     /// The byte at an address, if there is one.
     pub fn byte_at(&self, addr: u64) -> Option<u8>
         ensures byte { result ≡ byte_at self.now addr }
@@ -120,7 +146,8 @@ impl<'b, A: Allocator> Memory<'b, A> {
     /// came in.
     #[inline(always)]
     pub fn fetch(&self, addr: u64) -> Fetched
-        ensures { result ≡ fetched self.now addr }
+        ensures what { result ≡ fetched self.now addr }
+        ensures low { BeginsWithHalf self.now addr result }
     {
         match word_of(self.base, self.bytes.bytes(), self.windows, addr) {
             Some(word) => Fetched::Word(word),
@@ -132,7 +159,8 @@ impl<'b, A: Allocator> Memory<'b, A> {
     /// where it was, is 0 at first, and changes nothing about what is found.
     #[inline(always)]
     pub fn fetch_near(&self, near: &mut usize, addr: u64) -> Fetched
-        ensures { result ≡ fetched self.now addr }
+        ensures what { result ≡ fetched self.now addr }
+        ensures low { BeginsWithHalf self.now addr result }
     {
         match word_of(self.base, self.bytes.bytes(), self.windows, addr) {
             Some(word) => Fetched::Word(word),
@@ -143,7 +171,8 @@ impl<'b, A: Allocator> Memory<'b, A> {
     /// What stands at an address from which the first piece does not have four bytes, by a place where it may be.
     #[inline]
     fn fetch_behind(&self, near: &mut usize, addr: u64) -> Fetched
-        ensures { result ≡ fetched self.now addr }
+        ensures what { result ≡ fetched self.now addr }
+        ensures low { BeginsWithHalf self.now addr result }
     {
         match word_near(parts_in(&self.others), *near, addr) {
             Some(word) => Fetched::Word(word),
@@ -157,7 +186,8 @@ impl<'b, A: Allocator> Memory<'b, A> {
     /// What stands at an address from which the first piece does not have four bytes.
     #[inline(never)]
     fn fetch_elsewhere(&self, addr: u64) -> Fetched
-        ensures { result ≡ fetched self.now addr }
+        ensures what { result ≡ fetched self.now addr }
+        ensures low { BeginsWithHalf self.now addr result }
     {
         let near = place_near(parts_in(&self.others), addr);
         self.fetch_at(near, addr)
@@ -166,7 +196,8 @@ impl<'b, A: Allocator> Memory<'b, A> {
     /// What stands at an address, by the place of the part that may have it.
     #[inline]
     fn fetch_at(&self, near: usize, addr: u64) -> Fetched
-        ensures { result ≡ fetched self.now addr }
+        ensures what { result ≡ fetched self.now addr }
+        ensures low { BeginsWithHalf self.now addr result }
     {
         match word_near(parts_in(&self.others), near, addr) {
             Some(word) => Fetched::Word(word),
@@ -177,7 +208,8 @@ impl<'b, A: Allocator> Memory<'b, A> {
     /// What stands at an address, byte by byte.
     #[inline(never)]
     fn fetch_by_bytes(&self, addr: u64) -> Fetched
-        ensures { result ≡ fetched self.now addr }
+        ensures what { result ≡ fetched self.now addr }
+        ensures low { BeginsWithHalf self.now addr result }
     {
         let first = match self.byte_at(addr) {
             Some(byte) => byte,
@@ -257,7 +289,7 @@ impl<'b, A: Allocator> Memory<'b, A> {
         ensures same { IfErr result (λ _. self.new ≡ self.old) }
     {
         let length = bytes.bytes().len();
-        let rank = if length == 0 { u64::MAX } else { base };
+        let rank = rank_of(base, length);
         match insert_part(alloc, &mut self.others, Part { rank, base, bytes }) {
             Ok(()) => {
                 self.lowest = self.lowest.min(base);

@@ -1,7 +1,9 @@
 //! A piece as a memory keeps it.
 
-ghost use Rattle.std.specs.Prelude.{◌≡◌};
+ghost use Rattle.std.specs.Prelude.{◌≡◌, ◌-◌, ◌^◌, nat_eq, if◌then◌else◌, option_map, slice_get};
+ghost use Rattle.memory.specs.Piece.{extent_of};
 ghost use Rattle.memory.specs.steps.Kept.{others_of};
+ghost use Rattle.memory.specs.steps.Parts.{pieces_of};
 
 use crate::held::Held;
 use std::alloc::Allocator;
@@ -25,5 +27,23 @@ pub(crate) fn parts_in<'m, 'b, A: Allocator>(list: &'m Option<Vec<Part<'b>, A>>)
     match list {
         Some(parts) => parts.as_slice(),
         None => &[],
+    }
+}
+
+/// The rank among the others of a piece with this base and so many bytes.
+#[inline]
+pub(crate) fn rank_of(base: u64, length: usize) -> u64
+    ensures { result ≡ (if nat_eq length 0 then 2 ^ 64 - 1 else base) }
+{
+    if length == 0 { u64::MAX } else { base }
+}
+
+/// The base and the number of bytes of a part.
+pub(crate) fn extent_in(parts: &[Part<'_>], index: usize) -> Option<(u64, usize)>
+    ensures { result ≡ option_map extent_of (slice_get (pieces_of parts.now) index) }
+{
+    match parts.get(index) {
+        Some(part) => Some((part.base, part.bytes.bytes().len())),
+        None => None,
     }
 }

@@ -1,6 +1,6 @@
 //! Bytes of one piece.
 
-ghost use Rattle.std.specs.Prelude.{◌≡◌, ◌+◌, ◌-◌, ◌^◌, ◌<◌, length};
+ghost use Rattle.std.specs.Prelude.{◌≡◌, ◌+◌, ◌-◌, ◌%◌, ◌^◌, ◌<◌, length, IfSome};
 ghost use Rattle.memory.specs.Piece.{piece_at, byte_in};
 ghost use Rattle.memory.specs.steps.Words.{half_from, word_from, word_in};
 
@@ -25,7 +25,8 @@ pub(crate) fn byte_of(base: u64, bytes: &[u8], addr: u64) -> Option<u8>
 pub(crate) fn word_of(base: u64, bytes: &[u8], windows: u64, addr: u64) -> Option<u32>
     requires below { base + length bytes.now < 2 ^ 64 }
     requires windows { windows ≡ length bytes.now - 3 }
-    ensures { result ≡ word_in (piece_at base bytes.now) addr }
+    ensures word { result ≡ word_in (piece_at base bytes.now) addr }
+    ensures low { IfSome result (λ word. word % 2 ^ 16 ≡ half_from bytes.now (addr - base)) }
 {
     let place = addr.wrapping_sub(base);
     if place < windows {
@@ -39,7 +40,8 @@ pub(crate) fn word_of(base: u64, bytes: &[u8], windows: u64, addr: u64) -> Optio
 #[inline(always)]
 fn word_from(bytes: &[u8], place: usize) -> u32
     requires { place + 3 < length bytes.now }
-    ensures { result ≡ word_from bytes.now place }
+    ensures value { result ≡ word_from bytes.now place }
+    ensures low { result % 2 ^ 16 ≡ half_from bytes.now place }
 {
     half_from(bytes, place) + (half_from(bytes, place + 2) << 16)
 }

@@ -102,3 +102,33 @@ fn the_lowest_base_may_be_of_a_piece_without_bytes(rt: HostRuntime) {
     assert!(rt; memory.fetch(0x800) == Fetched::Nothing);
     assert!(rt; memory.fetch(0x1000) == Fetched::Half(0x201));
 }
+
+/// The bases and numbers of bytes of the pieces, in the order in which they are numbered.
+const EXTENTS: [(u64, usize); 6] = [
+    (0x1000, 6),
+    (0x1006, 2),
+    (0x1008, 2),
+    (0x100a, 1),
+    (0x2000, 3),
+    (0x1002, 0),
+];
+
+#[test]
+fn pieces_are_numbered_by_rising_base(rt: HostRuntime) {
+    for first in 0..6usize {
+        let (base, bytes) = PIECES[first];
+        let mut memory = Memory::borrowed(base, bytes).expect(&rt, "a piece");
+        for (place, (base, bytes)) in PIECES.iter().enumerate() {
+            if place != first {
+                memory
+                    .add_borrowed(rt.alloc(), *base, bytes)
+                    .expect(&rt, "a piece");
+            }
+        }
+        assert!(rt; memory.piece_count() == 6);
+        for (number, extent) in EXTENTS.iter().enumerate() {
+            assert!(rt; memory.extent(number) == Some(*extent), "{first}, {number}");
+        }
+        assert!(rt; memory.extent(6).is_none());
+    }
+}

@@ -86,3 +86,22 @@ fn a_failed_allocation_changes_nothing(rt: HostRuntime) {
     assert!(rt; memory.add_borrowed(&heap, 0x1004, &[5, 6]).is_ok());
     assert!(rt; memory.fetch(0x1002) == Fetched::Word(0x605_0403));
 }
+
+/// The faults, and their texts.
+const TEXTS: [(PieceFault, &'static str); 7] = [
+    (PieceFault::OddBase, "base is odd"),
+    (PieceFault::TooLarge, "more than 16777216 bytes"),
+    (PieceFault::PastEnd, "runs past the last address"),
+    (PieceFault::Overlap, "overlaps"),
+    (PieceFault::TooMuch, "more than 67108864 bytes in all"),
+    (PieceFault::TooMany, "more than 1024 pieces"),
+    (PieceFault::Memory, "out of memory"),
+];
+
+#[test]
+fn faults_have_their_texts(rt: HostRuntime) {
+    for (fault, text) in &TEXTS {
+        let printed = format!(in rt.alloc(); "{fault}").expect(&rt, "memory");
+        assert!(rt; printed.as_str() == *text);
+    }
+}

@@ -1,2 +1,5 @@
 pub mod WordsLemmas
-pub mod InstructionLemmas
+pub mod FetchLemmas
+pub mod AddedLemmas
+pub mod ExtentLemmas
+pub mod BytesLemmas

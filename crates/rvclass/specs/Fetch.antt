@@ -1,28 +1,12 @@
 -- The instructions of an image, by the RISC-V Unprivileged ISA's "Base Instruction-Length Encoding".
-use Rattle.std.specs.Prelude.{ℕ, ◌+◌, ◌-◌, ◌*◌, ◌%◌, ◌^◌, nat_le, ◌==◌, ◌&&◌, not, if◌then◌else◌, Bool, length}
-use Rattle.std.specs.Prelude.{slice_index, Some, None}
+use Rattle.std.specs.Prelude.{ℕ, ◌%◌, ◌==◌, not, if◌then◌else◌, Bool, Some, None}
+use Rattle.memory.specs.Fetch.{half_at, has_bytes, word_at}
 use Rattle.rvclass.specs.Bits.{bits}
 use Rattle.rvclass.specs.Image.{Image}
 use Rattle.rvclass.specs.Word16.{class16}
 use Rattle.rvclass.specs.Word32.{class32}
 use Rattle.rvclass.specs.Words.{Words}
 use Rattle.rvclass.specs.declared.class.Class.TheVariants.{NotRetirable}
-
--- The image has this many bytes from an address on.
-abbrev pub has_bytes : Image → ℕ → ℕ → Bool
-has_bytes p addr count = nat_le p.base addr && nat_le (addr + count) (p.base + length p.bytes)
-
--- The byte at an address.
-abbrev pub byte_at : Image → ℕ → ℕ
-byte_at p addr = slice_index p.bytes (addr - p.base)
-
--- The 16 bits at an address, little endian.
-abbrev pub half_at : Image → ℕ → ℕ
-half_at p addr = byte_at p addr + 2 ^ 8 * byte_at p (addr + 1)
-
--- The 32 bits at an address, little endian.
-abbrev pub word_at : Image → ℕ → ℕ
-word_at p addr = half_at p addr + 2 ^ 16 * half_at p (addr + 2)
 
 -- The 16 bits are an instruction of their own.
 abbrev pub is_compressed : ℕ → Bool

@@ -16,7 +16,8 @@ pub record IsProgram (words : Words) : Type 0 where
   pub long : (addr : ℕ) (w : Word) → words addr ≡ Some w → 2 ≤ w.1
   pub below : (addr : ℕ) (w : Word) → words addr ≡ Some w → addr + w.1 < 2 ^ 64
 
--- Every instruction lies completely within this many bytes from the base on.
-pub record LiesIn (words : Words) (base count : ℕ) : Type 0 where
-  pub from : (addr : ℕ) (w : Word) → words addr ≡ Some w → base ≤ addr
-  pub until : (addr : ℕ) (w : Word) → words addr ≡ Some w → addr + w.1 ≤ base + count
+-- Every instruction has a place below this number, and a higher place than each instruction at a lower address.
+pub record LiesIn (words : Words) (place : ℕ → ℕ) (half : ℕ) : Type 0 where
+  pub below : (addr : ℕ) (w : Word) → words addr ≡ Some w → place addr < half
+  pub rising : (addr other : ℕ) (w v : Word) → words addr ≡ Some w → words other ≡ Some v → addr < other →
+      place addr < place other

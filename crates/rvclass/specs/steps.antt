@@ -1,1 +1,2 @@
-pub mod HeldBytes
+pub mod ByFetch
+pub mod PieceFaults

@@ -1,8 +1,10 @@
 //! Why bytes are no program.
 
-ghost use Rattle.std.specs.Prelude.{Some};
+ghost use Rattle.std.specs.Prelude.{◌≡◌, Some};
 ghost use Rattle.rvclass.specs.FaultText.{program_fault_text};
+ghost use Rattle.rvclass.specs.steps.PieceFaults.{program_fault};
 
+use memory::PieceFault;
 use std::error::Error;
 use std::fmt;
 
@@ -30,3 +32,14 @@ impl fmt::Display for ProgramFault {
 }
 
 impl Error for ProgramFault {}
+
+/// The fault of a program whose one piece has this fault. A piece on its own has no fault but these three.
+pub(crate) fn fault_of_piece(fault: PieceFault) -> ProgramFault
+    ensures { result ≡ program_fault fault }
+{
+    match fault {
+        PieceFault::OddBase => ProgramFault::OddBase,
+        PieceFault::TooLarge => ProgramFault::TooLarge,
+        _ => ProgramFault::PastEnd,
+    }
+}

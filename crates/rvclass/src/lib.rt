@@ -6,8 +6,9 @@
 mod bits;
 mod class;
 mod fault;
-mod held;
+mod fetching;
 mod instruction;
+mod laws;
 mod offset;
 mod program;
 mod word16;
@@ -16,4 +17,6 @@ mod word32;
 pub use class::{Class, Return};
 pub use fault::ProgramFault;
 pub use instruction::Instruction;
+pub use laws::{cut_pieces_have_the_instructions_of_one, the_bytes_decide_the_instructions};
+pub use memory::PieceFault;
 pub use program::{Program, ProgramOver};

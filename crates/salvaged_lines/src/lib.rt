@@ -8,5 +8,8 @@ mod laws;
 mod lines;
 mod words;
 
-pub use laws::taken_messages_have_their_effect;
+pub use laws::{
+    accepted_messages_are_taken, messages_of_logs_are_taken, taken_messages_have_their_effect,
+    undamaged_captures_are_listed_alike,
+};
 pub use lines::write_treated;

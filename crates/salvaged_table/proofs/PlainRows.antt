@@ -104,7 +104,7 @@ decode_is decode.AfterClose = refl
 decode_is decode.Memory = refl
 
 -- The field of a reason is the one that `csv` writes.
-reason_is : (why : Reason) → quoted_field (reason_text why) ≡ row.reason_field why
+pub reason_is : (why : Reason) → quoted_field (reason_text why) ≡ row.reason_field why
 reason_is (reason.Packet why) = packet_is why
 reason_is (reason.Decode why) = decode_is why
 reason_is (reason.Closing next) = closing_is next

@@ -12,4 +12,5 @@ mod table;
 
 pub use laws::rows_are_read_back;
 pub use offsets::{offset_at, offsets_of};
+pub use rows::ReasonField;
 pub use table::write_salvaged_table;

@@ -141,7 +141,7 @@ impl fmt::Display for BadRow {
 
 /// Why a message is bad, between quotes where the reason has a comma.
 #[derive(Clone, Copy)]
-struct ReasonField(Reason);
+pub struct ReasonField(pub Reason);
 
 impl fmt::Display for ReasonField {
     ghost output = { λ why. Some (reason_field why.0) };

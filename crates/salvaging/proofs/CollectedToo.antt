@@ -51,7 +51,7 @@ use Rattle.salvaging.proofs.TakenInTurn.{AreKnown, AreTakenFrom, known_all, take
 use Rattle.salvaging.proofs.WholeHarts.{leave_whole, uncut}
 
 -- The numbers of messages that are taken rise.
-taken_rise : (expects : Hart) (messages : List Message) → AreTakenFrom expects messages
+pub taken_rise : (expects : Hart) (messages : List Message) → AreTakenFrom expects messages
     → AreRising expects.expected (map number_of messages)
 taken_rise expects [] taken = tt
 taken_rise expects (message ∷ messages) (taken, later) =
@@ -108,7 +108,7 @@ own_mode_is mode (Used number at payload ∷ entries) (message ∷ messages) (nu
     ∙ sym (first_mode mode message messages taken.packet taken.read message.number (message.number - 0) (omega arith))
 
 -- No message is late where the places rise.
-none_late_before : (place base : ℕ) (entries : List Entry) (messages : List Message) (goods : List Bool)
+pub none_late_before : (place base : ℕ) (entries : List Entry) (messages : List Message) (goods : List Bool)
     → AreMessages base entries messages → place < base → is_late place entries goods ≡ false
 none_late_before place base [] messages goods are below = refl
 none_late_before place base (entry ∷ entries) messages [] are below = refl

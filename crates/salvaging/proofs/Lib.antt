@@ -65,3 +65,11 @@ pub mod NumberedEnds
 pub mod MarkedPlaces
 pub mod JoinedParts
 pub mod PartsTreated
+pub mod OwnTreated
+pub mod CountedRows
+pub mod TreatedCopies
+pub mod GoodsTreated
+pub mod MarksCounted
+pub mod CountedTotals
+pub mod CountedToo
+pub mod TakenWhole

@@ -34,7 +34,7 @@ pair_in entry share (first ∷ entries) (one ∷ shares) (inl same) = inl same.0
 pair_in entry share (first ∷ entries) (one ∷ shares) (inr pair) = inr (pair_in entry share entries shares pair)
 
 -- Rows have the numbers of their entries.
-rows_least : (from : ℕ) (entries : List Entry) (treatments : List Treatment) → Rise from entries → (row : Row)
+pub rows_least : (from : ℕ) (entries : List Entry) (treatments : List Treatment) → Rise from entries → (row : Row)
     → IsIn row (rows entries treatments) → from ≤ row.number
 rows_least from [] treatments rises row one = absurd one
 rows_least from (entry ∷ entries) [] rises row one = absurd one
@@ -67,7 +67,7 @@ row_says from (first ∷ entries) (done ∷ shares) rises row entry share (inr o
     row_says (entry_number first + 1) entries shares rises.1 row entry share one pair numbered
 
 -- A message among the first ones has a place before.
-before_it : (n : ℕ) (messages : List Message) (message : Message) → IsIn message (take n messages)
+pub before_it : (n : ℕ) (messages : List Message) (message : Message) → IsIn message (take n messages)
     → (k : ℕ) × (k < n) × (slice_get messages k ≡ Some message)
 before_it zero [] message one = absurd one
 before_it (suc n) [] message one = absurd one

@@ -78,7 +78,7 @@ fewer (message ∷ distinct) others (apart, differ) likes =
     let less = one_less like.0 others like.1 in
     omega (arith, rest, less)
 
-copies_once : (messages : List Message) (count other : ℕ) → AreCopies messages count → AreCopies messages other
+pub copies_once : (messages : List Message) (count other : ℕ) → AreCopies messages count → AreCopies messages other
     → count ≡ other
 copies_once messages count other copies too =
     let one = fewer copies.distinct too.distinct copies.are_distinct.differ (λ message there.

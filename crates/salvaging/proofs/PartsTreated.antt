@@ -32,7 +32,7 @@ use Rattle.salvaging.proofs.JoinedParts.{Agree, added_append, agree_front, event
 use Rattle.salvaging.proofs.JoinedParts.{marks_append, marks_gap, marks_of-append, marks_stretch}
 
 -- Nothing of a run is kept where the last packet leaves nothing.
-no_item : {X : Type 0} (xs : List X) (x : X) → ¬ (xs ++ x ∷ [] ≡ [])
+pub no_item : {X : Type 0} (xs : List X) (x : X) → ¬ (xs ++ x ∷ [] ≡ [])
 no_item [] x is = cc
 no_item (y ∷ xs) x is = cc
 
@@ -235,7 +235,7 @@ module _ (words : Words) (program : IsProgram words) (mode : Mode) where
       (beyond_agrees entries parts shares leaves.1 share.1)
 
   -- There is one for each entry.
-  used_rest : (run : Run) (payload : List ℕ) (following : Option ℕ) (share : Share) (Rest : Run → Type 0)
+  pub used_rest : (run : Run) (payload : List ℕ) (following : Option ℕ) (share : Share) (Rest : Run → Type 0)
       → UsedShares words mode run payload following share Rest → (behind : Run) × Rest behind
   used_rest run payload following (Spoils why) Rest (bad, rest) = (run_of 1 [], rest)
   used_rest run payload following (Adds events) Rest (q, good, given, rest) = (longer run (q ∷ []), rest)
@@ -243,7 +243,7 @@ module _ (words : Words) (program : IsProgram words) (mode : Mode) where
   used_rest run payload following StandsAlone Rest (q, good, given, rest) = absurd given
   used_rest run payload following Doubts Rest (q, good, given, rest) = absurd given
 
-  shares_many : (entries : List Entry) (run : Run) (next : ℕ) (shares : List Share)
+  pub shares_many : (entries : List Entry) (run : Run) (next : ℕ) (shares : List Share)
       → EntriesShare words mode run next entries shares → length shares ≡ length entries
   shares_many [] run next [] share = refl
   shares_many [] run next (one ∷ shares) share = absurd share

@@ -12,7 +12,7 @@ use Rattle.salvaging.specs.steps.Rows.{numbers_in}
 use Rattle.salvaging.proofs.GroupedMessages.{is_there, placed_at, stands}
 use Rattle.salvaging.proofs.Members.{IsIn, contains_of_in, in_of_contains}
 
-in_front : (messages : List Message) (place k : ℕ) (message : Message) → slice_get messages k ≡ Some message → k < place
+pub in_front : (messages : List Message) (place k : ℕ) (message : Message) → slice_get messages k ≡ Some message → k < place
     → IsIn message (take place messages)
 in_front [] place k message at below = cc
 in_front (first ∷ messages) zero k message at below = absurd (omega (arith, below))

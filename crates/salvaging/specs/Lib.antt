@@ -19,4 +19,5 @@ pub mod LossyParts
 pub mod Salvages
 pub mod AlikeParts
 pub mod TreatedParts
+pub mod TreatedCounts
 pub mod steps

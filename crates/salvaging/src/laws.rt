@@ -26,10 +26,12 @@ ghost use Rattle.salvaging.specs.LogsSalvaged.{AreLogsSalvaged};
 ghost use Rattle.salvaging.specs.LossyParts.{AreCollectedToo};
 ghost use Rattle.salvaging.specs.PartsIn.{parts_in};
 ghost use Rattle.salvaging.specs.Salvaged.{IsSalvaged, IsSalvagedHart};
+ghost use Rattle.salvaging.specs.TreatedCounts.{AreCountedToo};
 ghost use Rattle.salvaging.specs.TreatedParts.{AreTreatedParts};
-ghost use Rattle.salvaging.specs.Treatments.{HartTreats};
+ghost use Rattle.salvaging.specs.Treatments.{AreTreated, HartTreats};
 ghost use Rattle.salvaging.specs.declared.salvaged.SalvagedHart.{SalvagedHart as AnyHart};
 ghost use Rattle.salvaging.specs.declared.salvaged.Salvaged.{Salvaged as AnySalvaged};
+ghost use Rattle.salvaging.specs.declared.treatment.Treated.{Treated as AnyTreated};
 
 use std::alloc::Allocator;
 
@@ -86,4 +88,14 @@ pub fn parts_are_what_is_done<A: Allocator>()
     ensures { (words : Words) (mode : Mode) (messages : List Message) (hart : AnyHart A) → IsProgram words
         → IsSalvagedHart words mode messages hart → (treats : HartTreats words mode messages)
         → AreTreatedParts (parts_in hart.parts.items) treats }
+{}
+
+/// What is done with messages counts as what is salvaged of them does. Of each hart as many messages are copies, and as
+/// many are late, as are counted where it is salvaged. As many are bad as its parts have bad numbers, and as many are
+/// alone as its parts have numbers that stand alone. Of all harts as many messages are copies, and as many are late, as
+/// their counts come to, and as many are strangers.
+pub fn treatments_are_counted<A: Allocator>()
+    ensures { (words : Words) (mode : Mode) (harts : ℕ) (messages : List Message) (treated : List AnyTreated)
+        (salvaged : AnySalvaged A) → IsProgram words → AreTreated words mode harts messages treated
+        → IsSalvaged words mode harts messages salvaged → AreCountedToo messages treated salvaged }
 {}

@@ -39,7 +39,7 @@ mod used;
 pub use laws::{
     harts_are_salvaged_in_one_way, harts_end_at_their_lowest_number,
     harts_end_where_no_stretch_comes_after, logs_are_salvaged, parts_are_what_is_done,
-    what_is_collected_is_salvaged,
+    treatments_are_counted, what_is_collected_is_salvaged,
 };
 pub use part::Part;
 pub use reason::Reason;

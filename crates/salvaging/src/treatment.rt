@@ -37,6 +37,8 @@ pub enum Treatment {
 pub struct Treated {
     /// What is done with it.
     pub treatment: Treatment,
-    /// Whether it is late: an earlier message of its hart that is good has a greater number. A copy is not.
+    /// Whether it is late: it is used, and an earlier used message of its hart that is neither bad nor alone has a greater
+    /// number. A message is used if it is the first with its number and no other payload came with that number. So a
+    /// stranger, a copy or a message of a doubtful number is never late.
     pub late: bool,
 }

@@ -3,11 +3,14 @@
 use message::Version;
 use payload::Mode;
 
-/// `check --base B [--explain] [--long] [--progress] IMAGE LOG...`: whether the log of each hart is legal.
+/// `check --base B [--also B2=FILE]... [--explain] [--long] [--progress] IMAGE LOG...`: whether the log of each hart is
+/// legal.
 #[derive(Debug, Drop)]
 pub struct Check<'a> {
     /// The address of the image's first byte, not yet read as a number.
     pub base: &'a str,
+    /// The further pieces of the image, each as `B2=FILE`, not yet taken apart, in the order of the arguments.
+    pub also: Vec<&'a str>,
     /// Whether a line is wanted that explains an illegal row.
     pub explain: bool,
     /// Whether a log may have up to 4,294,967,295 rows. Where this is false, it may have up to 16,777,216.
@@ -20,12 +23,14 @@ pub struct Check<'a> {
     pub logs: Vec<&'a str>,
 }
 
-/// `encode --base B [--period N] [--full] [--v1] [--hex] [--first H] [--of N] [--long] [--progress] IMAGE LOG...`: the
-/// messages of the log of each hart.
+/// `encode --base B [--also B2=FILE]... [--period N] [--full] [--v1] [--hex] [--first H] [--of N] [--long] [--progress]
+/// IMAGE LOG...`: the messages of the log of each hart.
 #[derive(Debug, Drop)]
 pub struct Encode<'a> {
     /// The address of the image's first byte, not yet read as a number.
     pub base: &'a str,
+    /// The further pieces of the image, each as `B2=FILE`, not yet taken apart, in the order of the arguments.
+    pub also: Vec<&'a str>,
     /// How many retirements there are from one periodic synchronisation to the next, 1 to 65535.
     pub period: u16,
     /// Whether packets name addresses by differences or in full.
@@ -59,11 +64,14 @@ pub struct Dump<'a> {
     pub capture: &'a str,
 }
 
-/// `decode --base B [--harts N] [--lossy] [--progress] IMAGE CAPTURE`: the logs that the messages of a capture describe.
+/// `decode --base B [--also B2=FILE]... [--harts N] [--lossy] [--progress] IMAGE CAPTURE`: the logs that the messages
+/// of a capture describe.
 #[derive(Debug, Drop)]
 pub struct Decode<'a> {
     /// The address of the image's first byte, not yet read as a number.
     pub base: &'a str,
+    /// The further pieces of the image, each as `B2=FILE`, not yet taken apart, in the order of the arguments.
+    pub also: Vec<&'a str>,
     /// The count of harts of a capture with no header, 1 to 1024.
     pub harts: u16,
     /// Whether messages of the capture may be lost.
@@ -76,12 +84,14 @@ pub struct Decode<'a> {
     pub capture: &'a str,
 }
 
-/// `replay --base B [--period N] [--full] [--capacity N] [--progress] IMAGE SCHEDULE LOG...`: what is decoded of the
-/// log of each hart that is sent through the funnel.
+/// `replay --base B [--also B2=FILE]... [--period N] [--full] [--capacity N] [--progress] IMAGE SCHEDULE LOG...`: what
+/// is decoded of the log of each hart that is sent through the funnel.
 #[derive(Debug, Drop)]
 pub struct Replay<'a> {
     /// The address of the image's first byte, not yet read as a number.
     pub base: &'a str,
+    /// The further pieces of the image, each as `B2=FILE`, not yet taken apart, in the order of the arguments.
+    pub also: Vec<&'a str>,
     /// How many retirements there are from one periodic synchronisation to the next, 1 to 65535.
     pub period: u16,
     /// Whether packets name addresses by differences or in full.
@@ -98,12 +108,14 @@ pub struct Replay<'a> {
     pub logs: Vec<&'a str>,
 }
 
-/// `bench --base B [--period N] [--full] [--capacity N] [--progress] IMAGE LOG...`: what is decoded of the log of each
-/// hart that is sent through the funnel from a thread of its own.
+/// `bench --base B [--also B2=FILE]... [--period N] [--full] [--capacity N] [--progress] IMAGE LOG...`: what is decoded
+/// of the log of each hart that is sent through the funnel from a thread of its own.
 #[derive(Debug, Drop)]
 pub struct Bench<'a> {
     /// The address of the image's first byte, not yet read as a number.
     pub base: &'a str,
+    /// The further pieces of the image, each as `B2=FILE`, not yet taken apart, in the order of the arguments.
+    pub also: Vec<&'a str>,
     /// How many retirements there are from one periodic synchronisation to the next, 1 to 65535.
     pub period: u16,
     /// Whether packets name addresses by differences or in full.
@@ -149,12 +161,14 @@ pub struct Audit<'a> {
     pub received: &'a str,
 }
 
-/// `measure --base B [--period N] [--full] [--long] [--progress] IMAGE LOG...`: how many packets and bytes the log of
-/// each hart takes.
+/// `measure --base B [--also B2=FILE]... [--period N] [--full] [--long] [--progress] IMAGE LOG...`: how many packets
+/// and bytes the log of each hart takes.
 #[derive(Debug, Drop)]
 pub struct Measure<'a> {
     /// The address of the image's first byte, not yet read as a number.
     pub base: &'a str,
+    /// The further pieces of the image, each as `B2=FILE`, not yet taken apart, in the order of the arguments.
+    pub also: Vec<&'a str>,
     /// How many retirements there are from one periodic synchronisation to the next, 1 to 65535.
     pub period: u16,
     /// Whether packets name addresses by differences or in full.
@@ -169,18 +183,22 @@ pub struct Measure<'a> {
     pub logs: Vec<&'a str>,
 }
 
-/// `list --base B [--harts N] [--symbols FILE] [--salvage] [--progress] IMAGE CAPTURE`: what each message of a capture
-/// says and settles.
+/// `list --base B [--also B2=FILE]... [--harts N] [--symbols FILE] [--salvage] [--format FORMAT] [--progress] IMAGE
+/// CAPTURE`: what each message of a capture says and settles.
 #[derive(Debug, Drop)]
 pub struct Listing<'a> {
     /// The address of the image's first byte, not yet read as a number.
     pub base: &'a str,
+    /// The further pieces of the image, each as `B2=FILE`, not yet taken apart, in the order of the arguments.
+    pub also: Vec<&'a str>,
     /// The count of harts of a capture with no header, 1 to 1024, where it is given.
     pub harts: Option<u16>,
     /// The path of the program's symbols, where they are given.
     pub symbols: Option<&'a str>,
     /// Whether every message that is found is wanted, and what `salvage` does with it.
     pub salvage: bool,
+    /// Whether lines of text or a table are wanted.
+    pub format: Format,
     /// Whether a terminal is shown how far the capture is worked through.
     pub progress: bool,
     /// The path of the image.
@@ -189,12 +207,14 @@ pub struct Listing<'a> {
     pub capture: &'a str,
 }
 
-/// `salvage --base B [--harts N] [--summary] [--format FORMAT] [--progress] IMAGE CAPTURE`: what is left of the log of
-/// each hart after any damage to a capture.
+/// `salvage --base B [--also B2=FILE]... [--harts N] [--summary] [--format FORMAT] [--progress] IMAGE CAPTURE`: what is
+/// left of the log of each hart after any damage to a capture.
 #[derive(Debug, Drop)]
 pub struct Salvage<'a> {
     /// The address of the image's first byte, not yet read as a number.
     pub base: &'a str,
+    /// The further pieces of the image, each as `B2=FILE`, not yet taken apart, in the order of the arguments.
+    pub also: Vec<&'a str>,
     /// The count of harts of a capture with no valid header, 1 to 1024, where it is given.
     pub harts: Option<u16>,
     /// Whether the texts of the logs are left out.
@@ -225,12 +245,14 @@ pub struct Capture<'a> {
     pub lines: &'a str,
 }
 
-/// `compare --base B [--harts N] [--long] [--progress] IMAGE CAPTURE LOG...`: whether a capture describes just these
-/// logs.
+/// `compare --base B [--also B2=FILE]... [--harts N] [--long] [--progress] IMAGE CAPTURE LOG...`: whether a capture
+/// describes just these logs.
 #[derive(Debug, Drop)]
 pub struct Compare<'a> {
     /// The address of the image's first byte, not yet read as a number.
     pub base: &'a str,
+    /// The further pieces of the image, each as `B2=FILE`, not yet taken apart, in the order of the arguments.
+    pub also: Vec<&'a str>,
     /// The count of harts of a capture with no header, 1 to 1024.
     pub harts: u16,
     /// Whether a log may have up to 4,294,967,295 rows. Where this is false, it may have up to 16,777,216.

@@ -5,3 +5,4 @@ mod orders;
 mod random;
 mod rows;
 mod treated;
+mod undecoded;

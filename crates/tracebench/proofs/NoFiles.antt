@@ -26,7 +26,8 @@ use Rattle.commands.specs.declared.reason.CommandReason.TheVariants.{Capture, Li
 use Rattle.log_commands.specs.Encoding.{AreLogsOf, ArePartLogs, IsMostLogs, IsPart, WritesMessages}
 use Rattle.command_inputs.specs.Faults.{Path as FilePath}
 use Rattle.command_inputs.specs.Finding.{After, IsFoundFrom}
-use Rattle.command_inputs.specs.Found.{AreFew, IsAskedBase, IsAskedProgram, IsBase, IsFormat, IsProgramAt, IsRead, program_at}
+use Rattle.command_inputs.specs.Found.{AreFew, IsAskedBase, IsAskedProgram, IsBase, IsFormat, IsImageAt, IsProgramAt}
+use Rattle.command_inputs.specs.Found.{IsRead, IsWithPieces, program_at}
 use Rattle.command_inputs.specs.FoundLogs.{AreAskedLogsUpTo, AreLegalLogsUpTo}
 use Rattle.files.specs.Known.{Content, content_in}
 use Rattle.command_inputs.specs.Printed.{First, GoesOn, Printed as AnyPrinted}
@@ -60,10 +61,6 @@ no_image : {W : Type 0} (base : ℕ) (path : FilePath) (bytes : Result (List ℕ
 no_image base path (Ok bytes) read program made = read
 no_image base path (Err why) read program made = cc
 
--- No program is found.
-no_program : {W : Type 0} (base : ℕ) (path : FilePath) → NeverFound (IsProgramAt {W = W} none base path)
-no_program base path program found = no_image base path found.bytes found.read program found.made
-
 -- Nothing is found from what was, where that never leads to a value.
 not_from : {W A B : Type 0} (Finds : Result A (AnyFault W) → Type 0) (Next : A → Result B (AnyFault W) → Type 0)
     (first : Result A (AnyFault W))
@@ -76,28 +73,39 @@ not_after : {W A B : Type 0} (Finds : Result A (AnyFault W) → Type 0) (Next : 
     → ((a : A) → Finds (Ok a) → NeverFound (Next a)) → NeverFound (After Finds Next)
 not_after Finds Next never value found = not_from Finds Next found.0 never found.1 value found.2
 
+-- No program is found of the one piece at a path.
+no_piece : {W : Type 0} (base : ℕ) (path : FilePath) → NeverFound (IsImageAt {W = W} none base path)
+no_piece base path program found = no_image base path found.bytes found.read program found.made
+
+-- No program is found.
+no_program : {W : Type 0} (base : ℕ) (path : FilePath) (also : List FilePath)
+    → NeverFound (IsProgramAt {W = W} none base path also)
+no_program base path also =
+    not_after (IsImageAt none base path) (λ image. IsWithPieces none image also) (λ image is program added.
+    no_piece base path image is)
+
 -- No program is found that is asked for with logs.
-no_asked : {W : Type 0} (most : ℕ) (text : List ℕ) (image : FilePath) (paths : List FilePath)
-    → NeverFound (IsAskedProgram {W = W} none most text image paths)
-no_asked most text image paths =
-    not_after (IsBase text) (λ base. After (AreFew most paths) (λ _. IsProgramAt none base image)) (λ base is.
-    not_after (AreFew most paths) (λ _. IsProgramAt none base image) (λ few counted. no_program base image))
+no_asked : {W : Type 0} (most : ℕ) (text : List ℕ) (also : List FilePath) (image : FilePath) (paths : List FilePath)
+    → NeverFound (IsAskedProgram {W = W} none most text also image paths)
+no_asked most text also image paths =
+    not_after (IsBase text also) (λ base. After (AreFew most paths) (λ _. IsProgramAt none base image also)) (λ base is.
+    not_after (AreFew most paths) (λ _. IsProgramAt none base image also) (λ few counted. no_program base image also))
 
 -- No logs are found.
-no_logs : {W : Type 0} (rows most : ℕ) (text : List ℕ) (image : FilePath) (paths : List FilePath)
-    → NeverFound (AreAskedLogsUpTo {W = W} rows none most text image paths)
-no_logs rows most text image paths =
-    not_after (IsAskedProgram none most text image paths) (λ program. AreLegalLogsUpTo rows none program paths)
-    (λ program is logs legal. no_asked most text image paths program is)
+no_logs : {W : Type 0} (rows most : ℕ) (text : List ℕ) (also : List FilePath) (image : FilePath) (paths : List FilePath)
+    → NeverFound (AreAskedLogsUpTo {W = W} rows none most text also image paths)
+no_logs rows most text also image paths =
+    not_after (IsAskedProgram none most text also image paths) (λ program. AreLegalLogsUpTo rows none program paths)
+    (λ program is logs legal. no_asked most text also image paths program is)
 
 -- No logs of a part are found.
 no_part : (asked : AskedEncode) → NeverFound (ArePartLogs none asked)
 no_part asked =
     let after_base = λ (base : ℕ). After (IsMostLogs asked) (AreLogsOf none asked) in
-    not_after (IsPart asked) (λ part. After (IsBase asked.base.now) after_base) (λ part is.
-    not_after (IsBase asked.base.now) after_base (λ base based.
+    not_after (IsPart asked) (λ part. After (IsBase asked.base.now asked.also.items) after_base) (λ part is.
+    not_after (IsBase asked.base.now asked.also.items) after_base (λ base based.
     not_after (IsMostLogs asked) (AreLogsOf none asked) (λ most found.
-    no_logs (most_of asked.long) most asked.base.now asked.image asked.logs.items)))
+    no_logs (most_of asked.long) most asked.base.now asked.also.items asked.image asked.logs.items)))
 
 -- No run ends well whose input, once found, leads to no such end.
 not_going : {W A : Type 0} (Finds : Result A (AnyFault W) → Type 0) (next : A → AnyPrinted W → Type 0)
@@ -133,10 +141,11 @@ not_ended : (asked : Asked) (status : Status) (old new : Option (List ℕ)) → 
 not_ended (Check asked) status old new done =
     let own = done.prints.own in
     let ends = ends_so Log done.text status own done.prints.is in
-    not_first (IsAskedProgram none _ asked.base.now asked.image asked.logs.items)
+    not_first (IsAskedProgram none _ asked.base.now asked.also.items asked.image asked.logs.items)
     (λ program. WritesLines (most_of asked.long) none asked.explain program asked.logs.items)
     own status ends
-    (λ program is lines. no_asked _ asked.base.now asked.image asked.logs.items program is) done.prints.prints
+    (λ program is lines. no_asked _ asked.base.now asked.also.items asked.image asked.logs.items program is)
+    done.prints.prints
 not_ended (Encode asked) status old new done =
     let own = done.prints.own in
     let ends = ends_so Log done.text status own done.prints.is in
@@ -150,23 +159,28 @@ not_ended (Dump asked) status old new done =
 not_ended (Decode asked) status old new done =
     let own = done.prints.own in
     let ends = ends_so Capture done.text status own done.prints.is in
-    not_first (IsBase asked.base.now) (λ base. First (IsProgramAt none base asked.image) (λ program.
+    not_first (IsBase asked.base.now asked.also.items) (λ base. First
+    (IsProgramAt none base asked.image asked.also.items) (λ program.
     First (IsRead none asked.capture) (WritesLogs asked.lossy asked.harts program))) own status ends
-    (λ base is prints. not_first (IsProgramAt none base asked.image) (λ program.
+    (λ base is prints. not_first (IsProgramAt none base asked.image asked.also.items) (λ program.
     First (IsRead none asked.capture) (WritesLogs asked.lossy asked.harts program)) own status ends
-    (λ program made logs. no_program base asked.image program made) prints) done.prints.prints
+    (λ program made logs. no_program base asked.image asked.also.items program made) prints) done.prints.prints
 not_ended (Replay asked) status old new done =
     let own = done.prints.own in
     let ends = ends_so Log done.text status own done.prints.is in
-    not_first (AreAskedLogsUpTo most_rows none _ asked.base.now asked.image asked.logs.items) (ReplaysLogs none asked)
+    not_first (AreAskedLogsUpTo most_rows none _ asked.base.now asked.also.items asked.image asked.logs.items)
+    (ReplaysLogs none asked)
     own status ends
-    (λ logs are report. no_logs most_rows _ asked.base.now asked.image asked.logs.items logs are) done.prints.prints
+    (λ logs are report. no_logs most_rows _ asked.base.now asked.also.items asked.image asked.logs.items logs are)
+    done.prints.prints
 not_ended (Bench asked) status old new done =
     let own = done.prints.own in
     let ends = ends_so Log done.text status own done.prints.is in
-    not_first (AreAskedLogsUpTo most_rows none _ asked.base.now asked.image asked.logs.items) (BenchesLogs asked)
+    not_first (AreAskedLogsUpTo most_rows none _ asked.base.now asked.also.items asked.image asked.logs.items)
+    (BenchesLogs asked)
     own status ends
-    (λ logs are report. no_logs most_rows _ asked.base.now asked.image asked.logs.items logs are) done.prints.prints
+    (λ logs are report. no_logs most_rows _ asked.base.now asked.also.items asked.image asked.logs.items logs are)
+    done.prints.prints
 not_ended (Audit asked) status old new done =
     let own = done.prints.own in
     let ends = ends_so Path done.text status own done.prints.is in
@@ -178,28 +192,32 @@ not_ended (Audit asked) status old new done =
 not_ended (Measure asked) status old new done =
     let own = done.prints.own in
     let ends = ends_so Log done.text status own done.prints.is in
-    not_first (AreAskedLogsUpTo (most_of asked.long) none _ asked.base.now asked.image asked.logs.items)
+    not_first (AreAskedLogsUpTo (most_of asked.long) none _ asked.base.now asked.also.items asked.image
+    asked.logs.items)
     (WritesTable asked) own status ends
-    (λ logs are table. no_logs (most_of asked.long) _ asked.base.now asked.image asked.logs.items logs are)
+    (λ logs are table. no_logs (most_of asked.long) _ asked.base.now asked.also.items asked.image asked.logs.items logs
+    are)
     done.prints.prints
 not_ended (Listing asked) status old new done =
     let own = done.prints.own in
     let ends = ends_so Capture done.text status own done.prints.is in
-    not_first (IsBase asked.base.now) (λ base. First (IsProgramAt none base asked.image) (λ program.
+    not_first (IsAskedBase asked.format asked.base.now asked.also.items) (λ base. First
+    (IsProgramAt none base asked.image asked.also.items) (λ program.
     First (AreSymbols none asked.symbols) (λ symbols. First (IsRead none asked.capture)
-    (WritesListed asked.salvage asked.harts program symbols)))) own status ends
-    (λ base is prints. not_first (IsProgramAt none base asked.image) (λ program.
+    (WritesListed asked.format asked.salvage asked.harts program symbols)))) own status ends
+    (λ base is prints. not_first (IsProgramAt none base asked.image asked.also.items) (λ program.
     First (AreSymbols none asked.symbols) (λ symbols. First (IsRead none asked.capture)
-    (WritesListed asked.salvage asked.harts program symbols))) own status ends
-    (λ program made listing. no_program base asked.image program made) prints) done.prints.prints
+    (WritesListed asked.format asked.salvage asked.harts program symbols))) own status ends
+    (λ program made listing. no_program base asked.image asked.also.items program made) prints) done.prints.prints
 not_ended (Salvage asked) status old new done =
     let own = done.prints.own in
     let ends = ends_so Capture done.text status own done.prints.is in
-    not_first (IsAskedBase asked.format asked.base.now) (λ base. First (IsProgramAt none base asked.image) (λ program.
+    not_first (IsAskedBase asked.format asked.base.now asked.also.items)
+    (λ base. First (IsProgramAt none base asked.image asked.also.items) (λ program.
     First (IsRead none asked.capture) (WritesSalvaged asked.format asked.harts asked.summary program))) own status ends
-    (λ base is prints. not_first (IsProgramAt none base asked.image) (λ program.
+    (λ base is prints. not_first (IsProgramAt none base asked.image asked.also.items) (λ program.
     First (IsRead none asked.capture) (WritesSalvaged asked.format asked.harts asked.summary program)) own status ends
-    (λ program made left. no_program base asked.image program made) prints) done.prints.prints
+    (λ program made left. no_program base asked.image asked.also.items program made) prints) done.prints.prints
 not_ended (asked_for.Capture asked) status old new done =
     let own = done.prints.own in
     let ends = ends_so Line done.text status own done.prints.is in
@@ -210,11 +228,12 @@ not_ended (asked_for.Capture asked) status old new done =
 not_ended (asked_for.Compare asked) status old new done =
     let own = done.prints.own in
     let ends = ends_so Capture done.text status own done.prints.is in
-    not_first (IsBase asked.base.now) (λ base. First (IsProgramAt none base asked.image) (λ program.
+    not_first (IsBase asked.base.now asked.also.items) (λ base. First
+    (IsProgramAt none base asked.image asked.also.items) (λ program.
     First (IsRead none asked.capture) (ComparesCapture none asked program))) own status ends
-    (λ base is prints. not_first (IsProgramAt none base asked.image) (λ program.
+    (λ base is prints. not_first (IsProgramAt none base asked.image asked.also.items) (λ program.
     First (IsRead none asked.capture) (ComparesCapture none asked program)) own status ends
-    (λ program made lines. no_program base asked.image program made) prints) done.prints.prints
+    (λ program made lines. no_program base asked.image asked.also.items program made) prints) done.prints.prints
 
 -- No reason ends with status 0.
 reason_faulty : (why : CommandReason) → code_of (command_reason_status why) ≢ 0
@@ -243,6 +262,7 @@ faulty fault.NoLogs = λ is. omega arith
 faulty (fault.ManyLogs most) = λ is. omega arith
 faulty (fault.Unreadable path) = λ is. omega arith
 faulty (fault.Image why) = λ is. omega arith
+faulty (fault.Piece path why) = λ is. omega arith
 faulty (fault.Log path why) = λ is. omega arith
 faulty (fault.Illegal path why) = λ is. omega arith
 faulty fault.Output = λ is. omega arith

@@ -15,6 +15,7 @@ use Rattle.tracebench_c.specs.Encoded.{last_end, text_between}
 use Rattle.tracebench_c.specs.Events.{numbers_of_event}
 use Rattle.tracebench_c.specs.FedAll.{AreFed, EndsFeeds, IsNotTaken, NoPacket, NoPayload, NoRoom, Refused}
 use Rattle.tracebench_c.specs.FedAll.{Stops, TakesAll, TakesIfAny}
+use Rattle.tracebench_c.specs.Images.{Judged}
 use Rattle.tracebench_c.specs.Statuses.{decode_status, pack_status}
 use Rattle.tracebench_c.specs.declared.decoder_state.DecoderNumbers.{DecoderNumbers}
 use Rattle.tracebench_c.specs.declared.events.EventNumbers.{EventNumbers}
@@ -41,27 +42,27 @@ decode_not_done decode.AfterClose = λ is. cc
 decode_not_done decode.Memory = λ is. cc
 
 -- A payload that is not taken has another status.
-pub not_done : (base : ℕ) (image : List ℕ) (payload : Option (List ℕ)) (numbers : DecoderNumbers) (room status : ℕ)
-    → IsNotTaken base image payload numbers room status → ¬ (status ≡ DONE)
-not_done base image payload numbers room status (NoPayload none said) = λ is. let no = sym said ∙ is in cc
-not_done base image payload numbers room status (NoPacket bytes some why read said) =
+pub not_done : (image : Judged) (payload : Option (List ℕ)) (numbers : DecoderNumbers) (room status : ℕ)
+    → IsNotTaken image payload numbers room status → ¬ (status ≡ DONE)
+not_done image payload numbers room status (NoPayload none said) = λ is. let no = sym said ∙ is in cc
+not_done image payload numbers room status (NoPacket bytes some why read said) =
     λ is. pack_not_done why (sym said ∙ is)
-not_done base image payload numbers room status (Refused bytes some why refuses said) =
+not_done image payload numbers room status (Refused bytes some why refuses said) =
     λ is. decode_not_done why (sym said ∙ is)
-not_done base image payload numbers room status (NoRoom bytes some next events takes small said) =
+not_done image payload numbers room status (NoRoom bytes some next events takes small said) =
     λ is. let no = sym said ∙ is in cc
 
-module _ (base : ℕ) (image bytes : List ℕ) where
+module _ (image : Judged) (bytes : List ℕ) where
   -- One payload more is taken.
   takes_more : (from : ℕ) (front : List ℕ) (end : ℕ) (before middle after : DecoderNumbers) (events more : List Event)
-      → TakesAll base image bytes from front before middle events
-      → TakesIfAny base image (text_between bytes (last_end from front) end) middle after more
-      → TakesAll base image bytes from (front ++ end ∷ []) before after (events ++ more)
+      → TakesAll image bytes from front before middle events
+      → TakesIfAny image (text_between bytes (last_end from front) end) middle after more
+      → TakesAll image bytes from (front ++ end ∷ []) before after (events ++ more)
   takes_more from [] end before middle after events more taken one = (
     after,
     more,
     [],
-    subst (λ n. TakesIfAny base image (text_between bytes from end) n after more) taken.0 one,
+    subst (λ n. TakesIfAny image (text_between bytes from end) n after more) taken.0 one,
     (refl, refl),
     ap (λ es. es ++ more) taken.1 ∙ sym (append-nil more),
   )
@@ -82,7 +83,7 @@ module _ (base : ℕ) (image bytes : List ℕ) where
   -- The first payloads were taken, up to this place in the bytes, and the decoder has this state and its numbers.
   pub record AreFedTo (ends : List ℕ) (before numbers : DecoderNumbers) (kept : DecoderState)
       (place from count : ℕ) (old now : List EventNumbers) : Type 0 where
-    pub fed : AreFed base image bytes ends before numbers place count old now
+    pub fed : AreFed image bytes ends before numbers place count old now
     pub at : from ≡ last_end 0 (take place ends)
     pub are : IsOfState numbers kept
 
@@ -109,7 +110,7 @@ module _ (base : ℕ) (image bytes : List ℕ) where
       abbrev end : ℕ
       end = slice_index_or ends place 0
 
-      fed : AreFed base image bytes ends before numbers place count old now
+      fed : AreFed image bytes ends before numbers place count old now
       fed = so_far.fed
 
       rest : length part ≡ length old - count
@@ -120,7 +121,7 @@ module _ (base : ℕ) (image bytes : List ℕ) where
 
       -- One payload more was taken.
       pub fed_more : status ≡ DONE
-          → IsNextFed base image payload status numbers after kept next more part tail
+          → IsNextFed image payload status numbers after kept next more part tail
           → AreFedTo ends before after next (place + 1) (slice_index_or ends place 0) (count + more) old whole
       fed_more done (Taken events takes are counted fit written said) =
           let fits = fed.fit in
@@ -129,10 +130,10 @@ module _ (base : ℕ) (image bytes : List ℕ) where
           record {
             fed = record {
               events = fed.events ++ events;
-              taken_all = subst (λ front. TakesAll base image bytes 0 front before after (fed.events ++ events))
+              taken_all = subst (λ front. TakesAll image bytes 0 front before after (fed.events ++ events))
                   (sym one) (takes_more 0 (take place ends) end before numbers after fed.events events fed.taken_all
-                  (subst (λ n. TakesIfAny base image (text_between bytes n end) numbers after events) so_far.at
-                  (subst (λ p. TakesIfAny base image p numbers after events) is takes)));
+                  (subst (λ n. TakesIfAny image (text_between bytes n end) numbers after events) so_far.at
+                  (subst (λ p. TakesIfAny image p numbers after events) is takes)));
               counted = ap (λ n. n + more) fed.counted
                   ∙ ap (λ n. length fed.events + n) counted
                   ∙ sym (length-append fed.events events);
@@ -149,38 +150,38 @@ module _ (base : ℕ) (image bytes : List ℕ) where
             are = are;
           }
       fed_more done (NotTaken not same kept_same stays) =
-          absurd (not_done base image payload numbers (length part) status not done)
+          absurd (not_done image payload numbers (length part) status not done)
 
       -- The next one was not.
       pub stopped : ¬ (status ≡ DONE)
-          → IsNextFed base image payload status numbers after kept next more part tail
-          → AreFed base image bytes ends before after place count old whole
-          × EndsFeeds base image bytes ends place after (length old - count) status
+          → IsNextFed image payload status numbers after kept next more part tail
+          → AreFed image bytes ends before after place count old whole
+          × EndsFeeds image bytes ends place after (length old - count) status
       stopped other (Taken events takes are counted fit written said) = absurd (other said)
       stopped other (NotTaken not same kept_same stays) =
           let unchanged : whole ≡ now =
           back ∙ ap (λ ns. take count now ++ ns) (stays ∙ lent) ∙ take-append-drop count now in (
-            subst (λ ns. AreFed base image bytes ends before after place count old ns) (sym unchanged)
-                (subst (λ n. AreFed base image bytes ends before n place count old now) (sym same) fed),
+            subst (λ ns. AreFed image bytes ends before after place count old ns) (sym unchanged)
+                (subst (λ n. AreFed image bytes ends before n place count old now) (sym same) fed),
             Stops payload (record {
               end = end;
               at = slice_get-get_or ends place 0 within;
               is = is ∙ ap (λ n. text_between bytes n end) so_far.at;
-            }) (subst (λ n. IsNotTaken base image payload n (length old - count) status) (sym same)
-                (subst (λ r. IsNotTaken base image payload numbers r status) rest not)),
+            }) (subst (λ n. IsNotTaken image payload n (length old - count) status) (sym same)
+                (subst (λ r. IsNotTaken image payload numbers r status) rest not)),
           )
 
     -- All were taken.
     pub fed_all : (numbers : DecoderNumbers) (kept : DecoderState) (place from count : ℕ) (now : List EventNumbers)
         → length ends ≤ place → AreFedTo ends before numbers kept place from count old now
-        → AreFed base image bytes ends before numbers (length ends) count old now
+        → AreFed image bytes ends before numbers (length ends) count old now
     fed_all numbers kept place from count now past so_far =
         let fed = so_far.fed in
         let whole = take_all place ends past in
         let every = take_all (length ends) ends (omega arith) in
         record {
           events = fed.events;
-          taken_all = subst (λ front. TakesAll base image bytes 0 front before numbers fed.events)
+          taken_all = subst (λ front. TakesAll image bytes 0 front before numbers fed.events)
               (whole ∙ sym every) fed.taken_all;
           counted = fed.counted;
           fit = fed.fit;

@@ -11,8 +11,8 @@ use Rattle.retire.specs.LogText.{log_text}
 use Rattle.retire.specs.declared.event.Event.{Event}
 use Rattle.rvclass.specs.Fetch.{words_of}
 use Rattle.rvclass.specs.Image.{Image}
-use Rattle.rvclass.specs.Program.{program_of}
 use Rattle.tracebench_c.specs.Decoded.{HasHart, closed_at, decode_end, stop_fault, stop_place}
+use Rattle.tracebench_c.specs.Images.{Judged}
 use Rattle.tracebench_c.specs.declared.decoding.DecodeEnd.{DecodeEnd}
 
 -- The list of a hart is among the lists of events.
@@ -27,17 +27,17 @@ list_found lists slice hart place events same is within found =
     (slice_get-get_or slice place events within ∙ ap Some (sym found))))
 
 -- What is reported of it is what was found.
-pub hart_found : (base : ℕ) (image : List ℕ) (harts : ℕ) (capture : List ℕ) (hart : ℕ) (program : Image)
-    → program_of base image ≡ Ok program → (lists : List (Vec Event Global)) (closed : List Bool)
+pub hart_found : (image : Judged) (harts : ℕ) (capture : List ℕ) (hart : ℕ) (program : Image)
+    → image ≡ Ok program → (lists : List (Vec Event Global)) (closed : List Bool)
     (stop : Option (ℕ × CaptureFault)) → IsDecoded (words_of program) harts capture (events_in lists) closed stop
     → (slice : List (Vec Event Global)) (place : ℕ) (events : Vec Event Global) → slice ≡ lists → place ≡ hart
     → place < length slice → events ≡ slice_index_or slice place events
     → (text : List ℕ) → text ≡ log_text events.items
     → (many place_reported why_reported flag_reported : ℕ) → many ≡ length lists → place_reported ≡ stop_place stop
     → why_reported ≡ stop_fault stop → flag_reported ≡ closed_at closed hart
-    → HasHart base image harts capture hart text
+    → HasHart image harts capture hart text
     (record { harts = many; place = place_reported; fault = why_reported; closed = flag_reported })
-hart_found base image harts capture hart program made lists closed stop decoded slice place events same is within found
+hart_found image harts capture hart program made lists closed stop decoded slice place events same is within found
     text written many place_reported why_reported flag_reported count stops why flagged = record {
       lists = events_in lists;
       closed = closed;

@@ -10,7 +10,10 @@ mod HeaderMade
 mod Hearing
 mod MapSteps
 mod PacketsBack
+mod MadeOfCopies
 mod PassingBack
+mod PiecesAdded
+mod PiecesPushed
 mod PushedInTurn
 mod PushesReported
 mod StatesBack

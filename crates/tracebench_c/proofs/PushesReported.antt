@@ -17,7 +17,6 @@ use Rattle.payload.specs.declared.mode.Mode.{Mode}
 use Rattle.retire.specs.declared.event.Event.{Event}
 use Rattle.rvclass.specs.Fetch.{words_of}
 use Rattle.rvclass.specs.Image.{Image}
-use Rattle.rvclass.specs.Program.{program_of}
 use Rattle.rvclass.specs.Words.{Words}
 use Rattle.tracebench_c.proofs.EventsBack.{event_back}
 use Rattle.tracebench_c.proofs.StepsTaken.{one_program, state_stands}
@@ -25,6 +24,7 @@ use Rattle.tracebench_c.proofs.WrittenInTurn.{behind_front}
 use Rattle.tracebench_c.specs.EncoderKept.{AreOfEncoder, IsOfState, NumbersStand}
 use Rattle.tracebench_c.specs.Events.{numbers_of_event}
 use Rattle.tracebench_c.specs.EventsChecked.{AreOfEvents}
+use Rattle.tracebench_c.specs.Images.{Judged}
 use Rattle.tracebench_c.specs.Numbers.{numbers_of}
 use Rattle.tracebench_c.specs.PushedAll.{AllTaken, AreNext, AreWritten, EndsPushAll, FillRoom, HaveNoRoom}
 use Rattle.tracebench_c.specs.PushedAll.{NoEvent, NoRoom}
@@ -73,17 +73,17 @@ no_elements : {X : Type 0} → (xs : List X) → length xs ≡ 0 → xs ≡ []
 no_elements [] is = refl
 no_elements (x ∷ xs) is = absurd (omega (arith, is))
 
-module _ (base : ℕ) (image : List ℕ) (program : Image) (period : ℕ) (mode : Mode) (log nexts : List Event)
+module _ (image : Judged) (program : Image) (period : ℕ) (mode : Mode) (log nexts : List Event)
     (state : EncoderNumbers) where
   -- No event is next: the numbers stand for what they stood for.
-  no_nexts : AreNext base image program period mode log nexts state [] → log ++ nexts ≡ log
+  no_nexts : AreNext image program period mode log nexts state [] → log ++ nexts ≡ log
   no_nexts next = ap (λ es. log ++ es) (same_events [] nexts [] next.are refl) ∙ append-nil log
 
-  pub stands_none : AreNext base image program period mode log nexts state []
+  pub stands_none : AreNext image program period mode log nexts state []
       → NumbersStand (words_of program) period mode (log ++ nexts) state
   stands_none next = subst (λ l. NumbersStand (words_of program) period mode l state) (sym (no_nexts next)) next.stand
 
-  pub written_none : (old : List PacketNumbers) → AreNext base image program period mode log nexts state []
+  pub written_none : (old : List PacketNumbers) → AreNext image program period mode log nexts state []
       → AreWritten (packets_so_far (words_of program) period mode log)
       (packets_so_far (words_of program) period mode (log ++ nexts)) 0 old old
   written_none old next = record {
@@ -95,7 +95,7 @@ module _ (base : ℕ) (image : List ℕ) (program : Image) (period : ℕ) (mode 
     written = refl;
   }
 
-module _ (base : ℕ) (image : List ℕ) (made : Image) (makes : program_of base image ≡ Ok made) (state : EncoderNumbers)
+module _ (image : Judged) (made : Image) (makes : image ≡ Ok made) (state : EncoderNumbers)
     (read : EncoderState) (only : (other : EncoderState) → IsOfState state other → Some read ≡ Some other)
     (first : Encoder)
     (begins : (words : Words) (period : ℕ) (mode : Mode) (log : List Event) → StateStands words period mode log read
@@ -104,11 +104,11 @@ module _ (base : ℕ) (image : List ℕ) (made : Image) (makes : program_of base
     (pushed : ArePushed (words_of made) first numbers taken encoder count old new) where
   module _ (program : Image) (period : ℕ) (mode : Mode) (log nexts : List Event) where
     -- The encoder goes on over the events that are next.
-    stands_on : NumbersStand (words_of program) period mode log state → program_of base image ≡ Ok program
+    stands_on : NumbersStand (words_of program) period mode log state → image ≡ Ok program
         → AreOfEvents (take taken numbers) nexts → Legal (words_of program) (log ++ nexts)
         → StandsOn (words_of program) period mode log nexts encoder pushed.packets
     stands_on stand is are legal =
-        let same = one_program made program (program_of base image) makes is in
+        let same = one_program made program image makes is in
         let events = same_events (take taken numbers) pushed.events nexts pushed.read are in
         subst (λ p. StandsOn (words_of p) period mode log nexts encoder pushed.packets) same
         (subst (λ es. StandsOn (words_of made) period mode log es encoder pushed.packets) events
@@ -119,11 +119,11 @@ module _ (base : ℕ) (image : List ℕ) (made : Image) (makes : program_of base
         (subst (λ es. Legal (words_of made) (log ++ es)) (sym events)
         (subst (λ p. Legal (words_of p) (log ++ nexts)) (sym same) legal))))
 
-    pub reaches : AreNext base image program period mode log nexts state (take taken numbers)
+    pub reaches : AreNext image program period mode log nexts state (take taken numbers)
         → EncoderStands (words_of program) period mode (log ++ nexts) encoder
     reaches next = (stands_on next.stand next.made next.are next.legal).stands
 
-    pub written_all : AreNext base image program period mode log nexts state (take taken numbers)
+    pub written_all : AreNext image program period mode log nexts state (take taken numbers)
         → AreWritten (packets_so_far (words_of program) period mode log)
         (packets_so_far (words_of program) period mode (log ++ nexts)) count old new
     written_all next =
@@ -139,7 +139,7 @@ module _ (base : ℕ) (image : List ℕ) (made : Image) (makes : program_of base
     -- The packets of the event after those have no room.
     pub room_is_full : (next : Event) (status : ℕ) → EndsPushes (words_of made) numbers taken encoder count old status
         → status ≡ TOO_SMALL
-        → AreNext base image program period mode log (nexts ++ next ∷ []) state (take (taken + 1) numbers)
+        → AreNext image program period mode log (nexts ++ next ∷ []) state (take (taken + 1) numbers)
         → HaveNoRoom (packets_so_far (words_of program) period mode (log ++ nexts))
         (packets_so_far (words_of program) period mode (log ++ nexts ++ next ∷ [])) count old
     room_is_full next status (steps.AllPushed all done) small are = let no = sym done ∙ small in cc
@@ -154,7 +154,7 @@ module _ (base : ℕ) (image : List ℕ) (made : Image) (makes : program_of base
         ∙ sym (map-append numbers_of_event pushed.events (one ∷ [])) in
         let both = same_snoc pushed.events nexts one next
         (same_events (take (taken + 1) numbers) (pushed.events ++ one ∷ []) (nexts ++ next ∷ []) more are.are) in
-        let same = one_program made program (program_of base image) makes are.made in
+        let same = one_program made program image makes are.made in
         let legal = subst (Legal (words_of program)) (sym (append_assoc log nexts (next ∷ []))) are.legal in
         let front = (follow_on_split (words_of program) _ (log ++ nexts) (next ∷ []) legal).0 in
         let read = subst (AreOfEvents (take taken numbers)) both.0 pushed.read in
@@ -166,7 +166,7 @@ module _ (base : ℕ) (image : List ℕ) (made : Image) (makes : program_of base
   -- How the pushes end.
   pub ends_all : AreOfEncoder state → (status : ℕ)
       → EndsPushes (words_of made) numbers taken encoder count old status
-      → EndsPushAll base image state numbers taken status
+      → EndsPushAll image state numbers taken status
   ends_all are status (steps.AllPushed all done) =
       AllTaken are made makes pushed.events
       (sym (take_all taken numbers (omega (arith, all))) ∙ pushed.read) all done

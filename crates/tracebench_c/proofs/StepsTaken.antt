@@ -1,5 +1,5 @@
 -- A step of an encoder is one of the log that the numbers of its state stand for.
-use Rattle.std.proofs.Common.{◌≡◌, ℕ, List, ◌∷◌, [], ◌++◌, Ok, Err, Option, Some, None, Result, sym, subst, ◌∙◌}
+use Rattle.std.proofs.Common.{◌≡◌, ℕ, List, ◌∷◌, [], ◌++◌, Ok, Err, Option, Some, None, sym, subst, ◌∙◌}
 use Rattle.std.proofs.lemmas.Option.{same_Some}
 use Rattle.std.specs.List.{last_or}
 use Rattle.encoder.specs.StateStands.{StateStands}
@@ -12,12 +12,11 @@ use Rattle.payload.specs.declared.mode.Mode.{Mode}
 use Rattle.retire.specs.declared.event.Event.{Event}
 use Rattle.rvclass.specs.Fetch.{words_of}
 use Rattle.rvclass.specs.Image.{Image}
-use Rattle.rvclass.specs.Program.{program_of}
 use Rattle.rvclass.specs.Words.{Words}
-use Rattle.rvclass.specs.declared.fault.ProgramFault.{ProgramFault}
 use Rattle.tracebench_c.specs.EncoderKept.{IsOfState, NumbersStand}
 use Rattle.tracebench_c.specs.Events.{numbers_of_event}
 use Rattle.tracebench_c.specs.Followed.{IsFollowed, IsRightBefore, step_status}
+use Rattle.tracebench_c.specs.Images.{Judged}
 use Rattle.tracebench_c.specs.Pushed.{IsNext, IsOn}
 use Rattle.tracebench_c.specs.PushedChecked.{IsIllegal, JudgesNext, MayBeNext}
 use Rattle.tracebench_c.specs.declared.encoder_state.EncoderNumbers.{EncoderNumbers}
@@ -26,7 +25,7 @@ use Rattle.tracebench_c.specs.declared.following.StepFault.{StepFault}
 use Rattle.tracebench_c.specs.declared.following.StepFault.TheVariants as step
 
 -- An image makes one program.
-pub one_program : (made program : Image) (answer : Result Image ProgramFault) → answer ≡ Ok made → answer ≡ Ok program
+pub one_program : (made program : Image) (answer : Judged) → answer ≡ Ok made → answer ≡ Ok program
     → made ≡ program
 one_program made program answer is found =
     let same : Ok made ≡ Ok program = sym is ∙ found in
@@ -48,15 +47,15 @@ pub record IsRead (program made : Image) (period : ℕ) (mode : Mode) (log : Lis
   pub stands : StateStands (words_of made) period mode log read
   pub legal : Legal (words_of made) (log ++ taken ∷ [])
 
-pub is_read : (base : ℕ) (image : List ℕ) (program made : Image) (period : ℕ) (mode : Mode) (log : List Event)
+pub is_read : (image : Judged) (program made : Image) (period : ℕ) (mode : Mode) (log : List Event)
     (next taken : Event) (read : EncoderState) (numbers : EncoderNumbers) (event : EventNumbers)
-    → program_of base image ≡ Ok made
+    → image ≡ Ok made
     → ((state : EncoderState) → IsOfState numbers state → Some read ≡ Some state)
     → ((e : Event) → event ≡ numbers_of_event e → Some taken ≡ Some e)
-    → IsNext base image program period mode log next numbers event
+    → IsNext image program period mode log next numbers event
     → IsRead program made period mode log next taken read
-is_read base image program made period mode log next taken read numbers event makes only_state only_event is =
-    let same = one_program made program (program_of base image) makes is.made in
+is_read image program made period mode log next taken read numbers event makes only_state only_event is =
+    let same = one_program made program image makes is.made in
     let taken_is = same_Some taken next (only_event next is.is) in
     record {
       program_is = same;
@@ -74,14 +73,14 @@ pub record IsReadAtEnd (program made : Image) (period : ℕ) (mode : Mode) (log 
   pub stands : StateStands (words_of made) period mode log read
   pub legal : Legal (words_of made) log
 
-pub is_read_at_end : (base : ℕ) (image : List ℕ) (program made : Image) (period : ℕ) (mode : Mode) (log : List Event)
+pub is_read_at_end : (image : Judged) (program made : Image) (period : ℕ) (mode : Mode) (log : List Event)
     (read : EncoderState) (numbers : EncoderNumbers)
-    → program_of base image ≡ Ok made
+    → image ≡ Ok made
     → ((state : EncoderState) → IsOfState numbers state → Some read ≡ Some state)
-    → IsOn base image program period mode log numbers
+    → IsOn image program period mode log numbers
     → IsReadAtEnd program made period mode log read
-is_read_at_end base image program made period mode log read numbers makes only_state is =
-    let same = one_program made program (program_of base image) makes is.made in
+is_read_at_end image program made period mode log read numbers makes only_state is =
+    let same = one_program made program image makes is.made in
     record {
       program_is = same;
       stands = subst (λ p. StateStands (words_of p) period mode log read) (sym same)
@@ -97,15 +96,15 @@ pub record IsReadNext (program made : Image) (period : ℕ) (mode : Mode) (log :
   pub stands : StateStands (words_of made) period mode log read
   pub legal : Legal (words_of made) log
 
-pub is_read_next : (base : ℕ) (image : List ℕ) (program made : Image) (period : ℕ) (mode : Mode) (log : List Event)
+pub is_read_next : (image : Judged) (program made : Image) (period : ℕ) (mode : Mode) (log : List Event)
     (next taken : Event) (read : EncoderState) (numbers : EncoderNumbers) (event : EventNumbers)
-    → program_of base image ≡ Ok made
+    → image ≡ Ok made
     → ((state : EncoderState) → IsOfState numbers state → Some read ≡ Some state)
     → ((e : Event) → event ≡ numbers_of_event e → Some taken ≡ Some e)
-    → MayBeNext base image program period mode log next numbers event
+    → MayBeNext image program period mode log next numbers event
     → IsReadNext program made period mode log next taken read
-is_read_next base image program made period mode log next taken read numbers event makes only_state only_event is =
-    let known = is_read_at_end base image program made period mode log read numbers makes only_state is.on in
+is_read_next image program made period mode log next taken read numbers event makes only_state only_event is =
+    let known = is_read_at_end image program made period mode log read numbers makes only_state is.on in
     record {
       program_is = known.program_is;
       event_is = same_Some taken next (only_event next is.is);

@@ -6,14 +6,14 @@ use Rattle.retire.specs.LogText.{log_text}
 use Rattle.retire.specs.declared.event.Event.{Event}
 use Rattle.rvclass.specs.Fetch.{words_of}
 use Rattle.rvclass.specs.Image.{Image}
-use Rattle.rvclass.specs.Program.{program_of}
 use Rattle.tracebench_c.specs.Handed.{IsHandedOut}
+use Rattle.tracebench_c.specs.Images.{Judged}
 use Rattle.tracebench_c.specs.Numbers.{flag}
 use Rattle.tracebench_c.specs.Statuses.{capture_status, fault_status}
 use Rattle.tracebench_c.specs.declared.decoding.DecodeEnd.{DecodeEnd}
 use Rattle.tracebench_c.specs.declared.decoding.HartText.{HartText}
 use Rattle.tracebench_c.specs.declared.fault.Fault.{Fault}
-use Rattle.tracebench_c.specs.declared.fault.Fault.TheVariants.{Memory, Program, Log, Illegal, NoHart, Range, Ends}
+use Rattle.tracebench_c.specs.declared.fault.Fault.TheVariants.{Memory, NoProgram, Log, Illegal, NoHart, Range, Ends}
 use Rattle.tracebench_c.specs.declared.status.TheConstants.{DONE}
 
 -- Where decoding stops; 0 where it comes to the end.
@@ -45,52 +45,52 @@ decode_end lists closed stop hart = record {
 }
 
 -- The capture decodes to these lists and flags by the program of an image.
-pub record Decodes (base : ℕ) (image : List ℕ) (harts : ℕ) (capture : List ℕ) (lists : List (List Event))
+pub record Decodes (image : Judged) (harts : ℕ) (capture : List ℕ) (lists : List (List Event))
     (closed : List Bool) (stop : Option (ℕ × CaptureFault)) : Type 0 where
   pub program : Image
-  pub made : program_of base image ≡ Ok program
+  pub made : image ≡ Ok program
   pub decoded : IsDecoded (words_of program) harts capture lists closed stop
 
 -- This is the log of the hart, as text, and how decoding ends.
-pub record HasHart (base : ℕ) (image : List ℕ) (harts : ℕ) (capture : List ℕ) (hart : ℕ) (text : List ℕ)
+pub record HasHart (image : Judged) (harts : ℕ) (capture : List ℕ) (hart : ℕ) (text : List ℕ)
     (end : DecodeEnd) : Type 0 where
   pub lists : List (List Event)
   pub closed : List Bool
   pub stop : Option (ℕ × CaptureFault)
   pub events : List Event
-  pub decodes : Decodes base image harts capture lists closed stop
+  pub decodes : Decodes image harts capture lists closed stop
   pub at : slice_get lists hart ≡ Some events
   pub written : text ≡ log_text events
   pub ends : end ≡ decode_end lists closed stop hart
 
 -- The capture has no such hart.
-pub record HasNoHart (base : ℕ) (image : List ℕ) (harts : ℕ) (capture : List ℕ) (hart : ℕ) : Type 0 where
+pub record HasNoHart (image : Judged) (harts : ℕ) (capture : List ℕ) (hart : ℕ) : Type 0 where
   pub lists : List (List Event)
   pub closed : List Bool
   pub stop : Option (ℕ × CaptureFault)
-  pub decodes : Decodes base image harts capture lists closed stop
+  pub decodes : Decodes image harts capture lists closed stop
   pub past : length lists ≤ hart
 
 -- The result for a capture and a hart: the text of its log and how decoding ends; or there is no such hart, or the
 -- image makes no program; or an allocation failed.
-abbrev pub IsHartDecoded : ℕ → List ℕ → ℕ → List ℕ → ℕ → Result HartText Fault → Type 0
-IsHartDecoded base image harts capture hart (Ok found) =
-    HasHart base image harts capture hart found.text.items found.end
-IsHartDecoded base image harts capture hart (Err Memory) = Unit {0}
-IsHartDecoded base image harts capture hart (Err (Program why)) = program_of base image ≡ Err why
-IsHartDecoded base image harts capture hart (Err NoHart) = HasNoHart base image harts capture hart
-IsHartDecoded base image harts capture hart (Err (Log why)) = ⊥
-IsHartDecoded base image harts capture hart (Err (Illegal why)) = ⊥
-IsHartDecoded base image harts capture hart (Err Range) = ⊥
-IsHartDecoded base image harts capture hart (Err Ends) = ⊥
+abbrev pub IsHartDecoded : Judged → ℕ → List ℕ → ℕ → Result HartText Fault → Type 0
+IsHartDecoded image harts capture hart (Ok found) =
+    HasHart image harts capture hart found.text.items found.end
+IsHartDecoded image harts capture hart (Err Memory) = Unit {0}
+IsHartDecoded image harts capture hart (Err (NoProgram why)) = image ≡ Err why
+IsHartDecoded image harts capture hart (Err NoHart) = HasNoHart image harts capture hart
+IsHartDecoded image harts capture hart (Err (Log why)) = ⊥
+IsHartDecoded image harts capture hart (Err (Illegal why)) = ⊥
+IsHartDecoded image harts capture hart (Err Range) = ⊥
+IsHartDecoded image harts capture hart (Err Ends) = ⊥
 
 -- A hart's log was decoded and handed out, and it was reported how decoding ends; or nothing was written, and the status
 -- says why.
-pub data ReportsDecode (base : ℕ) (image : List ℕ) (harts : ℕ) (capture : List ℕ) (hart status : ℕ)
+pub data ReportsDecode (image : Judged) (harts : ℕ) (capture : List ℕ) (hart status : ℕ)
     (wanted_before wanted : ℕ) (ended_before ended : DecodeEnd) (old new : List ℕ) : Type 0 where
-  Found : (text : List ℕ) → HasHart base image harts capture hart text ended
+  Found : (text : List ℕ) → HasHart image harts capture hart text ended
       → IsHandedOut text status wanted old new
-      → ReportsDecode base image harts capture hart status wanted_before wanted ended_before ended old new
-  Refused : (fault : Fault) → IsHartDecoded base image harts capture hart (Err fault) → status ≡ fault_status fault
+      → ReportsDecode image harts capture hart status wanted_before wanted ended_before ended old new
+  Refused : (fault : Fault) → IsHartDecoded image harts capture hart (Err fault) → status ≡ fault_status fault
       → wanted ≡ wanted_before → ended ≡ ended_before → new ≡ old
-      → ReportsDecode base image harts capture hart status wanted_before wanted ended_before ended old new
+      → ReportsDecode image harts capture hart status wanted_before wanted ended_before ended old new

@@ -16,14 +16,14 @@ use Rattle.retire.specs.declared.event.Event.{Event}
 use Rattle.retire.specs.declared.fault.LogFault.TheVariants as log
 use Rattle.rvclass.specs.Fetch.{words_of}
 use Rattle.rvclass.specs.Image.{Image}
-use Rattle.rvclass.specs.Program.{program_of}
 use Rattle.tracebench_c.specs.Checked.{IsLogOf}
 use Rattle.tracebench_c.specs.Handed.{IsHandedOut}
+use Rattle.tracebench_c.specs.Images.{Judged}
 use Rattle.tracebench_c.specs.Statuses.{fault_row, fault_status}
 use Rattle.tracebench_c.specs.declared.encoding.LogPlace.{LogPlace}
 use Rattle.tracebench_c.specs.declared.encoding.TheConstants.{VERSION_ONE, VERSION_TWO}
 use Rattle.tracebench_c.specs.declared.fault.Fault.{Fault}
-use Rattle.tracebench_c.specs.declared.fault.Fault.TheVariants.{Memory, Program, Log, Illegal, NoHart, Range, Ends}
+use Rattle.tracebench_c.specs.declared.fault.Fault.TheVariants.{Memory, NoProgram, Log, Illegal, NoHart, Range, Ends}
 use Rattle.tracebench_c.specs.declared.numbers.TheConstants.{DIFFERENTIAL, FULL}
 
 -- The mode of a number.
@@ -54,7 +54,7 @@ IsNoLegalText program (Some text) (Log why) = (why ≡ log.Memory) ⊎ (log_of_r
 IsNoLegalText program None (Illegal why) = ⊥
 IsNoLegalText program (Some text) (Illegal why) =
     (events : List Event) × IsLogOf text events × IsFirstFault (words_of program) events why
-IsNoLegalText program text (Program why) = ⊥
+IsNoLegalText program text (NoProgram why) = ⊥
 IsNoLegalText program text NoHart = ⊥
 IsNoLegalText program text Range = ⊥
 
@@ -84,29 +84,29 @@ pub record IsRefusedLog (program : Image) (bytes ends : List ℕ) (place : ℕ) 
   pub refused : IsNoLegalText program (text_between bytes (last_end 0 front) end) fault
 
 -- The capture of the legal logs of texts, by the program of an image.
-pub record IsCaptureOfTexts (base : ℕ) (image bytes ends : List ℕ) (period : ℕ) (mode : Mode) (version : Version)
+pub record IsCaptureOfTexts (image : Judged) (bytes ends : List ℕ) (period : ℕ) (mode : Mode) (version : Version)
     (capture : List ℕ) : Type 0 where
   pub program : Image
   pub logs : List ProgramLog
-  pub made : program_of base image ≡ Ok program
+  pub made : image ≡ Ok program
   pub are : AreLogs program bytes 0 ends logs
   pub written : capture ≡ capture_of version period mode logs
 
 -- An image makes a program, and one of the texts is no legal log's.
-abbrev pub HasRefusedLog : ℕ → List ℕ → List ℕ → List ℕ → ℕ → Fault → Type 0
-HasRefusedLog base image bytes ends place fault =
-    (program : Image) × (program_of base image ≡ Ok program) × IsRefusedLog program bytes ends place fault
+abbrev pub HasRefusedLog : Judged → List ℕ → List ℕ → ℕ → Fault → Type 0
+HasRefusedLog image bytes ends place fault =
+    (program : Image) × (image ≡ Ok program) × IsRefusedLog program bytes ends place fault
 
 -- Why there is no capture of texts: the image makes no program, a text is no legal log's, or an allocation failed, for a
 -- text or for something else.
-abbrev pub IsNoCapture : ℕ → List ℕ → List ℕ → List ℕ → ℕ → Fault → Type 0
-IsNoCapture base image bytes ends place Memory = (place ≡ 0) ⊎ HasRefusedLog base image bytes ends place Memory
-IsNoCapture base image bytes ends place (Program why) = (place ≡ 0) × (program_of base image ≡ Err why)
-IsNoCapture base image bytes ends place (Log why) = HasRefusedLog base image bytes ends place (Log why)
-IsNoCapture base image bytes ends place (Illegal why) = HasRefusedLog base image bytes ends place (Illegal why)
-IsNoCapture base image bytes ends place Ends = HasRefusedLog base image bytes ends place Ends
-IsNoCapture base image bytes ends place NoHart = ⊥
-IsNoCapture base image bytes ends place Range = ⊥
+abbrev pub IsNoCapture : Judged → List ℕ → List ℕ → ℕ → Fault → Type 0
+IsNoCapture image bytes ends place Memory = (place ≡ 0) ⊎ HasRefusedLog image bytes ends place Memory
+IsNoCapture image bytes ends place (NoProgram why) = (place ≡ 0) × (image ≡ Err why)
+IsNoCapture image bytes ends place (Log why) = HasRefusedLog image bytes ends place (Log why)
+IsNoCapture image bytes ends place (Illegal why) = HasRefusedLog image bytes ends place (Illegal why)
+IsNoCapture image bytes ends place Ends = HasRefusedLog image bytes ends place Ends
+IsNoCapture image bytes ends place NoHart = ⊥
+IsNoCapture image bytes ends place Range = ⊥
 
 -- The numbers name this mode and this version, the period is 1 or more, and there is a log at least, and at most as
 -- many as the version has harts.
@@ -130,21 +130,21 @@ IsOutOfRange ends period mode version =
     ⊎ HasTooManyLogs ends version
 
 -- The result for an image and the texts of logs, in a named mode and version: a capture, or why there is none.
-abbrev pub IsMade : ℕ → List ℕ → List ℕ → List ℕ → ℕ → Mode → Version → Result (Vec ℕ Global) (ℕ × Fault) → Type 0
-IsMade base image bytes ends period mode version (Ok capture) =
-    IsCaptureOfTexts base image bytes ends period mode version capture.items
-IsMade base image bytes ends period mode version (Err (place, fault)) = IsNoCapture base image bytes ends place fault
+abbrev pub IsMade : Judged → List ℕ → List ℕ → ℕ → Mode → Version → Result (Vec ℕ Global) (ℕ × Fault) → Type 0
+IsMade image bytes ends period mode version (Ok capture) =
+    IsCaptureOfTexts image bytes ends period mode version capture.items
+IsMade image bytes ends period mode version (Err (place, fault)) = IsNoCapture image bytes ends place fault
 
 -- The same, where the mode and the version are numbers: these come first, and a number is out of its range, or all are
 -- within theirs.
-pub data IsEncoded (base : ℕ) (image bytes ends : List ℕ) (period mode version : ℕ)
+pub data IsEncoded (image : Judged) (bytes ends : List ℕ) (period mode version : ℕ)
     (made : Result (Vec ℕ Global) (ℕ × Fault)) : Type 0 where
   OutOfRange : IsOutOfRange ends period mode version → made ≡ Err (0, Range)
-      → IsEncoded base image bytes ends period mode version made
+      → IsEncoded image bytes ends period mode version made
   InRange : (named_mode : Mode) (named_version : Version)
       → AreInRange ends period mode version named_mode named_version
-      → IsMade base image bytes ends period named_mode named_version made
-      → IsEncoded base image bytes ends period mode version made
+      → IsMade image bytes ends period named_mode named_version made
+      → IsEncoded image bytes ends period mode version made
 
 -- What was made is reported: a capture was handed out; or the status says why there is none, and of which log and row.
 pub data ReportsMade (made : Result (Vec ℕ Global) (ℕ × Fault)) (status wanted_before wanted : ℕ)
@@ -156,8 +156,7 @@ pub data ReportsMade (made : Result (Vec ℕ Global) (ℕ × Fault)) (status wan
       → ReportsMade made status wanted_before wanted place_before place old new
 
 -- The texts of logs were encoded, and the result was reported.
-abbrev pub ReportsEncode : ℕ → List ℕ → List ℕ → List ℕ → ℕ → ℕ → ℕ → ℕ → ℕ → ℕ → LogPlace → LogPlace → List ℕ → List ℕ
-    → Type 0
-ReportsEncode base image bytes ends period mode version status wanted_before wanted place_before place old new =
-    (made : Result (Vec ℕ Global) (ℕ × Fault)) × IsEncoded base image bytes ends period mode version made
+abbrev pub ReportsEncode : Judged → List ℕ → List ℕ → ℕ → ℕ → ℕ → ℕ → ℕ → ℕ → LogPlace → LogPlace → List ℕ → List ℕ → Type 0
+ReportsEncode image bytes ends period mode version status wanted_before wanted place_before place old new =
+    (made : Result (Vec ℕ Global) (ℕ × Fault)) × IsEncoded image bytes ends period mode version made
     × ReportsMade made status wanted_before wanted place_before place old new

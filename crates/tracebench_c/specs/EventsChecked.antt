@@ -7,13 +7,12 @@ use Rattle.retire.specs.Log.{most_rows}
 use Rattle.retire.specs.declared.event.Event.{Event}
 use Rattle.rvclass.specs.Fetch.{words_of}
 use Rattle.rvclass.specs.Image.{Image}
-use Rattle.rvclass.specs.Program.{program_of}
 use Rattle.rvclass.specs.Words.{Words}
-use Rattle.tracebench_c.specs.Checked.{IsNoProgram}
 use Rattle.tracebench_c.specs.Events.{AreOfEvent, numbers_of_event}
-use Rattle.tracebench_c.specs.Statuses.{fault_status, why_status}
+use Rattle.tracebench_c.specs.Images.{Judged}
+use Rattle.tracebench_c.specs.Statuses.{image_status, why_status}
 use Rattle.tracebench_c.specs.declared.events.EventNumbers.{EventNumbers}
-use Rattle.tracebench_c.specs.declared.fault.Fault.{Fault}
+use Rattle.tracebench_c.specs.declared.fault.ImageFault.{ImageFault}
 use Rattle.tracebench_c.specs.declared.following.EventsFault.{EventsFault}
 use Rattle.tracebench_c.specs.declared.following.EventsFault.TheVariants as events
 use Rattle.tracebench_c.specs.declared.status.TheConstants.{DONE, NO_EVENT, TOO_MANY_ROWS}
@@ -63,13 +62,13 @@ IsReportedOf numbers (Err fault) status row = (status ≡ events_status fault) �
 
 -- How a check of events ends: the image makes no program; or it makes one, and there are more
 -- events than a log may have; or they were checked.
-pub data EndsCheckEvents (base : ℕ) (image : List ℕ) (numbers : List EventNumbers) (status row : ℕ) : Type 0 where
-  NoProgram : (fault : Fault) → IsNoProgram base image fault → status ≡ fault_status fault → row ≡ 0
-      → EndsCheckEvents base image numbers status row
-  TooMany : (program : Image) → program_of base image ≡ Ok program → most_rows < length numbers
+pub data EndsCheckEvents (image : Judged) (numbers : List EventNumbers) (status row : ℕ) : Type 0 where
+  NoProgram : (fault : ImageFault) → image ≡ Err fault → status ≡ image_status fault → row ≡ 0
+      → EndsCheckEvents image numbers status row
+  TooMany : (program : Image) → image ≡ Ok program → most_rows < length numbers
       → status ≡ TOO_MANY_ROWS → row ≡ 0
-      → EndsCheckEvents base image numbers status row
-  Checked : (program : Image) → program_of base image ≡ Ok program → length numbers ≤ most_rows
+      → EndsCheckEvents image numbers status row
+  Checked : (program : Image) → image ≡ Ok program → length numbers ≤ most_rows
       → (checked : Result Unit EventsFault) → AreChecked (words_of program) numbers checked
       → IsReportedOf numbers checked status row
-      → EndsCheckEvents base image numbers status row
+      → EndsCheckEvents image numbers status row

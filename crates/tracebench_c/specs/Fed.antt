@@ -6,6 +6,7 @@ use Rattle.decoder.specs.Order.{IsOpen, open_packet}
 use Rattle.decoder.specs.Resuming.{IsSync}
 use Rattle.decoder.specs.declared.fault.DecodeFault.{DecodeFault}
 use Rattle.decoder.specs.declared.fault.DecodeFault.TheVariants as decode
+use Rattle.memory.specs.Memory.{byte_count}
 use Rattle.payload.specs.ClosedTrace.{last_is_closing}
 use Rattle.payload.specs.Closing.{is_closing_packet}
 use Rattle.payload.specs.Reading.{reading}
@@ -14,13 +15,12 @@ use Rattle.payload.specs.declared.packet.Packet.{Packet}
 use Rattle.retire.specs.declared.event.Event.{Event}
 use Rattle.rvclass.specs.Fetch.{words_of}
 use Rattle.rvclass.specs.Image.{Image}
-use Rattle.rvclass.specs.Program.{program_of}
 use Rattle.rvclass.specs.Words.{Words}
-use Rattle.tracebench_c.specs.Checked.{IsNoProgram}
 use Rattle.tracebench_c.specs.DecoderKept.{AreClosed, AreOfDecoder, HaveMode, NumbersStand, PassOver}
 use Rattle.tracebench_c.specs.Events.{numbers_of_event}
 use Rattle.tracebench_c.specs.Handed.{IsHandedOut}
-use Rattle.tracebench_c.specs.Statuses.{decode_status, fault_status, pack_status}
+use Rattle.tracebench_c.specs.Images.{Judged}
+use Rattle.tracebench_c.specs.Statuses.{decode_status, image_status, pack_status}
 use Rattle.tracebench_c.specs.declared.decoder_state.DecoderNumbers.{DecoderNumbers}
 use Rattle.tracebench_c.specs.declared.events.EventNumbers.{EventNumbers}
 use Rattle.tracebench_c.specs.declared.feeding.FedPayload.{FedPayload}
@@ -58,17 +58,17 @@ pub record PassesOn (words : Words) (packet : Packet) (before after : DecoderNum
 
 -- The payload is that of a packet, which the decoder with these numbers took: after it the decoder has those numbers,
 -- and these events were added, at most 64 for each two bytes of the image and two more.
-pub record TakesPayload (base : ℕ) (image payload : List ℕ) (before after : DecoderNumbers) (events : List Event)
+pub record TakesPayload (image : Judged) (payload : List ℕ) (before after : DecoderNumbers) (events : List Event)
     : Type 0 where
   pub program : Image
   pub packet : Packet
-  pub made : program_of base image ≡ Ok program
+  pub made : image ≡ Ok program
   pub read : reading payload ≡ Ok packet
   pub are : AreOfDecoder before
   pub goes_on : GoesOn (words_of program) packet before after events
   pub keeps : KeepsMode (words_of program) packet before after
   pub passes : PassesOn (words_of program) packet before after events
-  pub short : length events ≤ 64 * (length image / 2) + 2
+  pub short : length events ≤ 64 * (byte_count program / 2) + 2
 
 -- If the numbers stand for packets, those and this packet describe no log, unless an allocation failed. The fault is
 -- AfterClose if and only if the last of the packets closed the trace. It is NotOpened if and only if there are no
@@ -94,11 +94,11 @@ pub record RefusesByPhase (words : Words) (packet : Packet) (numbers : DecoderNu
   pub never_unopened : (mode : Mode) → PassOver mode numbers → why ≢ decode.NotOpened
 
 -- The payload is that of a packet, which the decoder with these numbers refused.
-pub record RefusesPayload (base : ℕ) (image payload : List ℕ) (numbers : DecoderNumbers) (why : DecodeFault) : Type 0
+pub record RefusesPayload (image : Judged) (payload : List ℕ) (numbers : DecoderNumbers) (why : DecodeFault) : Type 0
   where
     pub program : Image
     pub packet : Packet
-    pub made : program_of base image ≡ Ok program
+    pub made : image ≡ Ok program
     pub read : reading payload ≡ Ok packet
     pub are : AreOfDecoder numbers
     pub refuses : Refuses (words_of program) packet numbers why
@@ -107,18 +107,18 @@ pub record RefusesPayload (base : ℕ) (image payload : List ℕ) (numbers : Dec
 -- The result of feeding a payload to a decoder with these numbers: it took the payload; or no decoder has these
 -- numbers, the payload is that of no packet, the image makes no program, or the decoder refused
 -- the packet.
-abbrev pub IsFed : ℕ → List ℕ → List ℕ → DecoderNumbers → Result FedPayload FeedFault → Type 0
-IsFed base image payload numbers (Ok fed) = TakesPayload base image payload numbers fed.numbers fed.events.items
-IsFed base image payload numbers (Err State) = ¬ AreOfDecoder numbers
-IsFed base image payload numbers (Err (Payload why)) = reading payload ≡ Err why
-IsFed base image payload numbers (Err (NoImage why)) = IsNoProgram base image why
-IsFed base image payload numbers (Err (Decode why)) = RefusesPayload base image payload numbers why
+abbrev pub IsFed : Judged → List ℕ → DecoderNumbers → Result FedPayload FeedFault → Type 0
+IsFed image payload numbers (Ok fed) = TakesPayload image payload numbers fed.numbers fed.events.items
+IsFed image payload numbers (Err State) = ¬ AreOfDecoder numbers
+IsFed image payload numbers (Err (Payload why)) = reading payload ≡ Err why
+IsFed image payload numbers (Err (NoImage why)) = image ≡ Err why
+IsFed image payload numbers (Err (Decode why)) = RefusesPayload image payload numbers why
 
 -- Why a payload is not taken, as a status.
 abbrev pub feed_status : FeedFault → ℕ
 feed_status State = BAD_STATE
 feed_status (Payload why) = pack_status why
-feed_status (NoImage why) = fault_status why
+feed_status (NoImage why) = image_status why
 feed_status (Decode why) = decode_status why
 
 -- The decoder goes on where all is done, and else its numbers stay.
@@ -127,11 +127,11 @@ GoesOnIfDone status before next after = (status ≡ DONE → after ≡ next) × 
 
 -- The payload was taken, and its events were handed out; or it was not taken, the status says why, and nothing was
 -- written. The numbers stay unless all is done.
-pub data ReportsFeed (base : ℕ) (image payload : List ℕ) (status : ℕ) (before after : DecoderNumbers)
+pub data ReportsFeed (image : Judged) (payload : List ℕ) (status : ℕ) (before after : DecoderNumbers)
     (count_before count : ℕ) (old new : List EventNumbers) : Type 0 where
-  Taken : (next : DecoderNumbers) (events : List Event) → TakesPayload base image payload before next events
+  Taken : (next : DecoderNumbers) (events : List Event) → TakesPayload image payload before next events
       → IsHandedOut (map numbers_of_event events) status count old new → GoesOnIfDone status before next after
-      → ReportsFeed base image payload status before after count_before count old new
-  Refused : (fault : FeedFault) → IsFed base image payload before (Err fault) → status ≡ feed_status fault
+      → ReportsFeed image payload status before after count_before count old new
+  Refused : (fault : FeedFault) → IsFed image payload before (Err fault) → status ≡ feed_status fault
       → after ≡ before → count ≡ count_before → new ≡ old
-      → ReportsFeed base image payload status before after count_before count old new
+      → ReportsFeed image payload status before after count_before count old new

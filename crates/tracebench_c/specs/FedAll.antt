@@ -6,31 +6,30 @@ use Rattle.payload.specs.Reading.{reading}
 use Rattle.payload.specs.declared.fault.PackFault.{PackFault}
 use Rattle.retire.specs.declared.event.Event.{Event}
 use Rattle.rvclass.specs.Image.{Image}
-use Rattle.rvclass.specs.Program.{program_of}
-use Rattle.tracebench_c.specs.Checked.{IsNoProgram}
 use Rattle.tracebench_c.specs.DecoderKept.{AreOfDecoder}
 use Rattle.tracebench_c.specs.Encoded.{last_end, text_between}
 use Rattle.tracebench_c.specs.Events.{numbers_of_event}
 use Rattle.tracebench_c.specs.Fed.{RefusesPayload, TakesPayload}
-use Rattle.tracebench_c.specs.Statuses.{decode_status, fault_status, pack_status}
+use Rattle.tracebench_c.specs.Images.{Judged}
+use Rattle.tracebench_c.specs.Statuses.{decode_status, image_status, pack_status}
 use Rattle.tracebench_c.specs.declared.decoder_state.DecoderNumbers.{DecoderNumbers}
 use Rattle.tracebench_c.specs.declared.events.EventNumbers.{EventNumbers}
-use Rattle.tracebench_c.specs.declared.fault.Fault.{Fault}
+use Rattle.tracebench_c.specs.declared.fault.ImageFault.{ImageFault}
 use Rattle.tracebench_c.specs.declared.status.TheConstants.{BAD_STATE, DONE, OUT_OF_RANGE, TOO_SMALL}
 
 -- There is a payload, and the decoder with these numbers takes it.
-abbrev pub TakesIfAny : ℕ → List ℕ → Option (List ℕ) → DecoderNumbers → DecoderNumbers → List Event → Type 0
-TakesIfAny base image None before after events = ⊥
-TakesIfAny base image (Some payload) before after events = TakesPayload base image payload before after events
+abbrev pub TakesIfAny : Judged → Option (List ℕ) → DecoderNumbers → DecoderNumbers → List Event → Type 0
+TakesIfAny image None before after events = ⊥
+TakesIfAny image (Some payload) before after events = TakesPayload image payload before after events
 
 -- The payloads, of which the first begins here and each further one where the one before ends, are taken one after the
 -- other: the decoder has those numbers after the last, and these events were added.
-abbrev pub TakesAll : ℕ → List ℕ → List ℕ → ℕ → List ℕ → DecoderNumbers → DecoderNumbers → List Event → Type 0
-TakesAll base image bytes from [] before after events = (after ≡ before) × (events ≡ [])
-TakesAll base image bytes from (end ∷ ends) before after events =
+abbrev pub TakesAll : Judged → List ℕ → ℕ → List ℕ → DecoderNumbers → DecoderNumbers → List Event → Type 0
+TakesAll image bytes from [] before after events = (after ≡ before) × (events ≡ [])
+TakesAll image bytes from (end ∷ ends) before after events =
     (next : DecoderNumbers) × (first : List Event) × (rest : List Event)
-    × TakesIfAny base image (text_between bytes from end) before next first
-    × TakesAll base image bytes end ends next after rest × (events ≡ first ++ rest)
+    × TakesIfAny image (text_between bytes from end) before next first
+    × TakesAll image bytes end ends next after rest × (events ≡ first ++ rest)
 
 -- The payload with this number, counted from 0, is this one; or there is none, since its end is before its start or
 -- past the bytes.
@@ -41,47 +40,47 @@ pub record IsPayloadAt (bytes ends : List ℕ) (place : ℕ) (payload : Option (
 
 -- Why a payload is not taken by the decoder with these numbers: there is none; or it is that of no packet; or the
 -- decoder refuses the packet; or its events do not fit into this much room.
-pub data IsNotTaken (base : ℕ) (image : List ℕ) (payload : Option (List ℕ)) (numbers : DecoderNumbers)
+pub data IsNotTaken (image : Judged) (payload : Option (List ℕ)) (numbers : DecoderNumbers)
     (room status : ℕ) : Type 0 where
-  NoPayload : payload ≡ None → status ≡ OUT_OF_RANGE → IsNotTaken base image payload numbers room status
+  NoPayload : payload ≡ None → status ≡ OUT_OF_RANGE → IsNotTaken image payload numbers room status
   NoPacket : (bytes : List ℕ) → payload ≡ Some bytes → (why : PackFault) → reading bytes ≡ Err why
       → status ≡ pack_status why
-      → IsNotTaken base image payload numbers room status
+      → IsNotTaken image payload numbers room status
   Refused : (bytes : List ℕ) → payload ≡ Some bytes → (why : DecodeFault)
-      → RefusesPayload base image bytes numbers why → status ≡ decode_status why
-      → IsNotTaken base image payload numbers room status
+      → RefusesPayload image bytes numbers why → status ≡ decode_status why
+      → IsNotTaken image payload numbers room status
   NoRoom : (bytes : List ℕ) → payload ≡ Some bytes → (next : DecoderNumbers) (events : List Event)
-      → TakesPayload base image bytes numbers next events → room < length events → status ≡ TOO_SMALL
-      → IsNotTaken base image payload numbers room status
+      → TakesPayload image bytes numbers next events → room < length events → status ≡ TOO_SMALL
+      → IsNotTaken image payload numbers room status
 
 -- How payloads end, the first so many of which were taken: all were; or the next one is not taken, for this reason.
-pub data EndsFeeds (base : ℕ) (image bytes ends : List ℕ) (taken : ℕ) (numbers : DecoderNumbers) (room status : ℕ)
+pub data EndsFeeds (image : Judged) (bytes ends : List ℕ) (taken : ℕ) (numbers : DecoderNumbers) (room status : ℕ)
     : Type 0 where
-  AllTaken : taken ≡ length ends → status ≡ DONE → EndsFeeds base image bytes ends taken numbers room status
+  AllTaken : taken ≡ length ends → status ≡ DONE → EndsFeeds image bytes ends taken numbers room status
   Stops : (payload : Option (List ℕ)) → IsPayloadAt bytes ends taken payload
-      → IsNotTaken base image payload numbers room status
-      → EndsFeeds base image bytes ends taken numbers room status
+      → IsNotTaken image payload numbers room status
+      → EndsFeeds image bytes ends taken numbers room status
 
 -- The first payloads were taken, and their events are at the start of the buffer. What was after them stays.
-pub record AreFed (base : ℕ) (image bytes ends : List ℕ) (before after : DecoderNumbers) (taken count : ℕ)
+pub record AreFed (image : Judged) (bytes ends : List ℕ) (before after : DecoderNumbers) (taken count : ℕ)
     (old new : List EventNumbers) : Type 0 where
   pub events : List Event
-  pub taken_all : TakesAll base image bytes 0 (take taken ends) before after events
+  pub taken_all : TakesAll image bytes 0 (take taken ends) before after events
   pub counted : count ≡ length events
   pub fit : count ≤ length old
   pub written : new ≡ map numbers_of_event events ++ drop count old
 
 -- What is reported of payloads: no decoder has these numbers, or the image makes no program,
 -- and none is taken; or some were taken, and it is reported how they end.
-pub data ReportsFeedAll (base : ℕ) (image bytes ends : List ℕ) (status : ℕ) (before after : DecoderNumbers)
+pub data ReportsFeedAll (image : Judged) (bytes ends : List ℕ) (status : ℕ) (before after : DecoderNumbers)
     (taken count : ℕ) (old new : List EventNumbers) : Type 0 where
   BadState : ¬ AreOfDecoder before → status ≡ BAD_STATE
       → taken ≡ 0 → count ≡ 0 → after ≡ before → new ≡ old
-      → ReportsFeedAll base image bytes ends status before after taken count old new
-  NoProgram : AreOfDecoder before → (fault : Fault) → IsNoProgram base image fault → status ≡ fault_status fault
+      → ReportsFeedAll image bytes ends status before after taken count old new
+  NoProgram : AreOfDecoder before → (fault : ImageFault) → image ≡ Err fault → status ≡ image_status fault
       → taken ≡ 0 → count ≡ 0 → after ≡ before → new ≡ old
-      → ReportsFeedAll base image bytes ends status before after taken count old new
-  Fed : AreOfDecoder before → (program : Image) → program_of base image ≡ Ok program
-      → AreFed base image bytes ends before after taken count old new
-      → EndsFeeds base image bytes ends taken after (length old - count) status
-      → ReportsFeedAll base image bytes ends status before after taken count old new
+      → ReportsFeedAll image bytes ends status before after taken count old new
+  Fed : AreOfDecoder before → (program : Image) → image ≡ Ok program
+      → AreFed image bytes ends before after taken count old new
+      → EndsFeeds image bytes ends taken after (length old - count) status
+      → ReportsFeedAll image bytes ends status before after taken count old new

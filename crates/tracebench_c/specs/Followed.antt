@@ -1,18 +1,17 @@
 -- What a call reports of whether an event may follow another.
-use Rattle.std.specs.Prelude.{ℕ, ◌≡◌, ◌<◌, List, Option, Some, None, Result, Ok, Err}
+use Rattle.std.specs.Prelude.{ℕ, ◌≡◌, ◌<◌, Option, Some, None, Result, Ok, Err}
 use Rattle.legalpath.specs.Reason.{IsReason}
 use Rattle.legalpath.specs.Right.{Right}
 use Rattle.legalpath.specs.Step.{StepFrom}
 use Rattle.retire.specs.declared.event.Event.{Event}
 use Rattle.rvclass.specs.Fetch.{words_of}
 use Rattle.rvclass.specs.Image.{Image}
-use Rattle.rvclass.specs.Program.{program_of}
 use Rattle.rvclass.specs.Words.{Words}
-use Rattle.tracebench_c.specs.Checked.{IsNoProgram}
 use Rattle.tracebench_c.specs.Events.{AreOfEvent, numbers_of_event}
-use Rattle.tracebench_c.specs.Statuses.{fault_status, why_status}
+use Rattle.tracebench_c.specs.Images.{Judged}
+use Rattle.tracebench_c.specs.Statuses.{image_status, why_status}
 use Rattle.tracebench_c.specs.declared.events.EventNumbers.{EventNumbers}
-use Rattle.tracebench_c.specs.declared.fault.Fault.{Fault}
+use Rattle.tracebench_c.specs.declared.fault.ImageFault.{ImageFault}
 use Rattle.tracebench_c.specs.declared.following.StepFault.{StepFault}
 use Rattle.tracebench_c.specs.declared.following.StepFault.TheVariants as step
 use Rattle.tracebench_c.specs.declared.status.TheConstants.{BAD_BEFORE, DONE, NO_EVENT, OUT_OF_RANGE}
@@ -53,17 +52,17 @@ follow_status (Err fault) = step_status fault
 -- How a call ends that asks whether an event may follow another: the flag is neither 0 nor 1; or the event before, if
 -- there is one by the flag, or the event itself is none; or the image makes no program; or the
 -- event was checked after the one before.
-pub data EndsFollow (base : ℕ) (image : List ℕ) (flag : ℕ) (before event : EventNumbers) (status : ℕ) : Type 0 where
-  OutOfRange : 1 < flag → status ≡ OUT_OF_RANGE → EndsFollow base image flag before event status
-  NoEventBefore : flag ≡ 1 → ¬ AreOfEvent before → status ≡ NO_EVENT → EndsFollow base image flag before event status
+pub data EndsFollow (image : Judged) (flag : ℕ) (before event : EventNumbers) (status : ℕ) : Type 0 where
+  OutOfRange : 1 < flag → status ≡ OUT_OF_RANGE → EndsFollow image flag before event status
+  NoEventBefore : flag ≡ 1 → ¬ AreOfEvent before → status ≡ NO_EVENT → EndsFollow image flag before event status
   NoEvent : (earlier : Option Event) → IsBefore flag before earlier → ¬ AreOfEvent event → status ≡ NO_EVENT
-      → EndsFollow base image flag before event status
+      → EndsFollow image flag before event status
   NoProgram : (earlier : Option Event) → IsBefore flag before earlier → AreOfEvent event
-      → (fault : Fault) → IsNoProgram base image fault → status ≡ fault_status fault
-      → EndsFollow base image flag before event status
+      → (fault : ImageFault) → image ≡ Err fault → status ≡ image_status fault
+      → EndsFollow image flag before event status
   Followed : (earlier : Option Event) → IsBefore flag before earlier
       → (next : Event) → event ≡ numbers_of_event next
-      → (program : Image) → program_of base image ≡ Ok program
+      → (program : Image) → image ≡ Ok program
       → (followed : Result Unit StepFault) → IsFollowed (words_of program) earlier next followed
       → status ≡ follow_status followed
-      → EndsFollow base image flag before event status
+      → EndsFollow image flag before event status

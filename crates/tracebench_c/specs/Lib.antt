@@ -1,5 +1,6 @@
 pub mod Handed
 pub mod VersionText
+pub mod Images
 pub mod Statuses
 pub mod Numbers
 pub mod Events

@@ -1,6 +1,6 @@
 -- What a call reports of a step of an encoder.
 use Rattle.std.specs.Prelude.{ℕ, ◌≡◌, ◌<◌, ◌≤◌, ◌⊎◌, ◌==◌, ◌||◌, ◌++◌, [], ◌∷◌, All, is_none, if◌then◌else◌, List}
-use Rattle.std.specs.Prelude.{Ok, drop, length, map}
+use Rattle.std.specs.Prelude.{Ok, Err, drop, length, map}
 use Rattle.legalpath.specs.Legal.{Legal}
 use Rattle.payload.specs.Profile.{InProfile}
 use Rattle.payload.specs.declared.mode.Mode.{Mode}
@@ -8,17 +8,16 @@ use Rattle.payload.specs.declared.packet.Packet.{Packet}
 use Rattle.retire.specs.declared.event.Event.{Event}
 use Rattle.rvclass.specs.Fetch.{words_of}
 use Rattle.rvclass.specs.Image.{Image}
-use Rattle.rvclass.specs.Program.{program_of}
-use Rattle.tracebench_c.specs.Checked.{IsNoProgram}
 use Rattle.tracebench_c.specs.Encoded.{mode_of}
 use Rattle.tracebench_c.specs.EncoderKept.{AreOfEncoder, NumbersStand}
 use Rattle.tracebench_c.specs.Events.{AreOfEvent, numbers_of_event}
 use Rattle.tracebench_c.specs.Handed.{IsHandedOut}
+use Rattle.tracebench_c.specs.Images.{Judged}
 use Rattle.tracebench_c.specs.Numbers.{numbers_of}
-use Rattle.tracebench_c.specs.Statuses.{fault_status}
+use Rattle.tracebench_c.specs.Statuses.{image_status}
 use Rattle.tracebench_c.specs.declared.encoder_state.EncoderNumbers.{EncoderNumbers}
 use Rattle.tracebench_c.specs.declared.events.EventNumbers.{EventNumbers}
-use Rattle.tracebench_c.specs.declared.fault.Fault.{Fault}
+use Rattle.tracebench_c.specs.declared.fault.ImageFault.{ImageFault}
 use Rattle.tracebench_c.specs.declared.numbers.PacketNumbers.{PacketNumbers}
 use Rattle.tracebench_c.specs.declared.status.TheConstants.{DONE, TOO_SMALL, OUT_OF_RANGE, BAD_STATE, NO_EVENT}
 
@@ -28,36 +27,36 @@ new_status period mode = if (period == 0) || is_none (mode_of mode) then OUT_OF_
 
 -- The image makes no program, and the status says why; or it makes a program, and the buffer was large enough, or it
 -- was too small.
-abbrev pub EndsByProgram : ℕ → List ℕ → ℕ → Type 0
-EndsByProgram base image status =
-    ((fault : Fault) × IsNoProgram base image fault × (status ≡ fault_status fault))
-    ⊎ ((program : Image) × (program_of base image ≡ Ok program) × ((status ≡ DONE) ⊎ (status ≡ TOO_SMALL)))
+abbrev pub EndsByProgram : Judged → ℕ → Type 0
+EndsByProgram image status =
+    ((fault : ImageFault) × (image ≡ Err fault) × (status ≡ image_status fault))
+    ⊎ ((program : Image) × (image ≡ Ok program) × ((status ≡ DONE) ⊎ (status ≡ TOO_SMALL)))
 
 -- How a push ends: the state is no encoder's; or it is one's, and the event is none; or the image and the size of the
 -- buffer decide.
-abbrev pub EndsPush : ℕ → List ℕ → EncoderNumbers → EventNumbers → ℕ → Type 0
-EndsPush base image state event status =
+abbrev pub EndsPush : Judged → EncoderNumbers → EventNumbers → ℕ → Type 0
+EndsPush image state event status =
     ((AreOfEncoder state → ⊥) × (status ≡ BAD_STATE))
     ⊎ (AreOfEncoder state × (AreOfEvent event → ⊥) × (status ≡ NO_EVENT))
-    ⊎ (AreOfEncoder state × AreOfEvent event × EndsByProgram base image status)
+    ⊎ (AreOfEncoder state × AreOfEvent event × EndsByProgram image status)
 
 -- How a call for the end of a log ends: the state is no encoder's; or the image and the size of the buffer decide.
-abbrev pub EndsFinish : ℕ → List ℕ → EncoderNumbers → ℕ → Type 0
-EndsFinish base image state status =
-    ((AreOfEncoder state → ⊥) × (status ≡ BAD_STATE)) ⊎ (AreOfEncoder state × EndsByProgram base image status)
+abbrev pub EndsFinish : Judged → EncoderNumbers → ℕ → Type 0
+EndsFinish image state status =
+    ((AreOfEncoder state → ⊥) × (status ≡ BAD_STATE)) ⊎ (AreOfEncoder state × EndsByProgram image status)
 
 -- An image makes a program, and the numbers of a state stand for a legal log of it.
-pub record IsOn (base : ℕ) (image : List ℕ) (program : Image) (period : ℕ) (mode : Mode) (log : List Event)
+pub record IsOn (image : Judged) (program : Image) (period : ℕ) (mode : Mode) (log : List Event)
     (state : EncoderNumbers) : Type 0 where
-  pub made : program_of base image ≡ Ok program
+  pub made : image ≡ Ok program
   pub stand : NumbersStand (words_of program) period mode log state
   pub legal : Legal (words_of program) log
 
 -- An image makes a program, the numbers of a state stand for a log, and those of an event are of one that may come
 -- next: the log with it is legal.
-pub record IsNext (base : ℕ) (image : List ℕ) (program : Image) (period : ℕ) (mode : Mode) (log : List Event)
+pub record IsNext (image : Judged) (program : Image) (period : ℕ) (mode : Mode) (log : List Event)
     (next : Event) (state : EncoderNumbers) (event : EventNumbers) : Type 0 where
-  pub made : program_of base image ≡ Ok program
+  pub made : image ≡ Ok program
   pub stand : NumbersStand (words_of program) period mode log state
   pub is : event ≡ numbers_of_event next
   pub legal : Legal (words_of program) (log ++ next ∷ [])

@@ -1,5 +1,6 @@
 -- What a call reports of many steps of an encoder.
-use Rattle.std.specs.Prelude.{ℕ, ◌≡◌, ◌<◌, ◌≤◌, ◌+◌, ◌*◌, ◌++◌, All, List, Some, Ok, drop, length, map, slice_get, take}
+use Rattle.std.specs.Prelude.{ℕ, ◌≡◌, ◌<◌, ◌≤◌, ◌+◌, ◌*◌, ◌++◌, All, List, Some, Ok, Err, drop, length, map, slice_get}
+use Rattle.std.specs.Prelude.{take}
 use Rattle.legalpath.specs.Legal.{Legal}
 use Rattle.payload.specs.Profile.{InProfile}
 use Rattle.payload.specs.declared.mode.Mode.{Mode}
@@ -7,46 +8,45 @@ use Rattle.payload.specs.declared.packet.Packet.{Packet}
 use Rattle.retire.specs.declared.event.Event.{Event}
 use Rattle.rvclass.specs.Fetch.{words_of}
 use Rattle.rvclass.specs.Image.{Image}
-use Rattle.rvclass.specs.Program.{program_of}
-use Rattle.tracebench_c.specs.Checked.{IsNoProgram}
 use Rattle.tracebench_c.specs.EncoderKept.{AreOfEncoder, NumbersStand}
 use Rattle.tracebench_c.specs.Events.{AreOfEvent, numbers_of_event}
 use Rattle.tracebench_c.specs.EventsChecked.{AreOfEvents}
+use Rattle.tracebench_c.specs.Images.{Judged}
 use Rattle.tracebench_c.specs.Numbers.{numbers_of}
-use Rattle.tracebench_c.specs.Statuses.{fault_status}
+use Rattle.tracebench_c.specs.Statuses.{image_status}
 use Rattle.tracebench_c.specs.declared.encoder_state.EncoderNumbers.{EncoderNumbers}
 use Rattle.tracebench_c.specs.declared.events.EventNumbers.{EventNumbers}
-use Rattle.tracebench_c.specs.declared.fault.Fault.{Fault}
+use Rattle.tracebench_c.specs.declared.fault.ImageFault.{ImageFault}
 use Rattle.tracebench_c.specs.declared.numbers.PacketNumbers.{PacketNumbers}
 use Rattle.tracebench_c.specs.declared.status.TheConstants.{DONE, TOO_SMALL, BAD_STATE, NO_EVENT}
 
 -- How pushes of events end, the first so many of which were taken: the state is no encoder's; or it is one's, and the
 -- image makes no program; or all events were taken; or those before the next one were, and the
 -- packets of the next one have no room; or the next one is no event.
-pub data EndsPushAll (base : ℕ) (image : List ℕ) (state : EncoderNumbers) (numbers : List EventNumbers)
+pub data EndsPushAll (image : Judged) (state : EncoderNumbers) (numbers : List EventNumbers)
     (taken status : ℕ) : Type 0 where
   BadState : ¬ AreOfEncoder state → taken ≡ 0 → status ≡ BAD_STATE
-      → EndsPushAll base image state numbers taken status
-  NoProgram : AreOfEncoder state → (fault : Fault) → IsNoProgram base image fault → taken ≡ 0
-      → status ≡ fault_status fault
-      → EndsPushAll base image state numbers taken status
-  AllTaken : AreOfEncoder state → (program : Image) → program_of base image ≡ Ok program
+      → EndsPushAll image state numbers taken status
+  NoProgram : AreOfEncoder state → (fault : ImageFault) → image ≡ Err fault → taken ≡ 0
+      → status ≡ image_status fault
+      → EndsPushAll image state numbers taken status
+  AllTaken : AreOfEncoder state → (program : Image) → image ≡ Ok program
       → (events : List Event) → AreOfEvents numbers events → taken ≡ length numbers → status ≡ DONE
-      → EndsPushAll base image state numbers taken status
-  NoRoom : AreOfEncoder state → (program : Image) → program_of base image ≡ Ok program
+      → EndsPushAll image state numbers taken status
+  NoRoom : AreOfEncoder state → (program : Image) → image ≡ Ok program
       → (events : List Event) → AreOfEvents (take taken numbers) events
       → (next : Event) → slice_get numbers taken ≡ Some (numbers_of_event next) → status ≡ TOO_SMALL
-      → EndsPushAll base image state numbers taken status
-  NoEvent : AreOfEncoder state → (program : Image) → program_of base image ≡ Ok program
+      → EndsPushAll image state numbers taken status
+  NoEvent : AreOfEncoder state → (program : Image) → image ≡ Ok program
       → (events : List Event) → AreOfEvents (take taken numbers) events
       → (next : EventNumbers) → slice_get numbers taken ≡ Some next → ¬ AreOfEvent next → status ≡ NO_EVENT
-      → EndsPushAll base image state numbers taken status
+      → EndsPushAll image state numbers taken status
 
 -- An image makes a program, the numbers of a state stand for a log, and those of events are of these, which may come
 -- next: the log with them is legal.
-pub record AreNext (base : ℕ) (image : List ℕ) (program : Image) (period : ℕ) (mode : Mode) (log nexts : List Event)
+pub record AreNext (image : Judged) (program : Image) (period : ℕ) (mode : Mode) (log nexts : List Event)
     (state : EncoderNumbers) (numbers : List EventNumbers) : Type 0 where
-  pub made : program_of base image ≡ Ok program
+  pub made : image ≡ Ok program
   pub stand : NumbersStand (words_of program) period mode log state
   pub are : AreOfEvents numbers nexts
   pub legal : Legal (words_of program) (log ++ nexts)

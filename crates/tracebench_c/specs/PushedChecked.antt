@@ -9,44 +9,43 @@ use Rattle.payload.specs.declared.mode.Mode.{Mode}
 use Rattle.retire.specs.declared.event.Event.{Event}
 use Rattle.rvclass.specs.Fetch.{words_of}
 use Rattle.rvclass.specs.Image.{Image}
-use Rattle.rvclass.specs.Program.{program_of}
 use Rattle.rvclass.specs.Words.{Words}
-use Rattle.tracebench_c.specs.Checked.{IsNoProgram}
 use Rattle.tracebench_c.specs.EncoderKept.{AreOfEncoder, IsOfState}
 use Rattle.tracebench_c.specs.Events.{AreOfEvent, numbers_of_event}
 use Rattle.tracebench_c.specs.Followed.{IsFollowed, step_status}
+use Rattle.tracebench_c.specs.Images.{Judged}
 use Rattle.tracebench_c.specs.Pushed.{IsOn}
-use Rattle.tracebench_c.specs.Statuses.{fault_status, why_status}
+use Rattle.tracebench_c.specs.Statuses.{image_status, why_status}
 use Rattle.tracebench_c.specs.declared.encoder_state.EncoderNumbers.{EncoderNumbers}
 use Rattle.tracebench_c.specs.declared.events.EventNumbers.{EventNumbers}
-use Rattle.tracebench_c.specs.declared.fault.Fault.{Fault}
+use Rattle.tracebench_c.specs.declared.fault.ImageFault.{ImageFault}
 use Rattle.tracebench_c.specs.declared.following.StepFault.{StepFault}
 use Rattle.tracebench_c.specs.declared.status.TheConstants.{BAD_STATE, DONE, NO_EVENT, TOO_SMALL}
 
 -- How a push ends that checks the event: the state is no encoder's; or it is one's, and the event is none; or the image
 -- makes no program; or the event may follow the one that the state holds, and the size of the
 -- buffer decides; or it may not.
-pub data EndsPushChecked (base : ℕ) (image : List ℕ) (state : EncoderNumbers) (event : EventNumbers) (status : ℕ)
+pub data EndsPushChecked (image : Judged) (state : EncoderNumbers) (event : EventNumbers) (status : ℕ)
     : Type 0 where
-  BadState : ¬ AreOfEncoder state → status ≡ BAD_STATE → EndsPushChecked base image state event status
+  BadState : ¬ AreOfEncoder state → status ≡ BAD_STATE → EndsPushChecked image state event status
   NoEvent : AreOfEncoder state → ¬ AreOfEvent event → status ≡ NO_EVENT
-      → EndsPushChecked base image state event status
+      → EndsPushChecked image state event status
   NoProgram : AreOfEncoder state → AreOfEvent event
-      → (fault : Fault) → IsNoProgram base image fault → status ≡ fault_status fault
-      → EndsPushChecked base image state event status
+      → (fault : ImageFault) → image ≡ Err fault → status ≡ image_status fault
+      → EndsPushChecked image state event status
   Follows : (kept : EncoderState) → IsOfState state kept → (next : Event) → event ≡ numbers_of_event next
-      → (program : Image) → program_of base image ≡ Ok program
+      → (program : Image) → image ≡ Ok program
       → IsFollowed (words_of program) kept.held next (Ok tt) → (status ≡ DONE) ⊎ (status ≡ TOO_SMALL)
-      → EndsPushChecked base image state event status
+      → EndsPushChecked image state event status
   Refused : (kept : EncoderState) → IsOfState state kept → (next : Event) → event ≡ numbers_of_event next
-      → (program : Image) → program_of base image ≡ Ok program
+      → (program : Image) → image ≡ Ok program
       → (fault : StepFault) → IsFollowed (words_of program) kept.held next (Err fault) → status ≡ step_status fault
-      → EndsPushChecked base image state event status
+      → EndsPushChecked image state event status
 
 -- An image makes a program, the numbers of a state stand for a legal log of it, and those of an event are of this one.
-pub record MayBeNext (base : ℕ) (image : List ℕ) (program : Image) (period : ℕ) (mode : Mode) (log : List Event)
+pub record MayBeNext (image : Judged) (program : Image) (period : ℕ) (mode : Mode) (log : List Event)
     (next : Event) (state : EncoderNumbers) (event : EventNumbers) : Type 0 where
-  pub on : IsOn base image program period mode log state
+  pub on : IsOn image program period mode log state
   pub is : event ≡ numbers_of_event next
 
 -- The log with the event is legal, and the size of the buffer decides; or the event is illegal after the log, and the

@@ -11,6 +11,7 @@ use Rattle.payload.specs.declared.packet.Packet.{Packet}
 use Rattle.tracebench_c.specs.DecoderKept.{AreOfDecoder, HaveMode, PassOver}
 use Rattle.tracebench_c.specs.Encoded.{mode_of}
 use Rattle.tracebench_c.specs.Fed.{ReportsFeed}
+use Rattle.tracebench_c.specs.Images.{Judged}
 use Rattle.tracebench_c.specs.Statuses.{pack_status}
 use Rattle.tracebench_c.specs.declared.decoder_state.DecoderNumbers.{DecoderNumbers}
 use Rattle.tracebench_c.specs.declared.decoder_state.TheConstants.{CLOSED}
@@ -35,26 +36,26 @@ number_status hart number =
 -- before it, from the expected one on, and it is not taken; or it is the expected one, and its payload is fed to the
 -- decoder. Only where all is done the hart changes, and the next number is expected. Else nothing is written but how
 -- many numbers are missing, or what a feed writes.
-pub data ReportsReceive (base : ℕ) (image : List ℕ) (number : ℕ) (payload : List ℕ) (status : ℕ)
+pub data ReportsReceive (image : Judged) (number : ℕ) (payload : List ℕ) (status : ℕ)
     (before after : HartNumbers) (count_before count missing_before missing : ℕ) (old new : List EventNumbers) : Type 0
   where
     Refused : number_status before number ≢ DONE → status ≡ number_status before number
         → after ≡ before → count ≡ count_before → missing ≡ missing_before → new ≡ old
-        → ReportsReceive base image number payload status before after count_before count missing_before missing old new
+        → ReportsReceive image number payload status before after count_before count missing_before missing old new
     NoPacket : number_status before number ≡ DONE → (why : PackFault) → reading payload ≡ Err why
         → status ≡ pack_status why
         → after ≡ before → count ≡ count_before → missing ≡ missing_before → new ≡ old
-        → ReportsReceive base image number payload status before after count_before count missing_before missing old new
+        → ReportsReceive image number payload status before after count_before count missing_before missing old new
     Missing : number_status before number ≡ DONE → (packet : Packet) → reading payload ≡ Ok packet
         → before.expected < number → status ≡ GAP → missing ≡ number - before.expected
         → after ≡ before → count ≡ count_before → new ≡ old
-        → ReportsReceive base image number payload status before after count_before count missing_before missing old new
+        → ReportsReceive image number payload status before after count_before count missing_before missing old new
     Received : number_status before number ≡ DONE → number ≡ before.expected
         → (decoder : DecoderNumbers)
-        → ReportsFeed base image payload status before.decoder decoder count_before count old new
+        → ReportsFeed image payload status before.decoder decoder count_before count old new
         → (status ≡ DONE → after ≡ record { decoder = decoder; expected = number + 1 })
         → (status ≢ DONE → after ≡ before) → missing ≡ missing_before
-        → ReportsReceive base image number payload status before after count_before count missing_before missing old new
+        → ReportsReceive image number payload status before after count_before count missing_before missing old new
 
 -- The decoder passes over packets, in the mode that was announced, or, where none was, in this one. What was announced
 -- stays.

@@ -6,6 +6,8 @@ use Rattle.decoder.specs.declared.fault.DecodeFault.{DecodeFault}
 use Rattle.decoder.specs.declared.fault.DecodeFault.TheVariants as decode
 use Rattle.legalpath.specs.declared.fault.Why.{Why}
 use Rattle.legalpath.specs.declared.fault.Why.TheVariants as path
+use Rattle.memory.specs.declared.fault.PieceFault.{PieceFault}
+use Rattle.memory.specs.declared.fault.PieceFault.TheVariants as piece
 use Rattle.message.specs.declared.fault.DemuxFault.{DemuxFault}
 use Rattle.message.specs.declared.fault.DemuxFault.TheVariants as demux
 use Rattle.message.specs.declared.fault.MessageFault.{MessageFault}
@@ -18,11 +20,14 @@ use Rattle.rvclass.specs.declared.fault.ProgramFault.{ProgramFault}
 use Rattle.rvclass.specs.declared.fault.ProgramFault.TheVariants as image
 use Rattle.tracebench_c.specs.declared.fault.Fault.{Fault}
 use Rattle.tracebench_c.specs.declared.fault.Fault.TheVariants as fault
+use Rattle.tracebench_c.specs.declared.fault.ImageFault.{ImageFault}
+use Rattle.tracebench_c.specs.declared.fault.ImageFault.TheVariants as made
 use Rattle.tracebench_c.specs.declared.status.TheConstants.{MEMORY, NO_HART, OUT_OF_RANGE, BAD_ENDS}
 use Rattle.tracebench_c.specs.declared.status.TheConstants.{SHORT, BAD_LENGTH, UNREAD, UNWRITTEN, BAD_HEADER}
 use Rattle.tracebench_c.specs.declared.status.TheConstants.{EMPTY, TOO_LONG, BAD_PAD, UNSUPPORTED, BAD_PRIVILEGE}
 use Rattle.tracebench_c.specs.declared.status.TheConstants.{BAD_REPORT}
 use Rattle.tracebench_c.specs.declared.status.TheConstants.{ODD_BASE, TOO_LARGE, PAST_END}
+use Rattle.tracebench_c.specs.declared.status.TheConstants.{OVERLAP, TOO_MUCH, TOO_MANY_PIECES, NOT_SORTED}
 use Rattle.tracebench_c.specs.declared.status.TheConstants.{WRONG_HEADER, WRONG_FIELDS, NO_NUMBER, ODD_ADDRESS}
 use Rattle.tracebench_c.specs.declared.status.TheConstants.{WRONG_ROW_TYPE, WRONG_ROW_PRIVILEGE, LARGE_CAUSE}
 use Rattle.tracebench_c.specs.declared.status.TheConstants.{WRONG_TRAP_FIELDS, VALUED_INTERRUPT, TOO_MANY_ROWS}
@@ -82,6 +87,23 @@ program_status image.OddBase = ODD_BASE
 program_status image.TooLarge = TOO_LARGE
 program_status image.PastEnd = PAST_END
 
+-- Why a piece is not added to a program.
+abbrev pub piece_status : PieceFault → ℕ
+piece_status piece.OddBase = ODD_BASE
+piece_status piece.TooLarge = TOO_LARGE
+piece_status piece.PastEnd = PAST_END
+piece_status piece.Overlap = OVERLAP
+piece_status piece.TooMuch = TOO_MUCH
+piece_status piece.TooMany = TOO_MANY_PIECES
+piece_status piece.Memory = MEMORY
+
+-- Why an image makes no program.
+abbrev pub image_status : ImageFault → ℕ
+image_status (made.First why) = program_status why
+image_status (made.Piece why) = piece_status why
+image_status made.NotSorted = NOT_SORTED
+image_status made.Memory = MEMORY
+
 -- Why a text is no log.
 abbrev pub log_status : LogFault → ℕ
 log_status log.Header = WRONG_HEADER
@@ -126,7 +148,7 @@ why_status path.WrongEpc = WRONG_EPC
 -- Why a call gives no answer.
 abbrev pub fault_status : Fault → ℕ
 fault_status fault.Memory = MEMORY
-fault_status (fault.Program why) = program_status why
+fault_status (fault.NoProgram why) = image_status why
 fault_status (fault.Log why) = log_status why
 fault_status (fault.Illegal why) = why_status why.why
 fault_status fault.NoHart = NO_HART
@@ -136,7 +158,7 @@ fault_status fault.Ends = BAD_ENDS
 -- The row that a fault names, counted from 1; 0 where it names none.
 abbrev pub fault_row : Fault → ℕ
 fault_row fault.Memory = 0
-fault_row (fault.Program why) = 0
+fault_row (fault.NoProgram why) = 0
 fault_row (fault.Log why) = log_row why
 fault_row (fault.Illegal why) = why.row
 fault_row fault.NoHart = 0

@@ -5,3 +5,4 @@ pub mod ReadingStates
 pub mod Hearing
 pub mod PushingAll
 pub mod FeedingAll
+pub mod Adding

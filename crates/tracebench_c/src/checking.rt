@@ -1,15 +1,13 @@
 //! Programs and logs from bytes, and which logs are legal.
 
-ghost use Rattle.std.specs.Prelude.{◌≡◌, IfErr, IfOk, Ok};
-ghost use Rattle.rvclass.specs.Image.{image_at};
-ghost use Rattle.rvclass.specs.Program.{program_of};
-ghost use Rattle.tracebench_c.specs.Checked.{ReportsCheck, IsChecked, IsNoProgram};
+ghost use Rattle.tracebench_c.specs.Checked.{ReportsCheck, IsChecked};
+ghost use Rattle.tracebench_c.specs.Images.{judged_image};
 
 use crate::fault::Fault;
+use crate::images::{Judged, judge_image};
 use crate::status::DONE;
 use legalpath::check;
 use retire::read_log_from_slice;
-use rvclass::ProgramOver;
 use std::alloc::Global;
 
 /// Checks that the text of a log is that of a legal log of a program, whose image has its first byte at `base`.
@@ -25,9 +23,17 @@ pub extern "C" fn tracebench_check(
     log: &[u8],
     row: &mut u64,
 ) -> u32
-    ensures { ReportsCheck base image.now log.now result row.new }
+    ensures { ReportsCheck (judged_image base image.now) log.now result row.new }
 {
-    match check_log(alloc, base, image, log) {
+    let judged = judge_image(base, image);
+    report_check(alloc, &judged, log, row)
+}
+
+/// Checks the text of a log, and reports the result.
+pub(crate) fn report_check(alloc: Global, image: &Judged<'_>, log: &[u8], row: &mut u64) -> u32
+    ensures { ReportsCheck image.now log.now result row.new }
+{
+    match check_log(alloc, image, log) {
         Ok(count) => {
             *row = count;
             DONE
@@ -40,21 +46,14 @@ pub extern "C" fn tracebench_check(
 }
 
 /// How many events a legal log has.
-fn check_log(alloc: Global, base: u64, image: &[u8], log: &[u8]) -> Result<u64, Fault>
-    ensures { IsChecked base image.now log.now result }
+fn check_log(alloc: Global, image: &Judged<'_>, log: &[u8]) -> Result<u64, Fault>
+    ensures { IsChecked image.now log.now result }
 {
-    let program = program_of(base, image)?;
+    let program = match image {
+        Ok(program) => program,
+        Err(why) => return Err(Fault::NoProgram(*why)),
+    };
     let events = read_log_from_slice(alloc, alloc, log)?;
-    check(&program, events.as_slice())?;
+    check(program, events.as_slice())?;
     Ok(events.len() as u64)
-}
-
-/// The program of an image, which it borrows.
-pub(crate) fn program_of(base: u64, image: &[u8]) -> Result<ProgramOver<'_>, Fault>
-    ensures program { IfOk result (λ program. program_of base image.now ≡ Ok program) }
-    ensures image { IfOk result (λ program. program ≡ image_at base image.now) }
-    ensures fault { IfErr result (IsNoProgram base image.now) }
-{
-    let program = ProgramOver::borrowed(base, image)?;
-    Ok(program)
 }

@@ -2,12 +2,13 @@
 
 ghost use Rattle.std.specs.Prelude.{◌≡◌};
 ghost use Rattle.tracebench_c.specs.Decoded.{ReportsDecode, IsHartDecoded, closed_at, stop_fault, stop_place};
+ghost use Rattle.tracebench_c.specs.Images.{judged_image};
 ghost use Rattle.tracebench_c.specs.Statuses.{capture_status, decode_status, demux_status};
 
-use crate::checking::program_of;
 use crate::dumping::message_status;
 use crate::fault::Fault;
 use crate::handing::hand_out;
+use crate::images::{Judged, judge_image};
 use crate::packing::pack_status;
 use crate::status::*;
 use captures::{CaptureFault, decode_capture};
@@ -57,10 +58,28 @@ pub extern "C" fn tracebench_decode(
     wanted: &mut u64,
     ended: &mut DecodeEnd,
 ) -> u32
-    ensures { ReportsDecode base image.now harts capture.now hart result wanted.old wanted.new ended.old ended.new
-        buffer.old buffer.new }
+    ensures { ReportsDecode (judged_image base image.now) harts capture.now hart result wanted.old wanted.new ended.old
+        ended.new buffer.old buffer.new }
 {
-    match decode_hart(alloc, base, image, harts, capture, hart) {
+    let judged = judge_image(base, image);
+    report_decode(alloc, &judged, harts, capture, hart, buffer, wanted, ended)
+}
+
+/// Decodes a capture, and reports the log of a hart.
+pub(crate) fn report_decode(
+    alloc: Global,
+    image: &Judged<'_>,
+    harts: u16,
+    capture: &[u8],
+    hart: u16,
+    buffer: &mut [u8],
+    wanted: &mut u64,
+    ended: &mut DecodeEnd,
+) -> u32
+    ensures { ReportsDecode image.now harts capture.now hart result wanted.old wanted.new ended.old ended.new buffer.old
+        buffer.new }
+{
+    match decode_hart(alloc, image, harts, capture, hart) {
         Ok(decoded) => {
             *ended = decoded.end;
             hand_out(decoded.text.as_slice(), buffer, wanted)
@@ -72,16 +91,18 @@ pub extern "C" fn tracebench_decode(
 /// The log of a hart of a capture, as text.
 fn decode_hart(
     alloc: Global,
-    base: u64,
-    image: &[u8],
+    image: &Judged<'_>,
     harts: u16,
     capture: &[u8],
     hart: u16,
 ) -> Result<HartText, Fault>
-    ensures { IsHartDecoded base image.now harts capture.now hart result }
+    ensures { IsHartDecoded image.now harts capture.now hart result }
 {
-    let program = program_of(base, image)?;
-    let outcome = decode_capture(alloc, &program, harts, capture)?;
+    let program = match image {
+        Ok(program) => program,
+        Err(why) => return Err(Fault::NoProgram(*why)),
+    };
+    let outcome = decode_capture(alloc, program, harts, capture)?;
     let place = usize::from(hart);
     let Some(events) = outcome.harts.get(place) else {
         return Err(Fault::NoHart);

@@ -1,15 +1,16 @@
 //! From the texts of logs to a capture.
 
-ghost use Rattle.std.specs.Prelude.{◌≡◌, ◌≤◌, ◌⊎◌, IfErr, IfOk, IfSome, None, Ok, length, option_map};
+ghost use Rattle.std.specs.Prelude.{◌≡◌, ◌≤◌, Err, IfErr, IfOk, IfSome, None, length, option_map};
 ghost use Rattle.message.specs.Version.{most_harts};
-ghost use Rattle.rvclass.specs.Program.{program_of};
-ghost use Rattle.tracebench_c.specs.Checked.{IsNoProgram};
 ghost use Rattle.tracebench_c.specs.Encoded.{AreInRange, AreLogs, IsEncoded, IsLegalText, IsMade, IsNoLegalText};
-ghost use Rattle.tracebench_c.specs.Encoded.{IsOutOfRange, IsRefusedLog, ReportsEncode, mode_of, text_between};
-ghost use Rattle.tracebench_c.specs.Encoded.{version_of};
+ghost use Rattle.tracebench_c.specs.Encoded.{IsOutOfRange, IsRefusedLog, ReportsEncode, ReportsMade, mode_of};
+ghost use Rattle.tracebench_c.specs.Encoded.{text_between, version_of};
+ghost use Rattle.tracebench_c.specs.Images.{judged_image};
 ghost use Rattle.tracebench_c.specs.declared.fault.Fault.TheVariants.{Memory};
+ghost use Rattle.tracebench_c.specs.declared.fault.ImageFault.TheVariants as ImageFault;
 
-use crate::fault::Fault;
+use crate::copying::{Copied, copy_image};
+use crate::fault::{Fault, ImageFault};
 use crate::handing::hand_out;
 use crate::numbers::{DIFFERENTIAL, FULL};
 use captures::encode_capture;
@@ -59,10 +60,23 @@ pub extern "C" fn tracebench_encode(
     wanted: &mut u64,
     place: &mut LogPlace,
 ) -> u32
-    ensures { ReportsEncode base image.now logs.now ends.now period mode version result wanted.old wanted.new place.old
-        place.new buffer.old buffer.new }
+    ensures { ReportsEncode (judged_image base image.now) logs.now ends.now period mode version result wanted.old
+        wanted.new place.old place.new buffer.old buffer.new }
 {
-    match encode_logs(alloc, base, image, logs, ends, period, mode, version) {
+    let made = encode_logs(alloc, base, image, logs, ends, period, mode, version);
+    report_made(made, buffer, wanted, place)
+}
+
+/// Hands out a capture, or reports why there is none.
+pub(crate) fn report_made(
+    made: Result<Vec<u8>, (u64, Fault)>,
+    buffer: &mut [u8],
+    wanted: &mut u64,
+    place: &mut LogPlace,
+) -> u32
+    ensures { ReportsMade made result wanted.old wanted.new place.old place.new buffer.old buffer.new }
+{
+    match made {
         Ok(capture) => hand_out(capture.as_slice(), buffer, wanted),
         Err((log, fault)) => {
             *place = LogPlace {
@@ -85,18 +99,24 @@ fn encode_logs(
     mode: u32,
     version: u32,
 ) -> Result<Vec<u8>, (u64, Fault)>
-    ensures { IsEncoded base image.now logs.now ends.now period mode version result }
+    ensures { IsEncoded (judged_image base image.now) logs.now ends.now period mode version result }
 {
     match settings_of(ends, period, mode, version) {
         Some((mode, version)) => {
-            capture_of_texts(alloc, base, image, logs, ends, period, mode, version)
+            let copied = copy_image(alloc, base, image);
+            capture_of_texts(alloc, &copied, logs, ends, period, mode, version)
         }
         None => Err((0, Fault::Range)),
     }
 }
 
 /// The mode and the version that numbers name, where all are within their ranges.
-fn settings_of(ends: &[u64], period: u16, mode: u32, version: u32) -> Option<(Mode, Version)>
+pub(crate) fn settings_of(
+    ends: &[u64],
+    period: u16,
+    mode: u32,
+    version: u32,
+) -> Option<(Mode, Version)>
     ensures within { IfSome result (λ named. AreInRange ends.now period mode version named.0 named.1) }
     ensures out { result ≡ None → IsOutOfRange ends.now period mode version }
 {
@@ -113,10 +133,9 @@ fn settings_of(ends: &[u64], period: u16, mode: u32, version: u32) -> Option<(Mo
 }
 
 /// The capture of logs in this version, or the log that is at fault and why.
-fn capture_of_texts(
+pub(crate) fn capture_of_texts(
     alloc: Global,
-    base: u64,
-    image: &[u8],
+    copied: &Copied,
     logs: &[u8],
     ends: &[u64],
     period: u16,
@@ -126,29 +145,20 @@ fn capture_of_texts(
     requires period { 1 ≤ period }
     requires some { 1 ≤ length ends.now }
     requires few { length ends.now ≤ most_harts version }
-    ensures { IsMade base image.now logs.now ends.now period mode version result }
+    ensures made { IsMade copied.now logs.now ends.now period mode version result }
+    ensures memory { copied.now ≡ Err ImageFault.Memory → result ≡ Err (0, Memory) }
 {
-    let program = match copied_program(alloc, base, image) {
+    let program = match copied {
         Ok(program) => program,
-        Err(fault) => return Err((0, fault)),
+        Err(ImageFault::Memory) => return Err((0, Fault::Memory)),
+        Err(why) => return Err((0, Fault::NoProgram(*why))),
     };
-    let logs = read_logs(alloc, &program, logs, ends)?;
+    let logs = read_logs(alloc, program, logs, ends)?;
     let mut capture = Vec::new(alloc);
     match encode_capture(logs.as_slice(), period, mode, version, &mut capture) {
         Ok(()) => Ok(capture),
         Err(_) => Err((0, Fault::Memory)),
     }
-}
-
-/// The program of an image, which it copies: a legal log keeps a reference to a program that owns its bytes.
-fn copied_program(alloc: Global, base: u64, image: &[u8]) -> Result<Program, Fault>
-    ensures program { IfOk result (λ program. program_of base image.now ≡ Ok program) }
-    ensures fault { IfErr result (λ fault. (fault ≡ Memory) ⊎ IsNoProgram base image.now fault) }
-{
-    let mut bytes = Vec::with_capacity(alloc, image.len())?;
-    bytes.extend_from_slice(image)?;
-    let program = Program::new(base, bytes)?;
-    Ok(program)
 }
 
 /// The mode of a number.

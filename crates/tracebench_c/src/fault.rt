@@ -1,15 +1,43 @@
 //! Why a call gives no answer.
 
 ghost use Rattle.std.specs.Prelude.{◌≡◌, ◌≤◌};
-ghost use Rattle.tracebench_c.specs.Statuses.{fault_row, fault_status, log_row, log_status, program_status, why_status};
-ghost use Rattle.tracebench_c.specs.declared.fault.Fault.TheVariants.{Memory, Program, Log, Illegal};
+ghost use Rattle.tracebench_c.specs.Statuses.{fault_row, fault_status, image_status, log_row, log_status};
+ghost use Rattle.tracebench_c.specs.Statuses.{piece_status, program_status, why_status};
+ghost use Rattle.tracebench_c.specs.declared.fault.Fault.TheVariants.{Memory, Log, Illegal};
 ghost use Rattle.tracebench_c.specs.declared.status.TheConstants.{OFF_PROGRAM};
 
 use crate::status::*;
 use legalpath::{PathFault, Why};
 use retire::LogFault;
-use rvclass::ProgramFault;
+use rvclass::{PieceFault, ProgramFault};
 use std::alloc::AllocError;
+
+/// Why an image makes no program.
+#[derive(Clone, Copy)]
+pub enum ImageFault {
+    /// The image, or the first piece of one, makes none.
+    First(ProgramFault),
+    /// A piece is not added to those before it. Want of memory is [`ImageFault::Memory`].
+    Piece(PieceFault),
+    /// A piece's base is below that of the piece before it.
+    NotSorted,
+    /// An allocation failed.
+    Memory,
+}
+
+impl ImageFault {
+    /// The fault as a status.
+    pub(crate) fn status(self) -> u32
+        ensures { result ≡ image_status self }
+    {
+        match self {
+            ImageFault::First(why) => program_status(why),
+            ImageFault::Piece(why) => piece_status(why),
+            ImageFault::NotSorted => NOT_SORTED,
+            ImageFault::Memory => MEMORY,
+        }
+    }
+}
 
 /// Why a call gives no answer.
 #[derive(Clone, Copy)]
@@ -17,7 +45,7 @@ pub enum Fault {
     /// An allocation failed.
     Memory,
     /// The image makes no program.
-    Program(ProgramFault),
+    NoProgram(ImageFault),
     /// The text is no log.
     Log(LogFault),
     /// The log is illegal.
@@ -35,14 +63,6 @@ impl From<AllocError> for Fault {
 
     fn from(_error: AllocError) -> Fault {
         Fault::Memory
-    }
-}
-
-impl From<ProgramFault> for Fault {
-    ghost from_gives = { λ why fault. fault ≡ Program why };
-
-    fn from(why: ProgramFault) -> Fault {
-        Fault::Program(why)
     }
 }
 
@@ -69,7 +89,7 @@ impl Fault {
     {
         match self {
             Fault::Memory => MEMORY,
-            Fault::Program(why) => program_status(why),
+            Fault::NoProgram(why) => why.status(),
             Fault::Log(why) => log_status(why),
             Fault::Illegal(why) => why_status(why.why),
             Fault::NoHart => NO_HART,
@@ -84,7 +104,7 @@ impl Fault {
     {
         match self {
             Fault::Memory => 0,
-            Fault::Program(_) => 0,
+            Fault::NoProgram(_) => 0,
             Fault::Log(why) => log_row(why),
             Fault::Illegal(why) => u64::from(why.row),
             Fault::NoHart => 0,
@@ -102,6 +122,21 @@ fn program_status(why: ProgramFault) -> u32
         ProgramFault::OddBase => ODD_BASE,
         ProgramFault::TooLarge => TOO_LARGE,
         ProgramFault::PastEnd => PAST_END,
+    }
+}
+
+/// Why a piece is not added.
+fn piece_status(why: PieceFault) -> u32
+    ensures { result ≡ piece_status why }
+{
+    match why {
+        PieceFault::OddBase => ODD_BASE,
+        PieceFault::TooLarge => TOO_LARGE,
+        PieceFault::PastEnd => PAST_END,
+        PieceFault::Overlap => OVERLAP,
+        PieceFault::TooMuch => TOO_MUCH,
+        PieceFault::TooMany => TOO_MANY_PIECES,
+        PieceFault::Memory => MEMORY,
     }
 }
 

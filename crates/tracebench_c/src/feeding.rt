@@ -4,15 +4,16 @@ ghost use Rattle.std.specs.Prelude.{◌≡◌, [], None, ℕ, List};
 ghost use Rattle.rvclass.specs.Words.{Words};
 ghost use Rattle.tracebench_c.specs.DecoderKept.{HaveMode, NumbersStand};
 ghost use Rattle.tracebench_c.specs.Fed.{GoesOnIfDone, IsFed, ReportsFeed, feed_status};
+ghost use Rattle.tracebench_c.specs.Images.{judged_image, Judged as AnyJudged};
 ghost use Rattle.tracebench_c.specs.declared.decoder_state.DecoderNumbers.{DecoderNumbers as AnyNumbers};
 ghost use Rattle.tracebench_c.specs.steps.FeedingAll.{IsPacketFed, IsToFeed};
 
-use crate::checking::program_of;
 use crate::decoder_state::{DecoderNumbers, numbers_of_state, state_of};
 use crate::decoding::decode_status;
 use crate::events::EventNumbers;
-use crate::fault::Fault;
+use crate::fault::ImageFault;
 use crate::handing::hand_out_events;
+use crate::images::{Judged, judge_image};
 use crate::packing::pack_status;
 use crate::status::{BAD_STATE, DONE};
 use decoder::{DecodeFault, Decoder, DecoderState};
@@ -38,7 +39,7 @@ pub enum FeedFault {
     /// The payload is that of no packet.
     Payload(PackFault),
     /// The image makes no program.
-    Image(Fault),
+    Image(ImageFault),
     /// The decoder refuses the packet.
     Decode(DecodeFault),
 }
@@ -82,10 +83,26 @@ pub extern "C" fn tracebench_feed(
     events: &mut [EventNumbers],
     count: &mut u64,
 ) -> u32
-    ensures { ReportsFeed base image.now payload.now result state.old state.new count.old count.new events.old
-        events.new }
+    ensures { ReportsFeed (judged_image base image.now) payload.now result state.old state.new count.old count.new
+        events.old events.new }
 {
-    match feed_payload(alloc, base, image, state, payload) {
+    let judged = judge_image(base, image);
+    report_feed(alloc, &judged, state, payload, events, count)
+}
+
+/// Feeds a payload to the decoder with these numbers, and reports what came of it.
+#[inline(always)]
+pub(crate) fn report_feed(
+    alloc: Global,
+    image: &Judged<'_>,
+    state: &mut DecoderNumbers,
+    payload: &[u8],
+    events: &mut [EventNumbers],
+    count: &mut u64,
+) -> u32
+    ensures { ReportsFeed image.now payload.now result state.old state.new count.old count.new events.old events.new }
+{
+    match feed_payload(alloc, image, state, payload) {
         Ok(fed) => {
             let status = hand_out_events(fed.events.as_slice(), events, count);
             go_on_if_done(status, state, fed.numbers);
@@ -107,12 +124,11 @@ fn go_on_if_done(status: u32, state: &mut DecoderNumbers, next: DecoderNumbers)
 /// The numbers of the decoder after a payload, and the events that are added.
 fn feed_payload(
     alloc: Global,
-    base: u64,
-    image: &[u8],
+    image: &Judged<'_>,
     numbers: &DecoderNumbers,
     payload: &[u8],
 ) -> Result<FedPayload, FeedFault>
-    ensures { IsFed base image.now payload.now numbers.now result }
+    ensures { IsFed image.now payload.now numbers.now result }
 {
     let Some(state) = state_of(numbers) else {
         return Err(FeedFault::State);
@@ -121,13 +137,13 @@ fn feed_payload(
         Ok(packet) => packet,
         Err(why) => return Err(FeedFault::Payload(why)),
     };
-    let program = match program_of(base, image) {
+    let program = match image {
         Ok(program) => program,
-        Err(why) => return Err(FeedFault::Image(why)),
+        Err(why) => return Err(FeedFault::Image(*why)),
     };
     let mut events = Vec::new(alloc);
     let mut next = state;
-    match feed_packet(&program, &mut next, &packet, &mut events) {
+    match feed_packet(program, &mut next, &packet, &mut events) {
         Ok(numbers) => Ok(FedPayload { numbers, events }),
         Err(why) => Err(FeedFault::Decode(why)),
     }
@@ -141,9 +157,9 @@ pub(crate) fn feed_packet(
     packet: &Packet,
     events: &mut Vec<Event>,
 ) -> Result<DecoderNumbers, DecodeFault>
-    ensures { (base : ℕ) (image payload : List ℕ) (numbers : AnyNumbers) →
-        IsToFeed base image payload numbers program.now packet.now state.old → events.old.items ≡ [] →
-        IsPacketFed base image payload numbers events.new.items state.new result }
+    ensures { (image : AnyJudged) (payload : List ℕ) (numbers : AnyNumbers) →
+        IsToFeed image payload numbers program.now packet.now state.old → events.old.items ≡ [] →
+        IsPacketFed image payload numbers events.new.items state.new result }
 {
     let mut decoder = Decoder::from_state(*state);
     match decoder.feed(program, packet, events) {

@@ -1,18 +1,19 @@
 //! Decoding, many steps at a call: payloads in, their events out.
 
-ghost use Rattle.std.specs.Prelude.{◌≡◌, ◌≤◌, ◌-◌, ℕ, List, length, option_map};
+ghost use Rattle.std.specs.Prelude.{◌≡◌, ◌≤◌, ◌-◌, Ok, length, option_map};
 ghost use Rattle.tracebench_c.specs.DecoderKept.{IsOfState};
 ghost use Rattle.tracebench_c.specs.FedAll.{AreFed, EndsFeeds, ReportsFeedAll};
+ghost use Rattle.tracebench_c.specs.Images.{judged_image, Judged as AnyJudged};
 ghost use Rattle.tracebench_c.specs.declared.status.TheConstants.{DONE};
-ghost use Rattle.tracebench_c.specs.steps.FeedingAll.{IsNextFed, IsProgramOf};
+ghost use Rattle.tracebench_c.specs.steps.FeedingAll.{IsNextFed};
 
-use crate::checking::program_of;
 use crate::decoder_state::{DecoderNumbers, state_of};
 use crate::decoding::decode_status;
 use crate::encoding::text_between;
 use crate::events::EventNumbers;
 use crate::feeding::feed_packet;
 use crate::handing::hand_out_events;
+use crate::images::{Judged, judge_image};
 use crate::packing::pack_status;
 use crate::status::{BAD_STATE, DONE, OUT_OF_RANGE};
 use decoder::DecoderState;
@@ -51,8 +52,27 @@ pub extern "C" fn tracebench_feed_all(
     taken: &mut u64,
     count: &mut u64,
 ) -> u32
-    ensures { ReportsFeedAll base image.now payloads.now ends.now result state.old state.new taken.new count.new
-        events.old events.new }
+    ensures { ReportsFeedAll (judged_image base image.now) payloads.now ends.now result state.old state.new taken.new
+        count.new events.old events.new }
+{
+    let judged = judge_image(base, image);
+    report_feed_all(alloc, &judged, state, payloads, ends, events, taken, count)
+}
+
+/// Feeds payloads to the decoder with these numbers, and reports what came of them.
+#[inline(always)]
+pub(crate) fn report_feed_all(
+    alloc: Global,
+    image: &Judged<'_>,
+    state: &mut DecoderNumbers,
+    payloads: &[u8],
+    ends: &[u64],
+    events: &mut [EventNumbers],
+    taken: &mut u64,
+    count: &mut u64,
+) -> u32
+    ensures { ReportsFeedAll image.now payloads.now ends.now result state.old state.new taken.new count.new events.old
+        events.new }
 {
     *taken = 0;
     *count = 0;
@@ -60,12 +80,12 @@ pub extern "C" fn tracebench_feed_all(
         Some(first) => first,
         None => return BAD_STATE,
     };
-    let program = match program_of(base, image) {
+    let program = match image {
         Ok(program) => program,
         Err(fault) => return fault.status(),
     };
     feed_while_room(
-        alloc, &program, first, state, payloads, ends, events, taken, count,
+        alloc, program, first, state, payloads, ends, events, taken, count,
     )
 }
 
@@ -81,10 +101,10 @@ fn feed_while_room(
     taken: &mut u64,
     count: &mut u64,
 ) -> u32
-    ensures fed { (base : ℕ) (image : List ℕ) → IsProgramOf base image program.now → IsOfState numbers.old first →
-        AreFed base image payloads.now ends.now numbers.old numbers.new taken.new count.new events.old events.new }
-    ensures ends { (base : ℕ) (image : List ℕ) → IsProgramOf base image program.now → IsOfState numbers.old first →
-        EndsFeeds base image payloads.now ends.now taken.new numbers.new (length events.old - count.new) result }
+    ensures fed { (image : AnyJudged) → image ≡ Ok program.now → IsOfState numbers.old first →
+        AreFed image payloads.now ends.now numbers.old numbers.new taken.new count.new events.old events.new }
+    ensures ends { (image : AnyJudged) → image ≡ Ok program.now → IsOfState numbers.old first →
+        EndsFeeds image payloads.now ends.now taken.new numbers.new (length events.old - count.new) result }
 {
     let mut list = Vec::new(alloc);
     let mut kept = first;
@@ -126,8 +146,8 @@ fn feed_next(
     events: &mut [EventNumbers],
     count: &mut u64,
 ) -> u32
-    ensures fed { (base : ℕ) (image : List ℕ) → IsProgramOf base image program.now → IsOfState numbers.old kept.old →
-        IsNextFed base image (option_map (λ own. own.now) payload.entry) result numbers.old numbers.new kept.old
+    ensures fed { (image : AnyJudged) → image ≡ Ok program.now → IsOfState numbers.old kept.old →
+        IsNextFed image (option_map (λ own. own.now) payload.entry) result numbers.old numbers.new kept.old
         kept.new count.new events.old events.new }
     ensures fits { result ≡ DONE → count.new ≤ length events.old }
 {

@@ -5,11 +5,12 @@ ghost use Rattle.retire.specs.Log.{most_rows};
 ghost use Rattle.rvclass.specs.Fetch.{words_of};
 ghost use Rattle.tracebench_c.specs.EventsChecked.{AreChecked, EndsCheckEvents, events_row, events_status};
 ghost use Rattle.tracebench_c.specs.Followed.{EndsFollow, IsFollowed, IsReadBefore, step_status};
+ghost use Rattle.tracebench_c.specs.Images.{judged_image};
 ghost use Rattle.tracebench_c.specs.declared.status.TheConstants.{OFF_PROGRAM};
 
-use crate::checking::program_of;
 use crate::events::{EventNumbers, event_of};
 use crate::fault::why_status;
+use crate::images::{Judged, judge_image};
 use crate::status::{BAD_BEFORE, DONE, NO_EVENT, OUT_OF_RANGE, TOO_MANY_ROWS};
 use legalpath::{PathCheck, PathFault, Why, check};
 use retire::{Event, MOST_ROWS};
@@ -52,7 +53,20 @@ pub extern "C" fn tracebench_follow(
     before: &EventNumbers,
     event: &EventNumbers,
 ) -> u32
-    ensures { EndsFollow base image.now has_before before.now event.now result }
+    ensures { EndsFollow (judged_image base image.now) has_before before.now event.now result }
+{
+    let judged = judge_image(base, image);
+    follow_on(&judged, has_before, before, event)
+}
+
+/// Checks an event after the one before it, if there is one by this flag, or as the first.
+pub(crate) fn follow_on(
+    image: &Judged<'_>,
+    has_before: u32,
+    before: &EventNumbers,
+    event: &EventNumbers,
+) -> u32
+    ensures { EndsFollow image.now has_before before.now event.now result }
 {
     if has_before > 1 {
         return OUT_OF_RANGE;
@@ -64,11 +78,11 @@ pub extern "C" fn tracebench_follow(
         Some(next) => next,
         None => return NO_EVENT,
     };
-    let program = match program_of(base, image) {
+    let program = match image {
         Ok(program) => program,
         Err(fault) => return fault.status(),
     };
-    match judge_step(&program, earlier, next) {
+    match judge_step(program, earlier, next) {
         Ok(()) => DONE,
         Err(fault) => step_status(fault),
     }
@@ -152,9 +166,17 @@ pub extern "C" fn tracebench_check_events(
     events: &[EventNumbers],
     row: &mut u64,
 ) -> u32
-    ensures { EndsCheckEvents base image.now events.now result row.new }
+    ensures { EndsCheckEvents (judged_image base image.now) events.now result row.new }
 {
-    let program = match program_of(base, image) {
+    let judged = judge_image(base, image);
+    report_check_events(&judged, events, row)
+}
+
+/// Checks events as a log, and reports the result.
+pub(crate) fn report_check_events(image: &Judged<'_>, events: &[EventNumbers], row: &mut u64) -> u32
+    ensures { EndsCheckEvents image.now events.now result row.new }
+{
+    let program = match image {
         Ok(program) => program,
         Err(fault) => {
             *row = 0;
@@ -165,7 +187,7 @@ pub extern "C" fn tracebench_check_events(
         *row = 0;
         return TOO_MANY_ROWS;
     }
-    match check_all(&program, events) {
+    match check_all(program, events) {
         Ok(()) => {
             *row = events.len() as u64;
             DONE

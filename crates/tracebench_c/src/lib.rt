@@ -10,6 +10,9 @@
 #![tactic(auto)]
 
 mod checking;
+mod checking_pieces;
+mod coding_pieces;
+mod copying;
 mod decoder_state;
 mod decoding;
 mod dumping;
@@ -19,14 +22,17 @@ mod events;
 mod fault;
 mod feeding;
 mod feeding_all;
+mod feeding_pieces;
 mod following;
 mod handing;
+mod images;
 mod numbers;
 mod packing;
 mod path_audit;
 mod pushing;
 mod pushing_all;
 mod pushing_blocks;
+mod pushing_pieces;
 mod receiving;
 pub mod status;
 #[cfg(test)]
@@ -34,6 +40,11 @@ mod tests;
 mod version;
 
 pub use checking::tracebench_check;
+pub use checking_pieces::{
+    tracebench_check_events_over_pieces, tracebench_check_over_pieces,
+    tracebench_follow_over_pieces,
+};
+pub use coding_pieces::{tracebench_decode_over_pieces, tracebench_encode_over_pieces};
 pub use decoder_state::{CLOSED, DecoderNumbers, PASSING_OVER, RUNNING, UNOPENED};
 pub use decoding::{DecodeEnd, HartText, tracebench_decode};
 pub use dumping::{DumpEnd, tracebench_dump};
@@ -42,10 +53,14 @@ pub use encoder_state::{
 };
 pub use encoding::{LogPlace, VERSION_ONE, VERSION_TWO, tracebench_encode};
 pub use events::{EventNumbers, RETIREMENT, TRAP_TAKEN};
-pub use fault::Fault;
+pub use fault::{Fault, ImageFault};
 pub use feeding::{FedPayload, FeedFault, tracebench_decoder, tracebench_feed};
 pub use feeding_all::tracebench_feed_all;
+pub use feeding_pieces::{
+    tracebench_feed_all_over_pieces, tracebench_feed_over_pieces, tracebench_receive_over_pieces,
+};
 pub use following::{EventsFault, StepFault, tracebench_check_events, tracebench_follow};
+pub use images::ImagePiece;
 pub use numbers::{
     ADDRESS, DIFFERENTIAL, ENDED_NTR, ENDED_REP, FULL, MAP, NOTIFY, OPEN, PLAIN, PacketNumbers,
     SYNC, TRAP, UPDISCON,
@@ -56,5 +71,9 @@ pub use pushing::{
     tracebench_encoder, tracebench_finish, tracebench_push, tracebench_push_checked,
 };
 pub use pushing_all::tracebench_push_all;
+pub use pushing_pieces::{
+    tracebench_finish_over_pieces, tracebench_push_all_over_pieces,
+    tracebench_push_checked_over_pieces, tracebench_push_over_pieces,
+};
 pub use receiving::{HartNumbers, tracebench_receive, tracebench_resume};
 pub use version::tracebench_version;

@@ -12,17 +12,18 @@ ghost use Rattle.rvclass.specs.Image.{Image};
 ghost use Rattle.rvclass.specs.Words.{Words};
 ghost use Rattle.tracebench_c.specs.Encoded.{mode_of};
 ghost use Rattle.tracebench_c.specs.EncoderKept.{AreOfEncoder, NumbersStand};
+ghost use Rattle.tracebench_c.specs.Images.{judged_image};
 ghost use Rattle.tracebench_c.specs.Numbers.{numbers_of};
 ghost use Rattle.tracebench_c.specs.Pushed.{AreFew, AreMore, EndsFinish, EndsPush, IsNext, IsOn, new_status};
 ghost use Rattle.tracebench_c.specs.PushedChecked.{EndsPushChecked, JudgesNext, MayBeNext};
 ghost use Rattle.tracebench_c.specs.declared.status.TheConstants.{DONE, TOO_SMALL};
 
-use crate::checking::program_of;
 use crate::encoder_state::{EncoderNumbers, numbers_of_state, state_of};
 use crate::encoding::mode_of;
 use crate::events::{EventNumbers, event_of};
 use crate::following::{judge_step, step_status};
 use crate::handing::hand_out_packets;
+use crate::images::{Judged, judge_image};
 use crate::numbers::{PacketNumbers, numbers_of};
 use crate::status::{BAD_STATE, DONE, NO_EVENT, OUT_OF_RANGE};
 use encoder::{Encoder, EncoderState};
@@ -79,12 +80,39 @@ pub extern "C" fn tracebench_push(
     packets: &mut [PacketNumbers],
     count: &mut u64,
 ) -> u32
-    ensures ends { EndsPush base image.now state.old event.now result }
+    ensures ends { EndsPush (judged_image base image.now) state.old event.now result }
     ensures stands { (program : Image) (period : ℕ) (mode : Mode) (log : List AnyEvent) (next : AnyEvent) →
-        IsNext base image.now program period mode log next state.old event.now → result ≡ DONE →
+        IsNext (judged_image base image.now) program period mode log next state.old event.now → result ≡ DONE →
         NumbersStand (words_of program) period mode (log ++ next ∷ []) state.new }
     ensures packets { (program : Image) (period : ℕ) (mode : Mode) (log : List AnyEvent) (next : AnyEvent) →
-        IsNext base image.now program period mode log next state.old event.now →
+        IsNext (judged_image base image.now) program period mode log next state.old event.now →
+        AreMore (packets_so_far (words_of program) period mode log)
+        (packets_so_far (words_of program) period mode (log ++ next ∷ [])) result count.new packets.old packets.new }
+    ensures refused { result ≢ DONE → (state.new ≡ state.old) × (packets.new ≡ packets.old) }
+    ensures counted { result ≢ DONE → result ≢ TOO_SMALL → count.new ≡ count.old }
+    ensures two { result ≡ TOO_SMALL → length packets.old < 2 }
+    ensures few { (result ≡ DONE) ⊎ (result ≡ TOO_SMALL) → AreFew result count.new packets.old packets.new }
+    ensures again { result ≡ DONE → AreOfEncoder state.new }
+{
+    let judged = judge_image(base, image);
+    push_over(&judged, state, event, packets, count)
+}
+
+/// Pushes an event, where the state and the event are read and there is a program.
+#[inline(always)]
+pub(crate) fn push_over(
+    image: &Judged<'_>,
+    state: &mut EncoderNumbers,
+    event: &EventNumbers,
+    packets: &mut [PacketNumbers],
+    count: &mut u64,
+) -> u32
+    ensures ends { EndsPush image.now state.old event.now result }
+    ensures stands { (program : Image) (period : ℕ) (mode : Mode) (log : List AnyEvent) (next : AnyEvent) →
+        IsNext image.now program period mode log next state.old event.now → result ≡ DONE →
+        NumbersStand (words_of program) period mode (log ++ next ∷ []) state.new }
+    ensures packets { (program : Image) (period : ℕ) (mode : Mode) (log : List AnyEvent) (next : AnyEvent) →
+        IsNext image.now program period mode log next state.old event.now →
         AreMore (packets_so_far (words_of program) period mode log)
         (packets_so_far (words_of program) period mode (log ++ next ∷ [])) result count.new packets.old packets.new }
     ensures refused { result ≢ DONE → (state.new ≡ state.old) × (packets.new ≡ packets.old) }
@@ -99,11 +127,11 @@ pub extern "C" fn tracebench_push(
     let Some(event) = event_of(event) else {
         return NO_EVENT;
     };
-    let program = match program_of(base, image) {
+    let program = match image {
         Ok(program) => program,
         Err(fault) => return fault.status(),
     };
-    push_event(&program, before, event, state, packets, count)
+    push_event(program, before, event, state, packets, count)
 }
 
 /// As [`tracebench_push`], where the event is legal after the last one of the log. Where it is not, the status says
@@ -125,15 +153,45 @@ pub extern "C" fn tracebench_push_checked(
     packets: &mut [PacketNumbers],
     count: &mut u64,
 ) -> u32
-    ensures ends { EndsPushChecked base image.now state.old event.now result }
+    ensures ends { EndsPushChecked (judged_image base image.now) state.old event.now result }
     ensures judged { (program : Image) (period : ℕ) (mode : Mode) (log : List AnyEvent) (next : AnyEvent) →
-        MayBeNext base image.now program period mode log next state.old event.now →
+        MayBeNext (judged_image base image.now) program period mode log next state.old event.now →
         JudgesNext (words_of program) log next result }
     ensures stands { (program : Image) (period : ℕ) (mode : Mode) (log : List AnyEvent) (next : AnyEvent) →
-        MayBeNext base image.now program period mode log next state.old event.now → result ≡ DONE →
+        MayBeNext (judged_image base image.now) program period mode log next state.old event.now → result ≡ DONE →
         NumbersStand (words_of program) period mode (log ++ next ∷ []) state.new }
     ensures packets { (program : Image) (period : ℕ) (mode : Mode) (log : List AnyEvent) (next : AnyEvent) →
-        MayBeNext base image.now program period mode log next state.old event.now →
+        MayBeNext (judged_image base image.now) program period mode log next state.old event.now →
+        (result ≡ DONE) ⊎ (result ≡ TOO_SMALL) →
+        AreMore (packets_so_far (words_of program) period mode log)
+        (packets_so_far (words_of program) period mode (log ++ next ∷ [])) result count.new packets.old packets.new }
+    ensures refused { result ≢ DONE → (state.new ≡ state.old) × (packets.new ≡ packets.old) }
+    ensures counted { result ≢ DONE → result ≢ TOO_SMALL → count.new ≡ count.old }
+    ensures two { result ≡ TOO_SMALL → length packets.old < 2 }
+    ensures few { (result ≡ DONE) ⊎ (result ≡ TOO_SMALL) → AreFew result count.new packets.old packets.new }
+    ensures again { result ≡ DONE → AreOfEncoder state.new }
+{
+    let judged = judge_image(base, image);
+    push_checked_over(&judged, state, event, packets, count)
+}
+
+/// Pushes an event that is legal after the last one, where the state and the event are read and there is a program.
+pub(crate) fn push_checked_over(
+    image: &Judged<'_>,
+    state: &mut EncoderNumbers,
+    event: &EventNumbers,
+    packets: &mut [PacketNumbers],
+    count: &mut u64,
+) -> u32
+    ensures ends { EndsPushChecked image.now state.old event.now result }
+    ensures judged { (program : Image) (period : ℕ) (mode : Mode) (log : List AnyEvent) (next : AnyEvent) →
+        MayBeNext image.now program period mode log next state.old event.now →
+        JudgesNext (words_of program) log next result }
+    ensures stands { (program : Image) (period : ℕ) (mode : Mode) (log : List AnyEvent) (next : AnyEvent) →
+        MayBeNext image.now program period mode log next state.old event.now → result ≡ DONE →
+        NumbersStand (words_of program) period mode (log ++ next ∷ []) state.new }
+    ensures packets { (program : Image) (period : ℕ) (mode : Mode) (log : List AnyEvent) (next : AnyEvent) →
+        MayBeNext image.now program period mode log next state.old event.now →
         (result ≡ DONE) ⊎ (result ≡ TOO_SMALL) →
         AreMore (packets_so_far (words_of program) period mode log)
         (packets_so_far (words_of program) period mode (log ++ next ∷ [])) result count.new packets.old packets.new }
@@ -151,12 +209,12 @@ pub extern "C" fn tracebench_push_checked(
         Some(event) => event,
         None => return NO_EVENT,
     };
-    let program = match program_of(base, image) {
+    let program = match image {
         Ok(program) => program,
         Err(fault) => return fault.status(),
     };
-    match judge_step(&program, before.held, event) {
-        Ok(()) => push_event(&program, before, event, state, packets, count),
+    match judge_step(program, before.held, event) {
+        Ok(()) => push_event(program, before, event, state, packets, count),
         Err(fault) => step_status(fault),
     }
 }
@@ -211,9 +269,31 @@ pub extern "C" fn tracebench_finish(
     packets: &mut [PacketNumbers],
     count: &mut u64,
 ) -> u32
-    ensures ends { EndsFinish base image.now state.now result }
+    ensures ends { EndsFinish (judged_image base image.now) state.now result }
     ensures packets { (program : Image) (period : ℕ) (mode : Mode) (log : List AnyEvent) →
-        IsOn base image.now program period mode log state.now →
+        IsOn (judged_image base image.now) program period mode log state.now →
+        AreMore (packets_so_far (words_of program) period mode log) (packets_of (words_of program) period mode log)
+        result count.new packets.old packets.new }
+    ensures refused { result ≢ DONE → packets.new ≡ packets.old }
+    ensures counted { result ≢ DONE → result ≢ TOO_SMALL → count.new ≡ count.old }
+    ensures two { result ≡ TOO_SMALL → length packets.old < 2 }
+    ensures few { (result ≡ DONE) ⊎ (result ≡ TOO_SMALL) → AreFew result count.new packets.old packets.new }
+{
+    let judged = judge_image(base, image);
+    finish_over(&judged, state, packets, count)
+}
+
+/// Takes the end of a log, where the state is read and there is a program.
+#[inline(always)]
+pub(crate) fn finish_over(
+    image: &Judged<'_>,
+    state: &EncoderNumbers,
+    packets: &mut [PacketNumbers],
+    count: &mut u64,
+) -> u32
+    ensures ends { EndsFinish image.now state.now result }
+    ensures packets { (program : Image) (period : ℕ) (mode : Mode) (log : List AnyEvent) →
+        IsOn image.now program period mode log state.now →
         AreMore (packets_so_far (words_of program) period mode log) (packets_of (words_of program) period mode log)
         result count.new packets.old packets.new }
     ensures refused { result ≢ DONE → packets.new ≡ packets.old }
@@ -224,10 +304,10 @@ pub extern "C" fn tracebench_finish(
     let Some(kept) = state_of(state) else {
         return BAD_STATE;
     };
-    let program = match program_of(base, image) {
+    let program = match image {
         Ok(program) => program,
         Err(fault) => return fault.status(),
     };
-    let burst = Encoder::from_state(kept).finish(&program);
+    let burst = Encoder::from_state(kept).finish(program);
     hand_out_packets(burst.as_slice(), packets, count)
 }

@@ -7,14 +7,15 @@ ghost use Rattle.retire.specs.declared.event.Event.{Event as AnyEvent};
 ghost use Rattle.rvclass.specs.Fetch.{words_of};
 ghost use Rattle.rvclass.specs.Image.{Image};
 ghost use Rattle.tracebench_c.specs.EncoderKept.{AreOfEncoder, NumbersStand};
+ghost use Rattle.tracebench_c.specs.Images.{judged_image};
 ghost use Rattle.tracebench_c.specs.PushedAll.{AreNext, AreWritten, EndsPushAll, FillRoom, HaveNoRoom};
 ghost use Rattle.tracebench_c.specs.declared.status.TheConstants.{TOO_SMALL};
 ghost use Rattle.tracebench_c.specs.steps.PushingAll.{ArePushed, EndsPushes, IsPushed};
 
-use crate::checking::program_of;
 use crate::encoder_state::{EncoderNumbers, numbers_of_state, state_of};
 use crate::events::{EventNumbers, event_of};
 use crate::handing::hand_out_packets;
+use crate::images::{Judged, judge_image};
 use crate::numbers::PacketNumbers;
 use crate::pushing_blocks::push_blocks;
 use crate::status::{BAD_STATE, DONE, NO_EVENT};
@@ -45,17 +46,50 @@ pub extern "C" fn tracebench_push_all(
     taken: &mut u64,
     count: &mut u64,
 ) -> u32
-    ensures ends { EndsPushAll base image.now state.old events.now taken.new result }
+    ensures ends { EndsPushAll (judged_image base image.now) state.old events.now taken.new result }
     ensures stands { (program : Image) (period : ℕ) (mode : Mode) (log nexts : List AnyEvent) →
-        AreNext base image.now program period mode log nexts state.old (take taken.new events.now) →
+        AreNext (judged_image base image.now) program period mode log nexts state.old (take taken.new events.now) →
         NumbersStand (words_of program) period mode (log ++ nexts) state.new }
     ensures packets { (program : Image) (period : ℕ) (mode : Mode) (log nexts : List AnyEvent) →
-        AreNext base image.now program period mode log nexts state.old (take taken.new events.now) →
+        AreNext (judged_image base image.now) program period mode log nexts state.old (take taken.new events.now) →
         AreWritten (packets_so_far (words_of program) period mode log)
         (packets_so_far (words_of program) period mode (log ++ nexts)) count.new packets.old packets.new }
     ensures no_room { (program : Image) (period : ℕ) (mode : Mode) (log nexts : List AnyEvent) (next : AnyEvent) →
         result ≡ TOO_SMALL →
-        AreNext base image.now program period mode log (nexts ++ next ∷ []) state.old
+        AreNext (judged_image base image.now) program period mode log (nexts ++ next ∷ []) state.old
+        (take (taken.new + 1) events.now) →
+        HaveNoRoom (packets_so_far (words_of program) period mode (log ++ nexts))
+        (packets_so_far (words_of program) period mode (log ++ nexts ++ next ∷ [])) count.new packets.old }
+    ensures two { result ≡ TOO_SMALL → length packets.old < count.new + 2 }
+    ensures fill { FillRoom taken.new count.new packets.old packets.new }
+    ensures untaken { taken.new ≡ 0 → (state.new ≡ state.old) × (packets.new ≡ packets.old) }
+    ensures again { AreOfEncoder state.old → AreOfEncoder state.new }
+{
+    let judged = judge_image(base, image);
+    push_all_over(&judged, state, events, packets, taken, count)
+}
+
+/// Pushes events as long as their packets have room, where the state is read and there is a program.
+#[inline(always)]
+pub(crate) fn push_all_over(
+    image: &Judged<'_>,
+    state: &mut EncoderNumbers,
+    events: &[EventNumbers],
+    packets: &mut [PacketNumbers],
+    taken: &mut u64,
+    count: &mut u64,
+) -> u32
+    ensures ends { EndsPushAll image.now state.old events.now taken.new result }
+    ensures stands { (program : Image) (period : ℕ) (mode : Mode) (log nexts : List AnyEvent) →
+        AreNext image.now program period mode log nexts state.old (take taken.new events.now) →
+        NumbersStand (words_of program) period mode (log ++ nexts) state.new }
+    ensures packets { (program : Image) (period : ℕ) (mode : Mode) (log nexts : List AnyEvent) →
+        AreNext image.now program period mode log nexts state.old (take taken.new events.now) →
+        AreWritten (packets_so_far (words_of program) period mode log)
+        (packets_so_far (words_of program) period mode (log ++ nexts)) count.new packets.old packets.new }
+    ensures no_room { (program : Image) (period : ℕ) (mode : Mode) (log nexts : List AnyEvent) (next : AnyEvent) →
+        result ≡ TOO_SMALL →
+        AreNext image.now program period mode log (nexts ++ next ∷ []) state.old
         (take (taken.new + 1) events.now) →
         HaveNoRoom (packets_so_far (words_of program) period mode (log ++ nexts))
         (packets_so_far (words_of program) period mode (log ++ nexts ++ next ∷ [])) count.new packets.old }
@@ -70,12 +104,12 @@ pub extern "C" fn tracebench_push_all(
         Some(before) => before,
         None => return BAD_STATE,
     };
-    let program = match program_of(base, image) {
+    let program = match image {
         Ok(program) => program,
         Err(fault) => return fault.status(),
     };
     let mut encoder = Encoder::from_state(before);
-    let status = push_while_room(&program, &mut encoder, events, packets, taken, count);
+    let status = push_while_room(program, &mut encoder, events, packets, taken, count);
     *state = numbers_of_state(&encoder.state());
     status
 }

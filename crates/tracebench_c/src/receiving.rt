@@ -3,13 +3,15 @@
 ghost use Rattle.std.specs.Prelude.{◌≡◌, ◌<◌, ◌≤◌};
 ghost use Rattle.message.specs.Harts.{end_of_numbers};
 ghost use Rattle.tracebench_c.specs.DecoderKept.{AreClosed};
+ghost use Rattle.tracebench_c.specs.Images.{judged_image};
 ghost use Rattle.tracebench_c.specs.Received.{ReportsReceive, ReportsResume, number_status};
 ghost use Rattle.tracebench_c.specs.declared.status.TheConstants.{DONE};
 
 use crate::decoder_state::{CLOSED, DecoderNumbers, numbers_of_state, state_of};
 use crate::encoding::mode_of;
 use crate::events::EventNumbers;
-use crate::feeding::tracebench_feed;
+use crate::feeding::report_feed;
+use crate::images::{Judged, judge_image};
 use crate::packing::pack_status;
 use crate::status::{AFTER_CLOSE, BAD_STATE, DONE, GAP, OUT_OF_RANGE, REPEAT};
 use decoder::Decoder;
@@ -42,7 +44,7 @@ pub struct HartNumbers {
 /// - [`OUT_OF_RANGE`]: the number is 2^63 or more.
 /// - [`EMPTY`](crate::status::EMPTY) to [`BAD_REPORT`](crate::status::BAD_REPORT): the payload is that of no packet.
 ///   This comes before [`GAP`].
-/// - Those of [`tracebench_feed`]. With [`TOO_SMALL`](crate::status::TOO_SMALL) `count` is written.
+/// - Those of [`tracebench_feed`](crate::tracebench_feed). With [`TOO_SMALL`](crate::status::TOO_SMALL) `count` is written.
 #[unsafe(no_mangle)]
 pub extern "C" fn tracebench_receive(
     alloc: Global,
@@ -55,7 +57,27 @@ pub extern "C" fn tracebench_receive(
     count: &mut u64,
     missing: &mut u64,
 ) -> u32
-    ensures { ReportsReceive base image.now number payload.now result hart.old hart.new count.old count.new missing.old
+    ensures { ReportsReceive (judged_image base image.now) number payload.now result hart.old hart.new count.old
+        count.new missing.old missing.new events.old events.new }
+{
+    let judged = judge_image(base, image);
+    report_receive(
+        alloc, &judged, hart, number, payload, events, count, missing,
+    )
+}
+
+/// Takes the next message of a hart, and reports what came of it.
+pub(crate) fn report_receive(
+    alloc: Global,
+    image: &Judged<'_>,
+    hart: &mut HartNumbers,
+    number: u64,
+    payload: &[u8],
+    events: &mut [EventNumbers],
+    count: &mut u64,
+    missing: &mut u64,
+) -> u32
+    ensures { ReportsReceive image.now number payload.now result hart.old hart.new count.old count.new missing.old
         missing.new events.old events.new }
 {
     let said = number_status(hart, number);
@@ -71,7 +93,7 @@ pub extern "C" fn tracebench_receive(
         return GAP;
     }
     let mut decoder = hart.decoder;
-    let status = tracebench_feed(alloc, base, image, &mut decoder, payload, events, count);
+    let status = report_feed(alloc, image, &mut decoder, payload, events, count);
     if status == DONE {
         *hart = HartNumbers {
             decoder,

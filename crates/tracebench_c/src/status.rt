@@ -54,14 +54,26 @@ pub const BAD_REPORT: u32 = 37;
 /// No packet of the profile has these numbers.
 pub const NO_PACKET: u32 = 38;
 
-/// An image has an odd base.
+/// An image, or a piece of one, has an odd base.
 pub const ODD_BASE: u32 = 48;
 
-/// An image has more than 2^24 bytes.
+/// An image, or a piece of one, has more than 2^24 bytes.
 pub const TOO_LARGE: u32 = 49;
 
-/// The address after an image's last byte is 2^64 or more.
+/// The address after the last byte of an image, or of a piece of one, is 2^64 or more.
 pub const PAST_END: u32 = 50;
+
+/// A byte of a piece has the address of a byte of a piece before it.
+pub const OVERLAP: u32 = 51;
+
+/// Pieces have more than 2^26 bytes in all.
+pub const TOO_MUCH: u32 = 52;
+
+/// There are more than 1,024 pieces.
+pub const TOO_MANY_PIECES: u32 = 53;
+
+/// A piece's base is below that of the piece before it.
+pub const NOT_SORTED: u32 = 54;
 
 /// The first record of a log is not `addr,itype,priv,cause,tval`, or there is none.
 pub const WRONG_HEADER: u32 = 64;
@@ -178,7 +190,11 @@ const _: () = prove!(
         && NO_PACKET < ODD_BASE
         && ODD_BASE < TOO_LARGE
         && TOO_LARGE < PAST_END
-        && PAST_END < WRONG_HEADER
+        && PAST_END < OVERLAP
+        && OVERLAP < TOO_MUCH
+        && TOO_MUCH < TOO_MANY_PIECES
+        && TOO_MANY_PIECES < NOT_SORTED
+        && NOT_SORTED < WRONG_HEADER
         && WRONG_HEADER < WRONG_FIELDS
         && WRONG_FIELDS < NO_NUMBER
         && NO_NUMBER < ODD_ADDRESS

@@ -14,8 +14,10 @@ mod large;
 mod many_steps;
 mod packed;
 mod payload_traces;
+mod pieces;
 mod pushed;
 mod received;
+mod refused_pieces;
 mod rows;
 mod versions;
 

@@ -6,6 +6,11 @@
 #define UP_TO(type, field) (offsetof(type, field) + sizeof(((type *)0)->field))
 
 #define IMAGE given->base, given->image.at, given->image.length
+#define PIECES (const struct tracebench_piece *)(const void *)given->pieces.at, \
+               given->pieces.length / sizeof(struct tracebench_piece)
+/* A call over the image, or over the pieces where there are any. */
+#define OVER(call, ...) \
+    (given->in_pieces ? call##_over_pieces(PIECES, __VA_ARGS__) : call(IMAGE, __VA_ARGS__))
 #define BYTES given->bytes.at, given->bytes.length
 #define OTHER given->other.at, given->other.length
 #define EVENT(slice) (const struct tracebench_event *)(const void *)given->slice.at
@@ -26,12 +31,12 @@ static uint32_t make_unpack(const struct given *given, struct answer *answer) {
 }
 
 static uint32_t make_check(const struct given *given, struct answer *answer) {
-    return tracebench_check(IMAGE, BYTES, FIRST);
+    return OVER(tracebench_check, BYTES, FIRST);
 }
 
 static uint32_t make_encode(const struct given *given, struct answer *answer) {
     const uint64_t *ends = (const uint64_t *)(const void *)given->other.at;
-    return tracebench_encode(IMAGE, BYTES, ends, given->other.length / sizeof *ends, given->period, given->mode,
+    return OVER(tracebench_encode, BYTES, ends, given->other.length / sizeof *ends, given->period, given->mode,
                              given->version, BUFFER, FIRST);
 }
 
@@ -40,7 +45,7 @@ static uint32_t make_dump(const struct given *given, struct answer *answer) {
 }
 
 static uint32_t make_decode(const struct given *given, struct answer *answer) {
-    return tracebench_decode(IMAGE, given->harts, BYTES, given->hart, BUFFER, FIRST);
+    return OVER(tracebench_decode, given->harts, BYTES, given->hart, BUFFER, FIRST);
 }
 
 static uint32_t make_audit(const struct given *given, struct answer *answer) {
@@ -52,11 +57,11 @@ static uint32_t make_encoder(const struct given *given, struct answer *answer) {
 }
 
 static uint32_t make_push(const struct given *given, struct answer *answer) {
-    return tracebench_push(IMAGE, FIRST, EVENT(other), PACKETS);
+    return OVER(tracebench_push, FIRST, EVENT(other), PACKETS);
 }
 
 static uint32_t make_push_checked(const struct given *given, struct answer *answer) {
-    return tracebench_push_checked(IMAGE, FIRST, EVENT(other), PACKETS);
+    return OVER(tracebench_push_checked, FIRST, EVENT(other), PACKETS);
 }
 
 /* How far a call of many steps came, and the elements that it wrote, all in one slice. */
@@ -64,13 +69,13 @@ static uint32_t make_push_checked(const struct given *given, struct answer *answ
                       (uint64_t *)(void *)answer->second.at, (uint64_t *)(void *)(answer->second.at + 8)
 
 static uint32_t make_push_all(const struct given *given, struct answer *answer) {
-    return tracebench_push_all(IMAGE, FIRST, EVENT(bytes), given->bytes.length / sizeof(struct tracebench_event),
+    return OVER(tracebench_push_all, FIRST, EVENT(bytes), given->bytes.length / sizeof(struct tracebench_event),
                                AT_ONCE(struct tracebench_packet));
 }
 
 static uint32_t make_feed_all(const struct given *given, struct answer *answer) {
     const uint64_t *ends = (const uint64_t *)(const void *)given->other.at;
-    return tracebench_feed_all(IMAGE, FIRST, BYTES, ends, given->other.length / sizeof *ends,
+    return OVER(tracebench_feed_all, FIRST, BYTES, ends, given->other.length / sizeof *ends,
                                AT_ONCE(struct tracebench_event));
 }
 
@@ -81,15 +86,15 @@ static uint32_t make_version(const struct given *given, struct answer *answer) {
 
 static uint32_t make_follow(const struct given *given, struct answer *answer) {
     (void)answer;
-    return tracebench_follow(IMAGE, given->mode, EVENT(state), EVENT(other));
+    return OVER(tracebench_follow, given->mode, EVENT(state), EVENT(other));
 }
 
 static uint32_t make_check_events(const struct given *given, struct answer *answer) {
-    return tracebench_check_events(IMAGE, EVENT(bytes), given->bytes.length / sizeof(struct tracebench_event), FIRST);
+    return OVER(tracebench_check_events, EVENT(bytes), given->bytes.length / sizeof(struct tracebench_event), FIRST);
 }
 
 static uint32_t make_finish(const struct given *given, struct answer *answer) {
-    return tracebench_finish(IMAGE, (const struct tracebench_encoder_state *)(const void *)given->state.at, PACKETS);
+    return OVER(tracebench_finish, (const struct tracebench_encoder_state *)(const void *)given->state.at, PACKETS);
 }
 
 static uint32_t make_decoder(const struct given *given, struct answer *answer) {
@@ -99,11 +104,11 @@ static uint32_t make_decoder(const struct given *given, struct answer *answer) {
 }
 
 static uint32_t make_feed(const struct given *given, struct answer *answer) {
-    return tracebench_feed(IMAGE, FIRST, BYTES, EVENTS);
+    return OVER(tracebench_feed, FIRST, BYTES, EVENTS);
 }
 
 static uint32_t make_receive(const struct given *given, struct answer *answer) {
-    return tracebench_receive(IMAGE, FIRST, given->number, BYTES, EVENTS, SECOND);
+    return OVER(tracebench_receive, FIRST, given->number, BYTES, EVENTS, SECOND);
 }
 
 static uint32_t make_resume(const struct given *given, struct answer *answer) {
@@ -150,45 +155,45 @@ static uint32_t audit_fault(const struct answer *answer) { return audit_end_of(a
 
 static const struct span of_pack[] = {ONE(DONE), ONE(TOO_SMALL), ONE(NO_PACKET), END};
 static const struct span of_unpack[] = {ONE(DONE), SPAN(EMPTY, BAD_REPORT), END};
-static const struct span of_check[] = {ONE(DONE), ONE(MEMORY), SPAN(ODD_BASE, PAST_END),
+static const struct span of_check[] = {ONE(DONE), ONE(MEMORY), SPAN(ODD_BASE, NOT_SORTED),
                                        SPAN(WRONG_HEADER, TOO_MANY_ROWS), SPAN(OFF_PROGRAM, WRONG_EPC), END};
 static const struct span of_encode[] = {ONE(DONE), ONE(TOO_SMALL), ONE(MEMORY), ONE(OUT_OF_RANGE), ONE(BAD_ENDS),
-                                        SPAN(ODD_BASE, PAST_END), SPAN(WRONG_HEADER, TOO_MANY_ROWS),
+                                        SPAN(ODD_BASE, NOT_SORTED), SPAN(WRONG_HEADER, TOO_MANY_ROWS),
                                         SPAN(OFF_PROGRAM, WRONG_EPC), END};
 static const struct span of_dump[] = {ONE(DONE), ONE(TOO_SMALL), ONE(MEMORY), END};
 static const struct span of_decode[] = {ONE(DONE), ONE(TOO_SMALL), ONE(NO_HART), ONE(MEMORY),
-                                        SPAN(ODD_BASE, PAST_END), END};
+                                        SPAN(ODD_BASE, NOT_SORTED), END};
 static const struct span of_audit[] = {ONE(DONE), ONE(NO_HART), ONE(MEMORY), ONE(SHORT), ONE(BAD_LENGTH),
                                        ONE(BAD_HEADER), ONE(STRANGER), ONE(REPEAT), ONE(GAP), END};
 
 static const struct span of_encoder[] = {ONE(DONE), ONE(OUT_OF_RANGE), END};
-static const struct span of_push[] = {ONE(DONE), ONE(TOO_SMALL), ONE(MEMORY), SPAN(ODD_BASE, PAST_END),
+static const struct span of_push[] = {ONE(DONE), ONE(TOO_SMALL), ONE(MEMORY), SPAN(ODD_BASE, NOT_SORTED),
                                       ONE(BAD_STATE), ONE(NO_EVENT), END};
-static const struct span of_push_checked[] = {ONE(DONE), ONE(TOO_SMALL), ONE(MEMORY), SPAN(ODD_BASE, PAST_END),
+static const struct span of_push_checked[] = {ONE(DONE), ONE(TOO_SMALL), ONE(MEMORY), SPAN(ODD_BASE, NOT_SORTED),
                                               SPAN(OFF_PROGRAM, WRONG_EPC), ONE(BAD_STATE), ONE(NO_EVENT),
                                               ONE(BAD_BEFORE), END};
-static const struct span of_follow[] = {ONE(DONE), ONE(MEMORY), ONE(OUT_OF_RANGE), SPAN(ODD_BASE, PAST_END),
+static const struct span of_follow[] = {ONE(DONE), ONE(MEMORY), ONE(OUT_OF_RANGE), SPAN(ODD_BASE, NOT_SORTED),
                                         SPAN(OFF_PROGRAM, WRONG_EPC), ONE(NO_EVENT), ONE(BAD_BEFORE), END};
-static const struct span of_check_events[] = {ONE(DONE), ONE(MEMORY), SPAN(ODD_BASE, PAST_END), ONE(TOO_MANY_ROWS),
+static const struct span of_check_events[] = {ONE(DONE), ONE(MEMORY), SPAN(ODD_BASE, NOT_SORTED), ONE(TOO_MANY_ROWS),
                                               SPAN(OFF_PROGRAM, WRONG_EPC), ONE(NO_EVENT), END};
-static const struct span of_finish[] = {ONE(DONE), ONE(TOO_SMALL), ONE(MEMORY), SPAN(ODD_BASE, PAST_END),
+static const struct span of_finish[] = {ONE(DONE), ONE(TOO_SMALL), ONE(MEMORY), SPAN(ODD_BASE, NOT_SORTED),
                                         ONE(BAD_STATE), END};
 static const struct span of_decoder[] = {ONE(DONE), END};
 static const struct span of_feed[] = {ONE(DONE), ONE(TOO_SMALL), ONE(MEMORY), SPAN(EMPTY, BAD_REPORT),
-                                      SPAN(ODD_BASE, PAST_END), SPAN(NOT_OPENED, AFTER_CLOSING_PACKET),
+                                      SPAN(ODD_BASE, NOT_SORTED), SPAN(NOT_OPENED, AFTER_CLOSING_PACKET),
                                       ONE(BAD_STATE), END};
 
 static const struct span of_receive[] = {ONE(DONE), ONE(TOO_SMALL), ONE(MEMORY), ONE(OUT_OF_RANGE), ONE(REPEAT),
                                          ONE(GAP), ONE(AFTER_CLOSE), SPAN(EMPTY, BAD_REPORT),
-                                         SPAN(ODD_BASE, PAST_END), SPAN(NOT_OPENED, AFTER_CLOSING_PACKET),
+                                         SPAN(ODD_BASE, NOT_SORTED), SPAN(NOT_OPENED, AFTER_CLOSING_PACKET),
                                          ONE(BAD_STATE), END};
 static const struct span of_resume[] = {ONE(DONE), ONE(OUT_OF_RANGE), ONE(REPEAT), ONE(AFTER_CLOSE), ONE(BAD_STATE),
                                         END};
 
-static const struct span of_push_all[] = {ONE(DONE), ONE(TOO_SMALL), ONE(MEMORY), SPAN(ODD_BASE, PAST_END),
+static const struct span of_push_all[] = {ONE(DONE), ONE(TOO_SMALL), ONE(MEMORY), SPAN(ODD_BASE, NOT_SORTED),
                                           ONE(BAD_STATE), ONE(NO_EVENT), END};
 static const struct span of_feed_all[] = {ONE(DONE), ONE(TOO_SMALL), ONE(MEMORY), ONE(OUT_OF_RANGE),
-                                          SPAN(EMPTY, BAD_REPORT), SPAN(ODD_BASE, PAST_END),
+                                          SPAN(EMPTY, BAD_REPORT), SPAN(ODD_BASE, NOT_SORTED),
                                           SPAN(NOT_OPENED, AFTER_CLOSING_PACKET), ONE(BAD_STATE), END};
 static const struct span of_version[] = {ONE(DONE), ONE(TOO_SMALL), END};
 
@@ -208,11 +213,11 @@ const struct call unpack = {
     .written = WITH_DONE,
 };
 const struct call check = {
-    .name = "check", .make = make_check, .statuses = of_check, .first = ALL_OF(uint64_t),
+    .name = "check", .make = make_check, .takes_image = true, .statuses = of_check, .first = ALL_OF(uint64_t),
     .written = WITH_DONE | WITH_REFUSAL,
 };
 const struct call encode = {
-    .name = "encode", .make = make_encode, .statuses = of_encode, .first = ALL_OF(struct tracebench_log_place),
+    .name = "encode", .make = make_encode, .takes_image = true, .statuses = of_encode, .first = ALL_OF(struct tracebench_log_place),
     .unit = 1, .written = WITH_REFUSAL,
 };
 const struct call dump = {
@@ -220,7 +225,7 @@ const struct call dump = {
     .first = ALL_OF(struct tracebench_dump_end), .unit = 1, .written = WITH_DONE | WITH_TOO_SMALL,
 };
 const struct call decode = {
-    .name = "decode", .make = make_decode, .statuses = of_decode, .faults = undecoded, .fault = decode_fault,
+    .name = "decode", .make = make_decode, .takes_image = true, .statuses = of_decode, .faults = undecoded, .fault = decode_fault,
     .first = ALL_OF(struct tracebench_decode_end), .unit = 1, .written = WITH_DONE | WITH_TOO_SMALL,
 };
 const struct call audit = {
@@ -235,35 +240,35 @@ const struct call encoder = {
     .second = ALL_OF(struct tracebench_packet), .written = WITH_DONE,
 };
 const struct call push = {
-    .name = "push", .make = make_push, .statuses = of_push, .first = ALL_OF(struct tracebench_encoder_state),
+    .name = "push", .make = make_push, .takes_image = true, .statuses = of_push, .first = ALL_OF(struct tracebench_encoder_state),
     .unit = sizeof(struct tracebench_packet), .written = WITH_DONE, .goes_on = true,
 };
 const struct call push_checked = {
-    .name = "push_checked", .make = make_push_checked, .statuses = of_push_checked,
+    .name = "push_checked", .make = make_push_checked, .takes_image = true, .statuses = of_push_checked,
     .first = ALL_OF(struct tracebench_encoder_state), .unit = sizeof(struct tracebench_packet), .written = WITH_DONE,
     .goes_on = true,
 };
 const struct call follow = {
-    .name = "follow", .make = make_follow, .statuses = of_follow,
+    .name = "follow", .make = make_follow, .takes_image = true, .statuses = of_follow,
 };
 const struct call check_events = {
-    .name = "check_events", .make = make_check_events, .statuses = of_check_events, .first = ALL_OF(uint64_t),
+    .name = "check_events", .make = make_check_events, .takes_image = true, .statuses = of_check_events, .first = ALL_OF(uint64_t),
     .written = WITH_DONE | WITH_REFUSAL,
 };
 const struct call finish = {
-    .name = "finish", .make = make_finish, .statuses = of_finish, .unit = sizeof(struct tracebench_packet),
+    .name = "finish", .make = make_finish, .takes_image = true, .statuses = of_finish, .unit = sizeof(struct tracebench_packet),
 };
 const struct call decoder = {
     .name = "decoder", .make = make_decoder, .statuses = of_decoder, .first = ALL_OF(struct tracebench_decoder_state),
     .written = WITH_DONE,
 };
 const struct call feed = {
-    .name = "feed", .make = make_feed, .statuses = of_feed, .first = ALL_OF(struct tracebench_decoder_state),
+    .name = "feed", .make = make_feed, .takes_image = true, .statuses = of_feed, .first = ALL_OF(struct tracebench_decoder_state),
     .unit = sizeof(struct tracebench_event), .written = WITH_DONE, .goes_on = true,
 };
 
 const struct call receive = {
-    .name = "receive", .make = make_receive, .statuses = of_receive, .first = ALL_OF(struct tracebench_hart_state),
+    .name = "receive", .make = make_receive, .takes_image = true, .statuses = of_receive, .first = ALL_OF(struct tracebench_hart_state),
     .second = {sizeof(uint64_t), 0}, .unit = sizeof(struct tracebench_event), .written = WITH_DONE | WITH_REFUSAL,
     .goes_on = true,
 };
@@ -273,13 +278,13 @@ const struct call resume = {
 };
 
 const struct call push_all = {
-    .name = "push_all", .make = make_push_all, .statuses = of_push_all,
+    .name = "push_all", .make = make_push_all, .takes_image = true, .statuses = of_push_all,
     .first = ALL_OF(struct tracebench_encoder_state),
     .second = {16 + MOST_AT_ONCE * sizeof(struct tracebench_packet), 16},
     .written = WITH_DONE | WITH_TOO_SMALL | WITH_REFUSAL, .goes_on = true,
 };
 const struct call feed_all = {
-    .name = "feed_all", .make = make_feed_all, .statuses = of_feed_all,
+    .name = "feed_all", .make = make_feed_all, .takes_image = true, .statuses = of_feed_all,
     .first = ALL_OF(struct tracebench_decoder_state),
     .second = {16 + MOST_AT_ONCE * sizeof(struct tracebench_event), 16},
     .written = WITH_DONE | WITH_TOO_SMALL | WITH_REFUSAL, .goes_on = true,
@@ -321,6 +326,7 @@ struct given given_bytes(struct slice bytes) {
     given.bytes = bytes;
     given.other = room(0);
     given.state = room(0);
+    given.pieces = room(0);
     return given;
 }
 
@@ -329,6 +335,7 @@ void give_back_given(struct given *given) {
     give_back(&given->bytes);
     give_back(&given->other);
     give_back(&given->state);
+    give_back(&given->pieces);
 }
 
 void give_back_answer(struct answer *answer) {

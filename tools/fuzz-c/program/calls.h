@@ -12,6 +12,8 @@ struct given {
     struct slice image;
     struct slice bytes; /* a payload, the text of a log or of several, a capture, or SENT */
     struct slice other; /* RECEIVED, or where each log ends, or the numbers of a packet or an event */
+    struct slice pieces; /* the image in pieces */
+    bool in_pieces;      /* these are handed in in its place */
     struct slice state; /* of an encoder or a decoder, before the call; or the numbers of an event before */
     uint16_t harts; /* or for how many elements there is room */
     uint16_t hart;
@@ -54,6 +56,7 @@ struct call {
     struct written second;
     size_t unit; /* how many bytes an element has that it hands out through a buffer; 0 where it hands out none */
     int written; /* with which statuses `first` and `second` are written */
+    bool takes_image; /* and there is the same call over pieces */
     bool goes_on; /* `first` is a state, which is at first the one that is given */
 };
 

@@ -5,6 +5,7 @@
 #include <stdlib.h>
 
 #include "memory.h"
+#include "pieces.h"
 
 uint64_t calls_made;
 
@@ -43,7 +44,8 @@ static void judge_buffer(const struct call *call, const struct answer *answer) {
 }
 
 static void judge(const struct call *call, const struct given *given, const struct answer *answer) {
-    const struct slice *const read[] = {&given->image, &given->bytes, &given->other, &given->state};
+    const struct slice *const read[] = {&given->image, &given->bytes, &given->other, &given->state,
+                                        &given->pieces};
     const struct slice *const written[] = {&answer->buffer, &answer->wanted, &answer->first, &answer->second};
     for (size_t place = 0; place < sizeof read / sizeof *read; place++)
         require(is_guarded(read[place]) && is_kept_from(read[place], 0), call, "what it was given to read changed");
@@ -98,6 +100,36 @@ static void run_refused(const struct call *call, const struct given *given, size
     give_back_answer(&answer);
 }
 
+/* The same over the image in pieces that touch, which changes nothing. */
+static void run_cut(const struct call *call, const struct given *given, size_t length, const struct answer *whole) {
+    struct pieces pieces;
+    bool wraps = given->base + given->image.length < given->base; /* a piece would begin at 0 */
+    if (wraps || given->image.length > MOST_BYTES) return;        /* each piece may be small enough */
+    cut(&pieces, given->base, &given->image);
+    struct given parts = in_pieces(given, &pieces);
+    struct answer answer = run(call, &parts, length);
+    agree(call, &answer, whole);
+    if (one_in(3)) run_refused(call, &parts, length, whole);
+    give_back_answer(&answer);
+    give_back(&parts.pieces);
+    give_back_pieces(&pieces, call);
+}
+
+/* Any pieces: where the status is of an image, it is that of the first fault. */
+static void run_pieces(const struct call *call, const struct given *given, size_t length) {
+    struct pieces pieces;
+    draw_pieces(&pieces, given->base, &given->image);
+    struct given parts = in_pieces(given, &pieces);
+    struct answer answer = run(call, &parts, length);
+    uint32_t fault = fault_of(&pieces);
+    bool of_image = TRACEBENCH_ODD_BASE <= answer.status && answer.status <= TRACEBENCH_NOT_SORTED;
+    require(!of_image || answer.status == fault, call, "another fault than that of the pieces");
+    require(fault == TRACEBENCH_DONE || !is_answer(answer.status), call, "pieces at fault are taken");
+    give_back_answer(&answer);
+    give_back(&parts.pieces);
+    give_back_pieces(&pieces, call);
+}
+
 struct answer exercise(const struct call *call, const struct given *given) {
     struct answer any = run(call, given, one_in(3) ? below(20) : below(call->unit > 1 ? 70 : 4000));
     bool sized = call->unit != 0 && is_answer(any.status);
@@ -111,6 +143,8 @@ struct answer exercise(const struct call *call, const struct given *given) {
         give_back_answer(&small);
     }
     if (one_in(4)) run_refused(call, given, length, &whole);
+    if (call->takes_image && one_in(3)) run_cut(call, given, length, &whole);
+    if (call->takes_image && one_in(6)) run_pieces(call, given, length);
     give_back_answer(&any);
     return whole;
 }

@@ -1,8 +1,8 @@
 //! Each allocation fails in turn: those of a replay, of a run of two harts, and of what a report is
 //! written into.
 
+use super::allocations::FIRST_REFUSED;
 use super::made::{TURNS, WHOLE, logs, program, reports_at};
-use super::memory::FIRST_REFUSED;
 use super::runs::CONFIG;
 use crate::same::same_at;
 use bench::{Gate, Outcome, Setup, replay, report, run};

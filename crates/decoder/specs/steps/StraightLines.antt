@@ -1,15 +1,16 @@
 -- Straight lines of instructions, which a walk goes along whatever it looks for, but for an address on the way.
-use Rattle.std.specs.Prelude.{ℕ, zero, suc, ◌≡◌, ◌+◌, ◌-◌, ◌*◌, ◌/◌, ◌<◌, ◌≤◌, ◌||◌, nat_le, nat_lt, not, Bool, true, false, List}
-use Rattle.std.specs.Prelude.{length, Option, Some, None}
+use Rattle.std.specs.Prelude.{ℕ, zero, suc, ◌≡◌, ◌+◌, ◌<◌, ◌≤◌, ◌||◌, nat_le, nat_lt, not, Bool, true, false, List}
+use Rattle.std.specs.Prelude.{Option, Some, None}
 use Rattle.std.specs.List.{slice_get}
 use Rattle.retire.specs.Itype as types
 use Rattle.retire.specs.declared.event.Event.{Event}
-use Rattle.rvclass.specs.Image.{Image}
 use Rattle.rvclass.specs.Words.{Word, Words}
 use Rattle.rvclass.specs.declared.class.Class.{Class}
 use Rattle.rvclass.specs.declared.class.Class.TheVariants.{Plain, Jump, Branch, Uninferable, TrapReturn, NotRetirable}
 use Rattle.decoder.specs.Walk.{End, AtBranch, AtAddress, AtTarget}
 use Rattle.decoder.specs.steps.WalkSteps.{is_empty, walk_within, summary, plus}
+use Rattle.decoder.specs.steps.Lanes.{addr_of}
+use Rattle.decoder.specs.declared.lanes.Lane.{Lane}
 use Rattle.decoder.specs.declared.leaps.Leap.{Leap}
 use Rattle.decoder.specs.declared.leaps.Line.{Line}
 use Rattle.decoder.specs.declared.stepping.Here.{Here}
@@ -47,16 +48,12 @@ line_to words (suc steps) from = then_on (straight_on from (words from)) (λ nex
 abbrev pub IsLine : Words → ℕ → ℕ → ℕ → Type 0
 IsLine words steps from to = line_to words steps from ≡ Some to
 
--- The address behind the last whole halfword of an image, from which its halfwords are counted back.
-abbrev pub end_of : Image → ℕ
-end_of program = program.base + 2 * (length program.bytes / 2)
-
--- Each entry is of the halfword so many places before the end as entries are before it, and tells of a straight line
--- from there: how many steps it has, and how many places before the end it leads to.
-abbrev pub AreLeaps : Words → ℕ → List Leap → Type 0
-AreLeaps words end leaps =
+-- Each entry is of the halfword at a place, and tells of a straight line from there: how many steps it has, and the
+-- place that it leads to.
+abbrev pub AreLeaps : Words → List Lane → List Leap → Type 0
+AreLeaps words lanes leaps =
     (place : ℕ) (leap : Leap) → slice_get leaps place ≡ Some leap
-    → IsLine words leap.steps (end - 2 * place) (end - 2 * leap.to)
+    → IsLine words leap.steps (addr_of lanes place) (addr_of lanes leap.to)
 
 -- A walk to this end, with these outcomes left, does not end on the way from one address to a greater one.
 abbrev pub passes : End → List Bool → ℕ → ℕ → Bool

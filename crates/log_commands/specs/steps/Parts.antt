@@ -1,9 +1,9 @@
 -- What is found of a part before any file is read, and what is printed then.
 use Rattle.std.specs.Prelude.{⊤, ℕ, Option, Some, None, Result, Ok, Err}
+use Rattle.command_inputs.specs.FurtherPieces.{base_number}
 use Rattle.command_inputs.specs.Printed.{First}
 use Rattle.command_inputs.specs.declared.fault.Fault.TheVariants as fault
 use Rattle.files.specs.Known.{Content}
-use Rattle.retire.specs.Number.{number_of}
 use Rattle.subcommands.specs.declared.words.Encode.{Encode}
 use Rattle.log_commands.specs.Encoding.{AreLogsOf, WritesMessages}
 use Rattle.log_commands.specs.Faults.{Fault, Once, Printed}
@@ -18,11 +18,11 @@ limit_at (Ok part) (Some base) most = most
 -- The same of what is asked.
 abbrev pub limit_of : Encode → Result ℕ Fault
 limit_of asked =
-    limit_at (asked_part asked.version asked.first asked.of) (number_of asked.base.now)
+    limit_at (asked_part asked.version asked.first asked.of) (base_number asked.base.now asked.also.items)
     (most_logs asked.version asked.first asked.of)
 
--- The base, the count of logs, of at most so many, the image and each log are looked at, and then the messages of the
--- logs are written.
+-- The bases, the count of logs, of at most so many, the image with its further pieces, and each log are looked at, and
+-- then the messages of the logs are written.
 abbrev pub EncodesUpTo : Content → Encode → ℕ → Printed → Type 0
 EncodesUpTo content asked most = First (AreLogsOf content asked most) (WritesMessages asked)
 

@@ -5,7 +5,7 @@ use crate::fixtures::{BASE, add};
 use crate::same::same_at;
 use decoder::{Decoder, Lines};
 use payload::Report;
-use rvclass::Program;
+use rvclass::{Program, ProgramOver};
 use std::alloc::Global;
 use std::process::Abort;
 
@@ -29,7 +29,7 @@ fn image<R: Abort + AllocGlobal>(rt: &R, count: u16) -> Program {
 fn take_alike<R: Abort + AllocGlobal>(
     rt: &R,
     row: usize,
-    program: &Program,
+    program: &ProgramOver,
     lines: &Lines<'_, Global>,
     packets: &[Sent],
 ) {
@@ -49,13 +49,10 @@ fn take_alike<R: Abort + AllocGlobal>(
     same_at(rt, ("leaps", row), copy.as_slice(), log.as_slice());
 }
 
-/// Walks to each of 1,100 places, by packets that wait, that report a target, and that notify; so to places on lines, at
-/// their ends, at jumps, behind branches and outside of the image.
-#[test]
-fn each_place(rt: HostRuntime) {
-    let program = image(&rt, 1_000);
-    let mut lines = Lines::new(rt.alloc(), &program);
-    lines.find(rt.alloc()).expect(&rt, "memory");
+/// Walks to each of 1,100 places of a program, along the leaps of its lines and without.
+fn walk_to_each<R: Abort + AllocGlobal>(rt: &R, program: &ProgramOver) {
+    let mut lines = Lines::new(rt.alloc(), program);
+    lines.find(rt.alloc()).expect(rt, "memory");
     for place in 0..1_100u16 {
         let offset = 2 * u64::from(place);
         for sent in [
@@ -66,12 +63,19 @@ fn each_place(rt: HostRuntime) {
             Sent::Walk(&[true, false], offset, Report::Notify),
         ] {
             take_alike(
-                &rt,
+                rt,
                 usize::from(place),
-                &program,
+                program,
                 &lines,
                 &[OPEN, START, sent, ENDED_REP],
             );
         }
     }
+}
+
+/// Packets that wait, that report a target, and that notify; so to places on lines, at their ends, at jumps, behind
+/// branches and outside of the image.
+#[test]
+fn each_place(rt: HostRuntime) {
+    walk_to_each(&rt, &image(&rt, 1_000));
 }

@@ -13,16 +13,16 @@ use std::process::Abort;
 use watching::Unwatched;
 
 /// A packet that opens the trace, and two that close it: where the last event is not reported, and where it is.
-const OPEN: &[u8] = b"\x1f";
+pub(crate) const OPEN: &[u8] = b"\x1f";
 
-const CLOSE: &[u8] = b"\xcf\x00";
+pub(crate) const CLOSE: &[u8] = b"\xcf\x00";
 
 const REPORTED: &[u8] = b"\x4f";
 
 /// Synchronisations at the first and at the third instruction, and at an address that is none.
-const FIRST: &[u8] = b"\x73\x00\x00\x00\x20";
+pub(crate) const FIRST: &[u8] = b"\x73\x00\x00\x00\x20";
 
-const THIRD: &[u8] = b"\x73\x02\x00\x00\x20";
+pub(crate) const THIRD: &[u8] = b"\x73\x02\x00\x00\x20";
 
 const NOWHERE: &[u8] = b"\x73\x03\x00\x00\x20";
 
@@ -32,10 +32,10 @@ const SECOND: &[u8] = b"\x0a";
 const NO_PACKET: &[u8] = b"\x00";
 
 /// A message: its hart, its number and its payload.
-type Sent = (u16, u64, &'static [u8]);
+pub(crate) type Sent = (u16, u64, &'static [u8]);
 
 /// What is done with a message that is not late.
-fn on_time(treatment: Treatment) -> Treated {
+pub(crate) fn on_time(treatment: Treatment) -> Treated {
     Treated {
         treatment,
         late: false,
@@ -43,7 +43,7 @@ fn on_time(treatment: Treatment) -> Treated {
 }
 
 /// What is done with a message that is late.
-fn late(treatment: Treatment) -> Treated {
+pub(crate) fn late(treatment: Treatment) -> Treated {
     Treated {
         treatment,
         late: true,
@@ -51,7 +51,7 @@ fn late(treatment: Treatment) -> Treated {
 }
 
 /// A message is decoded, and adds so many events, from an offset to another one from the base.
-fn taken(count: usize, first: u64, last: u64) -> Treatment {
+pub(crate) fn taken(count: usize, first: u64, last: u64) -> Treatment {
     Treatment::Taken(Added {
         count,
         first: BASE.wrapping_add(first),
@@ -60,7 +60,7 @@ fn taken(count: usize, first: u64, last: u64) -> Treatment {
 }
 
 /// A message is decoded, and adds nothing.
-const NOTHING: Treatment = Treatment::Taken(Added {
+pub(crate) const NOTHING: Treatment = Treatment::Taken(Added {
     count: 0,
     first: 0,
     last: 0,
@@ -78,7 +78,7 @@ fn messages_of<R: Abort + AllocGlobal>(rt: &R, sent: &[Sent]) -> Vec<Message> {
     messages
 }
 
-/// This is done with these messages of so many harts, one after the other.
+/// This is done with these messages of so many harts, one after the other, where three instructions retire.
 fn are_treated<R: Abort + AllocGlobal>(
     rt: &R,
     row: &str,
@@ -86,7 +86,19 @@ fn are_treated<R: Abort + AllocGlobal>(
     sent: &[Sent],
     wanted: &[Treated],
 ) {
-    let program = program_of(rt, &[NOP; 3]);
+    are_treated_over(rt, &[NOP; 3], row, harts, sent, wanted);
+}
+
+/// This is done with them over the program of these instructions.
+pub(crate) fn are_treated_over<R: Abort + AllocGlobal>(
+    rt: &R,
+    words: &[u32],
+    row: &str,
+    harts: u16,
+    sent: &[Sent],
+    wanted: &[Treated],
+) {
+    let program = program_of(rt, words);
     let messages = messages_of(rt, sent);
     let treated = treat_watched(
         rt.alloc(),

@@ -40,11 +40,11 @@ $ tracebench --help
 # The version has the toolchain's line. A subcommand has none.
 $ tracebench --version
 ! tracebench 1.0.0
-! rattle-kit-13f logic dac8208d650f15bf
+! rattle-kit-13b logic dac8208d650f15bf
 ? 2
 $ tracebench -V
 ! tracebench 1.0.0
-! rattle-kit-13f logic dac8208d650f15bf
+! rattle-kit-13b logic dac8208d650f15bf
 ? 2
 $ tracebench dump --version
 ! error: unexpected argument '--version' found
@@ -67,11 +67,12 @@ $ tracebench check --help
 !   <LOG>...  Logs, each of one hart, as CSV
 !
 ! Options:
-!       --base <B>  Address of the image's first byte, in hexadecimal
-!       --explain   Print below an illegal row what is there and what may follow
-!       --long      Take logs of up to 4294967295 rows, not 16777216
-!       --progress  Show how far the logs are read, where standard error is a terminal
-!   -h, --help      Print help
+!       --base <B>        Address of the image's first byte, in hexadecimal
+!       --also <B2=FILE>  Further piece of the image, any number of times: address in hexadecimal, =, file
+!       --explain         Print below an illegal row what is there and what may follow
+!       --long            Take logs of up to 4294967295 rows, not 16777216
+!       --progress        Show how far the logs are read, where standard error is a terminal
+!   -h, --help            Print help
 !
 ! Example:
 !   tracebench check --base 80000000 examples/loop/image.bin examples/loop/log.csv
@@ -86,16 +87,17 @@ $ tracebench encode --help
 !   <LOG>...  Logs, each of one hart, as CSV
 !
 ! Options:
-!       --base <B>    Address of the image's first byte, in hexadecimal
-!       --period <N>  Retirements from one periodic synchronisation to the next, 1 to 65535 [default: 1024]
-!       --full        Report addresses in full, not as differences
-!       --v1          Write a capture of version 1, which has no header, of at most 64 logs
-!       --hex         Write a line of hexadecimal for each message
-!       --first <H>   The hart of the first log, with --of, 0 to 1023; without it, 0
-!       --of <N>      Of how many harts the logs are a part, 1 to 1024, with --v1 to 64; without it, the count of logs
-!       --long        Take logs of up to 4294967295 rows, not 16777216
-!       --progress    Show how far the logs are read, where standard error is a terminal
-!   -h, --help        Print help
+!       --base <B>        Address of the image's first byte, in hexadecimal
+!       --also <B2=FILE>  Further piece of the image, any number of times: address in hexadecimal, =, file
+!       --period <N>      Retirements from one periodic synchronisation to the next, 1 to 65535 [default: 1024]
+!       --full            Report addresses in full, not as differences
+!       --v1              Write a capture of version 1, which has no header, of at most 64 logs
+!       --hex             Write a line of hexadecimal for each message
+!       --first <H>       The hart of the first log, with --of, 0 to 1023; without it, 0
+!       --of <N>          Of how many harts the logs are a part, 1 to 1024, with --v1 to 64; without it, the count of logs
+!       --long            Take logs of up to 4294967295 rows, not 16777216
+!       --progress        Show how far the logs are read, where standard error is a terminal
+!   -h, --help            Print help
 !
 ! Example:
 !   tracebench encode --base 80000000 examples/loop/image.bin examples/loop/log.csv >log.capture
@@ -126,11 +128,12 @@ $ tracebench decode -h
 !   <CAPTURE>  File of trace messages
 !
 ! Options:
-!       --base <B>   Address of the image's first byte, in hexadecimal
-!       --harts <N>  How many harts a capture of version 1 may have, 1 to 1024 [default: 1]
-!       --lossy      Go on where messages are missing, and print how many are
-!       --progress   Show how far the capture is worked through, where standard error is a terminal
-!   -h, --help       Print help
+!       --base <B>        Address of the image's first byte, in hexadecimal
+!       --also <B2=FILE>  Further piece of the image, any number of times: address in hexadecimal, =, file
+!       --harts <N>       How many harts a capture of version 1 may have, 1 to 1024 [default: 1]
+!       --lossy           Go on where messages are missing, and print how many are
+!       --progress        Show how far the capture is worked through, where standard error is a terminal
+!   -h, --help            Print help
 !
 ! Example:
 !   tracebench decode --base 80000000 examples/loop/image.bin examples/loop/log.capture
@@ -146,12 +149,13 @@ $ tracebench replay --help
 !   <LOG>...    Logs, each of one hart, as CSV
 !
 ! Options:
-!       --base <B>      Address of the image's first byte, in hexadecimal
-!       --period <N>    Retirements from one periodic synchronisation to the next, 1 to 65535 [default: 1024]
-!       --full          Report addresses in full, not as differences
-!       --capacity <N>  How many messages the funnel holds, 1 to 65536 [default: 16]
-!       --progress      Show how far the logs are read, where standard error is a terminal
-!   -h, --help          Print help
+!       --base <B>        Address of the image's first byte, in hexadecimal
+!       --also <B2=FILE>  Further piece of the image, any number of times: address in hexadecimal, =, file
+!       --period <N>      Retirements from one periodic synchronisation to the next, 1 to 65535 [default: 1024]
+!       --full            Report addresses in full, not as differences
+!       --capacity <N>    How many messages the funnel holds, 1 to 65536 [default: 16]
+!       --progress        Show how far the logs are read, where standard error is a terminal
+!   -h, --help            Print help
 !
 ! Example:
 !   tracebench replay --base 80000000 examples/two_harts/image.bin examples/two_harts/turns.txt \
@@ -167,12 +171,13 @@ $ tracebench bench --help
 !   <LOG>...  Logs, each of one hart, as CSV
 !
 ! Options:
-!       --base <B>      Address of the image's first byte, in hexadecimal
-!       --period <N>    Retirements from one periodic synchronisation to the next, 1 to 65535 [default: 1024]
-!       --full          Report addresses in full, not as differences
-!       --capacity <N>  How many messages the funnel holds, 1 to 65536 [default: 16]
-!       --progress      Show how far the logs are read, where standard error is a terminal
-!   -h, --help          Print help
+!       --base <B>        Address of the image's first byte, in hexadecimal
+!       --also <B2=FILE>  Further piece of the image, any number of times: address in hexadecimal, =, file
+!       --period <N>      Retirements from one periodic synchronisation to the next, 1 to 65535 [default: 1024]
+!       --full            Report addresses in full, not as differences
+!       --capacity <N>    How many messages the funnel holds, 1 to 65536 [default: 16]
+!       --progress        Show how far the logs are read, where standard error is a terminal
+!   -h, --help            Print help
 !
 ! Example:
 !   tracebench bench --base 80000000 examples/two_harts/image.bin \
@@ -208,12 +213,13 @@ $ tracebench measure --help
 !   <LOG>...  Logs, each of one hart, as CSV
 !
 ! Options:
-!       --base <B>    Address of the image's first byte, in hexadecimal
-!       --period <N>  Retirements from one periodic synchronisation to the next, 1 to 65535 [default: 1024]
-!       --full        Report addresses in full, not as differences
-!       --long        Take logs of up to 4294967295 rows, not 16777216
-!       --progress    Show how far the logs are read, where standard error is a terminal
-!   -h, --help        Print help
+!       --base <B>        Address of the image's first byte, in hexadecimal
+!       --also <B2=FILE>  Further piece of the image, any number of times: address in hexadecimal, =, file
+!       --period <N>      Retirements from one periodic synchronisation to the next, 1 to 65535 [default: 1024]
+!       --full            Report addresses in full, not as differences
+!       --long            Take logs of up to 4294967295 rows, not 16777216
+!       --progress        Show how far the logs are read, where standard error is a terminal
+!   -h, --help            Print help
 !
 ! Example:
 !   tracebench measure --base 80000000 --period 64 examples/loop/image.bin examples/loop/log.csv
@@ -228,12 +234,14 @@ $ tracebench list --help
 !   <CAPTURE>  File of trace messages
 !
 ! Options:
-!       --base <B>        Address of the image's first byte, in hexadecimal
-!       --harts <N>       How many harts a capture of version 1 may have, 1 to 1024; without it, 1, with --salvage those of its messages
-!       --symbols <FILE>  File of the program's symbols, as `nm` prints them
-!       --salvage         List every message that is found, and what `salvage` does with it
-!       --progress        Show how far the capture is worked through, where standard error is a terminal
-!   -h, --help            Print help
+!       --base <B>         Address of the image's first byte, in hexadecimal
+!       --also <B2=FILE>   Further piece of the image, any number of times: address in hexadecimal, =, file
+!       --harts <N>        How many harts a capture of version 1 may have, 1 to 1024; without it, 1, with --salvage those of its messages
+!       --symbols <FILE>   File of the program's symbols, as `nm` prints them
+!       --salvage          List every message that is found, and what `salvage` does with it
+!       --format <FORMAT>  What is printed: text, or csv, a table [default: text]
+!       --progress         Show how far the capture is worked through, where standard error is a terminal
+!   -h, --help             Print help
 !
 ! Example:
 !   tracebench list --base 80000000 examples/loop/image.bin examples/loop/log.capture
@@ -249,6 +257,7 @@ $ tracebench salvage --help
 !
 ! Options:
 !       --base <B>         Address of the image's first byte, in hexadecimal
+!       --also <B2=FILE>   Further piece of the image, any number of times: address in hexadecimal, =, file
 !       --harts <N>        How many harts a capture with no valid header has, 1 to 1024; without it, those of its messages
 !       --summary          Leave out the texts of the logs
 !       --format <FORMAT>  What is printed: text, or csv, a table [default: text]
@@ -287,11 +296,12 @@ $ tracebench compare --help
 !   <LOG>...   Logs, each of one hart, as CSV
 !
 ! Options:
-!       --base <B>   Address of the image's first byte, in hexadecimal
-!       --harts <N>  How many harts a capture of version 1 may have, 1 to 1024 [default: 1]
-!       --long       Take logs of up to 4294967295 rows, not 16777216
-!       --progress   Show how far the logs are read, where standard error is a terminal
-!   -h, --help       Print help
+!       --base <B>        Address of the image's first byte, in hexadecimal
+!       --also <B2=FILE>  Further piece of the image, any number of times: address in hexadecimal, =, file
+!       --harts <N>       How many harts a capture of version 1 may have, 1 to 1024 [default: 1]
+!       --long            Take logs of up to 4294967295 rows, not 16777216
+!       --progress        Show how far the logs are read, where standard error is a terminal
+!   -h, --help            Print help
 !
 ! Example:
 !   tracebench compare --base 80000000 examples/loop/image.bin examples/loop/log.capture examples/loop/log.csv

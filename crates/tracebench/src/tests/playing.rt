@@ -14,7 +14,7 @@ use std::thread::Threads;
 /// The subcommands that read a capture and show how far they are.
 const READERS: [&str; 6] = ["dump", "decode", "list", "salvage", "audit", "compare"];
 
-/// Those of them that work through all messages, also where one of them is not good.
+/// Those of them that work through all messages, also where one of them is not good. So does `list` with `--salvage`.
 const TO_THE_END: [&str; 3] = ["dump", "salvage", "audit"];
 
 /// How the runs of a transcript are played.
@@ -218,11 +218,20 @@ fn is_asked<R: Abort + AllocGlobal>(rt: &R, words: &[String], run: &Run) {
     ends(rt, (run.line, 0), found, wanted);
 }
 
+/// The path that an argument is, or the one in the argument of a further piece, after its first equals sign.
+fn path_in(word: &str) -> &str {
+    let piece = word.strip_prefix("--also=").unwrap_or(word);
+    match piece.split_once('=') {
+        Some((_, path)) => path,
+        None => word,
+    }
+}
+
 /// How often a path is among these.
 fn times(path: &str, paths: &[String]) -> usize {
     let mut times = 0usize;
     for each in paths {
-        if each.as_str() == path {
+        if path_in(each.as_str()) == path {
             times = times.saturating_add(1);
         }
     }
@@ -233,7 +242,7 @@ fn times(path: &str, paths: &[String]) -> usize {
 fn each_is_read_once(rt: &impl Abort, shelf: &Shelf, words: &[String], line: &str, is_done: bool) {
     let mut last = "";
     for word in words {
-        let path = word.as_str();
+        let path = path_in(word.as_str());
         if path != last && shelf.content(path).is_some() {
             let (reads, named) = (shelf.reads(path), times(path, words) as u64);
             assert!(rt; reads <= named, "{line}: {path} is read again");
@@ -264,7 +273,8 @@ fn progress_is_as_asked(
 /// the begin and the end, and the end came once.
 fn messages_are_noted(rt: &impl Abort, shelf: &Shelf, words: &[String], line: &str, status: u8) {
     let (messages, noted) = shelf.messages();
-    let to_the_end = status == 0 || (status < 2 && is_among(words, &TO_THE_END));
+    let goes_on = is_among(words, &TO_THE_END) || times("--salvage", words) > 0;
+    let to_the_end = status == 0 || (status < 2 && goes_on);
     assert!(rt;
         shelf.strays() == 0,
         "{line}: messages are noted out of time"

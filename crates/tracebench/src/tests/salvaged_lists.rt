@@ -277,6 +277,119 @@ $ tracebench list --base 80000000 --salvage image.bin log.capture
 ! tracebench: capture header is not valid
 ? 1
 
+# Packets that no decoder takes, each for a fault that comes on its way. At 4 bytes from the base is a jump to the base,
+# at 12 a branch, at 20 an MRET. A walk would go on after the jump: the packet that reports its end is bad, or, where it
+# waits, the one after it.
+file code.bin
+|= 13000000 6ff0dfff 13000000 63040000 13000000 73002030
+file log.capture
+|~ 0 0 1f
+|~ 0 1 7300000020
+|~ 0 2 1200000000000000fe
+|~ 0 3 7302000020
+|~ 0 4 cf00
+$ tracebench list --base 80000000 --salvage code.bin log.capture
+> 00000000 0 0 open => nothing
+> 0000000c 0 1 sync addr=80000000 priv=3 branch=1 => 1 event, 80000000
+> 0000001c 0 2 address diff=8 map=- notify => bad: not decoded: MissedNotify
+> 00000030 0 3 sync addr=80000008 priv=3 branch=1 => 1 event, 80000008
+> 00000040 0 4 close ended_ntr => nothing, closed
+? 1
+$ tracebench salvage --base 80000000 code.bin log.capture
+> hart 0
+> stretch: 1 events, numbers 0 to 1
+> addr,itype,priv,cause,tval
+> 80000000,0,3,,
+> bad: number 2 at 0000001c: not decoded: MissedNotify
+> stretch: 1 events, numbers 3 to 4
+> addr,itype,priv,cause,tval
+> 80000008,0,3,,
+? 1
+file log.capture
+|~ 0 0 1f
+|~ 0 1 7300000020
+|~ 0 2 12
+|~ 0 3 7304000020
+|~ 0 4 7302000020
+|~ 0 5 cf00
+$ tracebench list --base 80000000 --salvage code.bin log.capture
+> 00000000 0 0 open => nothing
+> 0000000c 0 1 sync addr=80000000 priv=3 branch=1 => 1 event, 80000000
+> 0000001c 0 2 address diff=8 map=- plain => nothing, waits
+> 00000028 0 3 sync addr=80000010 priv=3 branch=1 => bad: not decoded: MissedNotify
+> 00000038 0 4 sync addr=80000008 priv=3 branch=1 => 1 event, 80000008
+> 00000048 0 5 close ended_ntr => nothing, closed
+? 1
+$ tracebench salvage --base 80000000 code.bin log.capture
+> hart 0
+> stretch: 1 events, numbers 0 to 2
+> addr,itype,priv,cause,tval
+> 80000000,0,3,,
+> bad: number 3 at 00000028: not decoded: MissedNotify
+> stretch: 1 events, numbers 4 to 5
+> addr,itype,priv,cause,tval
+> 80000008,0,3,,
+? 1
+
+# No outcome is left at the branch. Then a synchronisation says that a branch was taken, where there is none: it is bad
+# and begins no stretch.
+file log.capture
+|~ 0 0 1f
+|~ 0 1 7302000020
+|~ 0 2 0a00000000000000fe
+|~ 0 3 6300000020
+|~ 0 4 7304000020
+|~ 0 5 cf00
+$ tracebench list --base 80000000 --salvage code.bin log.capture
+> 00000000 0 0 open => nothing
+> 0000000c 0 1 sync addr=80000008 priv=3 branch=1 => 1 event, 80000008
+> 0000001c 0 2 address diff=4 map=- notify => bad: not decoded: Branches
+> 00000030 0 3 sync addr=80000000 priv=3 branch=0 => bad: not decoded: Branches
+> 00000040 0 4 sync addr=80000010 priv=3 branch=1 => 1 event, 80000010
+> 00000050 0 5 close ended_ntr => nothing, closed
+? 1
+$ tracebench salvage --base 80000000 code.bin log.capture
+> hart 0
+> stretch: 1 events, numbers 0 to 1
+> addr,itype,priv,cause,tval
+> 80000008,0,3,,
+> bad: number 2 at 0000001c: not decoded: Branches
+> bad: number 3 at 00000030: not decoded: Branches
+> stretch: 1 events, numbers 4 to 5
+> addr,itype,priv,cause,tval
+> 80000010,0,3,,
+? 1
+
+# MRET does not retire at level 1. Then the level changes between two instructions that keep it, in a message that came
+# late.
+file log.capture
+|~ 0 0 1f
+|~ 0 1 3305000020
+|~ 0 2 7302000020
+|~ 0 4 7304000020
+|~ 0 3 3303000020
+|~ 0 5 cf00
+$ tracebench list --base 80000000 --salvage code.bin log.capture
+> 00000000 0 0 open => nothing
+> 0000000c 0 1 sync addr=80000014 priv=1 branch=1 => bad: not decoded: WrongPrivilege
+> 0000001c 0 2 sync addr=80000008 priv=3 branch=1 => 1 event, 80000008
+> 0000002c 0 4 sync addr=80000010 priv=3 branch=1 => 1 event, 80000010
+> 0000003c 0 3 sync addr=8000000c priv=1 branch=1 => bad: not decoded: WrongPrivilege, late
+> 0000004c 0 5 close ended_ntr => nothing, closed
+? 1
+$ tracebench salvage --base 80000000 code.bin log.capture
+> hart 0
+> bad: number 1 at 0000000c: not decoded: WrongPrivilege
+> stretch: 1 events, numbers 2 to 2
+> addr,itype,priv,cause,tval
+> 80000008,0,3,,
+> bad: number 3 at 0000003c: not decoded: WrongPrivilege
+> stretch: 1 events, numbers 4 to 5
+> addr,itype,priv,cause,tval
+> 80000010,0,3,,
+> late: 1 messages
+? 1
+
 # No byte at all.
 file log.capture
 $ tracebench list --base 80000000 --salvage image.bin log.capture

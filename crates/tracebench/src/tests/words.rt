@@ -19,9 +19,9 @@ pub(crate) const TEXT: &str = r#"
 
 # `check`: its explanations, long logs, and its progress.
 % tracebench check --base 80000000 image.bin a.csv b.csv
-> Check(Check { base: "80000000", explain: false, long: false, progress: false, image: "image.bin", logs: ["a.csv", "b.csv"] })
+> Check(Check { base: "80000000", also: [], explain: false, long: false, progress: false, image: "image.bin", logs: ["a.csv", "b.csv"] })
 % tracebench check image.bin --explain log.csv --base 0
-> Check(Check { base: "0", explain: true, long: false, progress: false, image: "image.bin", logs: ["log.csv"] })
+> Check(Check { base: "0", also: [], explain: true, long: false, progress: false, image: "image.bin", logs: ["log.csv"] })
 % tracebench check --explain --base 0 --explain image.bin log.csv
 ! error: the argument '--explain' cannot be used multiple times
 !
@@ -29,11 +29,11 @@ pub(crate) const TEXT: &str = r#"
 !
 ! For more information, try '--help'.
 % tracebench check --long --base 0 image.bin log.csv
-> Check(Check { base: "0", explain: false, long: true, progress: false, image: "image.bin", logs: ["log.csv"] })
+> Check(Check { base: "0", also: [], explain: false, long: true, progress: false, image: "image.bin", logs: ["log.csv"] })
 % tracebench check --base 0 image.bin log.csv --explain --long
-> Check(Check { base: "0", explain: true, long: true, progress: false, image: "image.bin", logs: ["log.csv"] })
+> Check(Check { base: "0", also: [], explain: true, long: true, progress: false, image: "image.bin", logs: ["log.csv"] })
 % tracebench check --base 0 image.bin log.csv --progress
-> Check(Check { base: "0", explain: false, long: false, progress: true, image: "image.bin", logs: ["log.csv"] })
+> Check(Check { base: "0", also: [], explain: false, long: false, progress: true, image: "image.bin", logs: ["log.csv"] })
 % tracebench check --long --base 0 --long image.bin log.csv
 ! error: the argument '--long' cannot be used multiple times
 !
@@ -58,11 +58,11 @@ pub(crate) const TEXT: &str = r#"
 
 # `encode`: its period, mode, version and lines, long logs, and its progress.
 % tracebench encode --base 80000000 --hex image.bin log.csv
-> Encode(Encode { base: "80000000", period: 1024, mode: Differential, version: Two, hex: true, first: None, of: None, long: false, progress: false, image: "image.bin", logs: ["log.csv"] })
+> Encode(Encode { base: "80000000", also: [], period: 1024, mode: Differential, version: Two, hex: true, first: None, of: None, long: false, progress: false, image: "image.bin", logs: ["log.csv"] })
 % tracebench encode --v1 --base 0 image.bin a.csv b.csv
-> Encode(Encode { base: "0", period: 1024, mode: Differential, version: One, hex: false, first: None, of: None, long: false, progress: false, image: "image.bin", logs: ["a.csv", "b.csv"] })
+> Encode(Encode { base: "0", also: [], period: 1024, mode: Differential, version: One, hex: false, first: None, of: None, long: false, progress: false, image: "image.bin", logs: ["a.csv", "b.csv"] })
 % tracebench encode --base 0 --hex --full image.bin log.csv --v1
-> Encode(Encode { base: "0", period: 1024, mode: Full, version: One, hex: true, first: None, of: None, long: false, progress: false, image: "image.bin", logs: ["log.csv"] })
+> Encode(Encode { base: "0", also: [], period: 1024, mode: Full, version: One, hex: true, first: None, of: None, long: false, progress: false, image: "image.bin", logs: ["log.csv"] })
 % tracebench encode --v1 --base 0 --v1 image.bin log.csv
 ! error: the argument '--v1' cannot be used multiple times
 !
@@ -70,13 +70,13 @@ pub(crate) const TEXT: &str = r#"
 !
 ! For more information, try '--help'.
 % tracebench encode image.bin --base=-1 --period 65535 a.csv b.csv
-> Encode(Encode { base: "-1", period: 65535, mode: Differential, version: Two, hex: false, first: None, of: None, long: false, progress: false, image: "image.bin", logs: ["a.csv", "b.csv"] })
+> Encode(Encode { base: "-1", also: [], period: 65535, mode: Differential, version: Two, hex: false, first: None, of: None, long: false, progress: false, image: "image.bin", logs: ["a.csv", "b.csv"] })
 % tracebench encode --base 0 --period 1 image.bin log.csv
-> Encode(Encode { base: "0", period: 1, mode: Differential, version: Two, hex: false, first: None, of: None, long: false, progress: false, image: "image.bin", logs: ["log.csv"] })
+> Encode(Encode { base: "0", also: [], period: 1, mode: Differential, version: Two, hex: false, first: None, of: None, long: false, progress: false, image: "image.bin", logs: ["log.csv"] })
 % tracebench encode --base 0 --full image.bin log.csv
-> Encode(Encode { base: "0", period: 1024, mode: Full, version: Two, hex: false, first: None, of: None, long: false, progress: false, image: "image.bin", logs: ["log.csv"] })
+> Encode(Encode { base: "0", also: [], period: 1024, mode: Full, version: Two, hex: false, first: None, of: None, long: false, progress: false, image: "image.bin", logs: ["log.csv"] })
 % tracebench encode --hex --full image.bin --base 0 log.csv
-> Encode(Encode { base: "0", period: 1024, mode: Full, version: Two, hex: true, first: None, of: None, long: false, progress: false, image: "image.bin", logs: ["log.csv"] })
+> Encode(Encode { base: "0", also: [], period: 1024, mode: Full, version: Two, hex: true, first: None, of: None, long: false, progress: false, image: "image.bin", logs: ["log.csv"] })
 % tracebench encode --full --base 0 --full image.bin log.csv
 ! error: the argument '--full' cannot be used multiple times
 !
@@ -84,11 +84,11 @@ pub(crate) const TEXT: &str = r#"
 !
 ! For more information, try '--help'.
 % tracebench encode --base 0 --long image.bin log.csv
-> Encode(Encode { base: "0", period: 1024, mode: Differential, version: Two, hex: false, first: None, of: None, long: true, progress: false, image: "image.bin", logs: ["log.csv"] })
+> Encode(Encode { base: "0", also: [], period: 1024, mode: Differential, version: Two, hex: false, first: None, of: None, long: true, progress: false, image: "image.bin", logs: ["log.csv"] })
 % tracebench encode --hex --long --full image.bin --base 0 --v1 log.csv
-> Encode(Encode { base: "0", period: 1024, mode: Full, version: One, hex: true, first: None, of: None, long: true, progress: false, image: "image.bin", logs: ["log.csv"] })
+> Encode(Encode { base: "0", also: [], period: 1024, mode: Full, version: One, hex: true, first: None, of: None, long: true, progress: false, image: "image.bin", logs: ["log.csv"] })
 % tracebench encode --progress --base 0 image.bin log.csv
-> Encode(Encode { base: "0", period: 1024, mode: Differential, version: Two, hex: false, first: None, of: None, long: false, progress: true, image: "image.bin", logs: ["log.csv"] })
+> Encode(Encode { base: "0", also: [], period: 1024, mode: Differential, version: Two, hex: false, first: None, of: None, long: false, progress: true, image: "image.bin", logs: ["log.csv"] })
 % tracebench encode --base 0 image.bin --long log.csv --long
 ! error: the argument '--long' cannot be used multiple times
 !
@@ -140,11 +140,11 @@ pub(crate) const TEXT: &str = r#"
 
 # `decode`: its count of harts, and lost messages.
 % tracebench decode --base 80000000 image.bin run.capture
-> Decode(Decode { base: "80000000", harts: 1, lossy: false, progress: false, image: "image.bin", capture: "run.capture" })
+> Decode(Decode { base: "80000000", also: [], harts: 1, lossy: false, progress: false, image: "image.bin", capture: "run.capture" })
 % tracebench decode image.bin --harts 1 run.capture --base 0
-> Decode(Decode { base: "0", harts: 1, lossy: false, progress: false, image: "image.bin", capture: "run.capture" })
+> Decode(Decode { base: "0", also: [], harts: 1, lossy: false, progress: false, image: "image.bin", capture: "run.capture" })
 % tracebench decode --lossy --base 0 image.bin run.capture
-> Decode(Decode { base: "0", harts: 1, lossy: true, progress: false, image: "image.bin", capture: "run.capture" })
+> Decode(Decode { base: "0", also: [], harts: 1, lossy: true, progress: false, image: "image.bin", capture: "run.capture" })
 % tracebench decode --base 0 --lossy --lossy image.bin run.capture
 ! error: the argument '--lossy' cannot be used multiple times
 !
@@ -152,7 +152,7 @@ pub(crate) const TEXT: &str = r#"
 !
 ! For more information, try '--help'.
 % tracebench decode --base 0 --harts=1024 image.bin run.capture
-> Decode(Decode { base: "0", harts: 1024, lossy: false, progress: false, image: "image.bin", capture: "run.capture" })
+> Decode(Decode { base: "0", also: [], harts: 1024, lossy: false, progress: false, image: "image.bin", capture: "run.capture" })
 % tracebench decode --base 0 --harts 0 image.bin run.capture
 ! error: invalid value '0' for '--harts <N>': 0 is not in 1..=1024
 !
@@ -195,11 +195,11 @@ pub(crate) const TEXT: &str = r#"
 !
 ! For more information, try '--help'.
 % tracebench replay --base 80000000 image.bin turns.txt a.csv b.csv
-> Replay(Replay { base: "80000000", period: 1024, mode: Differential, capacity: 16, progress: false, image: "image.bin", schedule: "turns.txt", logs: ["a.csv", "b.csv"] })
+> Replay(Replay { base: "80000000", also: [], period: 1024, mode: Differential, capacity: 16, progress: false, image: "image.bin", schedule: "turns.txt", logs: ["a.csv", "b.csv"] })
 % tracebench replay --capacity 65536 --base 0 --full --period 7 image.bin turns.txt log.csv
-> Replay(Replay { base: "0", period: 7, mode: Full, capacity: 65536, progress: false, image: "image.bin", schedule: "turns.txt", logs: ["log.csv"] })
+> Replay(Replay { base: "0", also: [], period: 7, mode: Full, capacity: 65536, progress: false, image: "image.bin", schedule: "turns.txt", logs: ["log.csv"] })
 % tracebench replay --base 0 image.bin --progress turns.txt log.csv
-> Replay(Replay { base: "0", period: 1024, mode: Differential, capacity: 16, progress: true, image: "image.bin", schedule: "turns.txt", logs: ["log.csv"] })
+> Replay(Replay { base: "0", also: [], period: 1024, mode: Differential, capacity: 16, progress: true, image: "image.bin", schedule: "turns.txt", logs: ["log.csv"] })
 % tracebench replay --base 0 --capacity 0 image.bin turns.txt log.csv
 ! error: invalid value '0' for '--capacity <N>': 0 is not in 1..=65536
 !
@@ -218,11 +218,11 @@ pub(crate) const TEXT: &str = r#"
 
 # `bench`: its capacity, and its progress. It takes no long logs.
 % tracebench bench --base 80000000 image.bin a.csv b.csv
-> Bench(Bench { base: "80000000", period: 1024, mode: Differential, capacity: 16, progress: false, image: "image.bin", logs: ["a.csv", "b.csv"] })
+> Bench(Bench { base: "80000000", also: [], period: 1024, mode: Differential, capacity: 16, progress: false, image: "image.bin", logs: ["a.csv", "b.csv"] })
 % tracebench bench --base 0 --capacity 1 --period 65535 image.bin log.csv --full
-> Bench(Bench { base: "0", period: 65535, mode: Full, capacity: 1, progress: false, image: "image.bin", logs: ["log.csv"] })
+> Bench(Bench { base: "0", also: [], period: 65535, mode: Full, capacity: 1, progress: false, image: "image.bin", logs: ["log.csv"] })
 % tracebench bench --base 0 --progress image.bin log.csv
-> Bench(Bench { base: "0", period: 1024, mode: Differential, capacity: 16, progress: true, image: "image.bin", logs: ["log.csv"] })
+> Bench(Bench { base: "0", also: [], period: 1024, mode: Differential, capacity: 16, progress: true, image: "image.bin", logs: ["log.csv"] })
 % tracebench bench --base 0 --long image.bin log.csv
 ! error: unexpected argument '--long' found
 !
@@ -282,15 +282,15 @@ pub(crate) const TEXT: &str = r#"
 
 # `measure`: its period and mode, long logs, and its progress.
 % tracebench measure --base 80000000 image.bin a.csv b.csv
-> Measure(Measure { base: "80000000", period: 1024, mode: Differential, long: false, progress: false, image: "image.bin", logs: ["a.csv", "b.csv"] })
+> Measure(Measure { base: "80000000", also: [], period: 1024, mode: Differential, long: false, progress: false, image: "image.bin", logs: ["a.csv", "b.csv"] })
 % tracebench measure image.bin log.csv --full --period 1 --base 0
-> Measure(Measure { base: "0", period: 1, mode: Full, long: false, progress: false, image: "image.bin", logs: ["log.csv"] })
+> Measure(Measure { base: "0", also: [], period: 1, mode: Full, long: false, progress: false, image: "image.bin", logs: ["log.csv"] })
 % tracebench measure --base 0 --period 65535 image.bin log.csv
-> Measure(Measure { base: "0", period: 65535, mode: Differential, long: false, progress: false, image: "image.bin", logs: ["log.csv"] })
+> Measure(Measure { base: "0", also: [], period: 65535, mode: Differential, long: false, progress: false, image: "image.bin", logs: ["log.csv"] })
 % tracebench measure image.bin --long log.csv --base 0
-> Measure(Measure { base: "0", period: 1024, mode: Differential, long: true, progress: false, image: "image.bin", logs: ["log.csv"] })
+> Measure(Measure { base: "0", also: [], period: 1024, mode: Differential, long: true, progress: false, image: "image.bin", logs: ["log.csv"] })
 % tracebench measure --base 0 image.bin log.csv --progress
-> Measure(Measure { base: "0", period: 1024, mode: Differential, long: false, progress: true, image: "image.bin", logs: ["log.csv"] })
+> Measure(Measure { base: "0", also: [], period: 1024, mode: Differential, long: false, progress: true, image: "image.bin", logs: ["log.csv"] })
 % tracebench measure --long --full --base 0 image.bin --long log.csv
 ! error: the argument '--long' cannot be used multiple times
 !
@@ -319,9 +319,9 @@ pub(crate) const TEXT: &str = r#"
 
 # `list`: its count of harts and its symbols.
 % tracebench list --base 80000000 image.bin run.capture
-> Listing(Listing { base: "80000000", harts: None, symbols: None, salvage: false, progress: false, image: "image.bin", capture: "run.capture" })
+> Listing(Listing { base: "80000000", also: [], harts: None, symbols: None, salvage: false, format: Text, progress: false, image: "image.bin", capture: "run.capture" })
 % tracebench list --symbols nm.txt --harts 1024 --base 0 image.bin run.capture
-> Listing(Listing { base: "0", harts: Some(1024), symbols: Some("nm.txt"), salvage: false, progress: false, image: "image.bin", capture: "run.capture" })
+> Listing(Listing { base: "0", also: [], harts: Some(1024), symbols: Some("nm.txt"), salvage: false, format: Text, progress: false, image: "image.bin", capture: "run.capture" })
 % tracebench list --base 0 --harts 0 image.bin run.capture
 ! error: invalid value '0' for '--harts <N>': 0 is not in 1..=1024
 !
@@ -340,11 +340,11 @@ pub(crate) const TEXT: &str = r#"
 
 # `salvage`: its count of harts, its summary, and what it does not take.
 % tracebench salvage --base 80000000 image.bin run.capture
-> Salvage(Salvage { base: "80000000", harts: None, summary: false, format: Text, progress: false, image: "image.bin", capture: "run.capture" })
+> Salvage(Salvage { base: "80000000", also: [], harts: None, summary: false, format: Text, progress: false, image: "image.bin", capture: "run.capture" })
 % tracebench salvage --harts 1024 --base 0 image.bin run.capture
-> Salvage(Salvage { base: "0", harts: Some(1024), summary: false, format: Text, progress: false, image: "image.bin", capture: "run.capture" })
+> Salvage(Salvage { base: "0", also: [], harts: Some(1024), summary: false, format: Text, progress: false, image: "image.bin", capture: "run.capture" })
 % tracebench salvage --base 0 image.bin --summary run.capture
-> Salvage(Salvage { base: "0", harts: None, summary: true, format: Text, progress: false, image: "image.bin", capture: "run.capture" })
+> Salvage(Salvage { base: "0", also: [], harts: None, summary: true, format: Text, progress: false, image: "image.bin", capture: "run.capture" })
 % tracebench salvage --base 0 --harts 1025 image.bin run.capture
 ! error: invalid value '1025' for '--harts <N>': 1025 is not in 1..=1024
 !

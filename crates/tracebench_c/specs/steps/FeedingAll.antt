@@ -5,42 +5,37 @@ use Rattle.decoder.specs.declared.state.DecoderState.{DecoderState}
 use Rattle.payload.specs.Reading.{reading}
 use Rattle.payload.specs.declared.packet.Packet.{Packet}
 use Rattle.retire.specs.declared.event.Event.{Event}
-use Rattle.rvclass.specs.Image.{Image, image_at}
-use Rattle.rvclass.specs.Program.{program_of}
+use Rattle.rvclass.specs.Image.{Image}
 use Rattle.tracebench_c.specs.DecoderKept.{IsOfState}
 use Rattle.tracebench_c.specs.Events.{numbers_of_event}
 use Rattle.tracebench_c.specs.Fed.{RefusesPayload, TakesPayload}
 use Rattle.tracebench_c.specs.FedAll.{IsNotTaken, TakesIfAny}
+use Rattle.tracebench_c.specs.Images.{Judged}
 use Rattle.tracebench_c.specs.declared.decoder_state.DecoderNumbers.{DecoderNumbers}
 use Rattle.tracebench_c.specs.declared.events.EventNumbers.{EventNumbers}
 use Rattle.tracebench_c.specs.declared.status.TheConstants.{DONE}
 
--- A program is that of an image.
-pub record IsProgramOf (base : ℕ) (image : List ℕ) (program : Image) : Type 0 where
-  pub made : program_of base image ≡ Ok program
-  pub is : program ≡ image_at base image
-
 -- A packet is that of a payload, which the decoder with these numbers and this state is fed.
-pub record IsToFeed (base : ℕ) (image payload : List ℕ) (numbers : DecoderNumbers) (program : Image) (packet : Packet)
+pub record IsToFeed (image : Judged) (payload : List ℕ) (numbers : DecoderNumbers) (program : Image) (packet : Packet)
     (state : DecoderState) : Type 0 where
-  pub of : IsProgramOf base image program
+  pub made : image ≡ Ok program
   pub read : reading payload ≡ Ok packet
   pub are : IsOfState numbers state
 
 -- The decoder takes the packet, has this state and its numbers then, and these events were added; or it refuses it.
-abbrev pub IsPacketFed : ℕ → List ℕ → List ℕ → DecoderNumbers → List Event → DecoderState
+abbrev pub IsPacketFed : Judged → List ℕ → DecoderNumbers → List Event → DecoderState
     → Result DecoderNumbers DecodeFault → Type 0
-IsPacketFed base image payload numbers events state (Ok after) =
-    TakesPayload base image payload numbers after events × IsOfState after state
-IsPacketFed base image payload numbers events state (Err why) = RefusesPayload base image payload numbers why
+IsPacketFed image payload numbers events state (Ok after) =
+    TakesPayload image payload numbers after events × IsOfState after state
+IsPacketFed image payload numbers events state (Err why) = RefusesPayload image payload numbers why
 
 -- The next payload was taken, and its events were written; or it was not, for this reason, and nothing changed.
-pub data IsNextFed (base : ℕ) (image : List ℕ) (payload : Option (List ℕ)) (status : ℕ) (before after : DecoderNumbers)
+pub data IsNextFed (image : Judged) (payload : Option (List ℕ)) (status : ℕ) (before after : DecoderNumbers)
     (kept_before kept : DecoderState) (count : ℕ) (old new : List EventNumbers) : Type 0 where
-  Taken : (events : List Event) → TakesIfAny base image payload before after events → IsOfState after kept
+  Taken : (events : List Event) → TakesIfAny image payload before after events → IsOfState after kept
       → count ≡ length events → count ≤ length old → new ≡ map numbers_of_event events ++ drop count old
       → status ≡ DONE
-      → IsNextFed base image payload status before after kept_before kept count old new
-  NotTaken : IsNotTaken base image payload before (length old) status
+      → IsNextFed image payload status before after kept_before kept count old new
+  NotTaken : IsNotTaken image payload before (length old) status
       → after ≡ before → kept ≡ kept_before → new ≡ old
-      → IsNextFed base image payload status before after kept_before kept count old new
+      → IsNextFed image payload status before after kept_before kept count old new

@@ -32,7 +32,8 @@ returns-in_err-base-clause-printed g c =
     let content = g.F.Files.content c.args.files.now in
     let why = c.in_err-base.field-0.0 in
     let is : c.from_residual.result ≡ Err why = grind (arith, common_steps) in
-    ends_silently (Decodes content asked) (CanDecode content asked) (IsBase asked.base.now (Err why)) why
+    ends_silently (Decodes content asked) (CanDecode content asked)
+    (IsBase asked.base.now asked.also.items (Err why)) why
     c.from_residual.result (g.O.Write.contents c.args.out.now) is (inr c.in_err-base.ensures.found) (λ none. (Err why, none, refl))
 
 pub returns-in_err-program-clause-printed : goal.returns-in_err-program-clause-printed
@@ -42,7 +43,8 @@ returns-in_err-program-clause-printed g c =
     let base = c.in_ok-base.base in
     let why = c.in_err-program.field-0.0 in
     let is : c.from_residual-in_err-program.result ≡ Err why = grind (arith, common_steps) in
-    ends_silently (Decodes content asked) (CanDecode content asked) (IsProgramAt content base asked.image (Err why)) why
+    ends_silently (Decodes content asked) (CanDecode content asked)
+    (IsProgramAt content base asked.image asked.also.items (Err why)) why
     c.from_residual-in_err-program.result
     (g.O.Write.contents c.args.out.now) is c.in_err-program.ensures.fault
     (λ none. (Ok base, c.in_ok-base.ensures.found, (Err why, none, refl)))

@@ -1,13 +1,15 @@
 -- The prover tries no chain of steps by itself: what each step found is handed to it, in order.
-use Rattle.std.proofs.Common.{Err, List, Ok, Option, ap, arith, inr, refl, subst, sym, ℕ, ◌≡◌, ◌∙◌, ◌⊎◌}
+use Rattle.std.proofs.Common.{Err, List, Ok, Option, arith, inr, refl, subst, sym, ℕ, ◌≡◌, ◌∙◌, ◌⊎◌}
 use Rattle.std.proofs.lemmas.Grind.{common_steps}
 use Rattle.std.specs.Borrow.{Bor}
-use Rattle.std.specs.Prelude.{IfSome, option_map}
+use Rattle.std.specs.Prelude.{option_map}
 use Rattle.subcommands.specs.declared.words.Listing.{Listing}
 use Rattle.command_inputs.specs.Begun.{IsCutOf}
-use Rattle.command_inputs.specs.Found.{IsBase, IsProgramAt, IsRead}
+use Rattle.command_inputs.specs.Found.{IsAskedBase, IsProgramAt, IsRead}
+use Rattle.command_inputs.specs.FurtherPieces.{base_number}
 use Rattle.files.specs.Known.{Content}
-use Rattle.command_inputs.specs.Order.{base_fault}
+use Rattle.command_inputs.proofs.Formats.{found_ends}
+use Rattle.command_inputs.specs.Order.{format_or_base_fault}
 use Rattle.command_inputs.specs.Printed.{PrintsUnlessDenied}
 use Rattle.capture_commands.specs.Symbols.{AreSymbols}
 use Rattle.command_inputs.specs.declared.fault.Fault.TheVariants as fault
@@ -22,9 +24,9 @@ pub returns-in_err-base-clause-early : goal.returns-in_err-base-clause-early
 returns-in_err-base-clause-early g c =
     let why = c.in_err-base.field-0.0 in
     let is : c.from_residual.result ≡ Err why = grind (arith, common_steps) in
-    let none = c.in_err-base.ensures.none in
-    subst (λ number. IfSome (base_fault number) (λ fault. c.from_residual.result ≡ Err fault)) (sym none.1)
-    (is ∙ ap Err none.0)
+    let asked = c.args.asked.now in
+    found_ends (format_or_base_fault asked.format (base_number asked.base.now asked.also.items)) why
+    c.from_residual.result c.in_err-base.ensures.none is
 
 pub returns-in_err-base-clause-printed : goal.returns-in_err-base-clause-printed
 returns-in_err-base-clause-printed g c =
@@ -32,7 +34,8 @@ returns-in_err-base-clause-printed g c =
     let content = g.F.Files.content c.args.files.now in
     let why = c.in_err-base.field-0.0 in
     let is : c.from_residual.result ≡ Err why = grind (arith, common_steps) in
-    ends_silently (Lists content asked) (CanList content asked) (IsBase asked.base.now (Err why)) why
+    ends_silently (Lists content asked) (CanList content asked)
+    (IsAskedBase asked.format asked.base.now asked.also.items (Err why)) why
     c.from_residual.result (g.O.Write.contents c.args.out.now) is (inr c.in_err-base.ensures.found)
     (λ none. (Err why, none, refl))
 
@@ -43,7 +46,8 @@ returns-in_err-program-clause-printed g c =
     let base = c.in_ok-base.base in
     let why = c.in_err-program.field-0.0 in
     let is : c.from_residual-in_err-program.result ≡ Err why = grind (arith, common_steps) in
-    ends_silently (Lists content asked) (CanList content asked) (IsProgramAt content base asked.image (Err why)) why
+    ends_silently (Lists content asked) (CanList content asked)
+    (IsProgramAt content base asked.image asked.also.items (Err why)) why
     c.from_residual-in_err-program.result (g.O.Write.contents c.args.out.now) is c.in_err-program.ensures.fault
     (λ none. (Ok base, c.in_ok-base.ensures.found, (Err why, none, refl)))
 

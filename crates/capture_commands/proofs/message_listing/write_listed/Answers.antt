@@ -12,7 +12,7 @@ use Rattle.capture_commands.proofs.message_listing.write_listed.Goals as goal
 pub returns-then-salvage-clause-printed : goal.returns-then-salvage-clause-printed
 returns-then-salvage-clause-printed g c =
     let symbols = option_map (λ (file : Bor (List ℕ)). file.now) c.args.symbols in
-    subst (λ b. PrintsUnlessDenied (WritesListed b c.args.harts c.args.program.now symbols c.args.bytes.now) ⊤
+    subst (λ b. PrintsUnlessDenied (WritesListed c.args.format b c.args.harts c.args.program.now symbols c.args.bytes.now) ⊤
     c.list_salvaged.result (g.O.Write.contents c.args.out.now) (g.O.Write.contents c.list_salvaged.new.out))
     (sym c.if-salvage.true) c.list_salvaged.ensures.printed
 
@@ -24,7 +24,7 @@ returns-then-salvage-clause-begun g c = λ memory.
 pub returns-then-salvage-clause-cut : goal.returns-then-salvage-clause-cut
 returns-then-salvage-clause-cut g c =
     let symbols = option_map (λ (file : Bor (List ℕ)). file.now) c.args.symbols in
-    subst (λ b. IsCutOf (WritesListedPart b c.args.harts c.args.program.now symbols c.args.bytes.now)
+    subst (λ b. IsCutOf (WritesListedPart c.args.format b c.args.harts c.args.program.now symbols c.args.bytes.now)
     (g.O.Write.contents c.args.out.now) (g.O.Write.contents c.list_salvaged.new.out))
     (sym c.if-salvage.true) c.list_salvaged.ensures.cut
 
@@ -33,9 +33,9 @@ returns-clause-printed g c =
     let symbols = option_map (λ (file : Bor (List ℕ)). file.now) c.args.symbols in
     let old = g.O.Write.contents c.args.out.now in
     let new = g.O.Write.contents c.write_listing.new.out in
-    subst (λ b. PrintsUnlessDenied (WritesListed b c.args.harts c.args.program.now symbols c.args.bytes.now) ⊤
+    subst (λ b. PrintsUnlessDenied (WritesListed c.args.format b c.args.harts c.args.program.now symbols c.args.bytes.now) ⊤
     c.write_listing.result old new) (sym c.if-salvage.false)
-    (subst (λ harts. PrintsUnlessDenied (WritesListing harts c.args.program.now symbols c.args.bytes.now) ⊤
+    (subst (λ harts. PrintsUnlessDenied (WritesListing c.args.format harts c.args.program.now symbols c.args.bytes.now) ⊤
     c.write_listing.result old new) c.harts_or_one.ensures c.write_listing.ensures.printed)
 
 pub returns-clause-begun : goal.returns-clause-begun
@@ -43,9 +43,9 @@ returns-clause-begun g c = λ memory.
     let symbols = option_map (λ (file : Bor (List ℕ)). file.now) c.args.symbols in
     let old = g.O.Write.contents c.args.out.now in
     let new = g.O.Write.contents c.write_listing.new.out in
-    subst (λ b. ListsUpToMemory (WritesListed b c.args.harts c.args.program.now symbols c.args.bytes.now) old new)
+    subst (λ b. ListsUpToMemory (WritesListed c.args.format b c.args.harts c.args.program.now symbols c.args.bytes.now) old new)
     (sym c.if-salvage.false)
-    (subst (λ harts. ListsUpToMemory (WritesListing harts c.args.program.now symbols c.args.bytes.now) old new)
+    (subst (λ harts. ListsUpToMemory (WritesListing c.args.format harts c.args.program.now symbols c.args.bytes.now) old new)
     c.harts_or_one.ensures (c.write_listing.ensures.begun memory))
 
 pub returns-clause-cut : goal.returns-clause-cut
@@ -53,7 +53,7 @@ returns-clause-cut g c =
     let symbols = option_map (λ (file : Bor (List ℕ)). file.now) c.args.symbols in
     let old = g.O.Write.contents c.args.out.now in
     let new = g.O.Write.contents c.write_listing.new.out in
-    subst (λ b. IsCutOf (WritesListedPart b c.args.harts c.args.program.now symbols c.args.bytes.now) old new)
+    subst (λ b. IsCutOf (WritesListedPart c.args.format b c.args.harts c.args.program.now symbols c.args.bytes.now) old new)
     (sym c.if-salvage.false)
-    (subst (λ harts. IsCutOf (WritesPart harts c.args.program.now symbols c.args.bytes.now) old new)
+    (subst (λ harts. IsCutOf (WritesPart c.args.format harts c.args.program.now symbols c.args.bytes.now) old new)
     c.harts_or_one.ensures c.write_listing.ensures.cut)

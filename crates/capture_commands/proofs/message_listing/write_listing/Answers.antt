@@ -23,7 +23,7 @@ returns-in_err-listed-clause-printed g c =
     let files = option_map (λ (file : Bor (List ℕ)). file.now) c.args.symbols in
     let why = c.in_err-listed.field-0.0 in
     let is : c.from_residual.result ≡ Err (write_fault why) = grind (arith, common_steps) in
-    subst (λ r. PrintsUnlessDenied (WritesListing c.args.harts c.args.program.now files c.args.bytes.now) ⊤ r
+    subst (λ r. PrintsUnlessDenied (WritesListing c.args.format c.args.harts c.args.program.now files c.args.bytes.now) ⊤ r
     (g.O.Write.contents c.args.out.now) (g.O.Write.contents c.show_listing.new.out)) (sym is) (inl (write_denied why))
 
 pub returns-in_err-listed-clause-begun : goal.returns-in_err-listed-clause-begun
@@ -37,7 +37,7 @@ returns-in_err-listed-clause-begun g c = λ memory.
 
 pub returns-in_err-listed-clause-cut : goal.returns-in_err-listed-clause-cut
 returns-in_err-listed-clause-cut g c =
-    part_cut c.args.harts c.args.program.now (option_map (λ (file : Bor (List ℕ)). file.now) c.args.symbols)
+    part_cut c.args.format c.args.harts c.args.program.now (option_map (λ (file : Bor (List ℕ)). file.now) c.args.symbols)
     c.args.bytes.now (g.O.Write.contents c.args.out.now) (g.O.Write.contents c.show_listing.new.out)
     c.in_err-listed.ensures.begun
 
@@ -52,9 +52,9 @@ module _ (g : _) (c : After-flush g) where
   new = g.O.Write.contents c.flush.new.self
 
   -- Whatever the flush answers, the whole listing was written.
-  cut : IsCutOf (WritesPart c.args.harts c.args.program.now symbols c.args.bytes.now) old new
+  cut : IsCutOf (WritesPart c.args.format c.args.harts c.args.program.now symbols c.args.bytes.now) old new
   cut =
-      whole_cut c.args.harts c.args.program.now symbols c.args.bytes.now c.in_ok-listed.listed.closed.items
+      whole_cut c.args.format c.args.harts c.args.program.now symbols c.args.bytes.now c.in_ok-listed.listed.closed.items
       c.in_ok-listed.listed.fault old (g.O.Write.contents c.show_listing.new.out) new c.in_ok-listed.ensures.listed
       c.flush.ensures.bytes
 
@@ -62,7 +62,7 @@ pub returns-in_err-flush-clause-printed : goal.returns-in_err-flush-clause-print
 returns-in_err-flush-clause-printed g c =
     let files = option_map (λ (file : Bor (List ℕ)). file.now) c.args.symbols in
     let is : c.from_residual-in_err-flush.result ≡ Err fault.Output = grind (arith, common_steps) in
-    output_failed (WritesListing c.args.harts c.args.program.now files c.args.bytes.now) ⊤
+    output_failed (WritesListing c.args.format c.args.harts c.args.program.now files c.args.bytes.now) ⊤
     c.from_residual-in_err-flush.result (g.O.Write.contents c.args.out.now) (g.O.Write.contents c.flush.new.self) is tt
 
 pub returns-in_err-flush-clause-begun : goal.returns-in_err-flush-clause-begun
@@ -81,11 +81,11 @@ module _ (g : _) (c : After-ended g) where
   ends : c.ended.result ≡ end_of_capture c.in_ok-listed.listed.fault c.in_ok-listed.listed.closed.items
   ends = c.ended.ensures.value ∙ ap (end_of_capture c.in_ok-listed.listed.fault) c.as_slice.ensures.value
 
-  whole : IsPrinted (WritesListing c.args.harts c.args.program.now
+  whole : IsPrinted (WritesListing c.args.format c.args.harts c.args.program.now
       (option_map (λ (file : Bor (List ℕ)). file.now) c.args.symbols) c.args.bytes.now) c.ended.result
       (g.O.Write.contents c.args.out.now) (g.O.Write.contents c.flush.new.self)
   whole =
-      whole_printed c.args.harts c.args.program.now (option_map (λ (file : Bor (List ℕ)). file.now) c.args.symbols)
+      whole_printed c.args.format c.args.harts c.args.program.now (option_map (λ (file : Bor (List ℕ)). file.now) c.args.symbols)
       c.args.bytes.now c.in_ok-listed.listed.closed.items c.in_ok-listed.listed.fault
       (g.O.Write.contents c.args.out.now) (g.O.Write.contents c.show_listing.new.out)
       (g.O.Write.contents c.flush.new.self) c.in_ok-listed.ensures.listed c.flush.ensures.bytes c.ended.result ends
@@ -93,13 +93,13 @@ module _ (g : _) (c : After-ended g) where
 pub returns-clause-printed : goal.returns-clause-printed
 returns-clause-printed g c =
     let files = option_map (λ (file : Bor (List ℕ)). file.now) c.args.symbols in
-    prints (WritesListing c.args.harts c.args.program.now files c.args.bytes.now) ⊤ c.ended.result
+    prints (WritesListing c.args.format c.args.harts c.args.program.now files c.args.bytes.now) ⊤ c.ended.result
     (g.O.Write.contents c.args.out.now) (g.O.Write.contents c.flush.new.self)
     (whole g (goal.at.returns-clause-printed g c).After-ended)
 
 pub returns-clause-begun : goal.returns-clause-begun
 returns-clause-begun g c = λ memory.
     let files = option_map (λ (file : Bor (List ℕ)). file.now) c.args.symbols in
-    inr (subst (λ ended. IsPrinted (WritesListing c.args.harts c.args.program.now files c.args.bytes.now) ended
+    inr (subst (λ ended. IsPrinted (WritesListing c.args.format c.args.harts c.args.program.now files c.args.bytes.now) ended
     (g.O.Write.contents c.args.out.now) (g.O.Write.contents c.flush.new.self)) memory
     (whole g (goal.at.returns-clause-begun g c).After-ended))

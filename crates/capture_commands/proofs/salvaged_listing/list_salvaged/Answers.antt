@@ -6,58 +6,58 @@ use Rattle.std.specs.Io.KnownBytes.{Appends}
 use Rattle.std.specs.Prelude.{⊤}
 use Rattle.output.specs.Begun.{AppendsBeginning}
 use Rattle.command_inputs.proofs.Runs.{appends-keeps, prints}
-use Rattle.salvaged_lines.specs.Lines.{treated_text}
 use Rattle.searching.specs.Start.{spans_of}
+use Rattle.capture_commands.specs.ListedFormats.{treated_in}
 use Rattle.capture_commands.specs.ListedSalvaged.{WritesTreated}
 use Rattle.capture_commands.proofs.TreatedRuns.{treated_cut, treated_printed}
-use Rattle.capture_commands.proofs.salvaged_listing.list_salvaged.Goals.{After-write_treated}
+use Rattle.capture_commands.proofs.salvaged_listing.list_salvaged.Goals.{After-write_treated_in}
 use Rattle.capture_commands.proofs.salvaged_listing.list_salvaged.Goals as goal
 
-module _ (g : _) (c : After-write_treated g) where
+module _ (g : _) (c : After-write_treated_in g) where
   abbrev old : Option (List ℕ)
   old = g.O.Write.contents c.args.out.now
 
   abbrev mid : Option (List ℕ)
-  mid = g.O.Write.contents c.write_treated.new.sink
+  mid = g.O.Write.contents c.write_treated_in.new.sink
 
   abbrev text : List ℕ
   text =
-      treated_text (option_map (λ (file : Bor (List ℕ)). file.now) c.args.symbols) c.in_ok-found.found.header
+      treated_in c.args.format (option_map (λ (file : Bor (List ℕ)). file.now) c.args.symbols) c.in_ok-found.found.header
       (spans_of c.in_ok-found.found.header c.args.bytes.now) c.in_ok-treated.treated.items
 
   -- The buffer of treatments is handed over as a slice, and the spans are those of the bytes.
   begun : AppendsBeginning text old mid
   begun =
-      subst (λ treated. AppendsBeginning (treated_text
+      subst (λ treated. AppendsBeginning (treated_in c.args.format
       (option_map (λ (file : Bor (List ℕ)). file.now) c.args.symbols) c.in_ok-found.found.header
       (spans_of c.in_ok-found.found.header c.args.bytes.now) treated) old mid) c.as_slice.ensures.value
-      (subst (λ spans. AppendsBeginning (treated_text
+      (subst (λ spans. AppendsBeginning (treated_in c.args.format
       (option_map (λ (file : Bor (List ℕ)). file.now) c.args.symbols) c.in_ok-found.found.header
-      spans c.as_slice.result.now) old mid) c.spans_of.ensures c.write_treated.ensures.begun)
+      spans c.as_slice.result.now) old mid) c.spans_of.ensures c.write_treated_in.ensures.begun)
 
-pub returns-in_err-write_treated-clause-cut : goal.returns-in_err-write_treated-clause-cut
-returns-in_err-write_treated-clause-cut g c =
-    let new = g.O.Write.contents c.write_treated.new.sink in
-    treated_cut c.args.harts c.args.program.now (option_map (λ (file : Bor (List ℕ)). file.now) c.args.symbols)
+pub returns-in_err-write_treated_in-clause-cut : goal.returns-in_err-write_treated_in-clause-cut
+returns-in_err-write_treated_in-clause-cut g c =
+    let new = g.O.Write.contents c.write_treated_in.new.sink in
+    treated_cut c.args.format c.args.harts c.args.program.now (option_map (λ (file : Bor (List ℕ)). file.now) c.args.symbols)
     c.args.bytes.now c.in_ok-found.found c.in_ok-found.ensures c.in_ok-treated.treated.items c.in_ok-treated.ensures
     (g.O.Write.contents c.args.out.now) new new
-    (begun g (goal.at.returns-in_err-write_treated-clause-cut g c).After-write_treated) (Keeps-refl new)
+    (begun g (goal.at.returns-in_err-write_treated_in-clause-cut g c).After-write_treated_in) (Keeps-refl new)
 
 pub returns-in_err-flush-clause-cut : goal.returns-in_err-flush-clause-cut
 returns-in_err-flush-clause-cut g c =
-    treated_cut c.args.harts c.args.program.now (option_map (λ (file : Bor (List ℕ)). file.now) c.args.symbols)
+    treated_cut c.args.format c.args.harts c.args.program.now (option_map (λ (file : Bor (List ℕ)). file.now) c.args.symbols)
     c.args.bytes.now c.in_ok-found.found c.in_ok-found.ensures c.in_ok-treated.treated.items c.in_ok-treated.ensures
-    (g.O.Write.contents c.args.out.now) (g.O.Write.contents c.write_treated.new.sink)
+    (g.O.Write.contents c.args.out.now) (g.O.Write.contents c.write_treated_in.new.sink)
     (g.O.Write.contents c.flush.new.self)
-    (begun g (goal.at.returns-in_err-flush-clause-cut g c).After-write_treated) c.flush.ensures.bytes
+    (begun g (goal.at.returns-in_err-flush-clause-cut g c).After-write_treated_in) c.flush.ensures.bytes
 
 pub returns-clause-cut : goal.returns-clause-cut
 returns-clause-cut g c =
-    treated_cut c.args.harts c.args.program.now (option_map (λ (file : Bor (List ℕ)). file.now) c.args.symbols)
+    treated_cut c.args.format c.args.harts c.args.program.now (option_map (λ (file : Bor (List ℕ)). file.now) c.args.symbols)
     c.args.bytes.now c.in_ok-found.found c.in_ok-found.ensures c.in_ok-treated.treated.items c.in_ok-treated.ensures
-    (g.O.Write.contents c.args.out.now) (g.O.Write.contents c.write_treated.new.sink)
+    (g.O.Write.contents c.args.out.now) (g.O.Write.contents c.write_treated_in.new.sink)
     (g.O.Write.contents c.flush.new.self)
-    (begun g (goal.at.returns-clause-cut g c).After-write_treated) c.flush.ensures.bytes
+    (begun g (goal.at.returns-clause-cut g c).After-write_treated_in) c.flush.ensures.bytes
 
 pub returns-clause-printed : goal.returns-clause-printed
 returns-clause-printed g c =
@@ -66,16 +66,16 @@ returns-clause-printed g c =
     let found = c.in_ok-found.found in
     let treated = c.in_ok-treated.treated.items in
     let old = g.O.Write.contents c.args.out.now in
-    let mid = g.O.Write.contents c.write_treated.new.sink in
+    let mid = g.O.Write.contents c.write_treated_in.new.sink in
     let new = g.O.Write.contents c.flush.new.self in
-    let text = treated_text symbols found.header (spans_of found.header bytes) treated in
-    prints (WritesTreated c.args.harts c.args.program.now symbols bytes) ⊤ c.ended.result old new (record {
+    let text = treated_in c.args.format symbols found.header (spans_of found.header bytes) treated in
+    prints (WritesTreated c.args.format c.args.harts c.args.program.now symbols bytes) ⊤ c.ended.result old new (record {
       text = text;
-      prints = treated_printed c.args.harts c.args.program.now symbols bytes found c.in_ok-found.ensures treated
+      prints = treated_printed c.args.format c.args.harts c.args.program.now symbols bytes found c.in_ok-found.ensures treated
           c.in_ok-treated.ensures c.ended.result c.ended.ensures.value;
       appended = appends-keeps old mid new text
-          (subst (λ treated. Appends old mid (treated_text symbols found.header (spans_of found.header bytes) treated))
+          (subst (λ treated. Appends old mid (treated_in c.args.format symbols found.header (spans_of found.header bytes) treated))
           c.as_slice.ensures.value
-          (subst (λ spans. Appends old mid (treated_text symbols found.header spans c.as_slice.result.now))
-          c.spans_of.ensures c.in_ok-write_treated.ensures.text)) c.flush.ensures.bytes;
+          (subst (λ spans. Appends old mid (treated_in c.args.format symbols found.header spans c.as_slice.result.now))
+          c.spans_of.ensures c.in_ok-write_treated_in.ensures.text)) c.flush.ensures.bytes;
     })

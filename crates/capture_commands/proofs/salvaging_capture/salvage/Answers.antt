@@ -8,7 +8,7 @@ use Rattle.command_inputs.specs.Order.{format_or_base_fault}
 use Rattle.command_inputs.specs.Printed.{PrintsUnlessDenied}
 use Rattle.command_inputs.specs.declared.fault.Fault.TheVariants as fault
 use Rattle.command_inputs.proofs.Formats.{found_ends}
-use Rattle.retire.specs.Number.{number_of}
+use Rattle.command_inputs.specs.FurtherPieces.{base_number}
 use Rattle.command_inputs.proofs.Runs.{ends_silently}
 use Rattle.capture_commands.specs.Salvaging.{CanSalvage, Salvages, WritesSalvaged}
 use Rattle.capture_commands.specs.declared.reason.CaptureReason.{CaptureReason}
@@ -20,8 +20,8 @@ returns-in_err-base-clause-early g c =
     let why = c.in_err-base.field-0.0 in
     let is : c.from_residual.result ≡ Err why = grind (arith, common_steps) in
     let asked = c.args.asked.now in
-    found_ends (format_or_base_fault asked.format (number_of asked.base.now)) why c.from_residual.result
-    c.in_err-base.ensures.none is
+    found_ends (format_or_base_fault asked.format (base_number asked.base.now asked.also.items)) why
+    c.from_residual.result c.in_err-base.ensures.none is
 
 pub returns-in_err-base-clause-printed : goal.returns-in_err-base-clause-printed
 returns-in_err-base-clause-printed g c =
@@ -29,7 +29,8 @@ returns-in_err-base-clause-printed g c =
     let content = g.F.Files.content c.args.files.now in
     let why = c.in_err-base.field-0.0 in
     let is : c.from_residual.result ≡ Err why = grind (arith, common_steps) in
-    ends_silently (Salvages content asked) (CanSalvage content asked) (IsAskedBase asked.format asked.base.now (Err why)) why
+    ends_silently (Salvages content asked) (CanSalvage content asked)
+    (IsAskedBase asked.format asked.base.now asked.also.items (Err why)) why
     c.from_residual.result (g.O.Write.contents c.args.out.now) is (inr c.in_err-base.ensures.found)
     (λ none. (Err why, none, refl))
 
@@ -40,8 +41,8 @@ returns-in_err-program-clause-printed g c =
     let base = c.in_ok-base.base in
     let why = c.in_err-program.field-0.0 in
     let is : c.from_residual-in_err-program.result ≡ Err why = grind (arith, common_steps) in
-    ends_silently (Salvages content asked) (CanSalvage content asked) (IsProgramAt content base asked.image (Err why))
-    why c.from_residual-in_err-program.result (g.O.Write.contents c.args.out.now) is c.in_err-program.ensures.fault
+    ends_silently (Salvages content asked) (CanSalvage content asked)
+    (IsProgramAt content base asked.image asked.also.items (Err why)) why c.from_residual-in_err-program.result (g.O.Write.contents c.args.out.now) is c.in_err-program.ensures.fault
     (λ none. (Ok base, c.in_ok-base.ensures.found, (Err why, none, refl)))
 
 pub returns-in_err-bytes-clause-printed : goal.returns-in_err-bytes-clause-printed

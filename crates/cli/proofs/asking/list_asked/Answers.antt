@@ -9,9 +9,11 @@ returns c =
     let found = found_of c.args.given.now in (
       refl,
       c.text.ensures,
+      c.in_ok-texts.ensures,
       c.given_harts.ensures,
       c.get_str.ensures ∙ first_value-rows found (codes "symbols"),
       c.flag.ensures,
+      c.format.ensures,
       c.flag-2.ensures,
       c.text-2.ensures,
       c.text-3.ensures,

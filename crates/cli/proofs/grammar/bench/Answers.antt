@@ -1,19 +1,22 @@
 -- A command's grammar is too large to be searched in: the rules of its arguments are handed over.
 use Rattle.std.proofs.Common.{codes, [], ◌∷◌}
 use Rattle.clap.specs.Words.{new_app}
-use Rattle.arguments.specs.Rules.{base_rule, capacity_rule, full_rule, image_rule, logs_rule, period_rule}
+use Rattle.arguments.specs.Rules.{also_rule, base_rule, capacity_rule, full_rule, image_rule, logs_rule, period_rule}
 use Rattle.arguments.specs.Rules.{progress_rule}
 use Rattle.cli.proofs.GrammarLemmas.{with_these}
 use Rattle.cli.proofs.grammar.bench.Goals as goal
 
 pub returns : goal.returns
 returns c =
-    with_these c.subcommand.result (new_app (codes "bench")) (base_rule ∷ period_rule ∷ full_rule ∷ capacity_rule ∷
-    progress_rule ∷ image_rule ∷ logs_rule ∷ []) _ c.in_ok-args.args.items
-    c.in_ok-args.ensures.items c.subcommand.ensures (
+    with_these c.subcommand.result (new_app (codes "bench")) (base_rule ∷ also_rule ∷ period_rule ∷ full_rule ∷
+    capacity_rule ∷ progress_rule ∷ image_rule ∷ logs_rule ∷ []) _ c.in_ok-args.args.items c.in_ok-args.ensures.items
+    c.subcommand.ensures (
       c.base.ensures,
       (
-        c.period.ensures,
-        (c.full.ensures, (c.capacity.ensures, (c.progress.ensures, (c.image.ensures, (c.logs.ensures, tt))))),
+        c.also.ensures,
+        (
+          c.period.ensures,
+          (c.full.ensures, (c.capacity.ensures, (c.progress.ensures, (c.image.ensures, (c.logs.ensures, tt))))),
+        ),
       ),
     )

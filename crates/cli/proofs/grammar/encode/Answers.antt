@@ -1,28 +1,32 @@
 -- A command's grammar is too large to be searched in: the rules of its arguments are handed over.
 use Rattle.std.proofs.Common.{codes, [], ◌∷◌}
 use Rattle.clap.specs.Words.{new_app}
-use Rattle.arguments.specs.Rules.{base_rule, first_rule, full_rule, hex_rule, image_rule, logs_rule, long_rule}
-use Rattle.arguments.specs.Rules.{of_rule, period_rule, progress_rule, version_one_rule}
+use Rattle.arguments.specs.Rules.{also_rule, base_rule, first_rule, full_rule, hex_rule, image_rule, logs_rule}
+use Rattle.arguments.specs.Rules.{long_rule, of_rule, period_rule, progress_rule, version_one_rule}
 use Rattle.cli.proofs.GrammarLemmas.{with_these}
 use Rattle.cli.proofs.grammar.encode.Goals as goal
 
 pub returns : goal.returns
 returns c =
-    with_these c.subcommand.result (new_app (codes "encode")) (base_rule ∷ period_rule ∷ full_rule ∷
+    with_these c.subcommand.result (new_app (codes "encode")) (base_rule ∷ also_rule ∷ period_rule ∷ full_rule ∷
     version_one_rule ∷ hex_rule ∷ first_rule ∷ of_rule ∷ long_rule ∷ progress_rule ∷ image_rule ∷ logs_rule ∷ []) _
-    c.in_ok-args.args.items c.in_ok-args.ensures.items c.subcommand.ensures (
+    c.in_ok-args.args.items c.in_ok-args.ensures.items
+    c.subcommand.ensures (
       c.base.ensures,
       (
-        c.period.ensures,
+        c.also.ensures,
         (
-          c.full.ensures,
+          c.period.ensures,
           (
-            c.version_one.ensures,
+            c.full.ensures,
             (
-              c.hex.ensures,
+              c.version_one.ensures,
               (
-                c.first.ensures,
-                (c.of.ensures, (c.long.ensures, (c.progress.ensures, (c.image.ensures, (c.logs.ensures, tt))))),
+                c.hex.ensures,
+                (
+                  c.first.ensures,
+                  (c.of.ensures, (c.long.ensures, (c.progress.ensures, (c.image.ensures, (c.logs.ensures, tt))))),
+                ),
               ),
             ),
           ),

@@ -1,31 +1,34 @@
 -- A command's grammar is too large to be searched in: the rules of its arguments are handed over.
 use Rattle.std.proofs.Common.{codes, [], ◌∷◌}
 use Rattle.clap.specs.Words.{new_app}
-use Rattle.arguments.specs.Rules.{base_rule, capacity_rule, full_rule, image_rule, logs_rule, period_rule}
-use Rattle.arguments.specs.Rules.{progress_rule}
-use Rattle.arguments.specs.Rules.{schedule_rule}
+use Rattle.arguments.specs.Rules.{also_rule, base_rule, capacity_rule, full_rule, image_rule, logs_rule, period_rule}
+use Rattle.arguments.specs.Rules.{progress_rule, schedule_rule}
 use Rattle.cli.proofs.GrammarLemmas.{with_these}
 use Rattle.cli.proofs.grammar.replay.Goals as goal
 
 pub returns : goal.returns
 returns c =
-    with_these c.subcommand.result (new_app (codes "replay")) (base_rule ∷ period_rule ∷ full_rule ∷ capacity_rule ∷
-    progress_rule ∷ image_rule ∷ schedule_rule ∷ logs_rule ∷ []) _ c.in_ok-args.args.items
-    c.in_ok-args.ensures.items c.subcommand.ensures (
+    with_these c.subcommand.result (new_app (codes "replay")) (base_rule ∷ also_rule ∷ period_rule ∷ full_rule ∷
+    capacity_rule ∷ progress_rule ∷ image_rule ∷ schedule_rule ∷ logs_rule ∷ []) _ c.in_ok-args.args.items
+    c.in_ok-args.ensures.items
+    c.subcommand.ensures (
       c.base.ensures,
       (
-        c.period.ensures,
+        c.also.ensures,
         (
-          c.full.ensures,
+          c.period.ensures,
           (
-            c.capacity.ensures,
+            c.full.ensures,
             (
-              c.progress.ensures,
+              c.capacity.ensures,
               (
-                c.image.ensures,
+                c.progress.ensures,
                 (
-                  c.schedule.ensures,
-                  (c.logs.ensures, tt),
+                  c.image.ensures,
+                  (
+                    c.schedule.ensures,
+                    (c.logs.ensures, tt),
+                  ),
                 ),
               ),
             ),

@@ -1,5 +1,6 @@
 -- The prover makes no record by itself: what is said of the subcommand's run is handed to it, with the joined reasons.
 use Rattle.std.proofs.Common.{◌∙◌, sym}
+use Rattle.std.proofs.lemmas.Bool.{true_from_ne_false}
 use Rattle.capture_commands.specs.Listed.{CanList, Lists, ListsInPart, list_meaning}
 use Rattle.commands.specs.declared.reason.CommandReason.TheVariants.{Capture}
 use Rattle.commands.proofs.JoinedRuns.{joined_cut, joined_early, joined_prints}
@@ -17,6 +18,7 @@ returns g c =
       printed = joined_prints Capture (Lists content asked) (CanList content asked) c.list.result c.joined_end.result
           (contents out) (contents c.list.new.out) value c.list.ensures.printed;
       begun = λ memory. c.list.ensures.begun (c.joined_end.ensures.memory memory);
-      untouched = λ whole memory. absurd (whole tt);
+      untouched = λ whole memory. c.list.ensures.untouched (true_from_ne_false asked.salvage whole)
+          (c.joined_end.ensures.memory memory);
       refused = λ other ended. c.list.ensures.refused (sym c.joined_end.ensures.status ∙ ended);
     }

@@ -31,7 +31,8 @@ returns-in_err-base-clause-printed g c =
     let content = g.F.Files.content c.args.files.now in
     let why = c.in_err-base.field-0.0 in
     let is : c.from_residual.result ≡ Err why = grind (arith, common_steps) in
-    ends_silently (Compares content asked) (CanCompare content asked) (IsBase asked.base.now (Err why)) why
+    ends_silently (Compares content asked) (CanCompare content asked)
+    (IsBase asked.base.now asked.also.items (Err why)) why
     c.from_residual.result (g.O.Write.contents c.args.out.now) is (inr c.in_err-base.ensures.found) (λ none. (Err why, none, refl))
 
 pub returns-in_err-program-clause-printed : goal.returns-in_err-program-clause-printed
@@ -41,7 +42,8 @@ returns-in_err-program-clause-printed g c =
     let base = c.in_ok-base.base in
     let why = c.in_err-program.field-0.0 in
     let is : c.from_residual-in_err-program.result ≡ Err why = grind (arith, common_steps) in
-    ends_silently (Compares content asked) (CanCompare content asked) (IsProgramAt content base asked.image (Err why)) why
+    ends_silently (Compares content asked) (CanCompare content asked)
+    (IsProgramAt content base asked.image asked.also.items (Err why)) why
     c.from_residual-in_err-program.result
     (g.O.Write.contents c.args.out.now) is c.in_err-program.ensures.fault
     (λ none. (Ok base, c.in_ok-base.ensures.found, (Err why, none, refl)))

@@ -8,7 +8,7 @@ use Rattle.decoder.proofs.leaps.find_leaps.Goals as goal
 
 pub leap_from-leap-requires-clause-leaps : goal.leap_from-leap-requires-clause-leaps
 leap_from-leap-requires-clause-leaps g c =
-    subst (AreLeaps (words_of c.args.program.now) c.end_of-end.result) (sym c.as_slice.ensures.value)
+    subst (AreLeaps (words_of c.args.program.now) c.args.lanes.now) (sym c.as_slice.ensures.value)
     c.loop-place.invariant.2
 
 pub loop-place-preserved : goal.loop-place-preserved
@@ -19,7 +19,7 @@ loop-place-preserved g c =
     let pushed = c.push_reserved.ensures.items in (
       ap length pushed ∙ length_push c.loop-place.leaps.items c.leap_from-leap.result ∙ ap (λ n. n + 1) inv.0,
       omega (arith, room, kept),
-      subst (AreLeaps (words_of c.args.program.now) c.end_of-end.result) (sym pushed)
-          (leaps_pushed (words_of c.args.program.now) c.end_of-end.result c.loop-place.place c.loop-place.leaps.items
+      subst (AreLeaps (words_of c.args.program.now) c.args.lanes.now) (sym pushed)
+          (leaps_pushed (words_of c.args.program.now) c.args.lanes.now c.loop-place.place c.loop-place.leaps.items
           c.leap_from-leap.result inv.2 inv.0 c.leap_from-leap.ensures),
     )

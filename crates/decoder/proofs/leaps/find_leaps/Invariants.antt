@@ -8,4 +8,4 @@ use Rattle.decoder.proofs.leaps.find_leaps.Given as goal
 abbrev pub invariant-loop-place : goal.invariant-loop-place
 invariant-loop-place g l =
     (length l.leaps.items ≡ l.place) × (l.places ≤ vec_capacity l.leaps)
-    × AreLeaps (words_of l.program) l.end l.leaps.items
+    × AreLeaps (words_of l.program) l.lanes l.leaps.items

@@ -8,5 +8,5 @@ returns c = record {
   value = ap (λ (n : ℕ). 32 * (n / 2)) c.byte_count.ensures.count;
   small = c.byte_count.ensures.kept.small;
   words = words_of-IsProgram c.args.program.now c.byte_count.ensures.kept;
-  within = words_of-LiesIn c.args.program.now;
+  within = words_of-LiesIn c.args.program.now c.byte_count.ensures.kept;
 }

@@ -11,7 +11,7 @@ write_within-requires-clause-room g c =
     let few = subst (λ l. length l ≤ 31) c.new.ensures.outcomes
     (subst (λ n. n ≤ 31) c.new.ensures.course.0 c.new.ensures.course.1) in
     let room = write_room (words_of c.args.program.now) c.requires.program c.args.from c.requires.from
-    c.args.outcomes.now (goal_end c.args.goal) _ _ (words_of-LiesIn c.args.program.now) few _ _ _ c.requires.room in (
+    c.args.outcomes.now (goal_end c.args.goal) _ _ (words_of-LiesIn c.args.program.now c.byte_count.ensures.kept) few _ _ _ c.requires.room in (
       room.0,
       same_walk (words_of c.args.program.now) (event_of c.args.from) _ _ _ _ _ _ refl c.new.ensures.outcomes
           c.new.ensures.goal ∙ room.1,
@@ -27,4 +27,4 @@ returns-clause-walk g c =
     let same = same_walk (words_of c.args.program.now) (event_of c.args.from) _ _ _ _ _ _ refl c.new.ensures.outcomes
     c.new.ensures.goal in
     write_adds (words_of c.args.program.now) c.requires.program c.args.from c.requires.from c.args.outcomes.now
-    (goal_end c.args.goal) _ _ (words_of-LiesIn c.args.program.now) few _ _ (added.0, sym same ∙ added.1, added.2)
+    (goal_end c.args.goal) _ _ (words_of-LiesIn c.args.program.now c.byte_count.ensures.kept) few _ _ (added.0, sym same ∙ added.1, added.2)

@@ -1,5 +1,6 @@
 -- What is said of the steps is said of walks by inductions over them.
-use Rattle.std.proofs.Common.{◌*◌, ◌/◌, length}
+use Rattle.std.proofs.Common.{◌*◌, ◌/◌}
+use Rattle.memory.specs.Memory.{byte_count}
 use Rattle.rvclass.specs.Fetch.{words_of}
 use Rattle.decoder.proofs.FoundAsReturned.{Returned, returned}
 use Rattle.decoder.specs.steps.Walks.{goal_end}
@@ -8,10 +9,10 @@ use Rattle.decoder.proofs.walking.write_found.Goals as goal
 
 module _ (g : _) (c : After-write_found_within g) where
   said : Returned (words_of c.args.paths.program.now) c.args.from c.args.outcomes.now (goal_end c.args.goal)
-      (32 * (length c.args.paths.program.now.bytes / 2)) c.args.log.now.items c.write_found_within.new.log.items
+      (32 * (byte_count c.args.paths.program.now / 2)) c.args.log.now.items c.write_found_within.new.log.items
       c.write_found_within.result
   said =
-      returned (words_of c.args.paths.program.now) c.args.paths.bound.words c.args.paths.program.now.base _
+      returned (words_of c.args.paths.program.now) c.args.paths.bound.words _ _
       c.args.paths.bound.within c.args.from c.requires c.new-course.result c.new-course.ensures.course _
       c.args.paths.bound.value c.args.outcomes.now c.args.goal c.new-course.ensures.outcomes c.new-course.ensures.goal
       _ _ _ c.write_found_within.ensures.summary c.write_found_within.ensures.adds

@@ -4,6 +4,7 @@ use Rattle.std.proofs.lemmas.Grind.{common_steps}
 use Rattle.std.specs.Prelude.{⊤}
 use Rattle.message.specs.Version.{most_harts}
 use Rattle.message.specs.declared.header.Version.TheVariants.{Two}
+use Rattle.command_inputs.specs.FurtherPieces.{base_number}
 use Rattle.command_inputs.specs.Begun.{BeginsPrinted, IsCutOf}
 use Rattle.command_inputs.specs.Found.{IsAskedProgram}
 use Rattle.command_inputs.specs.Printed.{PrintsUnlessDenied}
@@ -23,20 +24,23 @@ returns-in_err-program-clause-early g c =
     let asked = c.args.asked.now in
     let why = c.in_err-program.field-0.0 in
     let is : c.from_residual.result ≡ Err why = grind (arith, common_steps) in
-    early_ends (most_harts Two) asked.base.now asked.logs.items c.as_slice-paths.result.now c.asked_program.result why
+    early_ends (most_harts Two) (base_number asked.base.now asked.also.items) asked.logs.items
+    c.as_slice-paths.result.now c.asked_program.result why
     c.from_residual.result c.as_slice-paths.ensures.value c.in_err-program.was is c.asked_program.ensures.early
 
 pub returns-in_err-flush-clause-early : goal.returns-in_err-flush-clause-early
 returns-in_err-flush-clause-early g c =
     let asked = c.args.asked.now in
-    passes (most_harts Two) asked.base.now asked.logs.items c.as_slice-paths.result.now c.asked_program.result
+    passes (most_harts Two) (base_number asked.base.now asked.also.items) asked.logs.items c.as_slice-paths.result.now
+    c.asked_program.result
     c.in_ok-program.program c.from_residual-in_err-flush.result c.as_slice-paths.ensures.value c.in_ok-program.was
     c.asked_program.ensures.early
 
 pub returns-clause-early : goal.returns-clause-early
 returns-clause-early g c =
     let asked = c.args.asked.now in
-    passes (most_harts Two) asked.base.now asked.logs.items c.as_slice-paths.result.now c.asked_program.result
+    passes (most_harts Two) (base_number asked.base.now asked.also.items) asked.logs.items c.as_slice-paths.result.now
+    c.asked_program.result
     c.in_ok-program.program c.check_all-ended.result c.as_slice-paths.ensures.value c.in_ok-program.was
     c.asked_program.ensures.early
 
@@ -46,7 +50,8 @@ returns-in_err-program-clause-printed g c =
     let asked = c.args.asked.now in
     let why = c.in_err-program.field-0.0 in
     let is : c.from_residual.result ≡ Err why = grind (arith, common_steps) in
-    program_ends content (most_harts Two) asked.base.now asked.image asked.logs.items c.as_slice-paths.result.now
+    program_ends content (most_harts Two) asked.base.now asked.also.items asked.image asked.logs.items
+    c.as_slice-paths.result.now
     c.as_slice-paths.ensures.value (CanCheck content asked) (g.O.Write.contents c.args.out.now) why
     c.from_residual.result is (λ program. WritesLines (most_of asked.long) content asked.explain program
     asked.logs.items)
@@ -55,10 +60,12 @@ returns-in_err-program-clause-printed g c =
 -- The program that was found.
 there : (g : _) (c : After-flush g) → IsAskedProgram {W = LogReason} (g.F.Files.content c.args.files.now)
     (most_harts Two)
-    c.args.asked.now.base.now c.args.asked.now.image c.args.asked.now.logs.items (Ok c.in_ok-program.program)
+    c.args.asked.now.base.now c.args.asked.now.also.items c.args.asked.now.image c.args.asked.now.logs.items
+    (Ok c.in_ok-program.program)
 there g c =
     let asked = c.args.asked.now in
-    program_there (g.F.Files.content c.args.files.now) (most_harts Two) asked.base.now asked.image asked.logs.items
+    program_there (g.F.Files.content c.args.files.now) (most_harts Two) asked.base.now asked.also.items asked.image
+    asked.logs.items
     c.as_slice-paths.result.now c.as_slice-paths.ensures.value (Ok c.in_ok-program.program)
     c.in_ok-program.ensures.program
 

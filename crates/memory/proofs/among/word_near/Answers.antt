@@ -22,4 +22,4 @@ returns c =
       is = c.index-parts-near.is;
       has = c.bytes-bytes.ensures;
     })
-    c.word_of.result c.word_of.ensures
+    c.word_of.result c.word_of.ensures.word c.word_of.ensures.low

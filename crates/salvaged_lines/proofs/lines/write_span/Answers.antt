@@ -1,5 +1,5 @@
 -- Which span it is, and which treatment is at the place, are equations, which go into the clauses by hand.
-use Rattle.std.proofs.Common.{◌≡◌, ◌<◌, ◌∙◌, ◌∷◌, Option, List, ℕ, ap, drop, drop-cons, length, option_map, subst, suc, sym}
+use Rattle.std.proofs.Common.{◌≡◌, ◌<◌, ◌∙◌, ◌∷◌, ap, drop, drop-cons, length, option_map, subst, suc, sym}
 use Rattle.std.proofs.lemmas.Bool.{ltb-true}
 use Rattle.std.specs.Io.KnownBytes.{Appends}
 use Rattle.output.specs.Begun.{AppendsBeginning}

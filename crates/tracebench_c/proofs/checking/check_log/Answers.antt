@@ -8,14 +8,13 @@ use Rattle.tracebench_c.proofs.checking.check_log.Goals as goal
 
 pub returns-in_err-events : goal.returns-in_err-events
 returns-in_err-events c =
-    let base = c.args.base in
     let image = c.args.image.now in
     let text = c.args.log.now in
     let why = c.in_err-events.field-0.0 in
-    let is : c.from_residual-in_err-events.result ≡ Err (Log why) = grind (arith, common_steps) in
-    let faulty : (why ≡ log.Memory) ⊎ IsNoLog base image text why =
+    let is : c.from_residual.result ≡ Err (Log why) = grind (arith, common_steps) in
+    let faulty : (why ≡ log.Memory) ⊎ IsNoLog image text why =
     elim c.in_err-events.ensures.faults [
       | inl memory ↦ inl memory
-      | inr none ↦ inr (c.in_ok-program.program, c.in_ok-program.ensures.program, none)
+      | inr none ↦ inr (c.in-Ok.program, c.in-Ok.is, none)
     ] in
-    subst (IsChecked base image text) (sym is) faulty
+    subst (IsChecked image text) (sym is) faulty

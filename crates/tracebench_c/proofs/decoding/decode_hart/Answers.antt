@@ -9,11 +9,11 @@ pub returns : goal.returns
 returns c =
     let outcome = c.in_ok-outcome.outcome in
     let found = c.in-Some.ensures.lookup in
-    hart_found c.args.base c.args.image.now c.args.harts c.args.capture.now c.args.hart c.in_ok-program.program
-    c.in_ok-program.ensures.program outcome.harts.items outcome.closed.items outcome.fault c.in_ok-outcome.ensures.decoded
+    hart_found c.args.image.now c.args.harts c.args.capture.now c.args.hart c.in-Ok.program
+    c.in-Ok.is outcome.harts.items outcome.closed.items outcome.fault c.in_ok-outcome.ensures.decoded
     c.deref.result.now c.from-place.result c.in-Some.events.now c.deref.ensures.value c.from-place.ensures
     found.3.0 found.1 c.write_log.new.sink.items
-    (c.in-Ok.ensures.written ∙ ap (λ before. before ++ log_text c.as_slice.result.now) c.new-text.ensures.items
+    (c.in-Ok-write_log.ensures.written ∙ ap (λ before. before ++ log_text c.as_slice.result.now) c.new-text.ensures.items
     ∙ ap log_text c.as_slice.ensures.value)
     c.len.result c.stop_place.result c.stop_fault.result c.closed_at.result
     (c.len.ensures ∙ sym c.deref.ensures.len ∙ ap length c.deref.ensures.value) c.stop_place.ensures c.stop_fault.ensures

@@ -1,27 +1,5 @@
--- What was made, or why there is nothing, is reported: by the constructor for each.
-use Rattle.std.proofs.Common.{ℕ, Ok, Err, ap, refl, subst}
-use Rattle.tracebench_c.specs.Encoded.{Made, Refused}
-use Rattle.tracebench_c.specs.Handed.{IsHandedOut}
-use Rattle.tracebench_c.specs.declared.encoding.LogPlace.{LogPlace}
+-- What was made of the logs is reported.
 use Rattle.tracebench_c.proofs.encoding.tracebench_encode.Goals as goal
 
--- The place that is reported.
-abbrev reported : ℕ → ℕ → LogPlace
-reported log row = record { log = log; row = row }
-
-pub returns-in-Ok : goal.returns-in-Ok
-returns-in-Ok c = (
-  Ok c.in-Ok.capture,
-  c.in-Ok.ensures,
-  Made c.in-Ok.capture refl
-      (subst (λ bytes. IsHandedOut bytes c.hand_out.result c.hand_out.new.wanted c.args.buffer.now c.hand_out.new.buffer)
-      c.as_slice.ensures.value c.hand_out.ensures) refl,
-)
-
-pub returns-in-Err : goal.returns-in-Err
-returns-in-Err c = (
-  Err (c.in-Err.log, c.in-Err.fault),
-  c.in-Err.ensures,
-  Refused c.in-Err.log c.in-Err.fault refl c.status.ensures
-      (ap (λ row. reported c.in-Err.log row) c.row.ensures) refl refl,
-)
+pub returns : goal.returns
+returns c = (c.encode_logs-made.result, c.encode_logs-made.ensures, c.report_made.ensures)

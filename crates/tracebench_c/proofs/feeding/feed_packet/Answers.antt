@@ -15,7 +15,7 @@ use Rattle.tracebench_c.specs.DecoderKept.{NumbersStand, PassOver, numbers_of_st
 use Rattle.tracebench_c.proofs.feeding.feed_packet.Goals as goal
 
 pub returns-in-Ok : goal.returns-in-Ok
-returns-in-Ok c = λ base image payload numbers to_feed empty.
+returns-in-Ok c = λ image payload numbers to_feed empty.
     let w = words_of c.args.program.now in
     let packet = c.args.packet.now in
     let events = c.feed.new.log.items in
@@ -32,7 +32,7 @@ returns-in-Ok c = λ base image payload numbers to_feed empty.
       record {
         program = c.args.program.now;
         packet = packet;
-        made = to_feed.of.made;
+        made = to_feed.made;
         read = to_feed.read;
         are = (state, found);
         goes_on = λ packets log stand.
@@ -69,14 +69,13 @@ returns-in-Ok c = λ base image payload numbers to_feed empty.
         short =
             let all = said.short in
             let begins = ap length empty in
-            let bytes = ap (λ p. length p.bytes) to_feed.of.is in
-            omega (arith, all, begins, bytes);
+            omega (arith, all, begins);
       },
       again,
     )
 
 pub returns-in-Err : goal.returns-in-Err
-returns-in-Err c = λ base image payload numbers to_feed empty.
+returns-in-Err c = λ image payload numbers to_feed empty.
     let w = words_of c.args.program.now in
     let packet = c.args.packet.now in
     let state = c.args.state.now in
@@ -94,7 +93,7 @@ returns-in-Err c = λ base image payload numbers to_feed empty.
     record {
       program = c.args.program.now;
       packet = packet;
-      made = to_feed.of.made;
+      made = to_feed.made;
       read = to_feed.read;
       are = (state, found);
       refuses = record {

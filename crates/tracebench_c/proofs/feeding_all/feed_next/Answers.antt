@@ -10,47 +10,47 @@ use Rattle.tracebench_c.specs.steps.FeedingAll.{NotTaken, Taken}
 use Rattle.tracebench_c.proofs.feeding_all.feed_next.Goals as goal
 
 pub returns-in-None-clause-fed : goal.returns-in-None-clause-fed
-returns-in-None-clause-fed c = λ base image of are.
+returns-in-None-clause-fed c = λ image made are.
     NotTaken (NoPayload (ap (λ p. option_map (λ own. own.now) p) c.in-None.is) refl) refl refl refl
 
 pub returns-in-Err-clause-fed : goal.returns-in-Err-clause-fed
-returns-in-Err-clause-fed c = λ base image of are.
+returns-in-Err-clause-fed c = λ image made are.
     NotTaken (NoPacket c.in-Some.payload.now (ap (λ p. option_map (λ own. own.now) p) c.in-Some.is)
     c.in-Err.why (sym c.in-Err.ensures.value) c.pack_status.ensures) refl refl refl
 
 pub returns-in-Err-feed_packet-clause-fed : goal.returns-in-Err-feed_packet-clause-fed
-returns-in-Err-feed_packet-clause-fed c = λ base image of are.
+returns-in-Err-feed_packet-clause-fed c = λ image made are.
     NotTaken (Refused c.in-Some.payload.now (ap (λ p. option_map (λ own. own.now) p) c.in-Some.is)
     c.in-Err-feed_packet.why
-    (c.in-Err-feed_packet.ensures base image c.in-Some.payload.now c.args.numbers.now
-    (record { of = of; read = sym c.in-Ok.ensures.value; are = are }) c.clear.ensures.items) c.decode_status.ensures)
+    (c.in-Err-feed_packet.ensures image c.in-Some.payload.now c.args.numbers.now
+    (record { made = made; read = sym c.in-Ok.ensures.value; are = are }) c.clear.ensures.items) c.decode_status.ensures)
     refl refl refl
 
 pub returns-then-status-eq-DONE-clause-fed : goal.returns-then-status-eq-DONE-clause-fed
-returns-then-status-eq-DONE-clause-fed c = λ base image of are.
+returns-then-status-eq-DONE-clause-fed c = λ image made are.
     let status = c.hand_out_events-status.result in
     let count = c.hand_out_events-status.new.count in
     let old = c.args.events.now in
     let new = c.hand_out_events-status.new.events in
     let list = c.feed_packet.new.events.items in
-    let fed = c.in-Ok-feed_packet.ensures base image c.in-Some.payload.now c.args.numbers.now
-    (record { of = of; read = sym c.in-Ok.ensures.value; are = are }) c.clear.ensures.items in
+    let fed = c.in-Ok-feed_packet.ensures image c.in-Some.payload.now c.args.numbers.now
+    (record { made = made; read = sym c.in-Ok.ensures.value; are = are }) c.clear.ensures.items in
     let done = fitted numbers_of_event list status count old new
     (subst (λ xs. IsHandedOut (map numbers_of_event xs) status count old new) c.as_slice.ensures.value
     c.hand_out_events-status.ensures) c.if-status-eq-DONE.true in
-    Taken list (subst (λ p. TakesIfAny base image p c.args.numbers.now c.in-Ok-feed_packet.after list)
+    Taken list (subst (λ p. TakesIfAny image p c.args.numbers.now c.in-Ok-feed_packet.after list)
     (sym (ap (λ p. option_map (λ own. own.now) p) c.in-Some.is)) fed.0) fed.1 done.counted done.fit
     done.written c.if-status-eq-DONE.true
 
 pub returns-else-status-eq-DONE-clause-fed : goal.returns-else-status-eq-DONE-clause-fed
-returns-else-status-eq-DONE-clause-fed c = λ base image of are.
+returns-else-status-eq-DONE-clause-fed c = λ image made are.
     let status = c.hand_out_events-status.result in
     let count = c.hand_out_events-status.new.count in
     let old = c.args.events.now in
     let new = c.hand_out_events-status.new.events in
     let list = c.feed_packet.new.events.items in
-    let fed = c.in-Ok-feed_packet.ensures base image c.in-Some.payload.now c.args.numbers.now
-    (record { of = of; read = sym c.in-Ok.ensures.value; are = are }) c.clear.ensures.items in
+    let fed = c.in-Ok-feed_packet.ensures image c.in-Some.payload.now c.args.numbers.now
+    (record { made = made; read = sym c.in-Ok.ensures.value; are = are }) c.clear.ensures.items in
     let stays = kept numbers_of_event list status count old new
     (subst (λ xs. IsHandedOut (map numbers_of_event xs) status count old new) c.as_slice.ensures.value
     c.hand_out_events-status.ensures) c.if-status-eq-DONE.false in

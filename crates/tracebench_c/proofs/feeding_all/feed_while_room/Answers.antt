@@ -8,32 +8,32 @@ use Rattle.tracebench_c.proofs.feeding_all.feed_while_room.Goals as goal
 
 pub loop-place-init : goal.loop-place-init
 loop-place-init c = (
-  λ base image of are.
-      fed_none base image c.args.payloads.now c.args.ends.now c.args.numbers.now c.args.events.now c.args.first are,
+  λ image made are.
+      fed_none image c.args.payloads.now c.args.ends.now c.args.numbers.now c.args.events.now c.args.first are,
   omega arith,
 )
 
 pub returns-then-status-ne-DONE-clause-fed : goal.returns-then-status-ne-DONE-clause-fed
-returns-then-status-ne-DONE-clause-fed c = λ base image of are.
-    (stopped base image c.args.payloads.now c.args.ends.now c.args.numbers.now c.args.events.now
+returns-then-status-ne-DONE-clause-fed c = λ image made are.
+    (stopped image c.args.payloads.now c.args.ends.now c.args.numbers.now c.args.events.now
     c.loop-place.numbers c.feed_next-status.new.numbers c.loop-place.kept c.feed_next-status.new.kept c.loop-place.place
     c.loop-place.from c.loop-place.written c.feed_next-status.new.count c.feed_next-status.result c.loop-place.events _
     c.feed_next-status.new.events _ _ (part_lent c.loop-place.written c.loop-place.events)
     (part_back c.loop-place.written c.loop-place.events c.feed_next-status.new.events) c.loop-place-test.true
-    c.text_between.ensures (c.loop-place.invariant.0 base image of are) c.if-status-ne-DONE.true
-    (c.feed_next-status.ensures.fed base image of
-    (c.loop-place.invariant.0 base image of are).are)).0
+    c.text_between.ensures (c.loop-place.invariant.0 image made are) c.if-status-ne-DONE.true
+    (c.feed_next-status.ensures.fed image made
+    (c.loop-place.invariant.0 image made are).are)).0
 
 pub returns-then-status-ne-DONE-clause-ends : goal.returns-then-status-ne-DONE-clause-ends
-returns-then-status-ne-DONE-clause-ends c = λ base image of are.
-    (stopped base image c.args.payloads.now c.args.ends.now c.args.numbers.now c.args.events.now
+returns-then-status-ne-DONE-clause-ends c = λ image made are.
+    (stopped image c.args.payloads.now c.args.ends.now c.args.numbers.now c.args.events.now
     c.loop-place.numbers c.feed_next-status.new.numbers c.loop-place.kept c.feed_next-status.new.kept c.loop-place.place
     c.loop-place.from c.loop-place.written c.feed_next-status.new.count c.feed_next-status.result c.loop-place.events _
     c.feed_next-status.new.events _ _ (part_lent c.loop-place.written c.loop-place.events)
     (part_back c.loop-place.written c.loop-place.events c.feed_next-status.new.events) c.loop-place-test.true
-    c.text_between.ensures (c.loop-place.invariant.0 base image of are) c.if-status-ne-DONE.true
-    (c.feed_next-status.ensures.fed base image of
-    (c.loop-place.invariant.0 base image of are).are)).1
+    c.text_between.ensures (c.loop-place.invariant.0 image made are) c.if-status-ne-DONE.true
+    (c.feed_next-status.ensures.fed image made
+    (c.loop-place.invariant.0 image made are).are)).1
 
 pub loop-place-preserved : goal.loop-place-preserved
 loop-place-preserved c =
@@ -42,22 +42,22 @@ loop-place-preserved c =
     let left = length-drop c.loop-place.written c.loop-place.events in
     let same = c.loop-place.auto.events in
     let room = c.loop-place.invariant.1 in (
-      λ base image of are. fed_more base image c.args.payloads.now c.args.ends.now c.args.numbers.now c.args.events.now
+      λ image made are. fed_more image c.args.payloads.now c.args.ends.now c.args.numbers.now c.args.events.now
           c.loop-place.numbers c.feed_next-status.new.numbers c.loop-place.kept c.feed_next-status.new.kept c.loop-place.place
           c.loop-place.from c.loop-place.written c.feed_next-status.new.count c.feed_next-status.result c.loop-place.events _
           c.feed_next-status.new.events _ _ (part_lent c.loop-place.written c.loop-place.events)
           (part_back c.loop-place.written c.loop-place.events c.feed_next-status.new.events) c.loop-place-test.true
-          c.text_between.ensures (c.loop-place.invariant.0 base image of are) c.if-status-ne-DONE.false
-          (c.feed_next-status.ensures.fed base image of
-          (c.loop-place.invariant.0 base image of are).are),
+          c.text_between.ensures (c.loop-place.invariant.0 image made are) c.if-status-ne-DONE.false
+          (c.feed_next-status.ensures.fed image made
+          (c.loop-place.invariant.0 image made are).are),
       omega (arith, fits, lent, left, same, room),
     )
 
 pub returns-clause-fed : goal.returns-clause-fed
-returns-clause-fed c = λ base image of are.
-    fed_all base image c.args.payloads.now c.args.ends.now c.args.numbers.now c.args.events.now c.loop-place.numbers
+returns-clause-fed c = λ image made are.
+    fed_all image c.args.payloads.now c.args.ends.now c.args.numbers.now c.args.events.now c.loop-place.numbers
     c.loop-place.kept c.loop-place.place c.loop-place.from c.loop-place.written c.loop-place.events (omega arith)
-    (c.loop-place.invariant.0 base image of are)
+    (c.loop-place.invariant.0 image made are)
 
 pub returns-clause-ends : goal.returns-clause-ends
-returns-clause-ends c = λ base image of are. AllTaken refl refl
+returns-clause-ends c = λ image made are. AllTaken refl refl

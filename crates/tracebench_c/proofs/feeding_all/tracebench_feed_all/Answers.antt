@@ -1,21 +1,5 @@
--- What came of the payloads is reported: by the constructor for each.
-use Rattle.std.proofs.Common.{refl}
-use Rattle.tracebench_c.specs.FedAll.{BadState, Fed, NoProgram}
-use Rattle.tracebench_c.specs.steps.FeedingAll.{IsProgramOf}
+-- The image is judged, and the rest is said of what it makes.
 use Rattle.tracebench_c.proofs.feeding_all.tracebench_feed_all.Goals as goal
 
-pub returns-in-None : goal.returns-in-None
-returns-in-None c =
-    BadState (λ some. let same = c.in-None.ensures.only some.0 some.1 in cc) refl refl refl refl refl
-
-pub returns-in-Err : goal.returns-in-Err
-returns-in-Err c =
-    NoProgram (c.in-Some.first, c.in-Some.ensures.found) c.in-Err.fault c.in-Err.ensures.fault c.status.ensures refl refl
-    refl refl
-
 pub returns : goal.returns
-returns c =
-    let of : IsProgramOf c.args.base c.args.image.now c.in-Ok.program = record { made = c.in-Ok.ensures.program; is = c.in-Ok.ensures.image } in
-    Fed (c.in-Some.first, c.in-Some.ensures.found) c.in-Ok.program c.in-Ok.ensures.program
-    (c.feed_while_room.ensures.fed c.args.base c.args.image.now of c.in-Some.ensures.found)
-    (c.feed_while_room.ensures.ends c.args.base c.args.image.now of c.in-Some.ensures.found)
+returns c = rw (← c.judge_image-judged.ensures) c.report_feed_all.ensures

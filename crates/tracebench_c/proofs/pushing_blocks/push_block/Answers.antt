@@ -1,5 +1,5 @@
 -- The clauses of the encoder hold of each log, which the search does not instantiate.
-use Rattle.std.proofs.Common.{◌≤◌, [], ◌++◌, Some, None, ap, subst, ◌∙◌}
+use Rattle.std.proofs.Common.{◌≤◌, [], ◌++◌, ap, subst, ◌∙◌}
 use Rattle.std.proofs.lemmas.List.Elements.{All-cons, All-nil}
 use Rattle.std.specs.Option.{option_to_list}
 use Rattle.std.specs.Prelude.{IfSome}

@@ -1,0 +1,8 @@
+pub mod LastOf
+pub mod RowParts
+pub mod NamesWritten
+pub mod NextRows
+pub mod RowsSoFar
+pub mod PlainRows
+pub mod Behind
+mod WorkedRows

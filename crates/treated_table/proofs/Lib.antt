@@ -1,0 +1,4 @@
+pub mod TreatedRow
+pub mod SpanRows
+pub mod ReadRows
+pub mod TakenFields

@@ -1,0 +1,5 @@
+pub mod Fields
+pub mod Rows
+pub mod Table
+pub mod Effects
+pub mod ReadBack

@@ -1,0 +1,15 @@
+//! Facts that follow from the definitions of rows.
+
+ghost use Rattle.treated_table.specs.Effects.{TakenHaveTheirEffect};
+ghost use Rattle.treated_table.specs.ReadBack.{AreRowsReadBack};
+
+/// The table is read back: at each of its rows `csv` reads just the fields of the row, with the names of symbols whatever
+/// bytes they have, and goes on after it.
+pub fn rows_are_read_back()
+    ensures { AreRowsReadBack }
+{}
+
+/// A message that adds events has the fields that the table of a listing has for that effect.
+pub fn taken_messages_have_their_fields()
+    ensures { TakenHaveTheirEffect }
+{}

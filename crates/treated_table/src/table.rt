@@ -1,0 +1,116 @@
+//! The table of a damaged capture.
+
+ghost use Rattle.std.specs.Prelude.{◌≡◌, IfErr, IfOk, OnOk, drop, option_map};
+ghost use Rattle.std.specs.Io.KnownBytes.{Appends};
+ghost use Rattle.output.specs.Begun.{AppendsBeginning};
+ghost use Rattle.salvaged_lines.specs.Lines.{after_span};
+ghost use Rattle.treated_table.specs.Table.{place_after, span_row, span_rows, treated_table};
+
+use crate::rows::{write_message_row, write_run_row};
+use frames::{Span, Spans};
+use listing_table::Columns;
+use message::Header;
+use output::write_text;
+use payload::Mode;
+use retire::WriteFault;
+use salvaging::Treated;
+use searching::mode_of;
+use std::alloc::Allocator;
+use std::io::Write;
+use symbols::Symbols;
+
+/// Writes the row of a span, where the treatment of its message is the one at this place, if it is a frame. Returns the
+/// place of the treatment after it.
+fn write_span<S: Allocator, W: Write>(
+    symbols: Option<&Symbols<S>>,
+    mode: Mode,
+    span: &Span,
+    treated: &[Treated],
+    place: usize,
+    sink: &mut W,
+) -> Result<usize, WriteFault>
+    ensures text { OnOk result (Appends (W.contents sink.old) (W.contents sink.new)
+        (span_row (option_map (λ file. file.now) symbols.entry) mode place span.now (drop place treated.now))) }
+    ensures begun { AppendsBeginning
+        (span_row (option_map (λ file. file.now) symbols.entry) mode place span.now (drop place treated.now))
+        (W.contents sink.old) (W.contents sink.new) }
+    ensures place { IfOk result (λ next. next ≡ place_after place span.now (drop place treated.now)) }
+    ensures left { IfOk result (λ next. drop next treated.now ≡ after_span span.now (drop place treated.now)) }
+    ensures fault { IfErr result (λ fault. fault ≡ WriteFault.Write) }
+{
+    match span {
+        Span::Frame { offset, message } => {
+            let Some(one) = treated.get(place) else {
+                return Ok(place);
+            };
+            write_message_row(
+                symbols,
+                mode,
+                place as u64,
+                *offset as u64,
+                message,
+                one,
+                sink,
+            )?;
+            Ok(place + 1)
+        }
+        Span::Bytes { offset, count } => {
+            write_run_row(*offset as u64, *count as u64, sink)?;
+            Ok(place)
+        }
+    }
+}
+
+/// Writes the rows of spans, with the treatments of their messages.
+fn write_spans<S: Allocator, W: Write>(
+    symbols: Option<&Symbols<S>>,
+    mode: Mode,
+    spans: Spans<'_>,
+    treated: &[Treated],
+    sink: &mut W,
+) -> Result<(), WriteFault>
+    ensures text { OnOk result (Appends (W.contents sink.old) (W.contents sink.new)
+        (span_rows (option_map (λ file. file.now) symbols.entry) mode 0 spans.entry treated.now)) }
+    ensures begun { AppendsBeginning
+        (span_rows (option_map (λ file. file.now) symbols.entry) mode 0 spans.entry treated.now)
+        (W.contents sink.old) (W.contents sink.new) }
+    ensures fault { IfErr result (λ fault. fault ≡ WriteFault.Write) }
+{
+    let mut place = 0;
+    for span in spans {
+        place = write_span(symbols, mode, &span, treated, place, sink)?;
+    }
+    Ok(())
+}
+
+/// Writes what is done with each message of a capture that may be damaged as a table of CSV: the names of the columns,
+/// and a row for each of these spans, in order. The columns are those of
+/// [`write_listing_table`](listing_table::write_listing_table); `docs/FORMATS.md` has them.
+///
+/// The row of a frame has its message's packet, a word for what is done with the message, and why it is bad, where it is;
+/// whether it is late; and what a message adds that is taken, as in the table of a listing. The row of a run of bytes has
+/// its offset and how many bytes there are.
+///
+/// The treatments are those of the frames, in their order, as [`treat_watched`](salvaging::treat_watched) returns them. A
+/// frame for which none is left has no row. Places are named by the symbols, where symbols are handed in.
+///
+/// The only fault is [`WriteFault::Write`], where the writer failed: what was written then is a prefix of the text. The
+/// writer is not flushed. No memory is taken.
+pub fn write_treated_table<S: Allocator, W: Write>(
+    symbols: Option<&Symbols<S>>,
+    header: Option<Header>,
+    spans: Spans<'_>,
+    treated: &[Treated],
+    sink: &mut W,
+) -> Result<(), WriteFault>
+    ensures text { OnOk result (Appends (W.contents sink.old) (W.contents sink.new)
+        (treated_table (option_map (λ file. file.now) symbols.entry) header spans.entry treated.now)) }
+    ensures begun { AppendsBeginning
+        (treated_table (option_map (λ file. file.now) symbols.entry) header spans.entry treated.now)
+        (W.contents sink.old) (W.contents sink.new) }
+    ensures fault { IfErr result (λ fault. fault ≡ WriteFault.Write) }
+{
+    write_text(sink, Columns)?;
+    write_spans(symbols, mode_of(header), spans, treated, sink)?;
+    Ok(())
+}
