@@ -28,10 +28,10 @@
  * - No proof bounds the stack. Over logs of 200,000 rows and images of up to 16 MiB the calls took at most 19 kB of it.
  * - Numbers and structs are aligned as C aligns them, a struct to 8 bytes. Bytes are aligned to nothing.
  * - The library is built for x86-64-v2, 64-bit processors with SSE4.2 and POPCNT, and does not check for them.
- * - No call copies the image but tracebench_encode, once. So no other call takes longer with a longer image: a push, a
- *   finish and a tracebench_follow look at a few instructions of it, tracebench_push_all at a few for each event, and a
- *   feed, tracebench_feed_all and tracebench_receive at those that their packets pass. They may be called with an image
- *   of 16 MiB as with one of 64 bytes.
+ * - No call copies the image but tracebench_encode and tracebench_encode_over_pieces, once. So no other call takes longer
+ *   with a longer image: a push, a finish and a tracebench_follow look at a few instructions of it, tracebench_push_all
+ *   at a few for each event, and a feed, tracebench_feed_all and tracebench_receive at those that their packets pass.
+ *   They may be called with an image of 16 MiB as with one of 64 bytes.
  * - Else a call takes time in proportion to the bytes that it is given and the events that it settles, the same if it
  *   only asks for the size. tracebench_decode and tracebench_audit go through all harts to answer for one.
  * - tracebench_encoder, tracebench_push, tracebench_push_checked, tracebench_push_all, tracebench_finish,
@@ -817,8 +817,9 @@ struct tracebench_piece {
 
 /*
  * Each call that takes an image has one that takes pieces in its place, and does the same. No pointer of a piece is
- * null. All pieces are checked before any of their bytes is looked at. Where the other call says what is wrong with the
- * image, this one does so with the first of these that applies:
+ * null, and what a call is given to write overlaps neither the pieces nor their bytes. All pieces are checked before any
+ * of their bytes is looked at. Where the other call says what is wrong with the image, this one does so with the first of
+ * these that applies:
  *
  * - TRACEBENCH_NOT_SORTED where a piece's base is below that of the piece before it;
  * - of the first piece at fault, TRACEBENCH_ODD_BASE, TRACEBENCH_TOO_LARGE, TRACEBENCH_PAST_END, TRACEBENCH_OVERLAP
@@ -826,8 +827,10 @@ struct tracebench_piece {
  *   2^26 bytes, or TRACEBENCH_TOO_MANY_PIECES where it is piece 1,025.
  *
  * With one piece, a call is as the one over an image. With two or more it takes memory for their list, also where the
- * call over an image takes none, and the status may be TRACEBENCH_MEMORY. Then nothing was written but `*taken` and
- * `*count` of tracebench_push_all_over_pieces and tracebench_feed_all_over_pieces, which are 0, and the row or place.
+ * call over an image takes none, and the status may be TRACEBENCH_MEMORY. Where it is that for the list, nothing was
+ * written but `*taken` and `*count` of tracebench_push_all_over_pieces and tracebench_feed_all_over_pieces, which are 0,
+ * and the row or place, which is 0 too. With TRACEBENCH_MEMORY for the events of a payload, `*taken` of
+ * tracebench_feed_all_over_pieces says how far it came, as with tracebench_feed_all.
  * tracebench_encode_over_pieces copies the pieces once; no other call copies any. The time in which a call checks the
  * pieces grows with the square of their number: a bench with hundreds of pieces hands in many events at once.
  *

@@ -58,14 +58,14 @@ BODIES = [
         for where, test in (("past hart 63", "hart > 63"), ("past 1 MB", "sent.len() > 1_000_000"))),
     ("tracebench_push MEMORY past an image of 1 MB", "tracebench_c", "pushing.rt",
         "    let mut encoder = Encoder::from_state(before);\n",
-        "    if image.len() > 1_000_000 {\n        return MEMORY;\n    }\n"
+        "    if program.byte_count() > 1_000_000 {\n        return MEMORY;\n    }\n"
         "    let mut encoder = Encoder::from_state(before);\n",
         "use crate::status::{BAD_STATE, DONE, NO_EVENT, OUT_OF_RANGE};",
         "use crate::status::{BAD_STATE, DONE, MEMORY, NO_EVENT, OUT_OF_RANGE};"),
     ("tracebench_finish always MEMORY", "tracebench_c", "pushing.rt",
-        "    let burst = Encoder::from_state(kept).finish(&program);\n",
-        "    if base > 0 {\n        return MEMORY;\n    }\n"
-        "    let burst = Encoder::from_state(kept).finish(&program);\n",
+        "    let burst = Encoder::from_state(kept).finish(program);\n",
+        "    if program.byte_count() > 0 {\n        return MEMORY;\n    }\n"
+        "    let burst = Encoder::from_state(kept).finish(program);\n",
         "use crate::status::{BAD_STATE, DONE, NO_EVENT, OUT_OF_RANGE};",
         "use crate::status::{BAD_STATE, DONE, MEMORY, NO_EVENT, OUT_OF_RANGE};"),
     ("tracebench_feed MEMORY past 65,536 events", "tracebench_c", "feeding.rt",

@@ -11,7 +11,7 @@ use crate::offset::{cb_offset_of, cj_offset_of};
 const C_EBREAK: u32 = 0x9002;
 
 /// The class of a 16-bit instruction at an address.
-#[inline]
+#[inline(always)]
 #[tactic(auto, unfolding(crate::specs::Word16::class16))]
 pub(crate) fn class_of_word16(addr: u64, word: u32) -> Class
     requires { word < 2 ^ 16 }

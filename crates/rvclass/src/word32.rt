@@ -32,7 +32,7 @@ const SRET: u32 = 0x1020_0073;
 const MRET: u32 = 0x3020_0073;
 
 /// The class of a 32-bit instruction at an address.
-#[inline]
+#[inline(always)]
 #[tactic(auto, unfolding(crate::specs::Word32::class32))]
 pub(crate) fn class_of_word32(addr: u64, word: u32) -> Class
     ensures { result ≡ class32 addr word }

@@ -50,8 +50,8 @@ pub data ReportsReceive (image : Judged) (number : ℕ) (payload : List ℕ) (st
         → before.expected < number → status ≡ GAP → missing ≡ number - before.expected
         → after ≡ before → count ≡ count_before → new ≡ old
         → ReportsReceive image number payload status before after count_before count missing_before missing old new
-    Received : number_status before number ≡ DONE → number ≡ before.expected
-        → (decoder : DecoderNumbers)
+    Received : number_status before number ≡ DONE → (packet : Packet) → reading payload ≡ Ok packet
+        → number ≡ before.expected → (decoder : DecoderNumbers)
         → ReportsFeed image payload status before.decoder decoder count_before count old new
         → (status ≡ DONE → after ≡ record { decoder = decoder; expected = number + 1 })
         → (status ≢ DONE → after ≡ before) → missing ≡ missing_before

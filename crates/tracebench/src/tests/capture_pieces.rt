@@ -106,6 +106,13 @@ $ tracebench list --base 80000000 --also 20000000=flash.bin --symbols nm.txt --f
 > message,2,0000001c,0,2,address,,60000000,,,,,,,,-,plain,,,,yes,no,,,,,0,,,,,,
 > message,3,0000002c,0,3,address,,4,,,,,,,,-,plain,,,,yes,no,,,,,2,20000004,80000000,reset,4,copied,0
 > message,4,00000038,0,4,close,,,,,,,,,,,,,ended_rep,,no,yes,,,,,1,80000004,80000004,copied,4,copied,4
+$ tracebench list --base 20000000 --also 80000000=image.bin --salvage --format csv flash.bin far.capture
+> kind,place,offset,hart,number,packet,addr,diff,priv,branch,trap,cause,tval,handler,epc,map,report,mode,ended,bad,waits,closed,treatment,reason,late,bytes,added,first,last,first_symbol,first_distance,last_symbol,last_distance
+> message,0,00000000,0,0,open,,,,,,,,,,,,diff,,,no,no,taken,,no,,0,,,,,,
+> message,1,0000000c,0,1,sync,20000000,,3,1,,,,,,,,,,,no,no,taken,,no,,1,20000000,20000000,,,,
+> message,2,0000001c,0,2,address,,60000000,,,,,,,,-,plain,,,,yes,no,taken,,no,,0,,,,,,
+> message,3,0000002c,0,3,address,,4,,,,,,,,-,plain,,,,yes,no,taken,,no,,2,20000004,80000000,,,,
+> message,4,00000038,0,4,close,,,,,,,,,,,,,ended_rep,,no,yes,taken,,no,,1,80000004,80000004,,,,
 $ tracebench list --base 20000000 --also 80000000=image.bin --salvage flash.bin far.capture
 > 00000000 0 0 open => nothing
 > 0000000c 0 1 sync addr=20000000 priv=3 branch=1 => 1 event, 20000000

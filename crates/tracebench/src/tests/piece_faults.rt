@@ -127,6 +127,12 @@ $ tracebench check --base 80000000 --also 90000000=full image.bin log.csv
 
 # The bases are looked at first, then the count of logs, the image, the pieces as they are given, and the logs. A piece
 # is not read once one before it is refused.
+$ tracebench check --base 80000000 --also 90000001=ram.bin --also 90000000=full image.bin no.csv
+! tracebench: ram.bin: base is odd
+? 2
+$ tracebench check --base 80000001 --also 90000000=full image.bin no.csv
+! tracebench: base is odd
+? 2
 $ tracebench check --base 80000000 --also 90000000=no.bin --also 9000000g=no.bin no.bin 1025*no.csv
 ! tracebench: base is not a number
 ? 2

@@ -19,6 +19,8 @@ pub(crate) const TEXT: &str = r#"
 > Listing(Listing { base: "0", also: ["1000=ram.bin"], harts: None, symbols: None, salvage: false, format: Text, progress: false, image: "image.bin", capture: "run.capture" })
 % tracebench salvage --base 0 --also=1000=ram.bin image.bin run.capture
 > Salvage(Salvage { base: "0", also: ["1000=ram.bin"], harts: None, summary: false, format: Text, progress: false, image: "image.bin", capture: "run.capture" })
+% tracebench compare --base 0 --also 1000=ram.bin image.bin run.capture log.csv
+> Compare(Compare { base: "0", also: ["1000=ram.bin"], harts: 1, long: false, progress: false, image: "image.bin", capture: "run.capture", logs: ["log.csv"] })
 
 # They keep their order, wherever they are. The same piece may be given twice.
 % tracebench decode --also 2000=b.bin image.bin --base 0 --also=1000=a.bin run.capture --also 2000=b.bin

@@ -211,7 +211,7 @@ fn harts_go_on(rt: HostRuntime) {
 }
 
 /// A hart, a number, a payload, and the status that refuses it.
-const REFUSED: [(HartRow, u64, &[u8], u32); 14] = [
+const REFUSED: [(HartRow, u64, &[u8], u32); 15] = [
     ((CLOSED, 4), 4, b"", 99),
     ((CLOSED, 4), 3, b"", 99),
     ((OPENED, END), END, SYNC, 99),
@@ -220,6 +220,7 @@ const REFUSED: [(HartRow, u64, &[u8], u32); 14] = [
     ((OPENED, 3), u64::MAX, SYNC, 4),
     ((OPENED, 3), 3, b"", 32),
     ((OPENED, 3), 5, b"", 32),
+    ((BAD, 3), 3, b"", 32),
     ((OPENED, 3), 5, b"\x1f\x20", 34),
     ((OPENED, 3), 3, b"\x1f", 116),
     ((NO_DECODER, 0), 0, SYNC, 112),

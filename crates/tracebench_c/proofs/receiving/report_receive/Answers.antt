@@ -21,7 +21,8 @@ pub returns-then-status-eq-DONE : goal.returns-then-status-eq-DONE
 returns-then-status-eq-DONE c =
     let least = (c.number_status-said.ensures.within c.if-said-ne-DONE.false).0 in
     let most = c.if-number-hart.false in
-    Received (sym c.number_status-said.ensures.value ∙ c.if-said-ne-DONE.false) (omega (arith, least, most))
+    Received (sym c.number_status-said.ensures.value ∙ c.if-said-ne-DONE.false) c.in-Ok.field-0
+    (sym c.in-Ok.ensures.value) (omega (arith, least, most))
     c.report_feed-status.new.state c.report_feed-status.ensures (λ is. refl)
     (λ no. absurd (no c.if-status-eq-DONE.true)) refl
 
@@ -29,6 +30,7 @@ pub returns-else-status-eq-DONE : goal.returns-else-status-eq-DONE
 returns-else-status-eq-DONE c =
     let least = (c.number_status-said.ensures.within c.if-said-ne-DONE.false).0 in
     let most = c.if-number-hart.false in
-    Received (sym c.number_status-said.ensures.value ∙ c.if-said-ne-DONE.false) (omega (arith, least, most))
+    Received (sym c.number_status-said.ensures.value ∙ c.if-said-ne-DONE.false) c.in-Ok.field-0
+    (sym c.in-Ok.ensures.value) (omega (arith, least, most))
     c.report_feed-status.new.state c.report_feed-status.ensures
     (λ is. absurd (c.if-status-eq-DONE.false is)) (λ no. refl) refl
