@@ -23,3 +23,5 @@ pub mod StandsForOneMore
 pub mod NotOpenedReturned
 pub mod BeginsAnew
 pub mod NumberedLanes
+pub mod HandsOut
+pub mod InPieces

@@ -61,12 +61,12 @@ module _ (words : Words) (end : End) (from : Event) (taken : List Bool) (limit d
       sym (inv ∙ ap (λ o. plus done (summary here o)) (none_within words (limit - done) here left end over))
 
 -- What is left of a walk after its first retirement.
-record Cut (rest : Option (List Event)) (f : Event) (back : List Event) : Type 0 where
-  tail : List Event
-  is : back ≡ f ∷ tail
-  later : rest ≡ Some tail
+pub record Cut (rest : Option (List Event)) (f : Event) (back : List Event) : Type 0 where
+  pub tail : List Event
+  pub is : back ≡ f ∷ tail
+  pub later : rest ≡ Some tail
 
-cut_of : (rest : Option (List Event)) (f : Event) (back : List Event) → event_then f rest ≡ Some back → Cut rest f back
+pub cut_of : (rest : Option (List Event)) (f : Event) (back : List Event) → event_then f rest ≡ Some back → Cut rest f back
 cut_of None f back h = cc
 cut_of (Some w) f back h = record { tail = w; is = cc; later = refl }
 

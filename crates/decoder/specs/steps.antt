@@ -9,5 +9,6 @@ pub mod StraightLines
 pub mod Retracing
 pub mod WritingAsFound
 pub mod Stretches
+pub mod Rests
 pub mod Reporting
 pub mod Planning

@@ -128,7 +128,7 @@ impl Decoder {
     }
 
     /// Passes over a packet that is no synchronisation: one that closes the trace closes the decoder.
-    fn pass_over(&mut self, packet: &Packet)
+    pub(crate) fn pass_over(&mut self, packet: &Packet)
         ensures { self.new ≡ passed_over self.old packet.now }
     {
         if packet.is_closing() {
@@ -140,7 +140,7 @@ impl Decoder {
     /// the packet itself. Walks are written as they are found, as far as the list's capacity goes, and are not taken
     /// back at a fault.
     #[inline]
-    fn plan<A: Allocator>(
+    pub(crate) fn plan<A: Allocator>(
         &self,
         paths: Paths,
         packet: &Packet,
@@ -255,7 +255,7 @@ impl Decoder {
 
     /// The decoder after the packet, where it adds these events.
     #[inline]
-    fn after(&self, packet: &Packet, settled: &Stretch, of_packet: &Stretch) -> Decoder
+    pub(crate) fn after(&self, packet: &Packet, settled: &Stretch, of_packet: &Stretch) -> Decoder
         ensures { result ≡ decoder_after self.now packet.now settled.now of_packet.now }
     {
         let reported = settled.place(self.reported);

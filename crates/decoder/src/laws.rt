@@ -1,6 +1,6 @@
 //! What the definition of described logs promises.
 
-ghost use Rattle.std.specs.Prelude.{ℕ, ◌≡◌, ◌↔◌, ◌≤◌, ◌*◌, ◌++◌, Bool, true, List, Some, length};
+ghost use Rattle.std.specs.Prelude.{ℕ, ◌≡◌, ◌↔◌, ◌≤◌, ◌*◌, ◌++◌, Bool, true, List, Option, Some, length};
 ghost use Rattle.retire.specs.declared.event.Event.{Event};
 ghost use Rattle.rvclass.specs.Words.{Words, IsProgram, LiesIn};
 ghost use Rattle.payload.specs.ClosedTrace.{last_is_closing};
@@ -10,7 +10,7 @@ ghost use Rattle.legalpath.specs.Join.{join};
 ghost use Rattle.legalpath.specs.Legal.{FollowOn};
 ghost use Rattle.decoder.specs.declared.decoding.Decoder.{Decoder};
 ghost use Rattle.decoder.specs.Describes.{Describes};
-ghost use Rattle.decoder.specs.Resuming.{PassesOver, IsClosed};
+ghost use Rattle.decoder.specs.Resuming.{PassesOver, IsClosed, HasMode};
 ghost use Rattle.decoder.specs.SettledPieces.{settled_pieces};
 ghost use Rattle.decoder.specs.DecoderStands.{DecoderStands};
 ghost use Rattle.decoder.specs.Walk.{End, IsWalk};
@@ -48,6 +48,15 @@ pub fn walks_are_short()
 pub fn closed_where_last_closes()
     ensures { (words : Words) (packets : List Packet) (log : List Event) (decoder : Decoder) →
         DecoderStands words packets log decoder → IsClosed decoder ↔ (last_is_closing packets ≡ true) }
+{}
+
+/// One decoder stands for packets and what they describe, where it is known which mode was announced. So calls that take
+/// the same packets leave the same decoder.
+pub fn one_decoder_stands()
+    ensures { (words : Words) (packets : List Packet) (log other : List Event) (decoder twin : Decoder) →
+        (announced : Option Mode) → IsProgram words → DecoderStands words packets log decoder →
+        DecoderStands words packets other twin → HasMode announced decoder → HasMode announced twin →
+        decoder ≡ twin }
 {}
 
 /// A decoder that passes over packets is not closed, and its state stands for no packets.

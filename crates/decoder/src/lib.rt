@@ -12,13 +12,16 @@ mod laws;
 mod leaps;
 mod lines;
 mod paths;
+mod piecewise;
 mod remembering;
 mod reporting;
+mod rest;
 mod retracing;
 mod settling;
 mod state;
 mod stepping;
 mod stretch;
+mod unwritten;
 mod walking;
 
 pub use decoding::Decoder;
@@ -26,9 +29,10 @@ pub use fault::DecodeFault;
 pub use finding::Lines;
 pub use laws::{
     closed_where_last_closes, first_packets_describe_a_beginning,
-    more_packets_describe_a_longer_log, one_log_is_described, passing_over_stands_for_nothing,
-    walks_are_short,
+    more_packets_describe_a_longer_log, one_decoder_stands, one_log_is_described,
+    passing_over_stands_for_nothing, walks_are_short,
 };
 pub use paths::Paths;
 pub use settling::Waiting;
 pub use state::{DecoderState, Phase};
+pub use unwritten::Unwritten;

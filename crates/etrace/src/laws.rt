@@ -9,8 +9,8 @@ pub use capture_lines::{hex_lines_become_the_capture, hex_lines_say_their_messag
 pub use comparing::{whole_is_decoded, whole_is_these_logs};
 pub use decoder::{
     closed_where_last_closes, first_packets_describe_a_beginning,
-    more_packets_describe_a_longer_log, one_log_is_described, passing_over_stands_for_nothing,
-    walks_are_short,
+    more_packets_describe_a_longer_log, one_decoder_stands, one_log_is_described,
+    passing_over_stands_for_nothing, walks_are_short,
 };
 pub use encoder::{logs_have_few_packets, packets_are_in_profile};
 pub use explaining::texts_list_what_is_legal;

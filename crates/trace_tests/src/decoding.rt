@@ -5,6 +5,7 @@ mod faults;
 mod leaps;
 mod longest_walk;
 mod order;
+mod pieces;
 mod resumed;
 mod rows;
 mod traces;
