@@ -13,6 +13,7 @@ SCRIPTS = NEED_WORDS + [
     "crate-graph",
     "definitions-below",
     "error-lines",
+    "from-gate",
     "long-edits/check-functions",
     "long-edits/long-edits",
     "long-tests/long-tests",
