@@ -33,10 +33,12 @@
  *   at a few for each event, and a feed, tracebench_feed_all and tracebench_receive at those that their packets pass.
  *   They may be called with an image of 16 MiB as with one of 64 bytes.
  * - Else a call takes time in proportion to the bytes that it is given and the events that it settles, the same if it
- *   only asks for the size. tracebench_decode and tracebench_audit go through all harts to answer for one.
+ *   only asks for the size. tracebench_decode and tracebench_audit go through all harts to answer for one;
+ *   tracebench_decode_all answers for all.
  * - tracebench_encoder, tracebench_push, tracebench_push_checked, tracebench_push_all, tracebench_finish,
- *   tracebench_follow, tracebench_check_events and tracebench_decoder take no memory. Over an image in two pieces or
- *   more, a call takes memory for the list of the pieces while it runs.
+ *   tracebench_follow, tracebench_check_events, tracebench_decoder and the calls that read or write one message or one
+ *   header take no memory. Over an image in two pieces or more, a call takes memory for the list of the pieces while
+ *   it runs.
  */
 #ifndef TRACEBENCH_H
 #define TRACEBENCH_H
@@ -221,6 +223,33 @@ extern "C" {
 /* The event before is illegal, whatever comes before it. */
 #define TRACEBENCH_BAD_BEFORE 130u
 
+/* A line has not as many fields as the first one, or an empty field. */
+#define TRACEBENCH_LINE_FIELDS 144u
+
+/* Hart is not a number below 64: a line's, in version 1. */
+#define TRACEBENCH_LINE_HART_ONE 145u
+
+/* Hart is not a number below 1024: a line's, in version 2. */
+#define TRACEBENCH_LINE_HART_TWO 146u
+
+/* A line's number is not a decimal number below 2^64. */
+#define TRACEBENCH_LINE_NUMBER 147u
+
+/* A line's bytes are not 1 to 18, of two hexadecimal digits each. */
+#define TRACEBENCH_LINE_BYTES 148u
+
+/* A line's hart is not below the count of harts that was asked for. */
+#define TRACEBENCH_LINE_ABOVE 149u
+
+/* No line of the symbols is a symbol of code. */
+#define TRACEBENCH_NO_SYMBOL 150u
+
+/* The symbols have more than 16,777,216 bytes. */
+#define TRACEBENCH_SYMBOLS_TOO_LARGE 151u
+
+/* There are more or fewer logs than harts. */
+#define TRACEBENCH_UNEQUAL_COUNTS 152u
+
 /*
  * A status as text: what the program reports of it, without the row, the number or the file that an error line names. A
  * status that only this library has is what its comment above says. Another number is "no status". The text is never
@@ -286,6 +315,15 @@ static inline const char *tracebench_status_text(uint32_t status) {
     case TRACEBENCH_BAD_STATE: return "no encoder or decoder has this state";
     case TRACEBENCH_NO_EVENT: return "no event has these numbers";
     case TRACEBENCH_BAD_BEFORE: return "the event before is illegal, whatever comes before it";
+    case TRACEBENCH_LINE_FIELDS: return "wrong number of fields";
+    case TRACEBENCH_LINE_HART_ONE: return "hart is not a number below 64";
+    case TRACEBENCH_LINE_HART_TWO: return "hart is not a number below 1024";
+    case TRACEBENCH_LINE_NUMBER: return "number is not a number";
+    case TRACEBENCH_LINE_BYTES: return "bytes are not 1 to 18";
+    case TRACEBENCH_LINE_ABOVE: return "hart is not below --harts";
+    case TRACEBENCH_NO_SYMBOL: return "no symbol of code: give it what nm prints";
+    case TRACEBENCH_SYMBOLS_TOO_LARGE: return "larger than 16777216 bytes";
+    case TRACEBENCH_UNEQUAL_COUNTS: return "there are more or fewer logs than harts";
     default: return "no status";
     }
 }
@@ -295,12 +333,12 @@ static inline const char *tracebench_status_text(uint32_t status) {
  * TRACEBENCH_TOO_SMALL. A program that is linked with the library of its header finds TRACEBENCH_VERSION:
  *
  *     uint8_t version[16];
- *     uint64_t length;
+ *     size_t length;
  *     uint32_t status = tracebench_version(version, sizeof version, &length);
  *     bool is_this = status == TRACEBENCH_DONE && length == sizeof TRACEBENCH_VERSION - 1 &&
- *                    memcmp(version, TRACEBENCH_VERSION, (size_t)length) == 0;
+ *                    memcmp(version, TRACEBENCH_VERSION, length) == 0;
  */
-uint32_t tracebench_version(uint8_t *buffer, size_t buffer_length, uint64_t *wanted);
+uint32_t tracebench_version(uint8_t *buffer, size_t buffer_length, size_t *wanted);
 
 /* Packets. */
 
@@ -347,18 +385,18 @@ struct tracebench_packet {
  * TRACEBENCH_NO_PACKET where no packet of the profile has these numbers.
  *
  *     uint8_t payload[18];
- *     uint64_t length;
+ *     size_t length;
  *     uint32_t status = tracebench_pack(&packet, payload, sizeof payload, &length);
  */
 uint32_t tracebench_pack(const struct tracebench_packet *packet, uint8_t *buffer, size_t buffer_length,
-                         uint64_t *wanted);
+                         size_t *wanted);
 
 /*
  * Writes the packet of a payload. The status is TRACEBENCH_DONE, or says why the bytes are a payload of no packet:
  * TRACEBENCH_EMPTY to TRACEBENCH_BAD_REPORT.
  *
  *     struct tracebench_packet packet;
- *     uint32_t status = tracebench_unpack(payload, (size_t)length, &packet);
+ *     uint32_t status = tracebench_unpack(payload, length, &packet);
  */
 uint32_t tracebench_unpack(const uint8_t *payload, size_t payload_length, struct tracebench_packet *packet);
 
@@ -438,12 +476,12 @@ uint32_t tracebench_encoder(uint16_t period, uint32_t mode, struct tracebench_en
  *
  *     struct tracebench_event event = {TRACEBENCH_RETIREMENT, 0, 3, 0, 0, base, 0};
  *     struct tracebench_packet packets[2];
- *     uint64_t count;
+ *     size_t count;
  *     uint32_t status = tracebench_push(base, image, image_length, &state, &event, packets, 2, &count);
  */
 uint32_t tracebench_push(uint64_t base, const uint8_t *image, size_t image_length,
                          struct tracebench_encoder_state *state, const struct tracebench_event *event,
-                         struct tracebench_packet *packets, size_t packets_length, uint64_t *count);
+                         struct tracebench_packet *packets, size_t packets_length, size_t *count);
 
 /*
  * Says whether an event is legal after the event before it, or as the first event of a log. `has_before` is 1 where
@@ -489,7 +527,7 @@ uint32_t tracebench_check_events(uint64_t base, const uint8_t *image, size_t ima
  */
 uint32_t tracebench_push_checked(uint64_t base, const uint8_t *image, size_t image_length,
                                  struct tracebench_encoder_state *state, const struct tracebench_event *event,
-                                 struct tracebench_packet *packets, size_t packets_length, uint64_t *count);
+                                 struct tracebench_packet *packets, size_t packets_length, size_t *count);
 
 /*
  * Takes the next events of a log, one after the other as tracebench_push takes each, and writes the packets that they
@@ -506,8 +544,8 @@ uint32_t tracebench_push_checked(uint64_t base, const uint8_t *image, size_t ima
  * Or no event was taken, nothing was written, and `*taken` and `*count` are 0: TRACEBENCH_BAD_STATE where no encoder
  * has this state, or what is wrong with the image.
  *
- *     uint64_t taken;
- *     for (size_t at = 0; at < events_length; at += (size_t)taken) {
+ *     size_t taken;
+ *     for (size_t at = 0; at < events_length; at += taken) {
  *         status = tracebench_push_all(base, image, image_length, &state, events + at, events_length - at, packets, 64,
  *                                      &taken, &count);
  *         send(packets, count);
@@ -517,7 +555,7 @@ uint32_t tracebench_push_checked(uint64_t base, const uint8_t *image, size_t ima
 uint32_t tracebench_push_all(uint64_t base, const uint8_t *image, size_t image_length,
                              struct tracebench_encoder_state *state, const struct tracebench_event *events,
                              size_t events_length, struct tracebench_packet *packets, size_t packets_length,
-                             uint64_t *taken, uint64_t *count);
+                             size_t *taken, size_t *count);
 
 /*
  * Takes the end of a log, and writes the packets that are left, 1 or 2. The last of them closes the trace. `*state` is
@@ -528,7 +566,7 @@ uint32_t tracebench_push_all(uint64_t base, const uint8_t *image, size_t image_l
  */
 uint32_t tracebench_finish(uint64_t base, const uint8_t *image, size_t image_length,
                            const struct tracebench_encoder_state *state, struct tracebench_packet *packets,
-                           size_t packets_length, uint64_t *count);
+                           size_t packets_length, size_t *count);
 
 /* Step by step: one payload in, its events out. */
 
@@ -592,13 +630,13 @@ void tracebench_decoder(struct tracebench_decoder_state *state);
  * these events while it runs.
  *
  *     struct tracebench_event events[64];
- *     uint64_t count;
- *     uint32_t status = tracebench_feed(base, image, image_length, &state, payload, (size_t)length, events, 64,
+ *     size_t count;
+ *     uint32_t status = tracebench_feed(base, image, image_length, &state, payload, length, events, 64,
  *                                       &count);
  */
 uint32_t tracebench_feed(uint64_t base, const uint8_t *image, size_t image_length,
                          struct tracebench_decoder_state *state, const uint8_t *payload, size_t payload_length,
-                         struct tracebench_event *events, size_t events_length, uint64_t *count);
+                         struct tracebench_event *events, size_t events_length, size_t *count);
 
 /*
  * Takes the next payloads of a trace, one after the other as tracebench_feed takes each, and writes the events that
@@ -618,14 +656,14 @@ uint32_t tracebench_feed(uint64_t base, const uint8_t *image, size_t image_lengt
  * Or no payload was taken, nothing was written, and `*taken` and `*count` are 0: TRACEBENCH_BAD_STATE where no decoder
  * has this state, or what is wrong with the image.
  *
- *     uint64_t ends[] = {1, 6, 7};
+ *     size_t ends[] = {1, 6, 7};
  *     uint32_t status = tracebench_feed_all(base, image, image_length, &state, payloads, 7, ends, 3, events, 64,
  *                                           &taken, &count);
  */
 uint32_t tracebench_feed_all(uint64_t base, const uint8_t *image, size_t image_length,
                              struct tracebench_decoder_state *state, const uint8_t *payloads, size_t payloads_length,
-                             const uint64_t *ends, size_t ends_length, struct tracebench_event *events,
-                             size_t events_length, uint64_t *taken, uint64_t *count);
+                             const size_t *ends, size_t ends_length, struct tracebench_event *events,
+                             size_t events_length, size_t *taken, size_t *count);
 
 /* The messages of a hart, where some of them may be lost. */
 
@@ -669,7 +707,7 @@ struct tracebench_hart_state {
 uint32_t tracebench_receive(uint64_t base, const uint8_t *image, size_t image_length,
                             struct tracebench_hart_state *hart, uint64_t number, const uint8_t *payload,
                             size_t payload_length, struct tracebench_event *events, size_t events_length,
-                            uint64_t *count, uint64_t *missing);
+                            size_t *count, uint64_t *missing);
 
 /*
  * Lets a hart go on at the message with this number, before which others are lost. That number is expected then. The
@@ -683,6 +721,75 @@ uint32_t tracebench_receive(uint64_t base, const uint8_t *image, size_t image_le
  * TRACEBENCH_REPEAT and TRACEBENCH_OUT_OF_RANGE for the number as above.
  */
 uint32_t tracebench_resume(struct tracebench_hart_state *hart, uint64_t number, uint32_t mode);
+
+/* Messages and headers: the bytes of a capture, one part at a time. */
+
+/* A message in numbers. */
+struct tracebench_message {
+    uint64_t number;       /* how many messages of its hart come before it */
+    size_t payload_length; /* how many bytes its payload has, 1 to 18 */
+    uint16_t hart;         /* the hart whose trace the payload belongs to */
+    uint8_t payload[18];   /* the bytes of its payload, and then 0 */
+};
+
+/*
+ * Writes the bytes of a message, at most 29. A sender numbers the messages of each hart from 0. The hart and the number
+ * may be any; the calls that decode know harts below 1,024. The status is TRACEBENCH_DONE, TRACEBENCH_TOO_SMALL,
+ * TRACEBENCH_EMPTY where the payload has no byte, or TRACEBENCH_TOO_LONG where it has more than 18.
+ *
+ *     uint8_t bytes[29];
+ *     uint32_t status = tracebench_write_message(hart, number++, payload, length, bytes, sizeof bytes, &wanted);
+ */
+uint32_t tracebench_write_message(uint16_t hart, uint64_t number, const uint8_t *payload, size_t payload_length,
+                                  uint8_t *buffer, size_t buffer_length, size_t *wanted);
+
+/*
+ * Writes the message that bytes begin with. `*taken` is how many of the bytes are the message's, and the next message
+ * is after them. With TRACEBENCH_DONE and `*taken` 0 there is no byte at all. Else the status is TRACEBENCH_SHORT
+ * where the bytes end inside the message, so that more of them may come, or TRACEBENCH_BAD_LENGTH where the byte for
+ * its payload's length is 0 or above 18. Then `*taken` is 0, and `*message` is as it was.
+ *
+ *     struct tracebench_message message;
+ *     for (size_t at = 0, taken; at < length; at += taken) {
+ *         status = tracebench_read_message(bytes + at, length - at, &message, &taken);
+ *         if (status != TRACEBENCH_DONE) break;
+ *         receive(message.hart, message.number, message.payload, message.payload_length);
+ *     }
+ */
+uint32_t tracebench_read_message(const uint8_t *bytes, size_t bytes_length, struct tracebench_message *message,
+                                 size_t *taken);
+
+/* The header of a capture of version 2, in numbers. */
+struct tracebench_header {
+    uint32_t mode;   /* TRACEBENCH_DIFFERENTIAL or TRACEBENCH_FULL */
+    uint16_t period; /* how many retirements there are from one periodic sync to the next, 1 or more */
+    uint16_t harts;  /* how many harts there are, 1 to 1,024; those of the messages are below it */
+};
+
+/*
+ * Writes the 16 bytes of a header. The status is TRACEBENCH_DONE, TRACEBENCH_TOO_SMALL, or TRACEBENCH_OUT_OF_RANGE
+ * where a number of the header is out of its range.
+ *
+ *     const struct tracebench_header header = {TRACEBENCH_DIFFERENTIAL, 1024, 2};
+ *     uint8_t bytes[16];
+ *     uint32_t status = tracebench_write_header(&header, bytes, sizeof bytes, &wanted);
+ */
+uint32_t tracebench_write_header(const struct tracebench_header *header, uint8_t *buffer, size_t buffer_length,
+                                 size_t *wanted);
+
+/*
+ * Writes the header that bytes begin with. `*taken` is 16 then, and the first message is after them. With
+ * TRACEBENCH_DONE and `*taken` 0 the bytes do not begin as a capture of version 2 does, and the first message is at the
+ * first byte. Else the status is TRACEBENCH_SHORT where the bytes end inside the header, after the 11 with which it
+ * begins, or TRACEBENCH_BAD_HEADER where a number of it is out of its range. Then `*taken` is 0, and `*header` is as it
+ * was.
+ *
+ *     struct tracebench_header header = {TRACEBENCH_DIFFERENTIAL, 1024, 1};
+ *     size_t taken;
+ *     uint32_t status = tracebench_read_header(bytes, length, &header, &taken);
+ */
+uint32_t tracebench_read_header(const uint8_t *bytes, size_t bytes_length, struct tracebench_header *header,
+                                size_t *taken);
 
 /* Whole logs and captures. */
 
@@ -714,15 +821,32 @@ struct tracebench_log_place {
  * or TRACEBENCH_BAD_ENDS where the log's end is before its start or past the texts. `*place` is written where there
  * is no capture; it is 0 and 0 where no log is at fault.
  *
- *     uint64_t ends[] = {first_length, first_length + second_length};
+ *     size_t ends[] = {first_length, first_length + second_length};
  *     uint32_t status = tracebench_encode(base, image, image_length, logs, logs_length, ends, 2, 1024,
  *                                         TRACEBENCH_DIFFERENTIAL, TRACEBENCH_VERSION_TWO, buffer, buffer_length,
  *                                         &wanted, &place);
  */
 uint32_t tracebench_encode(uint64_t base, const uint8_t *image, size_t image_length, const uint8_t *logs,
-                           size_t logs_length, const uint64_t *ends, size_t ends_length, uint16_t period, uint32_t mode,
-                           uint32_t version, uint8_t *buffer, size_t buffer_length, uint64_t *wanted,
+                           size_t logs_length, const size_t *ends, size_t ends_length, uint16_t period, uint32_t mode,
+                           uint32_t version, uint8_t *buffer, size_t buffer_length, size_t *wanted,
                            struct tracebench_log_place *place);
+
+/*
+ * Writes the capture of the lines of a text, one message a line, in the order of the lines: what `tracebench capture`
+ * writes. A line is HART NUMBER BYTES, or HART BYTES; then the messages of each hart are numbered from 0. The period
+ * is 1 or more. A capture of version 1 has neither a mode nor a period. The header counts so many harts, at most 1,024
+ * and in version 1 at most 64; with 0 those up to the highest of the lines. The status is TRACEBENCH_DONE,
+ * TRACEBENCH_TOO_SMALL, TRACEBENCH_OUT_OF_RANGE where one of these numbers is out of its range, TRACEBENCH_MEMORY, or
+ * says what is wrong with the first line that has a fault: TRACEBENCH_LINE_FIELDS to TRACEBENCH_LINE_ABOVE. `*line` is
+ * then that line, from 1 on, and else 0.
+ *
+ *     uint64_t line;
+ *     uint32_t status = tracebench_capture_of_lines(text, text_length, TRACEBENCH_VERSION_TWO, TRACEBENCH_DIFFERENTIAL,
+ *                                                   1024, 0, buffer, buffer_length, &wanted, &line);
+ */
+uint32_t tracebench_capture_of_lines(const uint8_t *text, size_t text_length, uint32_t version, uint32_t mode,
+                                     uint16_t period, uint16_t harts, uint8_t *buffer, size_t buffer_length,
+                                     size_t *wanted, uint64_t *line);
 
 /* How a dump ends. */
 struct tracebench_dump_end {
@@ -739,7 +863,7 @@ struct tracebench_dump_end {
  *     uint32_t status = tracebench_dump(capture, capture_length, text, sizeof text, &wanted, &ended);
  */
 uint32_t tracebench_dump(const uint8_t *capture, size_t capture_length, uint8_t *buffer, size_t buffer_length,
-                         uint64_t *wanted, struct tracebench_dump_end *ended);
+                         size_t *wanted, struct tracebench_dump_end *ended);
 
 /*
  * How decoding a capture ends. Where it stops before the end, `fault` is the status of what is wrong with the bytes
@@ -767,7 +891,7 @@ struct tracebench_decode_end {
  */
 uint32_t tracebench_decode(uint64_t base, const uint8_t *image, size_t image_length, uint16_t harts,
                            const uint8_t *capture, size_t capture_length, uint16_t hart, uint8_t *buffer,
-                           size_t buffer_length, uint64_t *wanted, struct tracebench_decode_end *ended);
+                           size_t buffer_length, size_t *wanted, struct tracebench_decode_end *ended);
 
 /* What became of the messages of a hart. */
 struct tracebench_tally {
@@ -801,6 +925,211 @@ struct tracebench_audit_end {
  */
 uint32_t tracebench_audit(const uint8_t *sent, size_t sent_length, const uint8_t *received, size_t received_length,
                           uint16_t hart, struct tracebench_tally *tally, struct tracebench_audit_end *ended);
+
+/* How tracebench_audit_all compares messages. */
+#define TRACEBENCH_BY_PACKETS 1u /* payloads by the packets that they unpack to, and not by their bytes */
+
+/* What became of a message of RECEIVED: the first of these that applies, from the last on. */
+#define TRACEBENCH_FATE_IN_ORDER 0u /* none of the others */
+#define TRACEBENCH_FATE_LATE 1u     /* an earlier true message of its hart has a greater number */
+#define TRACEBENCH_FATE_REPEAT 2u   /* an earlier true message has its hart and number */
+#define TRACEBENCH_FATE_CHANGED 3u  /* SENT has its hart and number with another payload */
+#define TRACEBENCH_FATE_STRANGER 4u /* SENT has no message of its hart and number */
+
+/* What is found of a hart of SENT. */
+struct tracebench_hart_row {
+    struct tracebench_tally tally; /* what became of its messages */
+    uint64_t strange;              /* how many messages of the hart are strangers */
+    uint64_t runs;                 /* in how many longest runs its lost numbers are */
+    uint64_t longest;              /* how many numbers the longest of these runs has; 0 where none is lost */
+    uint64_t latest;               /* the most by which a message of the hart is late; 0 where none is */
+};
+
+/* A message of RECEIVED that is taken, and what became of it. Its place is that in the array, from 0 on. */
+struct tracebench_arrival {
+    uint64_t number; /* its number */
+    uint64_t by;     /* by how much a late one is late, or how many numbers one in order skips; 0 for the others */
+    uint64_t offset; /* where its first byte is in RECEIVED */
+    uint32_t fate;   /* TRACEBENCH_FATE_IN_ORDER to TRACEBENCH_FATE_STRANGER */
+    uint16_t hart;   /* its hart */
+};
+
+/* A longest run of numbers of a hart that were lost. */
+struct tracebench_lost_run {
+    uint64_t first; /* the first of them */
+    uint64_t last;  /* the last of them */
+    uint64_t hart;  /* the hart */
+};
+
+/* A longest run of bytes of RECEIVED that are of no message. */
+struct tracebench_byte_run {
+    uint64_t offset; /* where the first of them is */
+    uint64_t count;  /* how many there are, 1 or more */
+};
+
+/* The message of SENT that is refused. */
+struct tracebench_sent_place {
+    uint64_t message;  /* from 0 on; 0 where the header is refused, or an allocation failed */
+    uint64_t expected; /* with TRACEBENCH_GAP the number that is expected in place of the message's; else 0 */
+};
+
+/* What is found of a path, beside its harts and its messages. */
+struct tracebench_path_end {
+    size_t harts;                             /* how many harts SENT has */
+    size_t messages;                          /* how many messages of RECEIVED are taken */
+    size_t lost_runs;                         /* how many longest runs of numbers were lost, of all harts */
+    size_t byte_runs;                         /* how many longest runs of bytes are of no message */
+    uint64_t bytes;                           /* how many bytes these have */
+    uint64_t strangers;                       /* how many strangers came, of whatever hart */
+    uint64_t first;                           /* the place of the first message that is not in order or skips a number;
+                                                 0 where there is none */
+    struct tracebench_header sent_header;     /* the header of SENT; all 0 where it has none */
+    struct tracebench_header received_header; /* that of RECEIVED; all 0 where it has none that is valid */
+    uint32_t has_sent_header;                 /* 1 where SENT has a header */
+    uint32_t has_received_header;             /* 1 where RECEIVED has one that is valid */
+    uint32_t header_fault;                    /* why it has none, where it begins as a capture of version 2 does:
+                                                 TRACEBENCH_SHORT or TRACEBENCH_BAD_HEADER; else 0 */
+    uint32_t headers_differ;                  /* 1 where both have one and these differ, or SENT has one and that of
+                                                 RECEIVED is cut or not valid */
+    uint32_t has_first;                       /* 1 where some message is not in order or skips a number */
+    uint32_t whole;                           /* 1 where every hart is whole, no stranger came, headers do not differ,
+                                                 each byte of RECEIVED is one of a message, and `header_fault` is 0 */
+};
+
+/*
+ * Audits RECEIVED against SENT, both captures, and reports what became of the messages of all harts of SENT: what
+ * `tracebench audit` prints. SENT is checked to its end first. In RECEIVED the messages are found among damaged bytes,
+ * as the program finds them, which tracebench_audit does not do. `flags` is 0 or TRACEBENCH_BY_PACKETS. There is no
+ * flag to compare messages without their numbers, as `tracebench audit --unnumbered` does.
+ *
+ * `rows` is for what is found of each hart, hart 0 first, `arrivals` for the messages of RECEIVED that are taken, in
+ * their order, `lost` for the longest runs of numbers that were lost, hart by hart, and `runs` for the longest runs of
+ * bytes of no message. `*ended` is how many there are of each, and what else is found. Each array that is large enough
+ * is written; one that is not stays as it was, and the status is TRACEBENCH_TOO_SMALL. So a call with four lengths of
+ * 0 asks for the sizes, and one with room for the rows alone writes the rows.
+ *
+ * The status is TRACEBENCH_DONE, TRACEBENCH_TOO_SMALL, TRACEBENCH_OUT_OF_RANGE for other flags, TRACEBENCH_MEMORY, or
+ * says why SENT is refused, as with tracebench_audit. With the last two `*refused` names the message of SENT, and else
+ * it is not written.
+ *
+ *     struct tracebench_hart_row rows[4];
+ *     struct tracebench_sent_place refused;
+ *     struct tracebench_path_end ended;
+ *     uint32_t status = tracebench_audit_all(sent, sent_length, received, received_length, 0, rows, 4, arrivals, 1000,
+ *                                            lost, 100, runs, 100, &refused, &ended);
+ */
+uint32_t tracebench_audit_all(const uint8_t *sent, size_t sent_length, const uint8_t *received, size_t received_length,
+                              uint32_t flags, struct tracebench_hart_row *rows, size_t rows_length,
+                              struct tracebench_arrival *arrivals, size_t arrivals_length,
+                              struct tracebench_lost_run *lost, size_t lost_length, struct tracebench_byte_run *runs,
+                              size_t runs_length, struct tracebench_sent_place *refused,
+                              struct tracebench_path_end *ended);
+
+/* Texts of all harts. */
+
+/*
+ * Each of these calls writes what a subcommand of the program prints into one buffer, byte by byte: of all harts, but
+ * tracebench_explain of one log, without the line of `check` above it. tracebench_decode_all leaves out the lines
+ * `hart H`, since `ends` says where each text ends. The text is put together once, also where the call only asks for
+ * the size: a caller that hands in a buffer that is large enough pays for it once. No call takes a function to hand pieces of text to. A call's promise is of what it
+ * returns, and says nothing of a function of the caller's, which might return by longjmp or call again.
+ */
+
+/* Where the text of a hart ends, and whether the hart is closed. */
+struct tracebench_hart_end {
+    size_t end;      /* where the text ends; it starts where that of the hart before ends, and for hart 0 at 0 */
+    uint32_t closed; /* 1 where the closing packet of the hart was decoded */
+};
+
+/* How decoding a capture ends for all harts. */
+struct tracebench_decode_all_end {
+    size_t harts;   /* how many harts there are: as the header counts, or else as are asked for */
+    uint64_t place; /* the message, counted from 0, at which decoding stops before the end; 0 where `fault` is 0 */
+    uint32_t fault; /* why it stops there, as tracebench_decode says it; 0 where it comes to the end */
+};
+
+/*
+ * Decodes a capture once, and writes the logs of all its harts as text, one after the other. `ends` says of each hart
+ * where its text ends. The harts, the texts and the statuses are those of tracebench_decode, but for
+ * TRACEBENCH_NO_HART. TRACEBENCH_TOO_SMALL comes where `buffer` has fewer than `*wanted` bytes or `ends` fewer than
+ * `ended->harts` elements, and neither is written to then. `*ended` is written with this status and TRACEBENCH_DONE.
+ *
+ *     struct tracebench_hart_end ends[1024];
+ *     struct tracebench_decode_all_end ended;
+ *     uint32_t status = tracebench_decode_all(base, image, image_length, 1, capture, capture_length, text, text_length,
+ *                                             &wanted, ends, 1024, &ended);
+ */
+uint32_t tracebench_decode_all(uint64_t base, const uint8_t *image, size_t image_length, uint16_t harts,
+                               const uint8_t *capture, size_t capture_length, uint8_t *buffer, size_t buffer_length,
+                               size_t *wanted, struct tracebench_hart_end *ends, size_t ends_length,
+                               struct tracebench_decode_all_end *ended);
+
+/* How a text about a capture ends. */
+struct tracebench_text_end {
+    uint64_t harts;    /* how many harts there are */
+    uint64_t unclosed; /* the lowest hart whose closing packet was not decoded; where each was, as `harts` */
+    uint64_t place;    /* the message, counted from 0, at which decoding stops before the end; 0 where `fault` is 0 */
+    uint32_t fault;    /* why it stops there, as tracebench_decode says it; 0 where it comes to the end */
+    uint32_t whole;    /* 1 where the program ends with status 0 after this text */
+};
+
+/* How a listing is laid out. */
+#define TRACEBENCH_TEXT 0u /* a line for each message */
+#define TRACEBENCH_CSV 1u  /* a table of CSV, with a row for each message */
+
+/*
+ * Writes the listing of a capture, as `tracebench list` prints it: a line for each message, with its packet and the
+ * events that it settles. Places are named by the symbols, which are lines as nm prints them; where `symbols_length` is
+ * 0, they have no names. The harts are those of tracebench_decode. The status is TRACEBENCH_DONE, TRACEBENCH_TOO_SMALL,
+ * TRACEBENCH_OUT_OF_RANGE where the format is none, TRACEBENCH_MEMORY, or says what is wrong with the image, or with
+ * the symbols: TRACEBENCH_NO_SYMBOL or TRACEBENCH_SYMBOLS_TOO_LARGE. `*ended` is written with the first two.
+ */
+uint32_t tracebench_list(uint64_t base, const uint8_t *image, size_t image_length, uint16_t harts,
+                         const uint8_t *capture, size_t capture_length, const uint8_t *symbols, size_t symbols_length,
+                         uint32_t format, uint8_t *buffer, size_t buffer_length, size_t *wanted,
+                         struct tracebench_text_end *ended);
+
+/*
+ * Writes the table of what the logs of harts cost, as `tracebench measure` prints it: how many packets of each kind
+ * they give at the period and in the mode, and how many bytes. `logs` and `ends` are those of tracebench_encode, of 1
+ * to 1,024 logs, and so are the statuses and `*place`. The image is not copied.
+ */
+uint32_t tracebench_measure(uint64_t base, const uint8_t *image, size_t image_length, const uint8_t *logs,
+                            size_t logs_length, const size_t *ends, size_t ends_length, uint16_t period,
+                            uint32_t mode, uint8_t *buffer, size_t buffer_length, size_t *wanted,
+                            struct tracebench_log_place *place);
+
+/*
+ * Writes how a capture compares with the logs of its harts, as `tracebench compare` prints it. `logs` and `ends` are
+ * those of tracebench_encode, and the harts those of tracebench_decode. The status is TRACEBENCH_DONE,
+ * TRACEBENCH_TOO_SMALL, TRACEBENCH_UNEQUAL_COUNTS where there is not a log for each hart, TRACEBENCH_MEMORY, says what
+ * is wrong with the image, or is of the first log that is no legal log, as with tracebench_encode. `*ended` is written
+ * with the first two, and `*place` with the others, as with tracebench_encode.
+ */
+uint32_t tracebench_compare(uint64_t base, const uint8_t *image, size_t image_length, uint16_t harts,
+                            const uint8_t *capture, size_t capture_length, const uint8_t *logs, size_t logs_length,
+                            const size_t *ends, size_t ends_length, uint8_t *buffer, size_t buffer_length,
+                            size_t *wanted, struct tracebench_text_end *ended, struct tracebench_log_place *place);
+
+/* How a log ends that is explained. */
+struct tracebench_explain_end {
+    uint64_t row;   /* the row at fault, from 1 on, or 0; where none is, the count of events */
+    uint32_t fault; /* why it is at fault, as tracebench_check says it; 0 where none is */
+};
+
+/*
+ * Writes the lines that explain the first illegal row of a log, as `tracebench check --explain` prints them below the
+ * line of the log. A legal log has none. The status is TRACEBENCH_DONE or TRACEBENCH_TOO_SMALL, also where the log is
+ * illegal: why it is, is in `ended->fault`. Or it is TRACEBENCH_MEMORY, or says what is wrong with the image or with
+ * the text; `*ended` has the same and the row then.
+ *
+ *     struct tracebench_explain_end ended;
+ *     uint32_t status = tracebench_explain(base, image, image_length, log, log_length, text, sizeof text, &wanted,
+ *                                          &ended);
+ */
+uint32_t tracebench_explain(uint64_t base, const uint8_t *image, size_t image_length, const uint8_t *log,
+                            size_t log_length, uint8_t *buffer, size_t buffer_length, size_t *wanted,
+                            struct tracebench_explain_end *ended);
 
 /* Programs in several memories. */
 
@@ -840,21 +1169,21 @@ struct tracebench_piece {
  */
 uint32_t tracebench_push_over_pieces(const struct tracebench_piece *pieces, size_t pieces_length,
                                      struct tracebench_encoder_state *state, const struct tracebench_event *event,
-                                     struct tracebench_packet *packets, size_t packets_length, uint64_t *count);
+                                     struct tracebench_packet *packets, size_t packets_length, size_t *count);
 
 uint32_t tracebench_push_checked_over_pieces(const struct tracebench_piece *pieces, size_t pieces_length,
                                              struct tracebench_encoder_state *state,
                                              const struct tracebench_event *event, struct tracebench_packet *packets,
-                                             size_t packets_length, uint64_t *count);
+                                             size_t packets_length, size_t *count);
 
 uint32_t tracebench_push_all_over_pieces(const struct tracebench_piece *pieces, size_t pieces_length,
                                          struct tracebench_encoder_state *state, const struct tracebench_event *events,
                                          size_t events_length, struct tracebench_packet *packets,
-                                         size_t packets_length, uint64_t *taken, uint64_t *count);
+                                         size_t packets_length, size_t *taken, size_t *count);
 
 uint32_t tracebench_finish_over_pieces(const struct tracebench_piece *pieces, size_t pieces_length,
                                        const struct tracebench_encoder_state *state, struct tracebench_packet *packets,
-                                       size_t packets_length, uint64_t *count);
+                                       size_t packets_length, size_t *count);
 
 uint32_t tracebench_follow_over_pieces(const struct tracebench_piece *pieces, size_t pieces_length,
                                        uint32_t has_before, const struct tracebench_event *before,
@@ -867,31 +1196,56 @@ uint32_t tracebench_check_events_over_pieces(const struct tracebench_piece *piec
 uint32_t tracebench_feed_over_pieces(const struct tracebench_piece *pieces, size_t pieces_length,
                                      struct tracebench_decoder_state *state, const uint8_t *payload,
                                      size_t payload_length, struct tracebench_event *events, size_t events_length,
-                                     uint64_t *count);
+                                     size_t *count);
 
 uint32_t tracebench_feed_all_over_pieces(const struct tracebench_piece *pieces, size_t pieces_length,
                                          struct tracebench_decoder_state *state, const uint8_t *payloads,
-                                         size_t payloads_length, const uint64_t *ends, size_t ends_length,
-                                         struct tracebench_event *events, size_t events_length, uint64_t *taken,
-                                         uint64_t *count);
+                                         size_t payloads_length, const size_t *ends, size_t ends_length,
+                                         struct tracebench_event *events, size_t events_length, size_t *taken,
+                                         size_t *count);
 
 uint32_t tracebench_receive_over_pieces(const struct tracebench_piece *pieces, size_t pieces_length,
                                         struct tracebench_hart_state *hart, uint64_t number, const uint8_t *payload,
                                         size_t payload_length, struct tracebench_event *events, size_t events_length,
-                                        uint64_t *count, uint64_t *missing);
+                                        size_t *count, uint64_t *missing);
 
 uint32_t tracebench_check_over_pieces(const struct tracebench_piece *pieces, size_t pieces_length, const uint8_t *log,
                                       size_t log_length, uint64_t *row);
 
 uint32_t tracebench_encode_over_pieces(const struct tracebench_piece *pieces, size_t pieces_length,
-                                       const uint8_t *logs, size_t logs_length, const uint64_t *ends,
+                                       const uint8_t *logs, size_t logs_length, const size_t *ends,
                                        size_t ends_length, uint16_t period, uint32_t mode, uint32_t version,
-                                       uint8_t *buffer, size_t buffer_length, uint64_t *wanted,
+                                       uint8_t *buffer, size_t buffer_length, size_t *wanted,
                                        struct tracebench_log_place *place);
 
 uint32_t tracebench_decode_over_pieces(const struct tracebench_piece *pieces, size_t pieces_length, uint16_t harts,
                                        const uint8_t *capture, size_t capture_length, uint16_t hart, uint8_t *buffer,
-                                       size_t buffer_length, uint64_t *wanted, struct tracebench_decode_end *ended);
+                                       size_t buffer_length, size_t *wanted, struct tracebench_decode_end *ended);
+
+uint32_t tracebench_decode_all_over_pieces(const struct tracebench_piece *pieces, size_t pieces_length, uint16_t harts,
+                                           const uint8_t *capture, size_t capture_length, uint8_t *buffer,
+                                           size_t buffer_length, size_t *wanted, struct tracebench_hart_end *ends,
+                                           size_t ends_length, struct tracebench_decode_all_end *ended);
+
+uint32_t tracebench_list_over_pieces(const struct tracebench_piece *pieces, size_t pieces_length, uint16_t harts,
+                                     const uint8_t *capture, size_t capture_length, const uint8_t *symbols,
+                                     size_t symbols_length, uint32_t format, uint8_t *buffer, size_t buffer_length,
+                                     size_t *wanted, struct tracebench_text_end *ended);
+
+uint32_t tracebench_measure_over_pieces(const struct tracebench_piece *pieces, size_t pieces_length,
+                                        const uint8_t *logs, size_t logs_length, const size_t *ends,
+                                        size_t ends_length, uint16_t period, uint32_t mode, uint8_t *buffer,
+                                        size_t buffer_length, size_t *wanted, struct tracebench_log_place *place);
+
+uint32_t tracebench_compare_over_pieces(const struct tracebench_piece *pieces, size_t pieces_length, uint16_t harts,
+                                        const uint8_t *capture, size_t capture_length, const uint8_t *logs,
+                                        size_t logs_length, const size_t *ends, size_t ends_length, uint8_t *buffer,
+                                        size_t buffer_length, size_t *wanted, struct tracebench_text_end *ended,
+                                        struct tracebench_log_place *place);
+
+uint32_t tracebench_explain_over_pieces(const struct tracebench_piece *pieces, size_t pieces_length,
+                                        const uint8_t *log, size_t log_length, uint8_t *buffer, size_t buffer_length,
+                                        size_t *wanted, struct tracebench_explain_end *ended);
 
 #ifdef __cplusplus
 }

@@ -103,6 +103,15 @@ enum class [[nodiscard]] status : std::uint32_t {
     BadState = TRACEBENCH_BAD_STATE,
     NoEvent = TRACEBENCH_NO_EVENT,
     BadBefore = TRACEBENCH_BAD_BEFORE,
+    LineFields = TRACEBENCH_LINE_FIELDS,
+    LineHartOne = TRACEBENCH_LINE_HART_ONE,
+    LineHartTwo = TRACEBENCH_LINE_HART_TWO,
+    LineNumber = TRACEBENCH_LINE_NUMBER,
+    LineBytes = TRACEBENCH_LINE_BYTES,
+    LineAbove = TRACEBENCH_LINE_ABOVE,
+    NoSymbol = TRACEBENCH_NO_SYMBOL,
+    SymbolsTooLarge = TRACEBENCH_SYMBOLS_TOO_LARGE,
+    UnequalCounts = TRACEBENCH_UNEQUAL_COUNTS,
 };
 
 /* A status as text. It is never null. */
@@ -114,6 +123,9 @@ enum class address_mode : std::uint32_t { Differential = TRACEBENCH_DIFFERENTIAL
 /* Versions of a capture. */
 enum class capture_version : std::uint32_t { One = TRACEBENCH_VERSION_ONE, Two = TRACEBENCH_VERSION_TWO };
 
+/* How a listing is laid out. */
+enum class text_format : std::uint32_t { Lines = TRACEBENCH_TEXT, Table = TRACEBENCH_CSV };
+
 using packet = ::tracebench_packet;
 using event = ::tracebench_event;
 using encoder_state = ::tracebench_encoder_state;
@@ -124,6 +136,27 @@ using dump_end = ::tracebench_dump_end;
 using decode_end = ::tracebench_decode_end;
 using tally = ::tracebench_tally;
 using audit_end = ::tracebench_audit_end;
+using message = ::tracebench_message;
+using header = ::tracebench_header;
+using hart_row = ::tracebench_hart_row;
+using arrival = ::tracebench_arrival;
+using lost_run = ::tracebench_lost_run;
+using byte_run = ::tracebench_byte_run;
+using sent_place = ::tracebench_sent_place;
+using path_end = ::tracebench_path_end;
+
+/* What became of a message of RECEIVED. */
+enum class fate : std::uint32_t {
+    InOrder = TRACEBENCH_FATE_IN_ORDER,
+    Late = TRACEBENCH_FATE_LATE,
+    Repeat = TRACEBENCH_FATE_REPEAT,
+    Changed = TRACEBENCH_FATE_CHANGED,
+    Stranger = TRACEBENCH_FATE_STRANGER,
+};
+using hart_end = ::tracebench_hart_end;
+using decode_all_end = ::tracebench_decode_all_end;
+using text_end = ::tracebench_text_end;
+using explain_end = ::tracebench_explain_end;
 
 #ifdef __cpp_exceptions
 /* What `expect` throws. */
@@ -192,15 +225,17 @@ template <class T, std::size_t N> class few {
 
     /* What a call may write to, and how many elements it wrote there. */
     span<T> room() noexcept { return {at_.data(), N}; }
-    void keep(std::uint64_t count) noexcept { size_ = static_cast<std::size_t>(count); }
+    void keep(std::size_t count) noexcept { size_ = count; }
 
   private:
     std::array<T, N> at_;
     std::size_t size_ = 0;
 };
 
-/* A payload, and the packets that an event makes due. */
+/* A payload, the bytes of a message and of a header, and the packets that an event makes due. */
 using payload = few<std::uint8_t, 18>;
+using message_bytes = few<std::uint8_t, 29>;
+using header_bytes = few<std::uint8_t, 16>;
 using due = few<packet, 2>;
 
 /* What a call hands out into, with memory of its own that grows to what is wanted, and stays for the next call. */
@@ -230,15 +265,15 @@ template <class T> class buffer {
 
     /* What a call may write to, and how many elements it wrote there. */
     span<T> room() noexcept { return {at_.get(), room_}; }
-    void keep(std::uint64_t count) noexcept { size_ = static_cast<std::size_t>(count); }
+    void keep(std::size_t count) noexcept { size_ = count; }
 
     /* Has memory for so many elements, and none of them. Where an allocation fails, all stays, and it is false. */
-    [[nodiscard]] bool grow(std::uint64_t wanted) noexcept {
+    [[nodiscard]] bool grow(std::size_t wanted) noexcept {
         if (wanted > std::numeric_limits<std::ptrdiff_t>::max() / sizeof(T)) return false;
-        std::unique_ptr<T[]> at(new (std::nothrow) T[static_cast<std::size_t>(wanted)]);
+        std::unique_ptr<T[]> at(new (std::nothrow) T[wanted]);
         if (at == nullptr) return false;
         at_ = std::move(at);
-        room_ = static_cast<std::size_t>(wanted);
+        room_ = wanted;
         size_ = 0;
         return true;
     }
@@ -259,7 +294,7 @@ template <class T> inline std::remove_const_t<T> nowhere{};
 template <class T> T *at(span<T> slice) noexcept { return slice.data() != nullptr ? slice.data() : &nowhere<T>; }
 
 /* Lets a call write into what is there, and keeps so many elements. */
-template <class Into, class Call> status into_room(Into &into, Call call, std::uint64_t &count) noexcept {
+template <class Into, class Call> status into_room(Into &into, Call call, std::size_t &count) noexcept {
     into.keep(0);
     const status said = call(into.room(), count);
     if (said == status::Done) into.keep(count);
@@ -268,13 +303,13 @@ template <class Into, class Call> status into_room(Into &into, Call call, std::u
 
 /* The same into elements in place, of which there are always enough. */
 template <class T, std::size_t N, class Call> status into(few<T, N> &into, Call call) noexcept {
-    std::uint64_t count = 0;
+    std::size_t count = 0;
     return into_room(into, call, count);
 }
 
 /* The same into a buffer. Where that is too small it grows, and the call is made again. */
 template <class T, class Call> status into(buffer<T> &into, Call call) noexcept {
-    std::uint64_t count = 0;
+    std::size_t count = 0;
     const status said = into_room(into, call, count);
     if (said != status::TooSmall) return said;
     return into.grow(count) ? into_room(into, call, count) : status::Memory;
@@ -283,7 +318,7 @@ template <class T, class Call> status into(buffer<T> &into, Call call) noexcept 
 } // namespace detail
 
 /* The version of the library, that of the header where it is TRACEBENCH_VERSION. */
-inline status version(span<std::uint8_t> room, std::uint64_t &wanted) noexcept {
+inline status version(span<std::uint8_t> room, std::size_t &wanted) noexcept {
     return status{tracebench_version(detail::at(room), room.size(), &wanted)};
 }
 
@@ -295,7 +330,7 @@ inline bool is_this_version() noexcept {
 
 /* Packets and payloads. */
 
-inline status pack(const packet &given, span<std::uint8_t> room, std::uint64_t &wanted) noexcept {
+inline status pack(const packet &given, span<std::uint8_t> room, std::size_t &wanted) noexcept {
     return status{tracebench_pack(&given, detail::at(room), room.size(), &wanted)};
 }
 
@@ -335,19 +370,19 @@ inline status push_checked(const program &of, encoder_state &state, const event 
 
 /* Events at once, into so much room, which has the packets of those that are taken. */
 inline status push_all(const program &of, encoder_state &state, span<const event> nexts, span<packet> room,
-                       std::uint64_t &taken, std::uint64_t &count) noexcept {
+                       std::size_t &taken, std::size_t &count) noexcept {
     return status{tracebench_push_all(of.base, detail::at(of.image), of.image.size(), &state, detail::at(nexts),
                                       nexts.size(), detail::at(room), room.size(), &taken, &count)};
 }
 
 /* The same into a buffer, which has room for the packets of all of them. */
 inline status push_all(const program &of, encoder_state &state, span<const event> nexts, buffer<packet> &packets,
-                       std::uint64_t &taken) noexcept {
+                       std::size_t &taken) noexcept {
     taken = 0;
     packets.keep(0);
-    if (packets.room().size() / 2 < nexts.size() && !packets.grow(2 * std::uint64_t{nexts.size()}))
+    if (packets.room().size() / 2 < nexts.size() && !packets.grow(2 * nexts.size()))
         return status::Memory;
-    std::uint64_t count = 0;
+    std::size_t count = 0;
     const status said = push_all(of, state, nexts, packets.room(), taken, count);
     packets.keep(count);
     return said;
@@ -379,7 +414,7 @@ inline status finish(const program &of, const encoder_state &state, due &packets
 inline void decoder(decoder_state &state) noexcept { tracebench_decoder(&state); }
 
 inline status feed(const program &of, decoder_state &state, span<const std::uint8_t> given, span<event> room,
-                   std::uint64_t &count) noexcept {
+                   std::size_t &count) noexcept {
     return status{tracebench_feed(of.base, detail::at(of.image), of.image.size(), &state, detail::at(given),
                                   given.size(), detail::at(room), room.size(), &count)};
 }
@@ -392,12 +427,12 @@ inline status feed(const program &of, decoder_state &state, span<const std::uint
 /* Payloads one after the other, and where each ends. */
 struct payloads {
     span<const std::uint8_t> bytes;
-    span<const std::uint64_t> ends;
+    span<const std::size_t> ends;
 };
 
 /* Payloads at once, into so much room, which has the events of those that are taken. */
 inline status feed_all(const program &of, decoder_state &state, const payloads &given, span<event> room,
-                       std::uint64_t &taken, std::uint64_t &count) noexcept {
+                       std::size_t &taken, std::size_t &count) noexcept {
     return status{tracebench_feed_all(of.base, detail::at(of.image), of.image.size(), &state, detail::at(given.bytes),
                                       given.bytes.size(), detail::at(given.ends), given.ends.size(), detail::at(room),
                                       room.size(), &taken, &count)};
@@ -418,6 +453,39 @@ inline status resume(hart_state &hart, std::uint64_t number, address_mode mode) 
     return status{tracebench_resume(&hart, number, static_cast<std::uint32_t>(mode))};
 }
 
+/* Messages and headers: the bytes of a capture, one part at a time. */
+
+inline status write_message(std::uint16_t hart, std::uint64_t number, span<const std::uint8_t> given,
+                            span<std::uint8_t> room, std::size_t &wanted) noexcept {
+    return status{tracebench_write_message(hart, number, detail::at(given), given.size(), detail::at(room),
+                                           room.size(), &wanted)};
+}
+
+inline status write_message(std::uint16_t hart, std::uint64_t number, span<const std::uint8_t> given,
+                            message_bytes &written) noexcept {
+    return detail::into(
+        written, [&](auto room, auto &wanted) { return write_message(hart, number, given, room, wanted); });
+}
+
+inline status read_message(span<const std::uint8_t> given, message &found, std::size_t &taken) noexcept {
+    return status{tracebench_read_message(detail::at(given), given.size(), &found, &taken)};
+}
+
+/* The bytes of the payload of a message that was read. */
+inline span<const std::uint8_t> payload_of(const message &of) noexcept { return {of.payload, of.payload_length}; }
+
+inline status write_header(const header &of, span<std::uint8_t> room, std::size_t &wanted) noexcept {
+    return status{tracebench_write_header(&of, detail::at(room), room.size(), &wanted)};
+}
+
+inline status write_header(const header &of, header_bytes &written) noexcept {
+    return detail::into(written, [&](auto room, auto &wanted) { return write_header(of, room, wanted); });
+}
+
+inline status read_header(span<const std::uint8_t> given, header &found, std::size_t &taken) noexcept {
+    return status{tracebench_read_header(detail::at(given), given.size(), &found, &taken)};
+}
+
 /* Whole logs and captures. */
 
 inline status check(const program &of, span<const std::uint8_t> log, std::uint64_t &row) noexcept {
@@ -434,11 +502,11 @@ struct settings {
 /* The texts of logs one after the other, and where each ends. */
 struct logs {
     span<const std::uint8_t> texts;
-    span<const std::uint64_t> ends;
+    span<const std::size_t> ends;
 };
 
 inline status encode(const program &of, const logs &given, const settings &how, span<std::uint8_t> room,
-                     std::uint64_t &wanted, log_place &place) noexcept {
+                     std::size_t &wanted, log_place &place) noexcept {
     return status{tracebench_encode(of.base, detail::at(of.image), of.image.size(), detail::at(given.texts),
                                     given.texts.size(), detail::at(given.ends), given.ends.size(), how.period,
                                     static_cast<std::uint32_t>(how.mode), static_cast<std::uint32_t>(how.version),
@@ -451,7 +519,22 @@ inline status encode(const program &of, const logs &given, const settings &how, 
                         [&](auto room, auto &wanted) { return encode(of, given, how, room, wanted, place); });
 }
 
-inline status dump(span<const std::uint8_t> capture, span<std::uint8_t> room, std::uint64_t &wanted,
+/* The capture of lines of text, of so many harts; with 0 of those up to the highest of the lines. */
+inline status capture_of_lines(span<const std::uint8_t> text, const settings &how, std::uint16_t harts,
+                               span<std::uint8_t> room, std::size_t &wanted, std::uint64_t &line) noexcept {
+    return status{tracebench_capture_of_lines(detail::at(text), text.size(), static_cast<std::uint32_t>(how.version),
+                                              static_cast<std::uint32_t>(how.mode), how.period, harts,
+                                              detail::at(room), room.size(), &wanted, &line)};
+}
+
+inline status capture_of_lines(span<const std::uint8_t> text, const settings &how, std::uint16_t harts,
+                               bytes &capture, std::uint64_t &line) noexcept {
+    return detail::into(capture, [&](auto room, auto &wanted) {
+        return capture_of_lines(text, how, harts, room, wanted, line);
+    });
+}
+
+inline status dump(span<const std::uint8_t> capture, span<std::uint8_t> room, std::size_t &wanted,
                    dump_end &ended) noexcept {
     return status{
         tracebench_dump(detail::at(capture), capture.size(), detail::at(room), room.size(), &wanted, &ended)};
@@ -462,7 +545,7 @@ inline status dump(span<const std::uint8_t> capture, bytes &text, dump_end &ende
 }
 
 inline status decode(const program &of, std::uint16_t harts, span<const std::uint8_t> capture, std::uint16_t hart,
-                     span<std::uint8_t> room, std::uint64_t &wanted, decode_end &ended) noexcept {
+                     span<std::uint8_t> room, std::size_t &wanted, decode_end &ended) noexcept {
     return status{tracebench_decode(of.base, detail::at(of.image), of.image.size(), harts, detail::at(capture),
                                     capture.size(), hart, detail::at(room), room.size(), &wanted, &ended)};
 }
@@ -477,6 +560,102 @@ inline status audit(span<const std::uint8_t> sent, span<const std::uint8_t> rece
                     audit_end &ended) noexcept {
     return status{tracebench_audit(detail::at(sent), sent.size(), detail::at(received), received.size(), hart, &counts,
                                    &ended)};
+}
+
+/* How payloads are compared. */
+enum class compared : std::uint32_t { ByBytes = 0, ByPackets = TRACEBENCH_BY_PACKETS };
+
+/* What is found of a path: of its harts, of each message that came, which numbers were lost, which bytes are of no
+ * message, and the rest. */
+struct audited_path {
+    buffer<hart_row> rows;
+    buffer<arrival> arrivals;
+    buffer<lost_run> lost;
+    buffer<byte_run> runs;
+    path_end ended;
+};
+
+inline status audit_all(span<const std::uint8_t> sent, span<const std::uint8_t> received, compared how,
+                        span<hart_row> rows, span<arrival> arrivals, span<lost_run> lost, span<byte_run> runs,
+                        sent_place &refused, path_end &ended) noexcept {
+    return status{tracebench_audit_all(detail::at(sent), sent.size(), detail::at(received), received.size(),
+                                       static_cast<std::uint32_t>(how), detail::at(rows), rows.size(),
+                                       detail::at(arrivals), arrivals.size(), detail::at(lost), lost.size(),
+                                       detail::at(runs), runs.size(), &refused, &ended)};
+}
+
+/* The same into buffers. Where one is too small they grow, and the call is made again. */
+inline status audit_all(span<const std::uint8_t> sent, span<const std::uint8_t> received, compared how,
+                        audited_path &found, sent_place &refused) noexcept {
+    const auto call = [&] {
+        return audit_all(sent, received, how, found.rows.room(), found.arrivals.room(), found.lost.room(),
+                         found.runs.room(), refused, found.ended);
+    };
+    const auto fits = [](auto &into, std::size_t count) { return into.room().size() >= count || into.grow(count); };
+    found.rows.keep(0);
+    found.arrivals.keep(0);
+    found.lost.keep(0);
+    found.runs.keep(0);
+    status said = call();
+    if (said == status::TooSmall) {
+        if (!fits(found.rows, found.ended.harts) || !fits(found.arrivals, found.ended.messages) ||
+            !fits(found.lost, found.ended.lost_runs) || !fits(found.runs, found.ended.byte_runs))
+            return status::Memory;
+        said = call();
+    }
+    if (said != status::Done) return said;
+    found.rows.keep(found.ended.harts);
+    found.arrivals.keep(found.ended.messages);
+    found.lost.keep(found.ended.lost_runs);
+    found.runs.keep(found.ended.byte_runs);
+    return said;
+}
+
+/* The texts of all harts, one after the other, and where each ends. */
+inline status decode_all(const program &of, std::uint16_t harts, span<const std::uint8_t> capture,
+                         span<std::uint8_t> room, std::size_t &wanted, span<hart_end> ends,
+                         decode_all_end &ended) noexcept {
+    return status{tracebench_decode_all(of.base, detail::at(of.image), of.image.size(), harts,
+                                             detail::at(capture), capture.size(), detail::at(room), room.size(),
+                                             &wanted, detail::at(ends), ends.size(), &ended)};
+}
+
+inline status list(const program &of, std::uint16_t harts, span<const std::uint8_t> capture,
+                   span<const std::uint8_t> symbols, text_format how, bytes &text, text_end &ended) noexcept {
+    return detail::into(text, [&](auto room, auto &wanted) {
+        return status{tracebench_list(of.base, detail::at(of.image), of.image.size(), harts,
+                                           detail::at(capture), capture.size(), detail::at(symbols), symbols.size(),
+                                           static_cast<std::uint32_t>(how), detail::at(room), room.size(), &wanted,
+                                           &ended)};
+    });
+}
+
+/* The version of these settings is not looked at. */
+inline status measure(const program &of, const logs &given, const settings &how, bytes &table,
+                      log_place &place) noexcept {
+    return detail::into(table, [&](auto room, auto &wanted) {
+        return status{tracebench_measure(
+            of.base, detail::at(of.image), of.image.size(), detail::at(given.texts), given.texts.size(),
+            detail::at(given.ends), given.ends.size(), how.period, static_cast<std::uint32_t>(how.mode),
+            detail::at(room), room.size(), &wanted, &place)};
+    });
+}
+
+inline status compare(const program &of, std::uint16_t harts, span<const std::uint8_t> capture, const logs &given,
+                      bytes &text, text_end &ended, log_place &place) noexcept {
+    return detail::into(text, [&](auto room, auto &wanted) {
+        return status{tracebench_compare(
+            of.base, detail::at(of.image), of.image.size(), harts, detail::at(capture), capture.size(),
+            detail::at(given.texts), given.texts.size(), detail::at(given.ends), given.ends.size(), detail::at(room),
+            room.size(), &wanted, &ended, &place)};
+    });
+}
+
+inline status explain(const program &of, span<const std::uint8_t> log, bytes &text, explain_end &ended) noexcept {
+    return detail::into(text, [&](auto room, auto &wanted) {
+        return status{tracebench_explain(of.base, detail::at(of.image), of.image.size(), detail::at(log),
+                                              log.size(), detail::at(room), room.size(), &wanted, &ended)};
+    });
 }
 
 /* Programs in several memories: the same calls over pieces. */
@@ -511,19 +690,19 @@ inline status push_checked(const program_in_pieces &of, encoder_state &state, co
 
 /* Events at once, into so much room, which has the packets of those that are taken. */
 inline status push_all(const program_in_pieces &of, encoder_state &state, span<const event> nexts, span<packet> room,
-                       std::uint64_t &taken, std::uint64_t &count) noexcept {
+                       std::size_t &taken, std::size_t &count) noexcept {
     return status{tracebench_push_all_over_pieces(detail::at(of.pieces), of.pieces.size(), &state, detail::at(nexts),
                                                   nexts.size(), detail::at(room), room.size(), &taken, &count)};
 }
 
 /* The same into a buffer, which has room for the packets of all of them. */
 inline status push_all(const program_in_pieces &of, encoder_state &state, span<const event> nexts,
-                       buffer<packet> &packets, std::uint64_t &taken) noexcept {
+                       buffer<packet> &packets, std::size_t &taken) noexcept {
     taken = 0;
     packets.keep(0);
-    if (packets.room().size() / 2 < nexts.size() && !packets.grow(2 * std::uint64_t{nexts.size()}))
+    if (packets.room().size() / 2 < nexts.size() && !packets.grow(2 * nexts.size()))
         return status::Memory;
-    std::uint64_t count = 0;
+    std::size_t count = 0;
     const status said = push_all(of, state, nexts, packets.room(), taken, count);
     packets.keep(count);
     return said;
@@ -551,7 +730,7 @@ inline status finish(const program_in_pieces &of, const encoder_state &state, du
 }
 
 inline status feed(const program_in_pieces &of, decoder_state &state, span<const std::uint8_t> given, span<event> room,
-                   std::uint64_t &count) noexcept {
+                   std::size_t &count) noexcept {
     return status{tracebench_feed_over_pieces(detail::at(of.pieces), of.pieces.size(), &state, detail::at(given),
                                               given.size(), detail::at(room), room.size(), &count)};
 }
@@ -563,7 +742,7 @@ inline status feed(const program_in_pieces &of, decoder_state &state, span<const
 
 /* Payloads at once, into so much room, which has the events of those that are taken. */
 inline status feed_all(const program_in_pieces &of, decoder_state &state, const payloads &given, span<event> room,
-                       std::uint64_t &taken, std::uint64_t &count) noexcept {
+                       std::size_t &taken, std::size_t &count) noexcept {
     return status{tracebench_feed_all_over_pieces(detail::at(of.pieces), of.pieces.size(), &state,
                                                   detail::at(given.bytes), given.bytes.size(), detail::at(given.ends),
                                                   given.ends.size(), detail::at(room), room.size(), &taken, &count)};
@@ -584,7 +763,7 @@ inline status check(const program_in_pieces &of, span<const std::uint8_t> log, s
 }
 
 inline status encode(const program_in_pieces &of, const logs &given, const settings &how, span<std::uint8_t> room,
-                     std::uint64_t &wanted, log_place &place) noexcept {
+                     std::size_t &wanted, log_place &place) noexcept {
     return status{tracebench_encode_over_pieces(
         detail::at(of.pieces), of.pieces.size(), detail::at(given.texts), given.texts.size(), detail::at(given.ends),
         given.ends.size(), how.period, static_cast<std::uint32_t>(how.mode), static_cast<std::uint32_t>(how.version),
@@ -597,7 +776,7 @@ inline status encode(const program_in_pieces &of, const logs &given, const setti
 }
 
 inline status decode(const program_in_pieces &of, std::uint16_t harts, span<const std::uint8_t> capture,
-                     std::uint16_t hart, span<std::uint8_t> room, std::uint64_t &wanted, decode_end &ended) noexcept {
+                     std::uint16_t hart, span<std::uint8_t> room, std::size_t &wanted, decode_end &ended) noexcept {
     return status{tracebench_decode_over_pieces(detail::at(of.pieces), of.pieces.size(), harts, detail::at(capture),
                                                 capture.size(), hart, detail::at(room), room.size(), &wanted, &ended)};
 }
@@ -606,6 +785,72 @@ inline status decode(const program_in_pieces &of, std::uint16_t harts, span<cons
                      std::uint16_t hart, bytes &log, decode_end &ended) noexcept {
     return detail::into(log,
                         [&](auto room, auto &wanted) { return decode(of, harts, capture, hart, room, wanted, ended); });
+}
+
+/* The texts of all harts, one after the other, and where each ends. */
+inline status decode_all(const program_in_pieces &of, std::uint16_t harts, span<const std::uint8_t> capture,
+                         span<std::uint8_t> room, std::size_t &wanted, span<hart_end> ends,
+                         decode_all_end &ended) noexcept {
+    return status{tracebench_decode_all_over_pieces(detail::at(of.pieces), of.pieces.size(), harts,
+                                             detail::at(capture), capture.size(), detail::at(room), room.size(),
+                                             &wanted, detail::at(ends), ends.size(), &ended)};
+}
+
+inline status list(const program_in_pieces &of, std::uint16_t harts, span<const std::uint8_t> capture,
+                   span<const std::uint8_t> symbols, text_format how, bytes &text, text_end &ended) noexcept {
+    return detail::into(text, [&](auto room, auto &wanted) {
+        return status{tracebench_list_over_pieces(detail::at(of.pieces), of.pieces.size(), harts,
+                                           detail::at(capture), capture.size(), detail::at(symbols), symbols.size(),
+                                           static_cast<std::uint32_t>(how), detail::at(room), room.size(), &wanted,
+                                           &ended)};
+    });
+}
+
+/* The version of these settings is not looked at. */
+inline status measure(const program_in_pieces &of, const logs &given, const settings &how, bytes &table,
+                      log_place &place) noexcept {
+    return detail::into(table, [&](auto room, auto &wanted) {
+        return status{tracebench_measure_over_pieces(
+            detail::at(of.pieces), of.pieces.size(), detail::at(given.texts), given.texts.size(),
+            detail::at(given.ends), given.ends.size(), how.period, static_cast<std::uint32_t>(how.mode),
+            detail::at(room), room.size(), &wanted, &place)};
+    });
+}
+
+inline status compare(const program_in_pieces &of, std::uint16_t harts, span<const std::uint8_t> capture, const logs &given,
+                      bytes &text, text_end &ended, log_place &place) noexcept {
+    return detail::into(text, [&](auto room, auto &wanted) {
+        return status{tracebench_compare_over_pieces(
+            detail::at(of.pieces), of.pieces.size(), harts, detail::at(capture), capture.size(),
+            detail::at(given.texts), given.texts.size(), detail::at(given.ends), given.ends.size(), detail::at(room),
+            room.size(), &wanted, &ended, &place)};
+    });
+}
+
+inline status explain(const program_in_pieces &of, span<const std::uint8_t> log, bytes &text, explain_end &ended) noexcept {
+    return detail::into(text, [&](auto room, auto &wanted) {
+        return status{tracebench_explain_over_pieces(detail::at(of.pieces), of.pieces.size(), detail::at(log),
+                                              log.size(), detail::at(room), room.size(), &wanted, &ended)};
+    });
+}
+
+/* The texts of all harts into buffers, over an image or over pieces. `ends` has one for each hart. */
+template <class Of>
+status decode_all(const Of &of, std::uint16_t harts, span<const std::uint8_t> capture, bytes &logs,
+                  buffer<hart_end> &ends, decode_all_end &ended) noexcept {
+    logs.keep(0);
+    ends.keep(0);
+    std::size_t wanted = 0;
+    status said = decode_all(of, harts, capture, logs.room(), wanted, ends.room(), ended);
+    if (said == status::TooSmall) {
+        if (logs.room().size() < wanted && !logs.grow(wanted)) return status::Memory;
+        if (ends.room().size() < ended.harts && !ends.grow(ended.harts)) return status::Memory;
+        said = decode_all(of, harts, capture, logs.room(), wanted, ends.room(), ended);
+    }
+    if (said != status::Done) return said;
+    logs.keep(wanted);
+    ends.keep(ended.harts);
+    return said;
 }
 
 } // namespace TRACEBENCH_SPANS

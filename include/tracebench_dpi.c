@@ -73,7 +73,7 @@ void *tracebench_dpi_new_image(uint64_t base, const svOpenArrayHandle bytes) {
 uint32_t tracebench_dpi_pack(const svBitVecVal *packet, svBitVecVal *payload, uint32_t *length) {
     struct tracebench_packet given;
     uint8_t bytes[MOST_BYTES] = {0};
-    uint64_t wanted = 0;
+    size_t wanted = 0;
     memcpy(&given, packet, sizeof given);
     const uint32_t status = tracebench_pack(&given, bytes, sizeof bytes, &wanted);
     memset(payload, 0, SV_PACKED_DATA_NELEMS(8 * MOST_BYTES) * sizeof *payload);
@@ -105,14 +105,14 @@ uint32_t tracebench_dpi_encoder(uint16_t period, uint32_t mode, svBitVecVal *sta
 /* A call that takes the next event of a log. */
 typedef uint32_t push_call(const struct tracebench_piece *pieces, size_t pieces_length,
                            struct tracebench_encoder_state *state, const struct tracebench_event *event,
-                           struct tracebench_packet *packets, size_t packets_length, uint64_t *count);
+                           struct tracebench_packet *packets, size_t packets_length, size_t *count);
 
 static uint32_t push_by(push_call *call, const struct image *of, svBitVecVal *state, const svBitVecVal *next,
                         svBitVecVal *packets, uint32_t *count) {
     struct tracebench_encoder_state kept;
     struct tracebench_event event;
     struct tracebench_packet due[2];
-    uint64_t made = 0;
+    size_t made = 0;
     memset(due, 0, sizeof due);
     memcpy(&kept, state, sizeof kept);
     memcpy(&event, next, sizeof event);
@@ -148,7 +148,7 @@ uint32_t tracebench_dpi_finish(void *image, const svBitVecVal *state, svBitVecVa
     const struct image *of = (const struct image *)image;
     struct tracebench_encoder_state kept;
     struct tracebench_packet due[2];
-    uint64_t made = 0;
+    size_t made = 0;
     memset(due, 0, sizeof due);
     memcpy(&kept, state, sizeof kept);
     const uint32_t status =
@@ -165,8 +165,8 @@ void tracebench_dpi_decoder(svBitVecVal *state) {
 }
 
 /* Hands events to an array of SystemVerilog, the first to its lowest index. */
-static void hand_out(const struct tracebench_event *events, uint64_t count, const svOpenArrayHandle to) {
-    for (uint64_t i = 0; i < count; i++) {
+static void hand_out(const struct tracebench_event *events, size_t count, const svOpenArrayHandle to) {
+    for (size_t i = 0; i < count; i++) {
         svBitVecVal words[sizeof *events / sizeof(svBitVecVal)];
         memcpy(words, &events[i], sizeof *events);
         svPutBitArrElem1VecVal(to, words, svLow(to, 1) + (int)i);

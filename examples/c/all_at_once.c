@@ -31,7 +31,7 @@ static struct tracebench_packet packets[MOST_PACKETS];
 static size_t packets_length;
 
 static uint8_t payloads[MOST_PACKETS * LONGEST_PAYLOAD];
-static uint64_t ends[MOST_PACKETS];
+static size_t ends[MOST_PACKETS];
 
 static struct tracebench_event settled[EVENTS];
 
@@ -46,29 +46,29 @@ static void done(const char *what, uint32_t status) {
 
 static void version(void) {
     uint8_t text[16];
-    uint64_t length = 0;
+    size_t length = 0;
     done("version", tracebench_version(text, sizeof text, &length));
-    int same = length == sizeof TRACEBENCH_VERSION - 1 && memcmp(text, TRACEBENCH_VERSION, (size_t)length) == 0;
+    int same = length == sizeof TRACEBENCH_VERSION - 1 && memcmp(text, TRACEBENCH_VERSION, length) == 0;
     printf("version: %d\n", same);
 }
 
 /* Pushes the events. The first call has no room for a packet. */
 static void push(struct tracebench_encoder_state *encoder) {
-    uint64_t taken = 0;
-    uint64_t count = 0;
-    for (size_t at = 0, room = 0; at < EVENTS; at += (size_t)taken, room = 2) {
+    size_t taken = 0;
+    size_t count = 0;
+    for (size_t at = 0, room = 0; at < EVENTS; at += taken, room = 2) {
         uint32_t status = tracebench_push_all(BASE, image, image_length, encoder, events + at, EVENTS - at,
                                               packets + packets_length, room, &taken, &count);
         printf("push: %" PRIu64 " events, %" PRIu64 " packets, %s\n", taken, count, tracebench_status_text(status));
         if (status != TRACEBENCH_DONE && status != TRACEBENCH_TOO_SMALL) stop("push", status);
-        packets_length += (size_t)count;
+        packets_length += count;
     }
 }
 
 /* Feeds the payloads that end there. The first call has room for one event. */
 static void feed(struct tracebench_decoder_state *decoder) {
-    uint64_t taken = 0;
-    uint64_t count = 0;
+    size_t taken = 0;
+    size_t count = 0;
     uint64_t start = 0;
     size_t length = 0;
     for (size_t at = 0, room = 1; at < packets_length; room = EVENTS - length) {
@@ -79,9 +79,9 @@ static void feed(struct tracebench_decoder_state *decoder) {
                                               settled + length, room, &taken, &count);
         printf("feed: %" PRIu64 " payloads, %" PRIu64 " events, %s\n", taken, count, tracebench_status_text(status));
         if (status != TRACEBENCH_DONE && status != TRACEBENCH_TOO_SMALL) stop("feed", status);
-        at += (size_t)taken;
+        at += taken;
         if (taken != 0) start = ends[at - 1];
-        length += (size_t)count;
+        length += count;
     }
     printf("as it was: %d\n", length == EVENTS && memcmp(settled, events, sizeof events) == 0);
 }
@@ -89,7 +89,7 @@ static void feed(struct tracebench_decoder_state *decoder) {
 int main(int words, char **word) {
     struct tracebench_encoder_state encoder;
     struct tracebench_decoder_state decoder;
-    uint64_t count = 0;
+    size_t count = 0;
     uint64_t end = 0;
     if (words != 2) stop("all_at_once IMAGE", 0);
     FILE *file = fopen(word[1], "rb");
@@ -101,7 +101,7 @@ int main(int words, char **word) {
     packets_length = 1;
     push(&encoder);
     done("finish", tracebench_finish(BASE, image, image_length, &encoder, packets + packets_length, 2, &count));
-    packets_length += (size_t)count;
+    packets_length += count;
     for (size_t i = 0; i < packets_length; i++) {
         done("pack", tracebench_pack(&packets[i], payloads + end, LONGEST_PAYLOAD, &count));
         end += count;

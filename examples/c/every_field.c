@@ -85,11 +85,11 @@ static void packets(void) {
         const uint8_t *bytes = (const uint8_t *)payloads[i].bytes;
         struct tracebench_packet packet;
         uint8_t again[18];
-        uint64_t length = 0;
+        size_t length = 0;
         done("unpack", tracebench_unpack(bytes, payloads[i].length, &packet));
         print_packet(&packet);
         done("pack", tracebench_pack(&packet, again, sizeof again, &length));
-        if (length != payloads[i].length || memcmp(again, bytes, (size_t)length) != 0) stop("pack", TRACEBENCH_DONE);
+        if (length != payloads[i].length || memcmp(again, bytes, length) != 0) stop("pack", TRACEBENCH_DONE);
     }
 }
 
@@ -102,24 +102,24 @@ static void encoder(void) {
     };
     struct tracebench_encoder_state state;
     struct tracebench_packet due[2];
-    uint64_t count = 0;
+    size_t count = 0;
     done("encoder", tracebench_encoder(1024, TRACEBENCH_FULL, &state, &due[0]));
     print_packet(&due[0]);
     print_encoder(&state);
     for (size_t i = 0; i < COUNT(events); i++) {
         done("push", tracebench_push(BASE, image, sizeof image, &state, &events[i], due, 2, &count));
-        for (uint64_t k = 0; k < count; k++) print_packet(&due[k]);
+        for (size_t k = 0; k < count; k++) print_packet(&due[k]);
         print_encoder(&state);
     }
     done("finish", tracebench_finish(BASE, image, sizeof image, &state, due, 2, &count));
-    for (uint64_t k = 0; k < count; k++) print_packet(&due[k]);
+    for (size_t k = 0; k < count; k++) print_packet(&due[k]);
 }
 
 static void feed(struct tracebench_decoder_state *state, const char *bytes, size_t length) {
     struct tracebench_event events[2];
-    uint64_t count = 0;
+    size_t count = 0;
     done("feed", tracebench_feed(BASE, image, sizeof image, state, (const uint8_t *)bytes, length, events, 2, &count));
-    for (uint64_t k = 0; k < count; k++) print_event(&events[k], "");
+    for (size_t k = 0; k < count; k++) print_event(&events[k], "");
     print_decoder(state);
 }
 
@@ -155,10 +155,10 @@ static size_t capture_of(uint8_t *bytes, const struct payload *messages, size_t 
 static void log_place(void) {
     static const char logs[] = "addr,itype,priv,cause,tval\n80000000,5,3,,\n"
                                "addr,itype,priv,cause,tval\n80000000,5,3,,\n80000001,5,3,,\n";
-    const uint64_t ends[2] = {42, sizeof logs - 1};
+    const size_t ends[2] = {42, sizeof logs - 1};
     struct tracebench_log_place place = {0, 0};
     uint8_t capture[1];
-    uint64_t wanted = 0;
+    size_t wanted = 0;
     uint32_t status = tracebench_encode(BASE, image, sizeof image, (const uint8_t *)logs, sizeof logs - 1, ends, 2,
                                         1024, TRACEBENCH_FULL, TRACEBENCH_VERSION_ONE, capture, 0, &wanted, &place);
     if (status != TRACEBENCH_ODD_ADDRESS) stop("encode", status);
@@ -174,7 +174,7 @@ static void ends(void) {
     struct tracebench_decode_end decode_end = {0, 0, 0, 0};
     uint8_t capture[256] = {0};
     uint8_t text[256];
-    uint64_t wanted = 0;
+    size_t wanted = 0;
     size_t length = capture_of(capture, dumped, COUNT(dumped)) + 1;
     done("dump", tracebench_dump(capture, length, text, sizeof text, &wanted, &dump_end));
     printf("DumpEnd { place: %" PRIu64 ", fault: %" PRIu32 ", bad: %" PRIu32 " }\n", dump_end.place, dump_end.fault,

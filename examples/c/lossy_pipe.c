@@ -96,13 +96,13 @@ static uint32_t receive(const struct trace *trace, struct tracebench_hart_state 
                         struct stretch *stretch, uint64_t *missing) {
     const uint64_t number = number_at(message + 2, 8);
     for (;;) {
-        uint64_t count = 0;
+        size_t count = 0;
         const uint32_t status = tracebench_receive(trace->base, trace->image.at, trace->image.length, hart, number,
                                                    message + 11, message[10], stretch->at + stretch->count,
                                                    stretch->room - stretch->count, &count, missing);
-        if (status == TRACEBENCH_DONE) stretch->count += (size_t)count;
+        if (status == TRACEBENCH_DONE) stretch->count += count;
         if (status != TRACEBENCH_TOO_SMALL) return status;
-        stretch->room = 2 * (stretch->count + (size_t)count);
+        stretch->room = 2 * (stretch->count + count);
         stretch->at = (struct tracebench_event *)grown(stretch->at, stretch->room * sizeof *stretch->at);
     }
 }

@@ -40,29 +40,29 @@ static void expect(const char *what, uint32_t status) {
 /* Feeds the payload of a packet to the decoder. */
 static void feed(const struct tracebench_packet *packet) {
     uint8_t payload[18];
-    uint64_t length = 0;
-    uint64_t count = 0;
+    size_t length = 0;
+    size_t count = 0;
     expect("pack", tracebench_pack(packet, payload, sizeof payload, &length));
-    expect("feed", tracebench_feed_over_pieces(pieces, 2, &decoder, payload, (size_t)length, settled + settled_length,
+    expect("feed", tracebench_feed_over_pieces(pieces, 2, &decoder, payload, length, settled + settled_length,
                                                3 - settled_length, &count));
-    settled_length += (size_t)count;
+    settled_length += count;
     printf("packet of kind %" PRIu32 ": %" PRIu64 " events\n", packet->kind, count);
 }
 
 int main(void) {
     struct tracebench_encoder_state encoder;
     struct tracebench_packet packets[2];
-    uint64_t count = 0;
+    size_t count = 0;
     uint64_t row = 0;
     tracebench_decoder(&decoder);
     expect("encoder", tracebench_encoder(1024, TRACEBENCH_DIFFERENTIAL, &encoder, &packets[0]));
     feed(&packets[0]);
     for (size_t i = 0; i < 3; i++) {
         expect("push", tracebench_push_checked_over_pieces(pieces, 2, &encoder, &events[i], packets, 2, &count));
-        for (uint64_t k = 0; k < count; k++) feed(&packets[k]);
+        for (size_t k = 0; k < count; k++) feed(&packets[k]);
     }
     expect("finish", tracebench_finish_over_pieces(pieces, 2, &encoder, packets, 2, &count));
-    for (uint64_t k = 0; k < count; k++) feed(&packets[k]);
+    for (size_t k = 0; k < count; k++) feed(&packets[k]);
     for (size_t i = 0; i < settled_length; i++)
         printf("%" PRIx64 ",%u,%u\n", settled[i].address, settled[i].itype, settled[i].privilege);
     printf("as it was: %d\n", settled_length == 3 && memcmp(settled, events, sizeof events) == 0);

@@ -41,8 +41,8 @@ static struct bytes read_file(const char *path) {
 }
 
 /* The capture of two logs. The first call asks how long it is. */
-static struct bytes encode(struct bytes image, struct bytes logs, const uint64_t ends[2]) {
-    uint64_t wanted = 0;
+static struct bytes encode(struct bytes image, struct bytes logs, const size_t ends[2]) {
+    size_t wanted = 0;
     struct tracebench_log_place place = {0, 0};
     struct bytes capture = room(0);
     uint32_t status = tracebench_encode(BASE, image.at, image.length, logs.at, logs.length, ends, 2, 1024,
@@ -53,7 +53,7 @@ static struct bytes encode(struct bytes image, struct bytes logs, const uint64_t
         stop("encode", status);
     }
     free(capture.at);
-    capture = room((size_t)wanted);
+    capture = room(wanted);
     status = tracebench_encode(BASE, image.at, image.length, logs.at, logs.length, ends, 2, 1024,
                                TRACEBENCH_DIFFERENTIAL, TRACEBENCH_VERSION_TWO, capture.at, capture.length, &wanted,
                                &place);
@@ -65,14 +65,14 @@ static struct bytes encode(struct bytes image, struct bytes logs, const uint64_t
 static void decode(struct bytes image, struct bytes capture) {
     static uint8_t text[1 << 20];
     struct tracebench_decode_end ended = {0, 0, 0, 0};
-    uint64_t wanted = 0;
+    size_t wanted = 0;
     for (uint16_t hart = 0; hart < 2; hart++) {
         uint32_t status = tracebench_decode(BASE, image.at, image.length, 2, capture.at, capture.length, hart, text,
                                             sizeof text, &wanted, &ended);
         if (status != TRACEBENCH_DONE) stop("decode", status);
         printf("hart %u of %" PRIu64 ": closed %" PRIu32 ", ends at message %" PRIu64 " with status %" PRIu32 "\n",
                hart, ended.harts, ended.closed, ended.place, ended.fault);
-        fwrite(text, 1, (size_t)wanted, stdout);
+        fwrite(text, 1, wanted, stdout);
     }
 }
 
@@ -92,10 +92,10 @@ static void audit(struct bytes sent, struct bytes received) {
 static void dump(struct bytes capture) {
     static uint8_t text[1 << 20];
     struct tracebench_dump_end ended = {0, 0, 0};
-    uint64_t wanted = 0;
+    size_t wanted = 0;
     uint32_t status = tracebench_dump(capture.at, capture.length, text, sizeof text, &wanted, &ended);
     if (status != TRACEBENCH_DONE) stop("dump", status);
-    fwrite(text, 1, (size_t)wanted, stdout);
+    fwrite(text, 1, wanted, stdout);
     printf("bad %" PRIu32 ", ends at message %" PRIu64 " with status %" PRIu32 "\n", ended.bad, ended.place,
            ended.fault);
 }
@@ -120,7 +120,7 @@ int main(int count, char **words) {
     struct bytes logs = room(first.length + second.length);
     memcpy(logs.at, first.at, first.length);
     memcpy(logs.at + first.length, second.at, second.length);
-    const uint64_t ends[2] = {first.length, first.length + second.length};
+    const size_t ends[2] = {first.length, first.length + second.length};
     struct bytes capture = encode(image, logs, ends);
     printf("capture of %zu bytes\n", capture.length);
     dump(capture);
@@ -137,10 +137,10 @@ int main(int count, char **words) {
     packet.privilege = 3;
     packet.address = BASE;
     uint8_t payload[18];
-    uint64_t wanted = 0;
+    size_t wanted = 0;
     status = tracebench_pack(&packet, payload, sizeof payload, &wanted);
     printf("pack: status %" PRIu32 ", %" PRIu64 " bytes\n", status, wanted);
-    status = tracebench_unpack(payload, (size_t)wanted, &packet);
+    status = tracebench_unpack(payload, wanted, &packet);
     printf("unpack: status %" PRIu32 ", address %" PRIx64 "\n", status, packet.address);
     free(image.at);
     free(first.at);

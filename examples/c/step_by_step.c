@@ -38,24 +38,24 @@ static void stop(const char *what, uint32_t status) {
 /* Feeds the payload of a packet to the decoder. The first call has no buffer, and asks how many events there are. */
 static void feed(const struct tracebench_packet *packet) {
     uint8_t payload[18];
-    uint64_t length = 0;
-    uint64_t count = 0;
+    size_t length = 0;
+    size_t count = 0;
     struct tracebench_event *at = settled + settled_length;
     uint32_t status = tracebench_pack(packet, payload, sizeof payload, &length);
     if (status != TRACEBENCH_DONE) stop("pack", status);
-    status = tracebench_feed(BASE, image, image_length, &decoder, payload, (size_t)length, at, 0, &count);
+    status = tracebench_feed(BASE, image, image_length, &decoder, payload, length, at, 0, &count);
     if (status == TRACEBENCH_TOO_SMALL && count <= 4 - settled_length)
-        status = tracebench_feed(BASE, image, image_length, &decoder, payload, (size_t)length, at, (size_t)count,
+        status = tracebench_feed(BASE, image, image_length, &decoder, payload, length, at, count,
                                  &count);
     if (status != TRACEBENCH_DONE) stop("feed", status);
-    settled_length += (size_t)count;
+    settled_length += count;
     printf("packet of kind %" PRIu32 ": %" PRIu64 " events\n", packet->kind, count);
 }
 
 int main(int words, char **word) {
     struct tracebench_encoder_state encoder;
     struct tracebench_packet packets[2];
-    uint64_t count = 0;
+    size_t count = 0;
     if (words != 2) stop("step_by_step IMAGE", 0);
     FILE *file = fopen(word[1], "rb");
     if (file == NULL) stop(word[1], 0);
@@ -68,11 +68,11 @@ int main(int words, char **word) {
     for (size_t i = 0; i < sizeof events / sizeof *events; i++) {
         status = tracebench_push(BASE, image, image_length, &encoder, &events[i], packets, 2, &count);
         if (status != TRACEBENCH_DONE) stop("push", status);
-        for (uint64_t k = 0; k < count; k++) feed(&packets[k]);
+        for (size_t k = 0; k < count; k++) feed(&packets[k]);
     }
     status = tracebench_finish(BASE, image, image_length, &encoder, packets, 2, &count);
     if (status != TRACEBENCH_DONE) stop("finish", status);
-    for (uint64_t k = 0; k < count; k++) feed(&packets[k]);
+    for (size_t k = 0; k < count; k++) feed(&packets[k]);
     for (size_t i = 0; i < settled_length; i++)
         printf("%" PRIx64 ",%u,%u\n", settled[i].address, settled[i].itype, settled[i].privilege);
     printf("as it was: %d\n", settled_length == 4 && memcmp(settled, events, sizeof events) == 0);

@@ -38,7 +38,7 @@ std::vector<tracebench::packet> packets_of_log(const tracebench::program &progra
     tracebench::encoder_state encoder;
     tracebench::expect(tracebench::encoder(1024, tracebench::address_mode::Differential, encoder, packets[0]));
     tracebench::packet room[2];
-    std::uint64_t taken = 0, count = 0;
+    std::size_t taken = 0, count = 0;
     for (std::size_t at = 0; at < std::size(LOG); at += taken) {
         const tracebench::span<const tracebench::event> rest{LOG + at, std::size(LOG) - at};
         const tracebench::span<tracebench::packet> part{room, at == 0 ? 0 : std::size(room)};
@@ -56,7 +56,7 @@ std::vector<tracebench::packet> packets_of_log(const tracebench::program &progra
 /* Feeds the payloads of packets. The first call has room for one event, and the next one for the others. */
 void feed_packets(const tracebench::program &program, const std::vector<tracebench::packet> &packets) {
     std::vector<std::uint8_t> bytes;
-    std::vector<std::uint64_t> ends;
+    std::vector<std::size_t> ends;
     for (const tracebench::packet &packet : packets) {
         tracebench::payload payload;
         tracebench::expect(pack(packet, payload));
@@ -66,7 +66,7 @@ void feed_packets(const tracebench::program &program, const std::vector<traceben
     tracebench::decoder_state decoder;
     tracebench::decoder(decoder);
     tracebench::event settled[std::size(LOG)];
-    std::uint64_t length = 0, taken = 0, count = 0;
+    std::size_t length = 0, taken = 0, count = 0;
     while (!ends.empty()) {
         const tracebench::span<tracebench::event> part{settled + length, length == 0 ? 1 : std::size(LOG) - length};
         const tracebench::status said = feed_all(program, decoder, {bytes, ends}, part, taken, count);
@@ -74,10 +74,10 @@ void feed_packets(const tracebench::program &program, const std::vector<traceben
         expect_some(said);
         length += count;
         if (taken == 0) break;
-        const std::uint64_t start = ends[taken - 1];
+        const std::size_t start = ends[taken - 1];
         bytes.erase(bytes.begin(), bytes.begin() + static_cast<std::ptrdiff_t>(start));
         ends.erase(ends.begin(), ends.begin() + static_cast<std::ptrdiff_t>(taken));
-        std::for_each(ends.begin(), ends.end(), [=](std::uint64_t &end) { end -= start; });
+        std::for_each(ends.begin(), ends.end(), [=](std::size_t &end) { end -= start; });
     }
     const bool same = length == std::size(LOG) && std::memcmp(settled, LOG, sizeof LOG) == 0;
     std::cout << "as it was: " << same << "\nphase " << decoder.phase << '\n';

@@ -80,7 +80,7 @@ void round_trip(char **paths) {
     std::uint64_t row = 0;
     const tracebench::status checked = tracebench::check(program, tracebench::bytes_of(first), row);
     std::cout << "check: status " << static_cast<std::uint32_t>(checked) << ", row " << row << '\n';
-    const std::uint64_t ends[] = {first.size(), texts.size()};
+    const std::size_t ends[] = {first.size(), texts.size()};
     tracebench::bytes capture;
     tracebench::log_place place;
     expect(tracebench::encode(program, {tracebench::bytes_of(texts), ends}, {}, capture, place));

@@ -42,7 +42,7 @@ def feed(library: tracebench.Library, image: bytes, payloads: List[bytes], event
     while payloads:
         size = len(settled) // ctypes.sizeof(Event)
         part = (Event * (len(events) - size if size else 1))()
-        ends = (ctypes.c_uint64 * len(payloads))(*accumulate(map(len, payloads)))
+        ends = (ctypes.c_size_t * len(payloads))(*accumulate(map(len, payloads)))
         status, taken, count = library.feed_all(BASE, image, decoder, b"".join(payloads), ends, part)
         print(f"feed: {taken} payloads, {count} events, {TEXTS[status]}")
         settled += bytes(part)[: count * ctypes.sizeof(Event)]

@@ -12,15 +12,19 @@ import ctypes
 from ctypes import POINTER, byref, c_char_p, c_int, c_size_t, c_ssize_t, c_uint8, c_uint16, c_uint32, c_uint64, c_void_p
 from functools import partial
 from itertools import accumulate
-from typing import Annotated, Any, Callable, Iterable, List, Optional, Sequence, Tuple, Type, TypeVar, get_type_hints
+from typing import Annotated, Any, Callable, Iterable, List, NamedTuple, Optional, Sequence, Tuple, Type, TypeVar
+from typing import get_type_hints
 
 DONE, TOO_SMALL = 0, 1
-OFF_PROGRAM, WRONG_EPC, GAP = 80, 85, 98
+SHORT, OFF_PROGRAM, WRONG_EPC, GAP = 16, 80, 85, 98
 SYNC, TRAP, OPEN, ENDED_REP, ENDED_NTR, ADDRESS, MAP = range(7)
 DIFFERENTIAL, FULL = 0, 1
 PLAIN, UPDISCON, NOTIFY = range(3)
 RETIREMENT, TRAP_TAKEN = 0, 1
 VERSION_ONE, VERSION_TWO = 1, 2
+BY_PACKETS = 1
+FATE_IN_ORDER, FATE_LATE, FATE_REPEAT, FATE_CHANGED, FATE_STRANGER = range(5)
+TEXT, CSV = 0, 1
 
 # What lends its bytes. Python 3.12 has a name for it, collections.abc.Buffer.
 Lender = Any
@@ -29,6 +33,8 @@ U8 = Annotated[int, c_uint8]
 U16 = Annotated[int, c_uint16]
 U32 = Annotated[int, c_uint32]
 U64 = Annotated[int, c_uint64]
+SIZE = Annotated[int, c_size_t]
+Payload = Annotated[Any, c_uint8 * 18]
 
 
 class Refused(Exception):
@@ -160,6 +166,119 @@ class AuditEnd(Struct):
     fault: U32
 
 
+@of_hints
+class Message(Struct):
+    number: U64
+    payload_length: SIZE
+    hart: U16
+    payload: Payload
+
+    def payload_bytes(self) -> bytes:
+        """The bytes of the payload."""
+        return ctypes.string_at(self.payload, self.payload_length)
+
+
+@of_hints
+class Header(Struct):
+    mode: U32
+    period: U16
+    harts: U16
+
+
+@of_hints
+class HartRow(Struct):
+    tally: Tally
+    strange: U64
+    runs: U64
+    longest: U64
+    latest: U64
+
+
+@of_hints
+class Arrival(Struct):
+    number: U64
+    by: U64
+    offset: U64
+    fate: U32
+    hart: U16
+
+
+@of_hints
+class LostRun(Struct):
+    first: U64
+    last: U64
+    hart: U64
+
+
+@of_hints
+class ByteRun(Struct):
+    offset: U64
+    count: U64
+
+
+@of_hints
+class SentPlace(Struct):
+    message: U64
+    expected: U64
+
+
+@of_hints
+class PathEnd(Struct):
+    harts: SIZE
+    messages: SIZE
+    lost_runs: SIZE
+    byte_runs: SIZE
+    bytes: U64
+    strangers: U64
+    first: U64
+    sent_header: Header
+    received_header: Header
+    has_sent_header: U32
+    has_received_header: U32
+    header_fault: U32
+    headers_differ: U32
+    has_first: U32
+    whole: U32
+
+
+class AuditedPath(NamedTuple):
+    """What is found of a path: of each hart, of each message that came, which numbers were lost, which bytes are of no
+    message, and the rest."""
+    rows: Sequence[HartRow]
+    arrivals: Sequence[Arrival]
+    lost: Sequence[LostRun]
+    runs: Sequence[ByteRun]
+    ended: PathEnd
+
+
+@of_hints
+class HartEnd(Struct):
+    end: SIZE
+    closed: U32
+
+
+@of_hints
+class DecodeAllEnd(Struct):
+    harts: SIZE
+    place: U64
+    fault: U32
+
+
+@of_hints
+class TextEnd(Struct):
+    harts: U64
+    unclosed: U64
+    place: U64
+    fault: U32
+    whole: U32
+
+
+@of_hints
+class ExplainEnd(Struct):
+    row: U64
+    fault: U32
+
+
 class Borrowed:
     """The bytes of an object, as C takes them: where they are, and how many. While this lives, the object can neither
     move nor free them."""
@@ -205,8 +324,8 @@ class Pieces:
 
 
 SLICE = [c_void_p, c_size_t]
-ROOM = [c_void_p, c_size_t, POINTER(c_uint64)]
-TAKEN = [c_void_p, c_size_t, POINTER(c_uint64), POINTER(c_uint64)]
+ROOM = [c_void_p, c_size_t, POINTER(c_size_t)]
+TAKEN = [c_void_p, c_size_t, POINTER(c_size_t), POINTER(c_size_t)]
 PARAMETERS = {
     "version": ROOM,
     "pack": [POINTER(Packet), *ROOM],
@@ -224,29 +343,50 @@ PARAMETERS = {
     "receive": [c_uint64, *SLICE, POINTER(HartState), c_uint64, *SLICE, *ROOM, POINTER(c_uint64)],
     "resume": [POINTER(HartState), c_uint64, c_uint32],
     "check": [c_uint64, *SLICE, *SLICE, POINTER(c_uint64)],
-    "encode": [c_uint64, *SLICE, *SLICE, POINTER(c_uint64), c_size_t, c_uint16, c_uint32, c_uint32, *ROOM,
+    "encode": [c_uint64, *SLICE, *SLICE, POINTER(c_size_t), c_size_t, c_uint16, c_uint32, c_uint32, *ROOM,
                POINTER(LogPlace)],
     "dump": [*SLICE, *ROOM, POINTER(DumpEnd)],
     "decode": [c_uint64, *SLICE, c_uint16, *SLICE, c_uint16, *ROOM, POINTER(DecodeEnd)],
     "audit": [*SLICE, *SLICE, c_uint16, POINTER(Tally), POINTER(AuditEnd)],
+    "audit_all": [*SLICE, *SLICE, c_uint32, *SLICE, *SLICE, *SLICE, *SLICE, POINTER(SentPlace), POINTER(PathEnd)],
+    "write_message": [c_uint16, c_uint64, *SLICE, *ROOM],
+    "read_message": [*SLICE, POINTER(Message), POINTER(c_size_t)],
+    "write_header": [POINTER(Header), *ROOM],
+    "read_header": [*SLICE, POINTER(Header), POINTER(c_size_t)],
+    "capture_of_lines": [*SLICE, c_uint32, c_uint32, c_uint16, c_uint16, *ROOM, POINTER(c_uint64)],
+    "decode_all": [c_uint64, *SLICE, c_uint16, *SLICE, *ROOM, POINTER(HartEnd), c_size_t, POINTER(DecodeAllEnd)],
+    "list": [c_uint64, *SLICE, c_uint16, *SLICE, *SLICE, c_uint32, *ROOM, POINTER(TextEnd)],
+    "measure": [c_uint64, *SLICE, *SLICE, POINTER(c_size_t), c_size_t, c_uint16, c_uint32, *ROOM, POINTER(LogPlace)],
+    "compare": [c_uint64, *SLICE, c_uint16, *SLICE, *SLICE, POINTER(c_size_t), c_size_t, *ROOM, POINTER(TextEnd),
+                POINTER(LogPlace)],
+    "explain": [c_uint64, *SLICE, *SLICE, *ROOM, POINTER(ExplainEnd)],
 }
 # Calls that take a base and an image, and their like over pieces.
 OVER = "push", "push_checked", "push_all", "follow", "check_events", "finish", "feed", "feed_all", "receive", "check", \
-    "encode", "decode"
+    "encode", "decode", "decode_all", "list", "measure", "compare", "explain"
 PARAMETERS.update({f"{name}_over_pieces": [POINTER(Piece), c_size_t, *PARAMETERS[name][3:]] for name in OVER})
 Call = Callable[..., int]
 
 
-def handed_out(call: Call, *words: Any, more: Iterable[Struct] = ()) -> Tuple[int, bytes]:
+def handed_out(call: Call, *words: Any, more: Iterable[Any] = ()) -> Tuple[int, bytes]:
     """The status of a call that hands out bytes, and these bytes. If the first buffer is too small, the call is
     repeated with one that is not."""
-    room, wanted = 4096, c_uint64()
+    room, wanted = 4096, c_size_t()
     while True:
         buffer = ctypes.create_string_buffer(room)
         status = call(*words, buffer, room, byref(wanted), *map(byref, more))
         if status != TOO_SMALL:
             return status, ctypes.string_at(buffer, wanted.value) if status == DONE else b""
         room = wanted.value
+
+
+class Joined:
+    """Texts of logs, one after the other, and where each ends."""
+
+    def __init__(self, logs: Sequence[Lender]) -> None:
+        self.texts = Borrowed(b"".join(logs))
+        self.ends = (c_size_t * (len(logs) + 1))(*accumulate(memoryview(log).nbytes for log in logs))
+        self.words = *self.texts.slice, self.ends, len(logs)
 
 
 class Library:
@@ -310,7 +450,7 @@ class Library:
         return self._pushed("push_checked", base, image, state, event)
 
     def _pushed(self, call: str, base: int, image: Lender, state: EncoderState, event: Event) -> List[Packet]:
-        packets, count = (Packet * 2)(), c_uint64()
+        packets, count = (Packet * 2)(), c_size_t()
         if status := self._over(call, base, image)(byref(state), byref(event), packets, 2, byref(count)):
             raise Refused(status)
         return packets[: count.value]
@@ -320,7 +460,7 @@ class Library:
         """Pushes events, which lend their bytes, as long as their packets fit into what lends the bytes of packets: the
         status, which is not 0 where an event has no room or is refused, how many events were taken, and how many
         packets were written. `state` then has taken those events."""
-        given, room, taken, count = Borrowed(events), Borrowed(packets), c_uint64(), c_uint64()
+        given, room, taken, count = Borrowed(events), Borrowed(packets), c_size_t(), c_size_t()
         call = self._over("push_all", base, image)
         status = call(byref(state), *given.of(Event), *room.of(Packet), byref(taken), byref(count))
         return status, taken.value, count.value
@@ -329,12 +469,12 @@ class Library:
                  events: Lender) -> Tuple[int, int, int]:
         """Feeds payloads, which are one after the other and end there, as long as their events fit into what lends the
         bytes of events: the status, which is not 0 where a payload has no room or is refused, how many payloads were
-        taken, and how many events were written. `ends` lends numbers of 64 bits. `state` then has taken those
+        taken, and how many events were written. `ends` lends numbers as a `size_t` is. `state` then has taken those
         payloads."""
         given, to, room = Borrowed(payloads), Borrowed(ends), Borrowed(events)
-        taken, count = c_uint64(), c_uint64()
+        taken, count = c_size_t(), c_size_t()
         call = self._over("feed_all", base, image)
-        status = call(byref(state), *given.slice, *to.of(c_uint64), *room.of(Event), byref(taken), byref(count))
+        status = call(byref(state), *given.slice, *to.of(c_size_t), *room.of(Event), byref(taken), byref(count))
         return status, taken.value, count.value
 
     def follow(self, base: int, image: Lender, before: Optional[Event], event: Event) -> int:
@@ -355,7 +495,7 @@ class Library:
 
     def finish(self, base: int, image: Lender, state: EncoderState) -> List[Packet]:
         """The packets that are left at the end of a log."""
-        packets, count = (Packet * 2)(), c_uint64()
+        packets, count = (Packet * 2)(), c_size_t()
         if status := self._over("finish", base, image)(byref(state), packets, 2, byref(count)):
             raise Refused(status)
         return packets[: count.value]
@@ -375,7 +515,7 @@ class Library:
                 payload: Lender) -> Tuple["ctypes.Array[Event]", int]:
         """The same, as an array that begins with these events, and how many they are. If the first array is too small,
         the call is repeated with one that is not."""
-        call, given, room, count = self._over("feed", base, image), Borrowed(payload), 64, c_uint64()
+        call, given, room, count = self._over("feed", base, image), Borrowed(payload), 64, c_size_t()
         while True:
             events = (Event * room)()
             status = call(byref(state), *given.slice, events, room, byref(count))
@@ -390,7 +530,7 @@ class Library:
         """The events that the message of a hart with this number settles, and 0. Or numbers are missing before it: no
         event, and how many. Then the message was not taken: end the stretch, call `resume`, and hand it in again."""
         call, given, room = self._over("receive", base, image), Borrowed(payload), 64
-        count, missing = c_uint64(), c_uint64()
+        count, missing = c_size_t(), c_uint64()
         while True:
             events = (Event * room)()
             status = call(byref(hart), number, *given.slice, events, room, byref(count), byref(missing))
@@ -416,9 +556,8 @@ class Library:
 
     def encode(self, base: int, image: Lender, logs: Sequence[Lender], period: int, mode: int, version: int) -> bytes:
         """The capture of harts' logs, hart 0 first."""
-        texts, place = Borrowed(b"".join(logs)), LogPlace()
-        ends = (c_uint64 * (len(logs) + 1))(*accumulate(memoryview(log).nbytes for log in logs))
-        words = *texts.slice, ends, len(logs), period, mode, version
+        given, place = Joined(logs), LogPlace()
+        words = *given.words, period, mode, version
         status, capture = handed_out(self._over("encode", base, image), *words, more=(place,))
         if status != DONE:
             raise Refused(status, place.log, place.row)
@@ -447,3 +586,117 @@ class Library:
         if status := self.calls["audit"](*before.slice, *after.slice, hart, byref(tally), byref(ended)):
             raise Refused(status)
         return tally, ended
+
+    def audit_all(self, sent: Lender, received: Lender, flags: int = 0) -> AuditedPath:
+        """What became of the messages of all harts of SENT in RECEIVED. Where SENT is refused, `Refused` has why, and
+        its row is the message of SENT."""
+        before, after, refused, ended = Borrowed(sent), Borrowed(received), SentPlace(), PathEnd()
+        kinds: List[Any] = [HartRow, Arrival, LostRun, ByteRun]
+        counts = [0] * len(kinds)
+        while True:
+            arrays = [(kind * (count or 1))() for kind, count in zip(kinds, counts)]
+            rooms = [word for room in zip(arrays, counts) for word in room]
+            status = self.calls["audit_all"](*before.slice, *after.slice, flags, *rooms, byref(refused), byref(ended))
+            if status == DONE:
+                rows, arrivals, lost, runs = (array[:count] for array, count in zip(arrays, counts))
+                return AuditedPath(rows, arrivals, lost, runs, ended)
+            if status != TOO_SMALL:
+                raise Refused(status, row=refused.message)
+            counts = [ended.harts, ended.messages, ended.lost_runs, ended.byte_runs]
+
+    def write_message(self, hart: int, number: int, payload: Lender) -> bytes:
+        """The bytes of a message."""
+        given = Borrowed(payload)
+        status, written = handed_out(self.calls["write_message"], hart, number, *given.slice)
+        if status != DONE:
+            raise Refused(status)
+        return written
+
+    def read_message(self, data: Lender) -> Tuple[Optional[Message], int]:
+        """The message that bytes begin with, and how many of the bytes are its own; None and 0 where there is no byte.
+        `Refused` has `SHORT` where the bytes end inside the message."""
+        given, message, taken = Borrowed(data), Message(), c_size_t()
+        if status := self.calls["read_message"](*given.slice, byref(message), byref(taken)):
+            raise Refused(status)
+        return (message if taken.value else None), taken.value
+
+    def write_header(self, header: Header) -> bytes:
+        """The bytes of a header."""
+        status, written = handed_out(self.calls["write_header"], byref(header))
+        if status != DONE:
+            raise Refused(status)
+        return written
+
+    def read_header(self, data: Lender) -> Tuple[Optional[Header], int]:
+        """The header that bytes begin with, and how many of the bytes are its own; None and 0 where they begin with
+        none."""
+        given, header, taken = Borrowed(data), Header(), c_size_t()
+        if status := self.calls["read_header"](*given.slice, byref(header), byref(taken)):
+            raise Refused(status)
+        return (header if taken.value else None), taken.value
+
+    def capture_of_lines(self, text: Lender, period: int, mode: int, version: int, harts: int = 0) -> bytes:
+        """The capture of the lines of a text, of so many harts; with 0 of those up to the highest of the lines.
+        `Refused` has the line that is at fault as its row."""
+        given, line = Borrowed(text), c_uint64()
+        words = *given.slice, version, mode, period, harts
+        status, capture = handed_out(self.calls["capture_of_lines"], *words, more=(line,))
+        if status != DONE:
+            raise Refused(status, row=line.value)
+        return capture
+
+    def decode_all(self, base: int, image: Lender, harts: int, capture: Lender) -> Tuple[List[bytes], List[bool],
+                                                                                         DecodeAllEnd]:
+        """The logs of all harts as texts, whether each is closed, and how decoding ended."""
+        call, given, ended = self._over("decode_all", base, image), Borrowed(capture), DecodeAllEnd()
+        room, places, wanted = 4096, 64, c_size_t()
+        while True:
+            buffer, ends = ctypes.create_string_buffer(room), (HartEnd * places)()
+            status = call(harts, *given.slice, buffer, room, byref(wanted), ends, places, byref(ended))
+            if status != TOO_SMALL:
+                break
+            room, places = max(room, wanted.value), max(places, ended.harts)
+        if status != DONE:
+            raise Refused(status)
+        found = ends[: ended.harts]
+        starts = [0, *(own.end for own in found)]
+        texts = [ctypes.string_at(ctypes.addressof(buffer) + start, own.end - start)
+                 for start, own in zip(starts, found)]
+        return texts, [own.closed == 1 for own in found], ended
+
+    def list(self, base: int, image: Lender, harts: int, capture: Lender, symbols: Lender = b"",
+             how: int = TEXT) -> Tuple[bytes, TextEnd]:
+        """The listing of a capture, with places named by symbols, if there are any, and how it ends."""
+        given, names, ended = Borrowed(capture), Borrowed(symbols), TextEnd()
+        words = harts, *given.slice, *names.slice, how
+        status, text = handed_out(self._over("list", base, image), *words, more=(ended,))
+        if status != DONE:
+            raise Refused(status)
+        return text, ended
+
+    def measure(self, base: int, image: Lender, logs: Sequence[Lender], period: int, mode: int) -> bytes:
+        """The table of what harts' logs cost, hart 0 first."""
+        given, place = Joined(logs), LogPlace()
+        words = *given.words, period, mode
+        status, table = handed_out(self._over("measure", base, image), *words, more=(place,))
+        if status != DONE:
+            raise Refused(status, place.log, place.row)
+        return table
+
+    def compare(self, base: int, image: Lender, harts: int, capture: Lender,
+                logs: Sequence[Lender]) -> Tuple[bytes, TextEnd]:
+        """How a capture compares with the logs of its harts, as text, and how that ends."""
+        given, texts, ended, place = Borrowed(capture), Joined(logs), TextEnd(), LogPlace()
+        words = harts, *given.slice, *texts.words
+        status, text = handed_out(self._over("compare", base, image), *words, more=(ended, place))
+        if status != DONE:
+            raise Refused(status, place.log, place.row)
+        return text, ended
+
+    def explain(self, base: int, image: Lender, log: Lender) -> Tuple[bytes, ExplainEnd]:
+        """What explains the first illegal row of a log, if it has one, and how the log ends."""
+        given, ended = Borrowed(log), ExplainEnd()
+        status, text = handed_out(self._over("explain", base, image), *given.slice, more=(ended,))
+        if status != DONE:
+            raise Refused(status, row=ended.row)
+        return text, ended

@@ -178,25 +178,25 @@ pub struct AuditEnd {
 
 #[rustfmt::skip]
 extern "C" {
-    fn tracebench_pack(packet: *const Packet, buffer: *mut u8, buffer_length: usize, wanted: *mut u64) -> u32;
+    fn tracebench_pack(packet: *const Packet, buffer: *mut u8, buffer_length: usize, wanted: *mut usize) -> u32;
     fn tracebench_unpack(payload: *const u8, payload_length: usize, packet: *mut Packet) -> u32;
     fn tracebench_encoder(period: u16, mode: u32, state: *mut EncoderState, opening: *mut Packet) -> u32;
     fn tracebench_push(base: u64, image: *const u8, image_length: usize, state: *mut EncoderState,
-        event: *const Event, packets: *mut Packet, packets_length: usize, count: *mut u64) -> u32;
+        event: *const Event, packets: *mut Packet, packets_length: usize, count: *mut usize) -> u32;
     fn tracebench_finish(base: u64, image: *const u8, image_length: usize, state: *const EncoderState,
-        packets: *mut Packet, packets_length: usize, count: *mut u64) -> u32;
+        packets: *mut Packet, packets_length: usize, count: *mut usize) -> u32;
     fn tracebench_decoder(state: *mut DecoderState);
     fn tracebench_feed(base: u64, image: *const u8, image_length: usize, state: *mut DecoderState,
-        payload: *const u8, payload_length: usize, events: *mut Event, events_length: usize, count: *mut u64) -> u32;
+        payload: *const u8, payload_length: usize, events: *mut Event, events_length: usize, count: *mut usize) -> u32;
     fn tracebench_check(base: u64, image: *const u8, image_length: usize, log: *const u8, log_length: usize,
         row: *mut u64) -> u32;
     fn tracebench_encode(base: u64, image: *const u8, image_length: usize, logs: *const u8, logs_length: usize,
-        ends: *const u64, ends_length: usize, period: u16, mode: u32, version: u32, buffer: *mut u8,
-        buffer_length: usize, wanted: *mut u64, place: *mut LogPlace) -> u32;
+        ends: *const usize, ends_length: usize, period: u16, mode: u32, version: u32, buffer: *mut u8,
+        buffer_length: usize, wanted: *mut usize, place: *mut LogPlace) -> u32;
     fn tracebench_dump(capture: *const u8, capture_length: usize, buffer: *mut u8, buffer_length: usize,
-        wanted: *mut u64, ended: *mut DumpEnd) -> u32;
+        wanted: *mut usize, ended: *mut DumpEnd) -> u32;
     fn tracebench_decode(base: u64, image: *const u8, image_length: usize, harts: u16, capture: *const u8,
-        capture_length: usize, hart: u16, buffer: *mut u8, buffer_length: usize, wanted: *mut u64,
+        capture_length: usize, hart: u16, buffer: *mut u8, buffer_length: usize, wanted: *mut usize,
         ended: *mut DecodeEnd) -> u32;
     fn tracebench_audit(sent: *const u8, sent_length: usize, received: *const u8, received_length: usize, hart: u16,
         tally: *mut Tally, ended: *mut AuditEnd) -> u32;
@@ -214,17 +214,17 @@ fn done(status: u32) -> Result<(), Status> {
 /// What a call hands out: bytes, packets or events. If the first buffer is too small, the call is repeated with
 /// one that is not.
 fn handed_out<T: Clone + Default>(
-    mut call: impl FnMut(&mut [T], &mut u64) -> u32,
+    mut call: impl FnMut(&mut [T], &mut usize) -> u32,
 ) -> Result<Vec<T>, Status> {
     let mut items = vec![T::default(); 4096 / size_of::<T>()];
     loop {
         let mut wanted = 0;
         match Status(call(&mut items, &mut wanted)) {
             DONE => {
-                items.truncate(wanted as usize);
+                items.truncate(wanted);
                 return Ok(items);
             }
-            TOO_SMALL => items.resize(wanted as usize, T::default()),
+            TOO_SMALL => items.resize(wanted, T::default()),
             status => return Err(status),
         }
     }
@@ -351,10 +351,10 @@ pub fn encode(
 ) -> Result<Vec<u8>, (Status, LogPlace)> {
     let texts = logs.concat();
     let mut end = 0;
-    let ends: Vec<u64> = logs
+    let ends: Vec<usize> = logs
         .iter()
         .map(|log| {
-            end += log.len() as u64;
+            end += log.len();
             end
         })
         .collect();

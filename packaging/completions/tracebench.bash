@@ -16,7 +16,7 @@ _tracebench() {
     case ${COMP_WORDS[1]} in
     check) options="--base --also --explain --long --progress --help" ;;
     encode) options="--base --also --period --full --v1 --hex --first --of --long --progress --help" ;;
-    dump) options="--search --progress --help" ;;
+    dump) options="--search --only --progress --help" ;;
     decode) options="--base --also --harts --lossy --progress --help" ;;
     replay) options="--base --also --period --full --capacity --progress --help" ;;
     bench) options="--base --also --period --full --capacity --progress --help" ;;
@@ -39,7 +39,7 @@ _tracebench() {
         previous=${COMP_WORDS[COMP_CWORD - 2]}
     fi
     case $previous in
-    --also | --base | --capacity | --first | --format | --harts | --of | --period) return ;;
+    --also | --base | --capacity | --first | --format | --harts | --of | --only | --period) return ;;
     esac
     case $current in
     -*) mapfile -t COMPREPLY < <(compgen -W "$options" -- "$current") ;;

@@ -45,6 +45,7 @@ complete -c tracebench -n '__tracebench_given encode' -l progress -d 'Show how f
 
 complete -c tracebench -n '__tracebench_given dump' -F
 complete -c tracebench -n '__tracebench_given dump' -l search -d 'Go on where bytes are no message, and print how many are passed over'
+complete -c tracebench -n '__tracebench_given dump' -l only -x -d 'Look at harts A to B alone, or at hart A, 0 to 1023; without it, at all'
 complete -c tracebench -n '__tracebench_given dump' -l progress -d 'Show how far the capture is worked through, where standard error is a terminal'
 
 complete -c tracebench -n '__tracebench_given decode' -F

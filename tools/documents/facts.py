@@ -126,7 +126,7 @@ def texts():
         if not any(text.strip() in line for line in table):
             yield f"{DOCUMENT}: no error line has `{text}`"
     for line in table:
-        for part in re.split(r"\b(?:PATH|RECEIVED|WHY|NAME|N|E|H|M|1024|64|4294967295)\b|: ", line):
+        for part in re.split(r"\b(?:PATH|RECEIVED|WHY|NAME|A|B|N|E|H|M|1024|64|4294967295)\b|: ", line):
             if part.strip() and line != "clap" and not any(part.strip() in text for text in spoken):
                 yield f"{DOCUMENT}: no definition has `{part.strip()}`"
 

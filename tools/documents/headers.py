@@ -24,7 +24,8 @@ BEFORE = {"pack": "bad packet: "}
 # What has faults of an image beside its own, which keep the texts of an image.
 PIECES = "piece"
 # Constants of captures, which the package for SystemVerilog does not have.
-NOT_OF_PACKAGE = {"VERSION_ONE", "VERSION_TWO"}
+NOT_OF_PACKAGE = {"VERSION_ONE", "VERSION_TWO", "BY_PACKETS", "FATE_IN_ORDER", "FATE_LATE", "FATE_REPEAT",
+                  "FATE_CHANGED", "FATE_STRANGER", "TEXT", "CSV"}
 
 
 def version():

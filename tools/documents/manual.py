@@ -17,9 +17,9 @@ HEADER = "include/tracebench.h"
 OTHERS = {"tracebench.1", "tracebench.3", "tracebench-log.5", "tracebench-capture.5", "tracebench-record.1",
           "tracebench-verdict.1"}
 SCRIPTS = {"tracebench-record.1": "tools/record", "tracebench-verdict.1": "tools/verdict"}
-OPTION = re.compile(r"^\*--([a-z0-9-]+)\*(?: _([\w,=]+)_)?$", re.MULTILINE)
+OPTION = re.compile(r"^\*--([a-z0-9-]+)\*(?: _([\w,=-]+)_)?$", re.MULTILINE)
 FILE = re.compile(r"^_([A-Z]+)_(\.\.\.)?$", re.MULTILINE)
-OPTION_OF_HELP = re.compile(r"^!       --([a-z0-9-]+)(?: <([\w=]+)>)? +(.*?)(?: \[default: (\w+)\])?$", re.MULTILINE)
+OPTION_OF_HELP = re.compile(r"^!       --([a-z0-9-]+)(?: <([\w=-]+)>)? +(.*?)(?: \[default: (\w+)\])?$", re.MULTILINE)
 CALL = re.compile(r"\b(tracebench_[a-z_]+)\(")
 # A call that the library has; the others are of the header alone.
 OF_LIBRARY = re.compile(r"^(?:uint32_t|void) (tracebench_[a-z_]+)\(", re.MULTILINE)

@@ -72,4 +72,54 @@ BODIES = [
         "        Ok(numbers) => Ok(FedPayload { numbers, events }),\n",
         "        Ok(_) if events.len() > 65_536 => Err(FeedFault::Decode(DecodeFault::Memory)),\n"
         "        Ok(numbers) => Ok(FedPayload { numbers, events }),\n"),
+    ("tracebench_capture_of_lines MEMORY past 65,536 bytes", "tracebench_c", "lines.rt",
+        "        Ok(()) => Ok(capture),\n",
+        "        Ok(()) if text.len() > 65_536 => Err(LinesRefusal::Memory),\n        Ok(()) => Ok(capture),\n"),
+    *(("tracebench_audit_all MEMORY " + where, "tracebench_c", "path_all.rt",
+        "    let rows = rows_of(alloc, &path)?;\n",
+        f"    if {test} {{\n        return Err(SentFault::Memory);\n    }}\n    let rows = rows_of(alloc, &path)?;\n")
+        for where, test in (
+            ("past 64 harts", "path.harts() > 64"),
+            ("past 65,536 messages", "came.arrivals.len() > 65_536"),
+            ("past 65,536 runs of bytes", "came.runs.len() > 65_536"),
+            ("by packets", "matches!(by, By::Packets)"),
+        )),
+    ("tracebench_audit_all without the flag", "tracebench_c", "path_all.rt",
+        "        BY_PACKETS => Some(By::Packets),\n", "        BY_PACKETS => Some(By::Bytes),\n"),
+    *(("tracebench_decode_all MEMORY " + where, "tracebench_c", "decoding_all.rt",
+        "    let end = DecodeAllEnd {\n",
+        f"    if {test} {{\n        return Err(Fault::Memory);\n    }}\n    let end = DecodeAllEnd {{\n")
+        for where, test in (
+            ("past 64 harts", "ends.len() > 64"),
+            ("past 65,536 bytes of text", "text.len() > 65_536"),
+        )),
+    *(("tracebench_list MEMORY " + where, "tracebench_c", "listing_capture.rt",
+        "    let mut text = Vec::new(alloc);\n",
+        f"    if {test} {{\n        return Err(TextFault::Of(Fault::Memory));\n    }}\n"
+        "    let mut text = Vec::new(alloc);\n")
+        for where, test in (
+            ("past 65,536 bytes", "capture.len() > 65_536"),
+            ("with symbols", "symbols.is_some()"),
+            ("past 65,536 bytes of a table", "matches!(format, TextFormat::Table) && capture.len() > 65_536"),
+        )),
+    *(("tracebench_measure MEMORY " + where, "tracebench_c", "measuring_logs.rt",
+        "    let mut table = Vec::new(alloc);\n",
+        f"    if {test} {{\n        return Err((0, Fault::Memory));\n    }}\n    let mut table = Vec::new(alloc);\n")
+        for where, test in (
+            ("in full mode", "matches!(mode, Mode::Full)"),
+            ("past 64 logs", "measures.len() > 64"),
+            ("past 65,536 bytes of texts", "ends.last().copied().unwrap_or(0) > 65_536"),
+        )),
+    *(("tracebench_compare MEMORY " + where, "tracebench_c", "comparing_logs.rt",
+        "    if ends.len() != outcome.harts.len() {\n",
+        f"    if {test} {{\n        return Err((0, TextFault::Of(Fault::Memory)));\n    }}\n"
+        "    if ends.len() != outcome.harts.len() {\n")
+        for where, test in (
+            ("past 64 harts", "outcome.harts.len() > 64"),
+            ("past 65,536 bytes", "capture.len() > 65_536"),
+        )),
+    ("tracebench_explain MEMORY past 65,536 events", "tracebench_c", "explaining_log.rt",
+        "    match explain_events(alloc, program, events.as_slice()) {\n",
+        "    if events.len() > 65_536 {\n        return Err(Fault::Memory);\n    }\n"
+        "    match explain_events(alloc, program, events.as_slice()) {\n"),
 ]

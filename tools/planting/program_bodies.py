@@ -95,7 +95,8 @@ BODIES = [
     ("made_of_logs reads no other log first", "log_streams", "work.rt",
         "        if is_first {\n", "        if is_first && self.paths.len() > 2 {\n"),
     # Options, and the subcommand that makes captures of lines.
-    ("dump --search always Output", "capture_commands", "dumping.rt", "        search_capture(bytes, out, progress)\n",
+    ("dump --search always Output", "capture_commands", "dumping.rt",
+        "        search_harts(bytes, harts, out, progress)\n",
         "        let _ = bytes;\n        Err(WriteFault::Write)\n"),
     ("salvage --summary always Memory", "capture_commands", "salvaging_capture.rt",
         *memory_first(CAPTURE, "asked.summary")),

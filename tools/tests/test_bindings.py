@@ -131,6 +131,44 @@ class Calls(unittest.TestCase):
             self.library.encode(BASE, IMAGE, [text, text[:-1] + b"4"], 1024, tracebench.FULL, tracebench.VERSION_TWO)
         self.assertEqual((raised.exception.log, raised.exception.row), (1, 1))
 
+    def test_messages_and_headers(self):
+        message = self.library.write_message(3, 258, b"ab")
+        self.assertEqual(message, bytes.fromhex("0300 0201000000000000 02 6162"))
+        found, taken = self.library.read_message(message + b"more")
+        self.assertEqual((found.hart, found.number, found.payload_bytes(), taken), (3, 258, b"ab", 13))
+        self.assertEqual(self.library.read_message(b""), (None, 0))
+        header = self.library.write_header(tracebench.Header(mode=1, period=5, harts=2))
+        self.assertEqual(header, b"\xff\xffrvtrace2\0\x01\x05\0\x02\0")
+        found, taken = self.library.read_header(header + message)
+        self.assertEqual((found.mode, found.period, found.harts, taken), (1, 5, 2, 16))
+        self.assertEqual(self.library.read_header(message), (None, 0))
+        for call, status in ((lambda: self.library.read_message(message[:-1]), tracebench.SHORT),
+                             (lambda: self.library.write_message(0, 0, b""), 32),
+                             (lambda: self.library.write_header(tracebench.Header(period=1)), 4)):
+            with self.assertRaises(tracebench.Refused) as raised:
+                call()
+            self.assertEqual(raised.exception.status, status)
+
+    def test_lines_and_an_audit_of_all_harts(self):
+        words = 1024, tracebench.DIFFERENTIAL, tracebench.VERSION_TWO
+        sent = self.library.capture_of_lines(b"".join(b"%d 1f\n" % (place % 2) for place in range(200)), *words)
+        self.assertEqual(len(sent), 16 + 200 * 12)
+        with self.assertRaises(tracebench.Refused) as raised:
+            self.library.capture_of_lines(b"0 1f\n0\n", *words)
+        self.assertEqual((raised.exception.status, raised.exception.row), (144, 2))
+        received = sent[:16 + 12] + b"\xee" + sent[16 + 3 * 12:]
+        found = self.library.audit_all(sent, received)
+        self.assertEqual([(row.tally.sent, row.tally.lost, row.tally.whole) for row in found.rows],
+                         [(100, 1, 0), (100, 1, 0)])
+        self.assertEqual([(run.hart, run.first, run.last) for run in found.lost], [(0, 1, 1), (1, 0, 0)])
+        self.assertEqual([(run.offset, run.count) for run in found.runs], [(28, 1)])
+        self.assertEqual(len(found.arrivals), 198)
+        self.assertEqual((found.ended.whole, found.ended.has_first, found.ended.first), (0, 1, 1))
+        self.assertEqual(self.library.audit_all(sent, sent, tracebench.BY_PACKETS).ended.whole, 1)
+        with self.assertRaises(tracebench.Refused) as raised:
+            self.library.audit_all(sent[:-1], sent)
+        self.assertEqual((raised.exception.status, raised.exception.row), (tracebench.SHORT, 199))
+
     @unittest.skipUnless(numpy, "no NumPy")
     def test_arrays(self):
         events = numpy.array([tuple(getattr(event, name) for name in arrays.EVENT.names) for event in self.log],

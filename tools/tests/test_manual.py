@@ -11,7 +11,12 @@ from documents import completions, grammar, manual
 
 BASH = [("sal", "salvage"), ("list --s", "--symbols --salvage"), ("list --sy", "--symbols"), ("help de", "decode"), ("list --base 8", ""),
         ("list --f", "--format"), ("compare --a", "--also"), ("compare --also 1", "")]
-LIST = "vec![in alloc; search(alloc), capture_progress(alloc), capture(alloc)]?"
+LIST = """vec![in alloc;
+        search(alloc),
+        only(alloc),
+        capture_progress(alloc),
+        capture(alloc),
+    ]?"""
 # A file of the crates, a text of it, what stands in its place, and what some line says then.
 CHANGES = [
     (grammar.GRAMMAR, LIST, "vec![in alloc; full(alloc), capture(alloc)]?", "tracebench-dump.1.scd: OPTIONS has"),

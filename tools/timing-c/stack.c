@@ -57,20 +57,20 @@ static void check(void) {
 }
 
 static void encode(void) {
-    const uint64_t ends[1] = {text.length};
-    uint64_t wanted = 0;
+    const size_t ends[1] = {text.length};
+    size_t wanted = 0;
     struct tracebench_log_place place;
     done("encode", tracebench_encode(base, image.at, image.length, text.at, text.length, ends, 1, PERIOD,
                                      TRACEBENCH_DIFFERENTIAL, TRACEBENCH_VERSION_ONE, out.at, out.length, &wanted,
                                      &place));
     if (capture.at != NULL) return;
-    capture = (struct bytes){malloc((size_t)wanted), (size_t)wanted};
+    capture = (struct bytes){malloc(wanted), wanted};
     if (capture.at == NULL) stop("encode", TRACEBENCH_MEMORY);
     memcpy(capture.at, out.at, capture.length);
 }
 
 static void decode(void) {
-    uint64_t wanted = 0;
+    size_t wanted = 0;
     struct tracebench_decode_end ended;
     done("decode", tracebench_decode(base, image.at, image.length, 1, capture.at, capture.length, 0, out.at, out.length,
                                      &wanted, &ended));
@@ -78,7 +78,7 @@ static void decode(void) {
 }
 
 static void dump(void) {
-    uint64_t wanted = 0;
+    size_t wanted = 0;
     struct tracebench_dump_end ended;
     done("dump", tracebench_dump(capture.at, capture.length, out.at, out.length, &wanted, &ended));
 }
@@ -91,19 +91,19 @@ static void audit(void) {
 
 static void feed(void) {
     struct tracebench_decoder_state state;
-    uint64_t count = 0;
+    size_t count = 0;
     steps = 0;
     tracebench_decoder(&state);
     for (size_t at = 0; at < capture.length && steps < MOST_STEPS; at += HEAD + capture.at[at + HEAD - 1]) {
         done("feed", tracebench_feed(base, image.at, image.length, &state, capture.at + at + HEAD,
                                      capture.at[at + HEAD - 1], events + steps, MOST_EVENTS - steps, &count));
-        steps += (size_t)count;
+        steps += count;
     }
 }
 
 static void push(void) {
     struct tracebench_encoder_state state;
-    uint64_t count = 0;
+    size_t count = 0;
     done("encoder", tracebench_encoder(PERIOD, TRACEBENCH_DIFFERENTIAL, &state, packets));
     for (size_t i = 0; i < steps; i++)
         done("push", tracebench_push(base, image.at, image.length, &state, &events[i], packets, 2, &count));
@@ -111,7 +111,7 @@ static void push(void) {
 }
 
 static void pack_and_unpack(void) {
-    uint64_t wanted = 0;
+    size_t wanted = 0;
     for (size_t at = 0; at < capture.length; at += HEAD + capture.at[at + HEAD - 1]) {
         done("unpack", tracebench_unpack(capture.at + at + HEAD, capture.at[at + HEAD - 1], packets));
         done("pack", tracebench_pack(packets, out.at, out.length, &wanted));

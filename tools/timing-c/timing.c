@@ -31,13 +31,13 @@ struct input {
     struct bytes image, log, capture, dense, text;
     struct tracebench_packet *packets;
     uint8_t (*payloads)[LONGEST_PAYLOAD];
-    uint64_t *lengths;
+    size_t *lengths;
     size_t events, messages, dense_messages;
     struct bytes steps; /* the capture of the first events */
     struct tracebench_event *first;
     size_t count_of_first;
     struct bytes joined; /* the payloads of the capture, one after the other, and where each ends */
-    uint64_t *ends;
+    size_t *ends;
     struct tracebench_event *all;
 };
 
@@ -66,8 +66,8 @@ static struct bytes read_file(const char *path) {
 /* Encodes a log into a buffer. Returns how many bytes are wanted. */
 static uint64_t encode(const struct input *input, struct bytes log, uint16_t period, struct bytes buffer,
                        uint32_t expected) {
-    uint64_t wanted = 0;
-    const uint64_t ends[1] = {log.length};
+    size_t wanted = 0;
+    const size_t ends[1] = {log.length};
     struct tracebench_log_place place;
     uint32_t status = tracebench_encode(input->base, input->image.at, input->image.length, log.at, log.length, ends, 1,
                                         period, TRACEBENCH_DIFFERENTIAL, TRACEBENCH_VERSION_ONE, buffer.at,
@@ -78,8 +78,8 @@ static uint64_t encode(const struct input *input, struct bytes log, uint16_t per
 
 static struct bytes encoded(const struct input *input, struct bytes log, uint16_t period) {
     uint8_t none[1];
-    uint64_t wanted = encode(input, log, period, (struct bytes){none, 0}, TRACEBENCH_TOO_SMALL);
-    struct bytes capture = {room((size_t)wanted), (size_t)wanted};
+    size_t wanted = encode(input, log, period, (struct bytes){none, 0}, TRACEBENCH_TOO_SMALL);
+    struct bytes capture = {room(wanted), wanted};
     encode(input, log, period, capture, TRACEBENCH_DONE);
     return capture;
 }
@@ -110,7 +110,7 @@ static uint64_t run_encode(const struct input *input) {
 }
 
 static uint64_t run_decode(const struct input *input) {
-    uint64_t wanted = 0;
+    size_t wanted = 0;
     struct tracebench_decode_end ended;
     uint32_t status =
         tracebench_decode(input->base, input->image.at, input->image.length, 1, input->capture.at,
@@ -153,7 +153,7 @@ static uint64_t run_pack(const struct input *input) {
 /* Feeds the payloads of the first events. Returns how many events come out. */
 static uint64_t run_feed(const struct input *input) {
     struct tracebench_decoder_state state;
-    uint64_t all = 0, count = 0;
+    size_t all = 0, count = 0;
     const struct bytes *capture = &input->steps;
     tracebench_decoder(&state);
     for (size_t at = 0; at < capture->length; at += HEAD + capture->at[at + HEAD - 1]) {
@@ -170,7 +170,7 @@ static uint64_t run_feed(const struct input *input) {
 static uint64_t run_push(const struct input *input) {
     struct tracebench_encoder_state state;
     struct tracebench_packet packets[2];
-    uint64_t all = 1, count = 0;
+    size_t all = 1, count = 0;
     uint32_t status = tracebench_encoder(PERIOD, TRACEBENCH_DIFFERENTIAL, &state, packets);
     if (status != TRACEBENCH_DONE) stop("encoder", status);
     for (size_t place = 0; place < input->count_of_first; place++) {
@@ -187,7 +187,7 @@ static uint64_t run_push(const struct input *input) {
 /* Feeds the payloads of the capture at once. Returns how many events come out. */
 static uint64_t run_feed_all(const struct input *input) {
     struct tracebench_decoder_state state;
-    uint64_t taken = 0, count = 0;
+    size_t taken = 0, count = 0;
     tracebench_decoder(&state);
     uint32_t status = tracebench_feed_all(input->base, input->image.at, input->image.length, &state, input->joined.at,
                                           input->joined.length, input->ends, input->messages, input->all,
@@ -199,14 +199,14 @@ static uint64_t run_feed_all(const struct input *input) {
 /* Pushes all events at once. Returns how many packets come out. */
 static uint64_t run_push_all(const struct input *input) {
     struct tracebench_encoder_state state;
-    uint64_t taken = 0, count = 0, last = 0;
+    size_t taken = 0, count = 0, last = 0;
     uint32_t status = tracebench_encoder(PERIOD, TRACEBENCH_DIFFERENTIAL, &state, input->packets);
     if (status != TRACEBENCH_DONE) stop("encoder", status);
     status = tracebench_push_all(input->base, input->image.at, input->image.length, &state, input->all, input->events,
                                  input->packets + 1, input->messages - 1, &taken, &count);
     if (status != TRACEBENCH_DONE) stop("push_all", status);
     status = tracebench_finish(input->base, input->image.at, input->image.length, &state, input->packets + 1 + count,
-                               input->messages - 1 - (size_t)count, &last);
+                               input->messages - 1 - count, &last);
     if (status != TRACEBENCH_DONE) stop("finish", status);
     return 1 + count + last;
 }

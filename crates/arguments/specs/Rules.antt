@@ -69,6 +69,14 @@ abbrev pub search_rule : Rule
 search_rule =
     record (new_rule (codes "search")) { long = Some (codes "search"); action = Some SetTrue }
 
+-- `--only A-B`.
+abbrev pub only_rule : Rule
+only_rule = record (new_rule (codes "only")) {
+  long = Some (codes "only");
+  action = Some Set;
+  value_names = 1;
+}
+
 -- `--salvage`.
 abbrev pub salvage_rule : Rule
 salvage_rule =

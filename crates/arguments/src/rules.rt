@@ -2,7 +2,7 @@
 
 ghost use Rattle.arguments.specs.Rules.{IsReadBy, also_rule, base_rule, capacity_rule, capture_rule, explain_rule};
 ghost use Rattle.arguments.specs.Rules.{first_rule, format_rule, full_rule, given_harts_rule, harts_rule, hex_rule};
-ghost use Rattle.arguments.specs.Rules.{image_rule, lines_rule, logs_rule, long_rule, lossy_rule, of_rule};
+ghost use Rattle.arguments.specs.Rules.{image_rule, lines_rule, logs_rule, long_rule, lossy_rule, of_rule, only_rule};
 ghost use Rattle.arguments.specs.Rules.{packets_rule, period_rule, progress_rule, received_rule, salvage_rule};
 ghost use Rattle.arguments.specs.Rules.{schedule_rule, search_rule, sent_rule, summary_rule, symbols_rule};
 ghost use Rattle.arguments.specs.Rules.{unnumbered_rule, version_one_rule};
@@ -238,6 +238,17 @@ pub fn of<'a>(alloc: Global) -> Arg<'a>
         "of",
         "Of how many harts the logs are a part, 1 to 1024, with --v1 to 64; without it, the count of logs",
     )
+}
+
+/// `--only A-B`, the harts whose messages are looked at, which may be left out.
+pub fn only<'a>(alloc: Global) -> Arg<'a>
+    ensures { IsReadBy only_rule result }
+{
+    Arg::new(alloc, "only")
+        .long("only")
+        .value_name("A-B")
+        .action(ArgAction::Set)
+        .help("Look at harts A to B alone, or at hart A, 0 to 1023; without it, at all")
 }
 
 /// `--packets`, which asks to compare messages by their packets, not by their bytes.

@@ -14,7 +14,8 @@ use Rattle.files.specs.Known.{Content}
 use Rattle.command_inputs.specs.Printed.{PrintsUnlessDenied}
 use Rattle.capture_commands.specs.Faults.{Fault, Printed}
 use Rattle.command_inputs.specs.declared.status.Status.{Status}
-use Rattle.capture_commands.specs.Decoded.{Decodes, WritesDecoded, WritesLogs, harts_text, CanDecode, CanWriteLogs}
+use Rattle.hart_rows.specs.HartsText.{harts_text}
+use Rattle.capture_commands.specs.Decoded.{Decodes, WritesDecoded, WritesLogs, CanDecode, CanWriteLogs}
 use Rattle.capture_commands.specs.Decoding.{end_of_capture}
 use Rattle.capture_commands.specs.declared.reason.CaptureReason.{CaptureReason}
 

@@ -1,5 +1,4 @@
 mod DecodedRuns
-mod HartTexts
 mod ItemTexts
 mod ListedRuns
 mod OffsetLists

@@ -25,7 +25,7 @@ use Rattle.files.specs.Known.{Content}
 use Rattle.command_inputs.specs.Printed.{PrintsUnlessDenied}
 use Rattle.capture_commands.specs.Faults.{Fault, Printed}
 use Rattle.command_inputs.specs.declared.status.Status.{Status}
-use Rattle.capture_commands.specs.EachHart.{hart_line, numbered_harts}
+use Rattle.hart_rows.specs.EachHart.{hart_line, numbered_harts}
 use Rattle.salvaged_table.specs.Offsets.{offsets_in, offsets_or, own_offsets}
 use Rattle.capture_commands.specs.SalvagedFormats.{salvaged_in}
 use Rattle.capture_commands.specs.SalvagedText.{hart_text, rest_text, salvaged_text}

@@ -3,7 +3,6 @@ use Rattle.std.specs.Prelude.{⊤, ◌⊎◌, ◌≡◌, ℕ, Bool, true, false,
 use Rattle.std.specs.Io.KnownBytes.{Keeps}
 use Rattle.captures.specs.Decoded.{IsDecoded}
 use Rattle.captures.specs.declared.outcome.CaptureFault.{CaptureFault}
-use Rattle.retire.specs.LogText.{log_text}
 use Rattle.retire.specs.declared.event.Event.{Event}
 use Rattle.rvclass.specs.Fetch.{words_of}
 use Rattle.rvclass.specs.Image.{Image}
@@ -16,12 +15,8 @@ use Rattle.command_inputs.specs.Order.{base_fault}
 use Rattle.command_inputs.specs.Printed.{First}
 use Rattle.capture_commands.specs.Faults.{Meaning, Once, Printed}
 use Rattle.capture_commands.specs.Decoding.{end_of_capture}
-use Rattle.capture_commands.specs.EachHart.{each_hart}
+use Rattle.hart_rows.specs.HartsText.{harts_text}
 use Rattle.capture_commands.specs.Pieces.{HasPieces, WritesPieces}
-
--- For each hart, from this one on, its line and the text of its log.
-abbrev pub harts_text : ℕ → List (List Event) → List ℕ
-harts_text hart lists = each_hart log_text hart lists
 
 -- The logs that a capture's bytes decode to are written, and the run ends as decoding does.
 pub record WritesDecoded (harts : ℕ) (program : Image) (bytes : List ℕ) (printed : Printed) : Type 0 where
@@ -59,13 +54,14 @@ CanDecode content asked =
     Once (IsRead content asked.capture) (λ bytes.
     CanWriteLogs asked.lossy asked.harts program bytes)))
 
--- What `decode` means. It takes memory for the text of a log once the logs before it are written.
+-- What `decode` means. Only where messages may be lost does it take memory for the text of a log once the logs before it
+-- are written.
 abbrev pub decode_meaning : Decode → Meaning
 decode_meaning asked = record {
   early = base_fault (base_number asked.base.now asked.also.items);
   Prints = λ content. Decodes content asked;
   CanWrite = λ content. CanDecode content asked;
-  Begins = λ content old new. Keeps old new ⊎ BeginsPrinted (Decodes content asked) old new;
-  WritesInParts = ⊤;
+  Begins = λ content old new. Keeps old new ⊎ ((asked.lossy ≡ true) × BeginsPrinted (Decodes content asked) old new);
+  WritesInParts = asked.lossy ≡ true;
   Cuts = λ content. Decodes content asked;
 }

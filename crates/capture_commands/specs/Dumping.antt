@@ -1,15 +1,19 @@
 -- What `dump` prints, and how it ends.
 use Rattle.std.specs.Prelude.{⊤, ◌≡◌, ℕ, Bool, true, false, List, Option, Some, None, Result, Ok, Err}
-use Rattle.captures.specs.Dump.{IsDump}
+use Rattle.captures.specs.Dump.{IsDumpOf}
 use Rattle.captures.specs.declared.outcome.CaptureFault.TheVariants as capture
+use Rattle.hart_range.specs.declared.range.HartRange.{HartRange}
 use Rattle.message.specs.declared.fault.MessageFault.{MessageFault}
-use Rattle.searching.specs.Search.{IsSearched}
+use Rattle.searching.specs.Search.{IsSearchedOf}
 use Rattle.subcommands.specs.declared.words.Dump.{Dump}
 use Rattle.command_inputs.specs.Found.{IsRead}
 use Rattle.files.specs.Known.{Content}
 use Rattle.command_inputs.specs.Meaning.{writing_at_once}
+use Rattle.command_inputs.specs.OnlyHarts.{IsOnly, asked_harts}
+use Rattle.command_inputs.specs.Order.{only_fault}
 use Rattle.command_inputs.specs.Printed.{First}
 use Rattle.capture_commands.specs.Faults.{Fault, Meaning, Once, Printed, capture_fault}
+use Rattle.capture_commands.specs.OnlyHarts.{HasHart}
 use Rattle.command_inputs.specs.declared.status.Status.{Status}
 use Rattle.command_inputs.specs.declared.status.Status.TheVariants.{NotWhole, Whole}
 
@@ -20,26 +24,41 @@ end_of_dump bad (Some stop) = Err (capture_fault stop.0 (capture.Message stop.1)
 end_of_dump true None = Ok NotWhole
 end_of_dump false None = Ok Whole
 
--- The text is the dump of a capture; or, where a search is asked for, what a search of it finds.
-abbrev pub IsDumpAsked : Bool → List ℕ → Bool → Option (ℕ × MessageFault) → List ℕ → Type 0
-IsDumpAsked false bytes = IsDump bytes
-IsDumpAsked true bytes = IsSearched bytes
+-- The text is the dump of what a capture has of these harts; or, where a search is asked for, what a search of it finds
+-- of them.
+abbrev pub IsDumpAsked : Bool → HartRange → List ℕ → Bool → Option (ℕ × MessageFault) → List ℕ → Type 0
+IsDumpAsked false harts bytes = IsDumpOf harts bytes
+IsDumpAsked true harts bytes = IsSearchedOf harts bytes
 
 -- The dump of a capture is written, by a search or not, and the run ends as the dump does.
-pub record WritesDump (search : Bool) (bytes : List ℕ) (printed : Printed) : Type 0 where
+pub record WritesDump (search : Bool) (harts : HartRange) (bytes : List ℕ) (printed : Printed) : Type 0 where
   pub bad : Bool
   pub stop : Option (ℕ × MessageFault)
-  pub dumped : IsDumpAsked search bytes bad stop printed.text
+  pub dumped : IsDumpAsked search harts bytes bad stop printed.text
   pub ended : printed.ended ≡ end_of_dump bad stop
 
+-- The dump of a capture is written, where it has one of these harts.
+abbrev pub WritesDumpOf : Bool → HartRange → List ℕ → Printed → Type 0
+WritesDumpOf search harts bytes = First (HasHart harts bytes) (λ _. WritesDump search harts bytes)
+
 -- The capture is read. Where there is no fault, its dump is written.
+abbrev pub DumpsHarts : Content → Dump → HartRange → Printed → Type 0
+DumpsHarts content asked harts = First (IsRead content asked.capture) (WritesDumpOf asked.search harts)
+
+-- The harts that are asked for are found, and then the dump of what the capture has of these is written.
 abbrev pub Dumps : Content → Dump → Printed → Type 0
-Dumps content asked = First (IsRead content asked.capture) (WritesDump asked.search)
+Dumps content asked = First (IsOnly asked.only) (DumpsHarts content asked)
 
--- `dump` writes once it has the capture.
+-- `dump` writes once it has the capture, and that has one of these harts.
+abbrev pub CanDumpHarts : Content → Dump → HartRange → Type 0
+CanDumpHarts content asked harts =
+    Once (IsRead content asked.capture) (λ bytes. Once (HasHart harts bytes) (λ _. ⊤))
+
 abbrev pub CanDump : Content → Dump → Type 0
-CanDump content asked = Once (IsRead content asked.capture) (λ _. ⊤)
+CanDump content asked = Once (IsOnly asked.only) (CanDumpHarts content asked)
 
--- What `dump` means. No fault of it is found without the capture.
+-- What `dump` means. Without the capture only the fault of an argument that is no range of harts is found.
 abbrev pub dump_meaning : Dump → Meaning
-dump_meaning asked = writing_at_once None (λ content. Dumps content asked) (λ content. CanDump content asked)
+dump_meaning asked =
+    writing_at_once (only_fault (asked_harts asked.only)) (λ content. Dumps content asked)
+    (λ content. CanDump content asked)

@@ -2,12 +2,14 @@
 use Rattle.std.specs.Prelude.{ℕ, ◌++◌, List, codes}
 use Rattle.std.specs.Fmt.{decimal}
 use Rattle.captures.specs.FaultText.{capture_fault_text}
+use Rattle.hart_range.specs.Text.{range_text}
 use Rattle.message.specs.FaultText.{message_fault_text}
 use Rattle.message.specs.declared.fault.MessageFault.TheVariants.{BadHeader}
 use Rattle.symbols.specs.FaultText.{symbols_fault_text}
 use Rattle.command_inputs.specs.FaultText.{at_path}
 use Rattle.capture_commands.specs.declared.reason.CaptureReason.{CaptureReason}
-use Rattle.capture_commands.specs.declared.reason.CaptureReason.TheVariants.{Header, Logs, Message, Symbols, Unclosed}
+use Rattle.capture_commands.specs.declared.reason.CaptureReason.TheVariants.{Header, Logs, Message, NoHart, Symbols}
+use Rattle.capture_commands.specs.declared.reason.CaptureReason.TheVariants.{Unclosed}
 
 -- A reason of a subcommand that reads a capture, as a line of text.
 abbrev pub capture_reason_text : CaptureReason → List ℕ
@@ -17,3 +19,4 @@ capture_reason_text (Message number why) =
 capture_reason_text (Unclosed hart) = codes "hart " ++ (decimal hart ++ codes ": no closing packet")
 capture_reason_text (Symbols path why) = at_path path (symbols_fault_text why)
 capture_reason_text (Logs logs harts) = decimal logs ++ (codes " logs for " ++ (decimal harts ++ codes " harts"))
+capture_reason_text (NoHart harts) = codes "no hart of " ++ range_text harts

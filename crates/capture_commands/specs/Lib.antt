@@ -1,8 +1,8 @@
 pub mod Faults
 pub mod FaultText
 pub mod Symbols
+pub mod OnlyHarts
 pub mod Dumping
-pub mod EachHart
 pub mod Decoding
 pub mod Pieces
 pub mod Decoded

@@ -22,7 +22,7 @@ use Rattle.capture_commands.specs.Faults.{Fault, Printed, lossy_fault, reading_f
 use Rattle.command_inputs.specs.declared.status.Status.{Status}
 use Rattle.command_inputs.specs.declared.status.Status.TheVariants.{NotWhole}
 use Rattle.capture_commands.specs.Decoding.{end_of_harts}
-use Rattle.capture_commands.specs.EachHart.{each_hart}
+use Rattle.hart_rows.specs.EachHart.{each_hart}
 
 -- The line of a count of messages, after the name of what they are.
 abbrev pub messages_line : List ℕ → ℕ → List ℕ

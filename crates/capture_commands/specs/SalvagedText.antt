@@ -17,7 +17,7 @@ use Rattle.salvaging.specs.ReasonText.{reason_text}
 use Rattle.salvaging.specs.declared.reason.Reason.{Reason}
 use Rattle.salvaging.specs.declared.salvaged.Salvaged.{Salvaged}
 use Rattle.salvaging.specs.declared.salvaged.SalvagedHart.{SalvagedHart}
-use Rattle.capture_commands.specs.EachHart.{numbered_harts}
+use Rattle.hart_rows.specs.EachHart.{numbered_harts}
 use Rattle.salvaged_table.specs.Offsets.{offset_at, offsets_in}
 use Rattle.capture_commands.specs.Pieces.{messages_line}
 

@@ -1,28 +1,26 @@
 //! The subcommand `decode`.
 
-ghost use Rattle.std.specs.Prelude.{⊤, ◌≡◌, ◌≢◌, ◌⊎◌, Err, IfErr, IfOk, IfSome, OnOk};
-ghost use Rattle.std.specs.Io.KnownBytes.{Appends, Keeps};
+ghost use Rattle.std.specs.Prelude.{⊤, ◌≡◌, ◌≢◌, ◌⊎◌, true, false, Err, IfOk, IfSome};
+ghost use Rattle.std.specs.Io.KnownBytes.{Keeps};
 ghost use Rattle.captures.specs.Decoded.{IsDecoded};
 ghost use Rattle.receiver.specs.Received.{events_in};
 ghost use Rattle.rvclass.specs.Fetch.{words_of};
-ghost use Rattle.output.specs.Begun.{AppendsBeginning};
 ghost use Rattle.command_inputs.specs.Begun.{BeginsPrinted, IsCutOf};
 ghost use Rattle.command_inputs.specs.FurtherPieces.{base_number};
-ghost use Rattle.command_inputs.specs.Printed.{IsPrintingDenied, PrintsUnlessDenied};
-ghost use Rattle.capture_commands.specs.Faults.{final_status, status_of};
+ghost use Rattle.command_inputs.specs.Printed.{PrintsUnlessDenied};
+ghost use Rattle.capture_commands.specs.Faults.{final_status};
 ghost use Rattle.command_inputs.specs.Order.{base_fault};
-ghost use Rattle.capture_commands.specs.Decoded.{Decodes, WritesDecoded, harts_text, CanDecode};
-ghost use Rattle.capture_commands.specs.steps.Writing.{EndsWriting, StopsBehindLine};
+ghost use Rattle.capture_commands.specs.Decoded.{Decodes, WritesDecoded, CanDecode};
 ghost use Rattle.command_inputs.specs.declared.fault.Fault.TheVariants as Fault;
 
 use crate::counting::messages_in;
 use crate::ending::ended;
 use crate::lossy_decoding::decode_lossy;
 use crate::reason::Fault;
+use crate::survey_progress::SurveyProgress;
 use captures::{CaptureOutcome, decode_watched};
 use command_inputs::{Files, MessageProgress, Status, base_of, content_of, program_of};
-use output::write_text;
-use retire::{Event, write_log};
+use hart_rows::write_decoded;
 use rvclass::ProgramOver;
 use std::alloc::{AllocError, Global};
 use std::io::Write;
@@ -48,8 +46,10 @@ pub fn decode<'a, F: Files, O: Write>(
     ensures printed { PrintsUnlessDenied (Decodes (F.content files.old) asked.now)
         (CanDecode (F.content files.old) asked.now) result
         (O.contents out.old) (O.contents out.new) }
+    ensures untouched { asked.now.lossy ≡ false → result ≡ Err Fault.Memory → out.new ≡ out.old }
     ensures begun { result ≡ Err Fault.Memory → Keeps (O.contents out.old) (O.contents out.new)
-        ⊎ BeginsPrinted (Decodes (F.content files.old) asked.now) (O.contents out.old) (O.contents out.new) }
+        ⊎ ((asked.now.lossy ≡ true)
+        × BeginsPrinted (Decodes (F.content files.old) asked.now) (O.contents out.old) (O.contents out.new)) }
     ensures cut { IsCutOf (Decodes (F.content files.old) asked.now) (O.contents out.old) (O.contents out.new) }
 {
     let base = base_of(asked.base, &asked.also)?;
@@ -64,7 +64,8 @@ pub fn decode<'a, F: Files, O: Write>(
     }
 }
 
-/// Writes the log of each hart, as far as the messages of these bytes settle it, where no message may be lost.
+/// Writes the log of each hart, as far as the messages of these bytes settle it, where no message may be lost. All
+/// memory is taken before anything is written.
 fn decode_whole<'a, F: Files, O: Write>(
     alloc: Global,
     progress: &MessageProgress<'_, F>,
@@ -74,12 +75,18 @@ fn decode_whole<'a, F: Files, O: Write>(
     out: &mut O,
 ) -> Result<Status, Fault<'a>>
     ensures never_refused { final_status result ≢ Status.Refused }
+    ensures untouched { result ≡ Err Fault.Memory → out.new ≡ out.old }
     ensures printed { PrintsUnlessDenied (WritesDecoded harts program.now bytes.now) ⊤ result
         (O.contents out.old) (O.contents out.new) }
     ensures cut { IsCutOf (WritesDecoded harts program.now bytes.now) (O.contents out.old) (O.contents out.new) }
 {
-    let outcome = outcome_of(alloc, progress, program, harts, bytes)?;
-    write_outcome(alloc, &outcome, out)
+    if progress.is_asked() {
+        progress.begin(messages_in(bytes));
+    }
+    let survey = SurveyProgress { progress };
+    let decoded = write_decoded(alloc, program, harts, bytes, &survey, out)?;
+    out.flush()?;
+    ended(decoded.fault, decoded.closed.as_slice())
 }
 
 /// What the messages of these bytes decode to. How far they are worked through is shown, where that is asked for.
@@ -100,44 +107,4 @@ pub fn outcome_of<F: Files>(
     let outcome = decode_watched(alloc, program, harts, bytes, progress);
     progress.end();
     outcome
-}
-
-/// Writes the log of each hart, as far as it was decoded, and returns how decoding ended. All that was decoded before a
-/// fault is written, also where the fault is that allocation failed in a decoder. The exceptions: the output fails, or
-/// allocation for a log's text does.
-fn write_outcome<'a, O: Write>(
-    alloc: Global,
-    outcome: &CaptureOutcome,
-    out: &mut O,
-) -> Result<Status, Fault<'a>>
-    ensures never_refused { final_status result ≢ Status.Refused }
-    ensures written { EndsWriting (events_in outcome.now.harts.items) outcome.now.closed.items outcome.now.fault
-        result (O.contents out.old) (O.contents out.new) }
-    ensures begun { AppendsBeginning (harts_text 0 (events_in outcome.now.harts.items))
-        (O.contents out.old) (O.contents out.new) }
-{
-    write_logs(alloc, outcome.harts.as_slice(), out)?;
-    out.flush()?;
-    ended(outcome.fault, outcome.closed.as_slice())
-}
-
-/// Writes the log of each hart, after a line with the hart's number. Allocation may fail for the text of a log, once
-/// the line of its hart is written.
-fn write_logs<'a, O: Write>(
-    alloc: Global,
-    logs: &[Vec<Event>],
-    out: &mut O,
-) -> Result<(), Fault<'a>>
-    ensures machine { IfErr result (λ fault. status_of fault ≡ Status.Machine) }
-    ensures denied { IfErr result (IsPrintingDenied ⊤) }
-    ensures memory { result ≡ Err Fault.Memory
-        → StopsBehindLine (events_in logs.now) (O.contents out.old) (O.contents out.new) }
-    ensures text { OnOk result (Appends (O.contents out.old) (O.contents out.new) (harts_text 0 (events_in logs.now))) }
-    ensures begun { AppendsBeginning (harts_text 0 (events_in logs.now)) (O.contents out.old) (O.contents out.new) }
-{
-    for (hart, log) in logs.iter().enumerate() {
-        write_text(out, format_args!("hart {hart}\n"))?;
-        write_log(alloc, out, log.as_slice())?;
-    }
-    Ok(())
 }

@@ -1,20 +1,24 @@
 //! The subcommand `dump`.
 
-ghost use Rattle.std.specs.Prelude.{◌≡◌, ◌≢◌, Err, IfErr, IfOk, OnErr};
+ghost use Rattle.std.specs.Prelude.{◌≡◌, ◌≢◌, Err, IfErr, IfOk, IfSome, OnErr};
 ghost use Rattle.captures.specs.Dump.{AppendsDump, BeginsDump};
 ghost use Rattle.command_inputs.specs.Begun.{IsCutOf};
+ghost use Rattle.command_inputs.specs.OnlyHarts.{asked_harts};
+ghost use Rattle.command_inputs.specs.Order.{only_fault};
 ghost use Rattle.command_inputs.specs.Printed.{PrintsUnlessDenied};
 ghost use Rattle.capture_commands.specs.Faults.{final_status};
-ghost use Rattle.capture_commands.specs.Dumping.{CanDump, Dumps, IsDumpAsked, end_of_dump};
+ghost use Rattle.capture_commands.specs.Dumping.{CanDump, CanDumpHarts, Dumps, DumpsHarts, IsDumpAsked, end_of_dump};
 ghost use Rattle.command_inputs.specs.declared.fault.Fault.TheVariants as Fault;
 
 use crate::counting::{frames_in, messages_in};
+use crate::hart_check::check_harts;
 use crate::reason::Fault;
 use crate::stopping::capture_fault;
-use captures::{CaptureFault, Dumped, dump_watched};
-use command_inputs::{Files, MessageProgress, Status, content_of};
+use captures::{CaptureFault, Dumped, dump_harts};
+use command_inputs::{Files, MessageProgress, Status, content_of, harts_asked};
+use hart_range::HartRange;
 use retire::WriteFault;
-use searching::search_capture;
+use searching::search_harts;
 use std::io::Write;
 use subcommands::Dump;
 
@@ -25,42 +29,67 @@ use subcommands::Dump;
 /// Where a search is asked for, messages are looked for after damage too: a line for each frame that is taken, and one
 /// for each longest run of bytes between. Where there is such a run, the capture is not good. Where its header is cut
 /// short or bad, the lines go on to its end, and then that fault is returned.
+///
+/// Where some harts are asked for, messages of all other harts are passed over: they have no line, and their payloads may
+/// be bad. A fault counts them. Where the capture has none of these harts, nothing is written.
 pub fn dump<'a, F: Files, O: Write>(
     files: &mut F,
     asked: &Dump<'a>,
     out: &mut O,
 ) -> Result<Status, Fault<'a>>
-    ensures refused { final_status result ≢ Status.Refused }
+    ensures early { IfSome (only_fault (asked_harts asked.now.only)) (λ fault. result ≡ Err fault) }
+    ensures refused { final_status result ≡ Status.Refused → out.new ≡ out.old }
     ensures untouched { result ≡ Err Fault.Memory → out.new ≡ out.old }
     ensures printed { PrintsUnlessDenied (Dumps (F.content files.old) asked.now)
         (CanDump (F.content files.old) asked.now) result
         (O.contents out.old) (O.contents out.new) }
     ensures cut { IsCutOf (Dumps (F.content files.old) asked.now) (O.contents out.old) (O.contents out.new) }
 {
+    let harts = harts_asked(asked.only)?;
+    dump_of(files, asked, harts, out)
+}
+
+/// Writes the dump of what a capture has of these harts.
+fn dump_of<'a, F: Files, O: Write>(
+    files: &mut F,
+    asked: &Dump<'a>,
+    harts: HartRange,
+    out: &mut O,
+) -> Result<Status, Fault<'a>>
+    ensures refused { final_status result ≢ Status.Refused }
+    ensures untouched { result ≡ Err Fault.Memory → out.new ≡ out.old }
+    ensures printed { PrintsUnlessDenied (DumpsHarts (F.content files.old) asked.now harts)
+        (CanDumpHarts (F.content files.old) asked.now harts) result
+        (O.contents out.old) (O.contents out.new) }
+    ensures cut { IsCutOf (DumpsHarts (F.content files.old) asked.now harts)
+        (O.contents out.old) (O.contents out.new) }
+{
     let bytes = content_of(files, asked.capture)?;
+    check_harts(harts, bytes.as_slice())?;
     let progress = MessageProgress::new(&*files, asked.progress);
-    let dumped = show_dump(&progress, asked, bytes.as_slice(), out)?;
+    let dumped = show_dump(&progress, asked, harts, bytes.as_slice(), out)?;
     out.flush()?;
     ended(&dumped)
 }
 
-/// Writes the dump of a capture's bytes. How far their messages are worked through is shown, where that is asked for.
+/// Writes the dump of what a capture's bytes have of these harts. How far their messages are worked through is shown, where that is asked for.
 fn show_dump<'a, F: Files, O: Write>(
     progress: &MessageProgress<'_, F>,
     asked: &Dump<'a>,
+    harts: HartRange,
     bytes: &[u8],
     out: &mut O,
 ) -> Result<Dumped, WriteFault>
-    ensures dumped { IfOk result (λ dumped. AppendsDump (IsDumpAsked asked.now.search bytes.now) dumped.bad dumped.fault
-        (O.contents out.old) (O.contents out.new)) }
+    ensures dumped { IfOk result (λ dumped. AppendsDump (IsDumpAsked asked.now.search harts bytes.now) dumped.bad
+        dumped.fault (O.contents out.old) (O.contents out.new)) }
     ensures begun { OnErr result
-        (BeginsDump (IsDumpAsked asked.now.search bytes.now) (O.contents out.old) (O.contents out.new)) }
+        (BeginsDump (IsDumpAsked asked.now.search harts bytes.now) (O.contents out.old) (O.contents out.new)) }
     ensures fault { IfErr result (λ fault. fault ≡ WriteFault.Write) }
 {
     if progress.is_asked() {
         progress.begin(dumped_in(asked, bytes));
     }
-    let dumped = write_dump(progress, asked, bytes, out);
+    let dumped = write_dump(progress, asked, harts, bytes, out);
     progress.end();
     dumped
 }
@@ -73,23 +102,24 @@ fn dumped_in(asked: &Dump<'_>, bytes: &[u8]) -> u64 {
     frames_in(bytes)
 }
 
-/// Writes the dump of a capture's bytes, by a search where one is asked for.
+/// Writes the dump of what a capture's bytes have of these harts, by a search where one is asked for.
 fn write_dump<'a, F: Files, O: Write>(
     progress: &MessageProgress<'_, F>,
     asked: &Dump<'a>,
+    harts: HartRange,
     bytes: &[u8],
     out: &mut O,
 ) -> Result<Dumped, WriteFault>
-    ensures dumped { IfOk result (λ dumped. AppendsDump (IsDumpAsked asked.now.search bytes.now) dumped.bad dumped.fault
-        (O.contents out.old) (O.contents out.new)) }
+    ensures dumped { IfOk result (λ dumped. AppendsDump (IsDumpAsked asked.now.search harts bytes.now) dumped.bad
+        dumped.fault (O.contents out.old) (O.contents out.new)) }
     ensures begun { OnErr result
-        (BeginsDump (IsDumpAsked asked.now.search bytes.now) (O.contents out.old) (O.contents out.new)) }
+        (BeginsDump (IsDumpAsked asked.now.search harts bytes.now) (O.contents out.old) (O.contents out.new)) }
     ensures fault { IfErr result (λ fault. fault ≡ WriteFault.Write) }
 {
     if asked.search {
-        search_capture(bytes, out, progress)
+        search_harts(bytes, harts, out, progress)
     } else {
-        dump_watched(bytes, out, progress)
+        dump_harts(bytes, harts, out, progress)
     }
 }
 

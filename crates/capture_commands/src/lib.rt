@@ -8,6 +8,7 @@ mod decoding;
 mod dumping;
 mod ending;
 mod frame_reading;
+mod hart_check;
 mod laws;
 mod lossy_decoding;
 mod message_listing;
@@ -17,6 +18,7 @@ mod salvaged_listing;
 mod salvaged_writing;
 mod salvaging_capture;
 mod stopping;
+mod survey_progress;
 mod symbols_input;
 
 pub use decoding::{decode, outcome_of};

@@ -10,7 +10,7 @@ ghost use Rattle.command_inputs.specs.Begun.{IsCutOf};
 ghost use Rattle.command_inputs.specs.Printed.{IsPrintingDenied, PrintsUnlessDenied};
 ghost use Rattle.capture_commands.specs.Faults.{final_status, status_of};
 ghost use Rattle.capture_commands.specs.Decoding.{end_of_harts};
-ghost use Rattle.capture_commands.specs.EachHart.{each_hart};
+ghost use Rattle.hart_rows.specs.EachHart.{each_hart};
 ghost use Rattle.capture_commands.specs.Pieces.{ArePieces, HasPieces, WritesPieces, closed_of, end_of_pieces};
 ghost use Rattle.capture_commands.specs.Pieces.{harts_counted, have_gaps, is_gap, mode_of_header, part_text, parts_of};
 ghost use Rattle.capture_commands.specs.Pieces.{parts_text};

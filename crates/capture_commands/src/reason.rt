@@ -6,6 +6,7 @@ ghost use Rattle.capture_commands.specs.Faults.{capture_reason_status};
 
 use captures::CaptureFault;
 use command_inputs::{Reason, Status};
+use hart_range::HartRange;
 use message::MessageFault;
 use std::fmt;
 use symbols::SymbolsFault;
@@ -26,6 +27,8 @@ pub enum CaptureReason<'a> {
     Symbols(&'a str, SymbolsFault),
     /// So many logs are given for a capture of so many harts.
     Logs(usize, usize),
+    /// The capture has none of these harts.
+    NoHart(HartRange),
 }
 
 impl fmt::Display for CaptureReason<'_> {
@@ -38,6 +41,7 @@ impl fmt::Display for CaptureReason<'_> {
             CaptureReason::Unclosed(hart) => write!(f, "hart {hart}: no closing packet"),
             CaptureReason::Symbols(path, why) => write!(f, "{path}: {why}"),
             CaptureReason::Logs(logs, harts) => write!(f, "{logs} logs for {harts} harts"),
+            CaptureReason::NoHart(harts) => write!(f, "no hart of {harts}"),
         }
     }
 }
@@ -49,9 +53,10 @@ impl Reason for CaptureReason<'_> {
 
     fn status(&self) -> Status {
         match self {
-            CaptureReason::Header | CaptureReason::Message(..) | CaptureReason::Unclosed(_) => {
-                Status::NotWhole
-            }
+            CaptureReason::Header
+            | CaptureReason::Message(..)
+            | CaptureReason::Unclosed(_)
+            | CaptureReason::NoHart(_) => Status::NotWhole,
             CaptureReason::Symbols(..) | CaptureReason::Logs(..) => Status::Refused,
         }
     }

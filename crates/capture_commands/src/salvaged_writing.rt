@@ -6,7 +6,7 @@ ghost use Rattle.std.specs.List.{flat_map};
 ghost use Rattle.output.specs.Begun.{AppendsBeginning};
 ghost use Rattle.salvaging.specs.LeftParts.{Events};
 ghost use Rattle.salvaging.specs.PartsIn.{part_of, parts_in};
-ghost use Rattle.capture_commands.specs.EachHart.{numbered_harts};
+ghost use Rattle.hart_rows.specs.EachHart.{numbered_harts};
 ghost use Rattle.salvaged_table.specs.Offsets.{offset_at, own_offsets};
 ghost use Rattle.capture_commands.specs.SalvagedText.{alone_line, bad_line, counted_line, doubtful_line, hart_text};
 ghost use Rattle.capture_commands.specs.SalvagedText.{left_text, mode_line, parts_and_counts, rows_text, run_text};

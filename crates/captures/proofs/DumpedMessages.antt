@@ -5,37 +5,40 @@ use Rattle.std.specs.Prelude.{All}
 use Rattle.std.specs.Io.KnownBytes.{Appends}
 use Rattle.std.specs.List.{list_any}
 use Rattle.std.proofs.KnownBytes.{Appends-trans}
-use Rattle.std.proofs.Math.Bool.{or-false}
-use Rattle.std.proofs.lemmas.List.{length-append, flat_map_more}
+use Rattle.std.proofs.lemmas.List.{length-append}
+use Rattle.std.proofs.lemmas.List.Concat.{flat_map-append}
 use Rattle.std.proofs.lemmas.List.Elements.{All-push}
 use Rattle.std.proofs.lemmas.List.Folds.{list_any-append}
 use Rattle.payload.specs.declared.mode.Mode.{Mode}
 use Rattle.message.specs.Capture.{capture, message_bytes}
 use Rattle.message.specs.Cut.{IsMessage}
 use Rattle.message.specs.declared.message.Message.{Message}
+use Rattle.hart_range.proofs.Selecting.{selected-append}
+use Rattle.hart_range.specs.Range.{selected}
+use Rattle.hart_range.specs.declared.range.HartRange.{HartRange}
 use Rattle.captures.proofs.Reaching.{capture_next}
 use Rattle.captures.specs.Dump.{has_bad_payload, dump_line, dump_text}
 
--- So many messages stand before the bytes that are left, the flag says whether a payload of theirs is bad, and their
--- lines were appended.
-pub record HasDumped (mode : Mode) (bytes left : List ℕ) (count : ℕ) (bad : Bool) (old new : Option (List ℕ))
-    : Type 0 where
+-- So many messages stand before the bytes that are left, the flag says whether a payload of those of these harts is bad,
+-- and the lines of these were appended.
+pub record HasDumped (harts : HartRange) (mode : Mode) (bytes left : List ℕ) (count : ℕ) (bad : Bool)
+    (old new : Option (List ℕ)) : Type 0 where
   pub messages : List Message
   pub ranges : All IsMessage messages
   pub whole : bytes ≡ capture messages ++ left
   pub counted : count ≡ length messages
-  pub flag : bad ≡ list_any has_bad_payload messages
-  pub text : Appends old new (dump_text mode messages)
+  pub flag : bad ≡ list_any has_bad_payload (selected harts messages)
+  pub text : Appends old new (dump_text mode (selected harts messages))
   pub room : count + length left ≤ length bytes
 
 -- One message more.
-pub dumped-next : (mode : Mode) (bytes left next : List ℕ) (count : ℕ) (bad : Bool) (m : Message)
+pub dumped-next : (harts : HartRange) (mode : Mode) (bytes left next : List ℕ) (count : ℕ) (bad : Bool) (m : Message)
     (old before after : Option (List ℕ))
-    → HasDumped mode bytes left count bad old before
-    → IsMessage m → Appends before after (dump_line mode m)
+    → HasDumped harts mode bytes left count bad old before
+    → IsMessage m → Appends before after (dump_text mode (selected harts (m ∷ [])))
     → left ≡ message_bytes m ++ next → length next < length left
-    → HasDumped mode bytes next (count + 1) (bad || has_bad_payload m) old after
-dumped-next mode bytes left next count bad m old before after so_far is line begins fewer =
+    → HasDumped harts mode bytes next (count + 1) (bad || list_any has_bad_payload (selected harts (m ∷ []))) old after
+dumped-next harts mode bytes left next count bad m old before after so_far is line begins fewer =
     let messages = so_far.messages in
     let more = length-append messages (m ∷ []) in
     let counted = so_far.counted in
@@ -45,19 +48,24 @@ dumped-next mode bytes left next count bad m old before after so_far is line beg
       ranges = All-push IsMessage messages m so_far.ranges is;
       whole = so_far.whole ∙ ap (λ (l : List ℕ). capture messages ++ l) begins ∙ sym (capture_next messages m next);
       counted = omega (arith, counted, more);
-      flag = ap (λ b. b || has_bad_payload m) so_far.flag ∙ any-snoc messages;
+      flag = ap (λ b. b || list_any has_bad_payload (selected harts (m ∷ []))) so_far.flag ∙ any-snoc messages;
       text =
           subst (Appends old after) (text-snoc messages)
-          (Appends-trans old before after (dump_text mode messages) (dump_line mode m) so_far.text line);
+          (Appends-trans old before after (dump_text mode (selected harts messages))
+          (dump_text mode (selected harts (m ∷ []))) so_far.text line);
       room = omega (arith, room, fewer);
     }
   where
-    text-snoc : (messages : List Message) → dump_text mode messages ++ dump_line mode m
-        ≡ dump_text mode (messages ++ m ∷ [])
-    text-snoc messages = flat_map_more (dump_line mode) [] messages m
+    text-snoc : (messages : List Message)
+        → dump_text mode (selected harts messages) ++ dump_text mode (selected harts (m ∷ []))
+        ≡ dump_text mode (selected harts (messages ++ m ∷ []))
+    text-snoc messages =
+        sym (ap (dump_text mode) (selected-append harts messages (m ∷ []))
+        ∙ flat_map-append (dump_line mode) (selected harts messages) (selected harts (m ∷ [])))
 
     any-snoc : (messages : List Message)
-        → (list_any has_bad_payload messages || has_bad_payload m) ≡ list_any has_bad_payload (messages ++ m ∷ [])
+        → (list_any has_bad_payload (selected harts messages) || list_any has_bad_payload (selected harts (m ∷ [])))
+        ≡ list_any has_bad_payload (selected harts (messages ++ m ∷ []))
     any-snoc messages =
-        sym (list_any-append has_bad_payload messages (m ∷ [])
-        ∙ ap (λ b. list_any has_bad_payload messages || b) (or-false (has_bad_payload m)))
+        sym (ap (list_any has_bad_payload) (selected-append harts messages (m ∷ []))
+        ∙ list_any-append has_bad_payload (selected harts messages) (selected harts (m ∷ [])))

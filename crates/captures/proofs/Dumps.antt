@@ -10,6 +10,9 @@ use Rattle.std.proofs.lemmas.List.Elements.{All-append, All-nil, All-cons}
 use Rattle.output.specs.Begun.{AppendsBeginning}
 use Rattle.output.proofs.Beginnings.{begun_between}
 use Rattle.payload.specs.declared.mode.Mode.{Mode}
+use Rattle.hart_range.proofs.Selecting.{selected-append}
+use Rattle.hart_range.specs.Range.{selected}
+use Rattle.hart_range.specs.declared.range.HartRange.{HartRange}
 use Rattle.message.proofs.Fronts.{Front, front_of}
 use Rattle.message.specs.Capture.{capture, message_bytes}
 use Rattle.message.specs.Cut.{IsMessage}
@@ -95,24 +98,35 @@ capture_joined (m ∷ front) back =
     ap (λ (l : List ℕ). message_bytes m ++ l) (capture_joined front back)
     ∙ sym (append_assoc (message_bytes m) (capture front) (capture back))
 
+-- The lines of two lists, one after the other.
+text_joined : (harts : HartRange) (mode : Mode) (front back : List Message)
+    → dump_text mode (selected harts (front ++ back))
+    ≡ dump_text mode (selected harts front) ++ dump_text mode (selected harts back)
+text_joined harts mode front back =
+    ap (dump_text mode) (selected-append harts front back)
+    ∙ flat_map-append (dump_line mode) (selected harts front) (selected harts back)
+
 -- Messages were dumped, and a beginning of the line of the next.
-pub dump_begun : (mode : Mode) (bytes left next : List ℕ) (count : ℕ) (bad : Bool) (m : Message)
+pub dump_begun : (harts : HartRange) (mode : Mode) (bytes left next : List ℕ) (count : ℕ) (bad : Bool) (m : Message)
     (old mid new : Option (List ℕ))
-    → AreBytes bytes → HasDumped mode bytes left count bad old mid → IsMessage m → left ≡ message_bytes m ++ next
-    → AppendsBeginning (dump_line mode m) mid new
-    → BeginsDump (AreMessagesDumped mode bytes) old new
-dump_begun mode bytes left next count bad m old mid new are so_far is begins begun =
+    → AreBytes bytes → HasDumped harts mode bytes left count bad old mid → IsMessage m
+    → left ≡ message_bytes m ++ next → AppendsBeginning (dump_text mode (selected harts (m ∷ []))) mid new
+    → BeginsDump (AreMessagesDumped harts mode bytes) old new
+dump_begun harts mode bytes left next count bad m old mid new are so_far is begins begun =
     let behind : AreBytes next =
     AreBytes-behind (message_bytes m) next (subst AreBytes begins
     (AreBytes-behind (capture so_far.messages) left (subst AreBytes so_far.whole are))) in
     let later = parted (length next) next (omega arith) behind in
     let all = so_far.messages ++ m ∷ later.messages in
-    let text : dump_text mode all
-    ≡ dump_text mode so_far.messages ++ (dump_line mode m ++ dump_text mode later.messages) =
-    flat_map-append (dump_line mode) so_far.messages (m ∷ later.messages) in
+    let text : dump_text mode (selected harts all)
+    ≡ dump_text mode (selected harts so_far.messages)
+    ++ (dump_text mode (selected harts (m ∷ [])) ++ dump_text mode (selected harts later.messages)) =
+    text_joined harts mode so_far.messages (m ∷ later.messages)
+    ∙ ap (λ (l : List ℕ). dump_text mode (selected harts so_far.messages) ++ l)
+    (text_joined harts mode (m ∷ []) later.messages) in
     record {
-      text = dump_text mode all;
-      bad = list_any has_bad_payload all;
+      text = dump_text mode (selected harts all);
+      bad = list_any has_bad_payload (selected harts all);
       fault = stop_at (length all) later.why;
       dumped = record {
         messages = all;
@@ -130,23 +144,23 @@ dump_begun mode bytes left next count bad m old mid new are so_far is begins beg
         ends = ends_at (length all) later.rest later.why later.ends;
       };
       begun = subst (λ (l : List ℕ). AppendsBeginning l old new) (sym text)
-          (begun_between (dump_text mode so_far.messages) (dump_line mode m) (dump_text mode later.messages) old mid new
-          so_far.text begun);
+          (begun_between (dump_text mode (selected harts so_far.messages)) (dump_text mode (selected harts (m ∷ [])))
+          (dump_text mode (selected harts later.messages)) old mid new so_far.text begun);
     }
 
 -- Some text is the dump of any bytes.
-pub record HasDump (mode : Mode) (bytes : List ℕ) : Type 0 where
+pub record HasDump (harts : HartRange) (mode : Mode) (bytes : List ℕ) : Type 0 where
   pub text : List ℕ
   pub bad : Bool
   pub fault : Option (ℕ × MessageFault)
-  pub dumped : AreMessagesDumped mode bytes bad fault text
+  pub dumped : AreMessagesDumped harts mode bytes bad fault text
 
-pub has_dump : (mode : Mode) (bytes : List ℕ) → AreBytes bytes → HasDump mode bytes
-has_dump mode bytes are =
+pub has_dump : (harts : HartRange) (mode : Mode) (bytes : List ℕ) → AreBytes bytes → HasDump harts mode bytes
+has_dump harts mode bytes are =
     let all = parted (length bytes) bytes (omega arith) are in
     record {
-      text = dump_text mode all.messages;
-      bad = list_any has_bad_payload all.messages;
+      text = dump_text mode (selected harts all.messages);
+      bad = list_any has_bad_payload (selected harts all.messages);
       fault = stop_at (length all.messages) all.why;
       dumped = record {
         messages = all.messages;

@@ -6,6 +6,8 @@ use Rattle.std.specs.Io.KnownBytes.{Appends}
 use Rattle.std.specs.List.{flat_map, list_any}
 use Rattle.std.specs.Result.{is_err}
 use Rattle.output.specs.Begun.{AppendsBeginning}
+use Rattle.hart_range.specs.Range.{every_hart, selected}
+use Rattle.hart_range.specs.declared.range.HartRange.{HartRange}
 use Rattle.payload.specs.Reading.{reading}
 use Rattle.payload.specs.declared.fault.PackFault.{PackFault}
 use Rattle.payload.specs.declared.mode.Mode.{Mode}
@@ -57,27 +59,35 @@ header_line header =
     (codes " period=" ++ (decimal header.period ++ (codes " harts=" ++ (decimal header.harts ++ codes "\n")))))
 
 -- The bytes are those of messages and some rest, before which the dump ends, for this fault if there is one. The text
--- is the lines of the messages, whose address fields are named by this mode. The flag says whether a payload is bad.
-pub record AreMessagesDumped (mode : Mode) (bytes : List ℕ) (bad : Bool) (fault : Option (ℕ × MessageFault))
-    (text : List ℕ) : Type 0 where
+-- is the lines of the messages of these harts, whose address fields are named by this mode. The flag says whether a
+-- payload of theirs is bad. The fault counts the messages of all harts.
+pub record AreMessagesDumped (harts : HartRange) (mode : Mode) (bytes : List ℕ) (bad : Bool)
+    (fault : Option (ℕ × MessageFault)) (text : List ℕ) : Type 0 where
   pub messages : List Message
   pub rest : List ℕ
   pub ranges : All IsMessage messages
   pub whole : bytes ≡ capture messages ++ rest
-  pub flag : bad ≡ list_any has_bad_payload messages
-  pub lines : text ≡ dump_text mode messages
+  pub flag : bad ≡ list_any has_bad_payload (selected harts messages)
+  pub lines : text ≡ dump_text mode (selected harts messages)
   pub ends : Ends (length messages) rest fault
 
--- The text is the dump of a capture. Bytes of version 1, which do not begin with the mark, are messages, whose address
--- fields are named as differences. Bytes of version 2 are a header, which has a line of its own, and messages, whose
--- address fields are named by the header's mode. Where the header is cut short or bad, there is no line.
-pub data IsDump (bytes : List ℕ) (bad : Bool) (fault : Option (ℕ × MessageFault)) (text : List ℕ) : Type 0 where
-  Version1 : ¬ IsMarked bytes → AreMessagesDumped Differential bytes bad fault text → IsDump bytes bad fault text
+-- The text is the dump of what a capture has of these harts. Bytes of version 1, which do not begin with the mark, are
+-- messages, whose address fields are named as differences. Bytes of version 2 are a header, which has a line of its own,
+-- and messages, whose address fields are named by the header's mode. Where the header is cut short or bad, there is no
+-- line.
+pub data IsDumpOf (harts : HartRange) (bytes : List ℕ) (bad : Bool) (fault : Option (ℕ × MessageFault))
+    (text : List ℕ) : Type 0 where
+  Version1 : ¬ IsMarked bytes → AreMessagesDumped harts Differential bytes bad fault text
+      → IsDumpOf harts bytes bad fault text
   Version2 : (header : Header) (rest lines : List ℕ) → IsHeader header → bytes ≡ header_bytes header ++ rest
-      → AreMessagesDumped header.mode rest bad fault lines → text ≡ header_line header ++ lines
-      → IsDump bytes bad fault text
+      → AreMessagesDumped harts header.mode rest bad fault lines → text ≡ header_line header ++ lines
+      → IsDumpOf harts bytes bad fault text
   NoHeader : (why : MessageFault) → BeginsNoHeader bytes why → fault ≡ Some (0, why) → bad ≡ false → text ≡ []
-      → IsDump bytes bad fault text
+      → IsDumpOf harts bytes bad fault text
+
+-- The text is the dump of a capture, which is that of all harts.
+abbrev pub IsDump : List ℕ → Bool → Option (ℕ × MessageFault) → List ℕ → Type 0
+IsDump bytes = IsDumpOf every_hart bytes
 
 -- A text was appended. By this relation it is a dump with this flag and this fault.
 pub record AppendsDump (IsText : Bool → Option (ℕ × MessageFault) → List ℕ → Type 0) (bad : Bool)

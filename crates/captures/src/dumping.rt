@@ -1,13 +1,16 @@
 //! Captures as text.
 
-ghost use Rattle.std.specs.Prelude.{◌≡◌, IfErr, IfOk, OnErr, OnOk};
+ghost use Rattle.std.specs.Prelude.{◌≡◌, ◌∷◌, IfErr, IfOk, OnErr, OnOk, []};
+ghost use Rattle.std.specs.List.{list_any};
 ghost use Rattle.std.specs.Io.KnownBytes.{Appends};
 ghost use Rattle.output.specs.Begun.{AppendsBeginning};
 ghost use Rattle.message.specs.steps.Filling.{AreBytes};
-ghost use Rattle.captures.specs.Dump.{AppendsDump, AreMessagesDumped, BeginsDump, IsDump, header_line, has_bad_payload};
-ghost use Rattle.captures.specs.Dump.{dump_line, mode_text};
+ghost use Rattle.captures.specs.Dump.{AppendsDump, AreMessagesDumped, BeginsDump, IsDump, IsDumpOf, header_line};
+ghost use Rattle.captures.specs.Dump.{dump_line, dump_text, has_bad_payload, mode_text};
+ghost use Rattle.hart_range.specs.Range.{selected};
 
 use crate::packet_text::ReadingText;
+use hart_range::HartRange;
 use message::{Header, Message, MessageFault, Messages};
 use output::write_text;
 use payload::{Mode, unpack};
@@ -43,7 +46,7 @@ pub fn dump_capture<W: Write>(capture: &[u8], sink: &mut W) -> Result<Dumped, Wr
     dump_watched(capture, sink, &Unwatched)
 }
 
-/// Writes a capture as [`dump_capture`] does, and tells `watch` of each message whose line is written.
+/// Writes a capture as [`dump_capture`] does, and tells `watch` of each message that is worked through.
 pub fn dump_watched<W: Write, V: Watch>(
     capture: &[u8],
     sink: &mut W,
@@ -54,13 +57,31 @@ pub fn dump_watched<W: Write, V: Watch>(
     ensures begun { OnErr result (BeginsDump (IsDump capture.now) (W.contents sink.old) (W.contents sink.new)) }
     ensures fault { IfErr result (λ fault. fault ≡ WriteFault.Write) }
 {
+    dump_harts(capture, HartRange::ALL, sink, watch)
+}
+
+/// Writes what a capture has of these harts, as [`dump_watched`] writes a capture: the line of its header as it is, and
+/// the lines of their messages alone. Messages of other harts are passed over, whatever their payloads are. The place in
+/// [`Dumped::fault`] counts them all the same, and `watch` is told of them.
+pub fn dump_harts<W: Write, V: Watch>(
+    capture: &[u8],
+    harts: HartRange,
+    sink: &mut W,
+    watch: &V,
+) -> Result<Dumped, WriteFault>
+    ensures dumped { IfOk result (λ dumped. AppendsDump (IsDumpOf harts capture.now) dumped.bad dumped.fault
+        (W.contents sink.old) (W.contents sink.new)) }
+    ensures begun { OnErr result
+        (BeginsDump (IsDumpOf harts capture.now) (W.contents sink.old) (W.contents sink.new)) }
+    ensures fault { IfErr result (λ fault. fault ≡ WriteFault.Write) }
+{
     let mut messages = Messages::new(capture);
     match messages.header() {
         Ok(Some(header)) => {
             write_header_line(sink, &header)?;
-            dump_messages(messages, header.mode, sink, watch)
+            dump_messages(messages, harts, header.mode, sink, watch)
         }
-        Ok(None) => dump_messages(messages, Mode::Differential, sink, watch),
+        Ok(None) => dump_messages(messages, harts, Mode::Differential, sink, watch),
         Err(fault) => Ok(Dumped {
             bad: false,
             fault: Some((0, fault)),
@@ -98,18 +119,19 @@ fn mode_text(mode: Mode) -> &'static str
     }
 }
 
-/// Writes a line for each message, its address field named by this mode.
+/// Writes a line for each message of these harts, its address field named by this mode.
 fn dump_messages<W: Write, V: Watch>(
     all: Messages<'_>,
+    harts: HartRange,
     mode: Mode,
     sink: &mut W,
     watch: &V,
 ) -> Result<Dumped, WriteFault>
     requires { AreBytes all }
-    ensures dumped { IfOk result (λ dumped. AppendsDump (AreMessagesDumped mode all.entry) dumped.bad dumped.fault
-        (W.contents sink.old) (W.contents sink.new)) }
+    ensures dumped { IfOk result (λ dumped. AppendsDump (AreMessagesDumped harts mode all.entry) dumped.bad
+        dumped.fault (W.contents sink.old) (W.contents sink.new)) }
     ensures begun { OnErr result
-        (BeginsDump (AreMessagesDumped mode all.entry) (W.contents sink.old) (W.contents sink.new)) }
+        (BeginsDump (AreMessagesDumped harts mode all.entry) (W.contents sink.old) (W.contents sink.new)) }
     ensures fault { IfErr result (λ fault. fault ≡ WriteFault.Write) }
 {
     let mut messages = all;
@@ -118,7 +140,7 @@ fn dump_messages<W: Write, V: Watch>(
     loop {
         match messages.next() {
             Ok(Some(message)) => {
-                bad |= write_message_line(sink, mode, &message)?;
+                bad |= write_selected_line(sink, harts, mode, &message)?;
                 count += 1;
                 watch.note(1);
             }
@@ -130,6 +152,28 @@ fn dump_messages<W: Write, V: Watch>(
                 });
             }
         }
+    }
+}
+
+/// Writes the line of a message if it is of one of these harts, its address field named by this mode. Returns whether
+/// the payload of such a message is no packet.
+fn write_selected_line<W: Write>(
+    sink: &mut W,
+    harts: HartRange,
+    mode: Mode,
+    message: &Message,
+) -> Result<bool, WriteFault>
+    ensures bad { IfOk result (λ bad. bad ≡ list_any has_bad_payload (selected harts (message.now ∷ []))) }
+    ensures text { OnOk result (Appends (W.contents sink.old) (W.contents sink.new)
+        (dump_text mode (selected harts (message.now ∷ [])))) }
+    ensures begun { AppendsBeginning (dump_text mode (selected harts (message.now ∷ [])))
+        (W.contents sink.old) (W.contents sink.new) }
+    ensures fault { IfErr result (λ fault. fault ≡ WriteFault.Write) }
+{
+    if harts.selects(message.hart) {
+        write_message_line(sink, mode, message)
+    } else {
+        Ok(false)
     }
 }
 

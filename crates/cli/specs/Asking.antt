@@ -116,6 +116,7 @@ Asks name rows (Encode asked) = (name ≡ codes "encode")
     × (asked.image.now ≡ text_of (codes "IMAGE") rows)
     × (map (λ log. log.now) asked.logs.items ≡ texts_of (codes "LOG") rows)
 Asks name rows (Dump asked) = (name ≡ codes "dump") × IsFlag (one_of (codes "search") rows) asked.search
+    × (option_map (λ text. text.now) asked.only ≡ first_of (codes "only") rows)
     × IsFlag (one_of (codes "progress") rows) asked.progress
     × (asked.capture.now ≡ text_of (codes "CAPTURE") rows)
 Asks name rows (Decode asked) = (name ≡ codes "decode")

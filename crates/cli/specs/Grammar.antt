@@ -8,7 +8,8 @@ use Rattle.clap.specs.declared.builder.command.Command.{Command}
 use Rattle.clap.specs.declared.builder.command.Command.TheViews.{out-Command as fields_of}
 use Rattle.arguments.specs.Rules.{also_rule, base_rule, capacity_rule, capture_rule, explain_rule, first_rule}
 use Rattle.arguments.specs.Rules.{format_rule, full_rule, given_harts_rule, harts_rule, hex_rule, image_rule}
-use Rattle.arguments.specs.Rules.{lines_rule, logs_rule, long_rule, lossy_rule, of_rule, packets_rule, period_rule}
+use Rattle.arguments.specs.Rules.{lines_rule, logs_rule, long_rule, lossy_rule, of_rule, only_rule}
+use Rattle.arguments.specs.Rules.{packets_rule, period_rule}
 use Rattle.arguments.specs.Rules.{progress_rule, received_rule, salvage_rule, schedule_rule, search_rule, sent_rule}
 use Rattle.arguments.specs.Rules.{summary_rule, symbols_rule, unnumbered_rule, version_one_rule}
 
@@ -27,9 +28,9 @@ abbrev pub encode_app : App
 encode_app = with_arguments (codes "encode") (base_rule ∷ also_rule ∷ period_rule ∷ full_rule ∷ version_one_rule ∷
     hex_rule ∷ first_rule ∷ of_rule ∷ long_rule ∷ progress_rule ∷ image_rule ∷ logs_rule ∷ [])
 
--- `dump [--search] [--progress] CAPTURE`.
+-- `dump [--search] [--only A-B] [--progress] CAPTURE`.
 abbrev pub dump_app : App
-dump_app = with_arguments (codes "dump") (search_rule ∷ progress_rule ∷ capture_rule ∷ [])
+dump_app = with_arguments (codes "dump") (search_rule ∷ only_rule ∷ progress_rule ∷ capture_rule ∷ [])
 
 -- `decode --base B [--also B2=FILE]... [--harts N] [--lossy] [--progress] IMAGE CAPTURE`.
 abbrev pub decode_app : App

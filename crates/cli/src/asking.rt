@@ -1,7 +1,7 @@
 //! What the arguments of a command line ask for.
 
-ghost use Rattle.std.specs.Prelude.{◌≡◌, ◌⊎◌, IfErr, IfOk, [], codes, map, string_bytes, unwrap_or};
-ghost use Rattle.clap.specs.Words.{FailsBy, fault_of, first_value, found_of, kind_of, one_of, rows_of};
+ghost use Rattle.std.specs.Prelude.{◌≡◌, ◌⊎◌, IfErr, IfOk, [], codes, map, option_map, string_bytes, unwrap_or};
+ghost use Rattle.clap.specs.Words.{FailsBy, fault_of, first_of, first_value, found_of, kind_of, one_of, rows_of};
 ghost use Rattle.clap.specs.declared.error.kind.ErrorKind.TheVariants as kind;
 ghost use Rattle.cli.specs.Asking.{AreRefused, Asks, IsCapacity, IsFlag, IsFormat, IsGivenFirst, IsGivenHarts, IsHarts};
 ghost use Rattle.cli.specs.Asking.{IsMode, IsPeriod, IsVersion};
@@ -40,6 +40,13 @@ fn text_found<'a>(given: &ArgMatches<'a>, id: &str) -> &'a str
     ensures { result.now ≡ unwrap_or (first_value (found_of given.now) id.now) [] }
 {
     given.get_str(id).unwrap_or("")
+}
+
+/// The value of an argument that may be left out.
+fn given_text<'a>(given: &ArgMatches<'a>, id: &str) -> Option<&'a str>
+    ensures { option_map (λ text. text.now) result ≡ first_of id.now (rows_of (found_of given.now)) }
+{
+    given.get_str(id)
 }
 
 /// The values of an argument. A parse that succeeds has at least one where the argument is required.
@@ -133,6 +140,7 @@ fn dump_asked<'a>(given: &ArgMatches<'a>) -> Asked<'a>
 {
     Asked::Dump(Dump {
         search: flag(given, "search"),
+        only: given_text(given, "only"),
         progress: flag(given, "progress"),
         capture: text(given, "CAPTURE"),
     })
@@ -276,7 +284,7 @@ fn list_asked<'a>(alloc: Global, given: &ArgMatches<'a>) -> Result<Asked<'a>, Al
         base: text(given, "base"),
         also: texts(alloc, given, "also")?,
         harts: given_harts(given, "harts"),
-        symbols: given.get_str("symbols"),
+        symbols: given_text(given, "symbols"),
         salvage: flag(given, "salvage"),
         format: format(given),
         progress: flag(given, "progress"),

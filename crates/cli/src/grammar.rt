@@ -18,8 +18,8 @@ use crate::help::{
 use arguments::{
     also, base, capacity, capture, capture_progress, counted_harts, explain, first, format, full,
     harts, headed_full, headed_period, headless, hex, image, lines, listed_harts, logs, long,
-    lossy, of, packets, period, progress, received, salvaged, salvaged_harts, schedule, search,
-    sent, summary, symbols, unnumbered, version_one, without_logs,
+    lossy, of, only, packets, period, progress, received, salvaged, salvaged_harts, schedule,
+    search, sent, summary, symbols, unnumbered, version_one, without_logs,
 };
 use clap::{Arg, Command};
 use std::alloc::{AllocError, Global};
@@ -94,7 +94,12 @@ fn encode<'a>(alloc: Global) -> Result<Command<'a>, AllocError>
 fn dump<'a>(alloc: Global) -> Result<Command<'a>, AllocError>
     ensures { IfOk result (HasGrammar dump_app) }
 {
-    let args = vec![in alloc; search(alloc), capture_progress(alloc), capture(alloc)]?;
+    let args = vec![in alloc;
+        search(alloc),
+        only(alloc),
+        capture_progress(alloc),
+        capture(alloc),
+    ]?;
     subcommand(
         alloc,
         "dump",

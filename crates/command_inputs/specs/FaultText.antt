@@ -25,6 +25,7 @@ abbrev pub fault_text : {W : Type 0} → (W → List ℕ) → Fault W → List �
 fault_text own (fault.Own why) = own why
 fault_text own fault.Format = codes "format is not text or csv"
 fault_text own fault.Base = codes "base is not a number"
+fault_text own fault.Only = codes "only is not a range of harts"
 fault_text own fault.NoLogs = codes "no logs"
 fault_text own (fault.ManyLogs most) = codes "more than " ++ (decimal most ++ codes " logs")
 fault_text own (fault.Unreadable path) = at_path path (codes "cannot be read")

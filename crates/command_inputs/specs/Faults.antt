@@ -65,6 +65,7 @@ abbrev pub map_own : {V W : Type 0} → (V → W) → Fault V → Fault W
 map_own to (fault.Own why) = fault.Own (to why)
 map_own to fault.Format = fault.Format
 map_own to fault.Base = fault.Base
+map_own to fault.Only = fault.Only
 map_own to fault.NoLogs = fault.NoLogs
 map_own to (fault.ManyLogs most) = fault.ManyLogs most
 map_own to (fault.Unreadable path) = fault.Unreadable path

@@ -6,6 +6,7 @@ pub mod FurtherPieces
 pub mod Finding
 pub mod Found
 pub mod FoundLogs
+pub mod OnlyHarts
 pub mod Judged
 pub mod Printed
 pub mod Begun

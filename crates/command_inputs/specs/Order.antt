@@ -1,5 +1,6 @@
 -- The faults that are found before any file is read.
 use Rattle.std.specs.Prelude.{ℕ, ◌==◌, Option, Some, None, nat_lt, if◌then◌else◌}
+use Rattle.hart_range.specs.declared.range.HartRange.{HartRange}
 use Rattle.subcommands.specs.declared.words.Format.{Format}
 use Rattle.subcommands.specs.declared.words.Format.TheVariants.{Other}
 use Rattle.command_inputs.specs.declared.fault.Fault.{Fault}
@@ -14,6 +15,11 @@ format_fault format = None
 abbrev pub base_fault : {W : Type 0} → Option ℕ → Option (Fault W)
 base_fault None = Some fault.Base
 base_fault (Some base) = None
+
+-- The fault of an argument that is no range of harts.
+abbrev pub only_fault : {W : Type 0} → Option HartRange → Option (Fault W)
+only_fault None = Some fault.Only
+only_fault (Some range) = None
 
 -- The fault of an argument that names no format; then that of a base that is no number.
 abbrev pub format_or_base_fault : {W : Type 0} → Format → Option ℕ → Option (Fault W)

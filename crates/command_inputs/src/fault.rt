@@ -25,6 +25,8 @@ pub enum Fault<'a, W> {
     Format,
     /// The base, or that of a further piece, is not written as a number of a log is.
     Base,
+    /// The argument of `--only` is no range of harts.
+    Only,
     /// No log is given. A command line that `cli` reads leads to no such fault.
     NoLogs,
     /// More logs are given than this many, the most harts that there may be.
@@ -98,6 +100,7 @@ impl<W: Reason> Fault<'_, W> {
         match self {
             Fault::Format
             | Fault::Base
+            | Fault::Only
             | Fault::NoLogs
             | Fault::ManyLogs(_)
             | Fault::Image(_)
@@ -117,6 +120,7 @@ impl<W: Reason> fmt::Display for Fault<'_, W> {
         match self {
             Fault::Format => f.write_str("format is not text or csv"),
             Fault::Base => f.write_str("base is not a number"),
+            Fault::Only => f.write_str("only is not a range of harts"),
             Fault::NoLogs => f.write_str("no logs"),
             Fault::ManyLogs(most) => write!(f, "more than {most} logs"),
             Fault::Unreadable(path) => write!(f, "{path}: cannot be read"),

@@ -43,7 +43,7 @@ where
     // Where allocation fails, nothing or a prefix of the text was written.
     ensures begun { result ≡ Err Fault.Memory
         → IsBegun (F.content files.old) asked.now (O.contents out.old) (O.contents out.new) }
-    // Where allocation fails, only `check`, `decode` and `list` without `--salvage` may have written anything.
+    // Where allocation fails, only `check`, `decode --lossy` and `list` without `--salvage` may have written anything.
     ensures untouched { ¬ WritesInParts asked.now → result ≡ Err Fault.Memory → out.new ≡ out.old }
     // Where the input is refused, nothing is written, but for the lines of `check`.
     ensures refused { ¬ IsCheck asked.now → final_status result ≡ Status.Refused → out.new ≡ out.old }

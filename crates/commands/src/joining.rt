@@ -88,6 +88,7 @@ fn joined_fault<'a, W: Family<'a>>(why: AnyFault<'a, W>) -> Fault<'a>
     match why {
         AnyFault::Format => AnyFault::Format,
         AnyFault::Base => AnyFault::Base,
+        AnyFault::Only => AnyFault::Only,
         AnyFault::NoLogs => AnyFault::NoLogs,
         AnyFault::ManyLogs(most) => AnyFault::ManyLogs(most),
         AnyFault::Unreadable(path) => AnyFault::Unreadable(path),

@@ -1,4 +1,3 @@
 mod ComparedRuns
-mod DecodedHarts
 mod LinesMade
 mod Reported

@@ -17,10 +17,10 @@ use Rattle.log_streams.specs.Made.{AreMade, IsMadeOf}
 use Rattle.retire.specs.declared.event.Event.{Event}
 use Rattle.rvclass.specs.Image.{Image}
 use Rattle.capture_commands.specs.declared.reason.CaptureReason.{CaptureReason}
-use Rattle.compare_commands.specs.steps.Decoded.{count_in, got_at}
+use Rattle.comparing.specs.steps.Held.{count_in, got_at}
 use Rattle.compare_commands.specs.steps.Lines.{AreLinesOfLogs}
 use Rattle.comparing.proofs.DecodedHarts.{gots_many}
-use Rattle.compare_commands.proofs.DecodedHarts.{got_here}
+use Rattle.comparing.proofs.HeldHarts.{got_here}
 
 -- This is made of the events of a log.
 abbrev pub OfEvents : Image → List HartCount → List (List Event) → List Bool → ℕ → List Event → ComparedHart → Type 0

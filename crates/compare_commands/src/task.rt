@@ -5,7 +5,7 @@ ghost use Rattle.comparing.specs.Compared.{HasCompared};
 ghost use Rattle.comparing.specs.Lines.{line_of};
 ghost use Rattle.legalpath.specs.ProgramLog.{program_log};
 ghost use Rattle.receiver.specs.Received.{events_in};
-ghost use Rattle.compare_commands.specs.steps.Decoded.{count_in, got_at};
+ghost use Rattle.comparing.specs.steps.Held.{count_in, got_at};
 
 use comparing::{ComparedHart, Comparing, HartCount};
 use legalpath::PathFault;

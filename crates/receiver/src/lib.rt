@@ -11,4 +11,4 @@ mod fault;
 mod receiving;
 
 pub use fault::ReceiveFault;
-pub use receiving::Receiver;
+pub use receiving::{Receiver, opens_another};

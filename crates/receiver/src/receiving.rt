@@ -240,7 +240,7 @@ impl<A: Allocator + Copy> Receiver<A> {
 }
 
 /// Whether a packet opens a trace in another mode than the one that was announced, if one was.
-fn opens_another(announced: Option<Mode>, packet: &Packet) -> bool
+pub fn opens_another(announced: Option<Mode>, packet: &Packet) -> bool
     ensures { result ≡ opens_another announced packet.now }
 {
     match (announced, packet) {

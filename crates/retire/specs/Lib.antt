@@ -5,6 +5,7 @@ pub mod Number
 pub mod Row
 pub mod Log
 pub mod LogText
+pub mod Split
 pub mod FaultText
 pub mod InRange
 pub mod ReadBack

@@ -46,4 +46,4 @@ pub use log_reader::LogReader;
 pub use piece_buffer::PieceBuffer;
 pub use read::read_log;
 pub use source::{ReaderSource, Source, SourceFault};
-pub use write::{LOG_ROOM, write_log, write_log_in};
+pub use write::{LOG_ROOM, begin_log_in, end_log_in, write_log, write_log_in, write_rows_in};

@@ -1,2 +1,3 @@
+mod ChosenSpans
 mod KnownHarts
 mod SpanTexts

@@ -46,8 +46,9 @@ pub fn spans_of(capture: &[u8], header: Option<Header>) -> Spans<'_>
     Spans::new(capture, first_place(header), known_harts(header))
 }
 
-/// The harts below this are known.
-fn known_harts(header: Option<Header>) -> u16
+/// The harts below this are known: those below a header's count, and without a header those below [`MOST_HARTS`]. No
+/// memory is taken.
+pub fn known_harts(header: Option<Header>) -> u16
     ensures { result ≡ known_harts header }
 {
     match header {

@@ -53,11 +53,13 @@ pub struct Encode<'a> {
     pub logs: Vec<&'a str>,
 }
 
-/// `dump [--search] [--progress] CAPTURE`: the messages of a capture, as text.
+/// `dump [--search] [--only A-B] [--progress] CAPTURE`: the messages of a capture, as text.
 #[derive(Debug, Drop)]
 pub struct Dump<'a> {
     /// Whether messages are looked for where bytes are none.
     pub search: bool,
+    /// The harts whose messages are wanted, not yet read as `A-B` or `A`, where not all are.
+    pub only: Option<&'a str>,
     /// Whether a terminal is shown how far the capture is worked through.
     pub progress: bool,
     /// The path of the capture.

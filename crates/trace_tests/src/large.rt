@@ -8,7 +8,7 @@ mod encoded;
 mod left;
 mod lines;
 mod listed;
-mod made;
+pub(crate) mod made;
 mod read;
 mod rows;
 

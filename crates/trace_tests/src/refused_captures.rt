@@ -22,7 +22,7 @@ const INTERRUPTED: [Step; 5] = [
 ];
 
 /// The capture of both harts: their messages alternately, one in each line.
-const CAPTURE: [u8; 134] = [
+pub(crate) const CAPTURE: [u8; 134] = [
     0, 0, 0, 0, 0, 0, 0, 0, 0, 0, 1, 0x1f, // opens
     1, 0, 0, 0, 0, 0, 0, 0, 0, 0, 1, 0x1f, // opens
     0, 0, 1, 0, 0, 0, 0, 0, 0, 0, 5, 0x63, 0, 0, 0, 0x20, // the first branch
@@ -36,7 +36,7 @@ const CAPTURE: [u8; 134] = [
 ];
 
 /// The same with full addresses.
-const FULL: [u8; 145] = [
+pub(crate) const FULL: [u8; 145] = [
     0, 0, 0, 0, 0, 0, 0, 0, 0, 0, 2, 0x1f, 0x01, // opens
     1, 0, 0, 0, 0, 0, 0, 0, 0, 0, 2, 0x1f, 0x01, // opens
     0, 0, 1, 0, 0, 0, 0, 0, 0, 0, 5, 0x63, 0, 0, 0, 0x20, // the first branch

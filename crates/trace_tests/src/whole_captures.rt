@@ -1,10 +1,12 @@
-//! Whole captures (`captures`): of worked logs with each byte changed, of long logs, to writers that fail, and as lines.
+//! Whole captures (`captures`): of worked logs with each byte changed, of long logs, to writers that fail, and as lines;
+//! and the logs of their harts, written while they are decoded (`hart_rows`).
 
 mod by_bytes;
 mod changed;
 mod failing;
 mod lines;
 mod long_logs;
+mod written;
 
 use crate::fixtures::add;
 use crate::packets::legal_log;

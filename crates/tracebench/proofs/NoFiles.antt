@@ -10,7 +10,7 @@ use Rattle.log_commands.specs.Benching.{BenchesLogs}
 use Rattle.commands.specs.CarriedOut.{IsCarriedOut}
 use Rattle.log_commands.specs.Checking.{WritesLines}
 use Rattle.capture_commands.specs.Decoded.{WritesLogs}
-use Rattle.capture_commands.specs.Dumping.{WritesDump}
+use Rattle.capture_commands.specs.Dumping.{DumpsHarts, WritesDumpOf}
 use Rattle.capture_commands.specs.Listed.{WritesListed}
 use Rattle.capture_commands.specs.Salvaging.{WritesSalvaged}
 use Rattle.capture_commands.specs.Symbols.{AreSymbols}
@@ -26,6 +26,7 @@ use Rattle.commands.specs.declared.reason.CommandReason.TheVariants.{Capture, Li
 use Rattle.log_commands.specs.Encoding.{AreLogsOf, ArePartLogs, IsMostLogs, IsPart, WritesMessages}
 use Rattle.command_inputs.specs.Faults.{Path as FilePath}
 use Rattle.command_inputs.specs.Finding.{After, IsFoundFrom}
+use Rattle.command_inputs.specs.OnlyHarts.{IsOnly}
 use Rattle.command_inputs.specs.Found.{AreFew, IsAskedBase, IsAskedProgram, IsBase, IsFormat, IsImageAt, IsProgramAt}
 use Rattle.command_inputs.specs.Found.{IsRead, IsWithPieces, program_at}
 use Rattle.command_inputs.specs.FoundLogs.{AreAskedLogsUpTo, AreLegalLogsUpTo}
@@ -154,8 +155,9 @@ not_ended (Encode asked) status old new done =
 not_ended (Dump asked) status old new done =
     let own = done.prints.own in
     let ends = ends_so Capture done.text status own done.prints.is in
-    not_first (IsRead none asked.capture) (WritesDump asked.search) own status ends
-    (λ bytes read dump. no_bytes asked.capture bytes read) done.prints.prints
+    not_first (IsOnly asked.only) (DumpsHarts none asked) own status ends
+    (λ harts is prints. not_first (IsRead none asked.capture) (WritesDumpOf asked.search harts) own status ends
+    (λ bytes read dump. no_bytes asked.capture bytes read) prints) done.prints.prints
 not_ended (Decode asked) status old new done =
     let own = done.prints.own in
     let ends = ends_so Capture done.text status own done.prints.is in
@@ -248,6 +250,7 @@ reason_faulty (Capture (capture.Message number why)) = λ is. omega arith
 reason_faulty (Capture (capture.Unclosed hart)) = λ is. omega arith
 reason_faulty (Capture (capture.Symbols path why)) = λ is. omega arith
 reason_faulty (Capture (capture.Logs logs harts)) = λ is. omega arith
+reason_faulty (Capture (capture.NoHart harts)) = λ is. omega arith
 reason_faulty (Path (audit.Damaged path)) = λ is. omega arith
 reason_faulty (Path (audit.Unread path number why)) = λ is. omega arith
 reason_faulty (Path (audit.Sent sent why)) = λ is. omega arith
@@ -258,6 +261,7 @@ faulty : (why : Fault) → code_of (status_of why) ≢ 0
 faulty (fault.Own why) = reason_faulty why
 faulty fault.Format = λ is. omega arith
 faulty fault.Base = λ is. omega arith
+faulty fault.Only = λ is. omega arith
 faulty fault.NoLogs = λ is. omega arith
 faulty (fault.ManyLogs most) = λ is. omega arith
 faulty (fault.Unreadable path) = λ is. omega arith

@@ -4,18 +4,22 @@ use Rattle.std.proofs.Common.{◌≡◌, ℕ, ◌+◌, ◌-◌, ◌<◌, ◌≤�
 use Rattle.std.proofs.Common.{length, map, take, refl, sym, ap, subst, ◌∙◌, arith}
 use Rattle.std.specs.Prelude.{slice_set}
 use Rattle.std.proofs.lemmas.List.{append-nil, length-append, length-drop, length-map, length-set, map-append}
-use Rattle.std.proofs.lemmas.List.{drop-drop, length-take-le, set_split, take_all}
+use Rattle.std.proofs.lemmas.List.{drop-drop, length-take, length-take-le, set_split, take-take, take_all}
+use Rattle.encoder.specs.EncoderStands.{EncoderStands}
+use Rattle.encoder.specs.PacketsSoFar.{packets_so_far}
 use Rattle.encoder.specs.declared.encoder.Encoder.{Encoder}
+use Rattle.legalpath.specs.Legal.{Legal}
+use Rattle.payload.specs.declared.mode.Mode.{Mode}
 use Rattle.payload.specs.declared.packet.Packet.{Packet}
 use Rattle.retire.specs.declared.event.Event.{Event}
 use Rattle.rvclass.specs.Words.{Words}
-use Rattle.tracebench_c.proofs.PushedInTurn.{goes_more, goes_none}
+use Rattle.tracebench_c.proofs.PushedInTurn.{goes_more, goes_none, turn_more, turn_none, turn_run}
 use Rattle.tracebench_c.proofs.WrittenInTurn.{behind_front, front_more}
 use Rattle.tracebench_c.specs.Events.{numbers_of_event}
 use Rattle.tracebench_c.specs.Numbers.{numbers_of}
 use Rattle.tracebench_c.specs.declared.events.EventNumbers.{EventNumbers}
 use Rattle.tracebench_c.specs.declared.numbers.PacketNumbers.{PacketNumbers}
-use Rattle.tracebench_c.specs.steps.PushingAll.{ArePushed, GoesOn, IsBlockPushed, IsPartPushed}
+use Rattle.tracebench_c.specs.steps.PushingAll.{ArePushed, GivesInTurn, GoesOn, IsBlockPushed, IsPartPushed}
 
 -- A beginning is a shorter one and what is after that.
 pub take_join : {X : Type 0} (n m : ℕ) (xs : List X) → take (n + m) xs ≡ take n xs ++ take m (drop n xs)
@@ -25,11 +29,27 @@ take_join (suc n) m (x ∷ xs) =
     let on : suc n + m ≡ suc (n + m) = omega arith in
     ap (λ k. take k (x ∷ xs)) on ∙ ap (λ ys. x ∷ ys) (take_join n m xs)
 
+-- The events up to one that makes a packet due: none before it makes one due.
+pub quiet_run : (words : Words) (middle after : Encoder) (rest : List Event) (count : ℕ) (packets : List Packet)
+    → GoesOn words middle (take count rest) after packets
+    → ((period n : ℕ) (mode : Mode) (log : List Event) → EncoderStands words period mode log middle
+    → Legal words (log ++ take n rest) → n < count
+    → packets_so_far words period mode (log ++ take n rest) ≡ packets_so_far words period mode log)
+    → GivesInTurn words middle (take count rest) packets
+quiet_run words middle after rest count packets goes quiet = turn_run words middle after (take count rest) packets goes
+    (λ period n mode log stands legal few.
+    let many = length-take count rest in
+    let short : n < count = omega (arith, few, many) in
+    let same : take n (take count rest) ≡ take n rest = take-take n count rest (omega (arith, short)) in
+    ap (λ es. packets_so_far words period mode (log ++ es)) same
+    ∙ quiet period n mode log stands (subst (λ es. Legal words (log ++ es)) same legal) short)
+
 module _ (words : Words) (first : Encoder) (block : List Event) (old : List PacketNumbers) where
   pub part_none : IsPartPushed words first block 0 first 0 old old
   part_none = record {
     packets = [];
     goes = goes_none words first;
+    turn = turn_none words first;
     counted = refl;
     far = omega arith;
     within = omega arith;
@@ -50,8 +70,9 @@ module _ (words : Words) (first : Encoder) (block : List Event) (old : List Pack
       pub part_more : (packet : Packet) (one : PacketNumbers) → one ≡ numbers_of packet → 1 ≤ count
           → count ≤ length rest → length block ≤ length old → place < length block
           → GoesOn words middle (take count rest) after (packet ∷ [])
+          → GivesInTurn words middle (take count rest) (packet ∷ [])
           → IsPartPushed words first block (at + count) after (place + 1) old (slice_set now place one)
-      part_more packet one is some fits room more goes =
+      part_more packet one is some fits room more goes turn =
           let far = before.far in
           let within = before.within in
           let same = before.room in
@@ -61,6 +82,9 @@ module _ (words : Words) (first : Encoder) (block : List Event) (old : List Pack
             goes = subst (λ es. GoesOn words first es after (before.packets ++ packet ∷ [])) (sym joined)
                 (goes_more words first middle after (take at block) (take count rest) before.packets (packet ∷ [])
                 before.goes goes);
+            turn = subst (λ es. GivesInTurn words first es (before.packets ++ packet ∷ [])) (sym joined)
+                (turn_more words first middle after (take at block) (take count rest) before.packets (packet ∷ [])
+                before.goes before.turn turn);
             counted = ap (λ n. n + 1) before.counted ∙ sym (length-append before.packets (packet ∷ []));
             far = omega (arith, some, far);
             within = omega (arith, fits, many, within);
@@ -76,8 +100,8 @@ module _ (words : Words) (first : Encoder) (block : List Event) (old : List Pack
 
       -- The rest makes none due.
       pub part_all : count ≡ length rest → place < length block → GoesOn words middle (take count rest) after []
-          → IsBlockPushed words first block after place old now
-      part_all all few goes =
+          → GivesInTurn words middle (take count rest) [] → IsBlockPushed words first block after place old now
+      part_all all few goes turn =
           let within = before.within in
           let many = long in
           record {
@@ -88,6 +112,12 @@ module _ (words : Words) (first : Encoder) (block : List Event) (old : List Pack
                 (append-nil before.packets)
                 (goes_more words first middle after (take at block) (take count rest) before.packets [] before.goes
                 goes));
+            turn = subst (λ es. GivesInTurn words first es before.packets)
+                (sym joined ∙ take_all (at + count) block (omega (arith, all, many, within)))
+                (subst (λ ps. GivesInTurn words first (take at block ++ take count rest) ps)
+                (append-nil before.packets)
+                (turn_more words first middle after (take at block) (take count rest) before.packets [] before.goes
+                before.turn turn));
             counted = before.counted;
             few = omega (arith, few);
             written = before.written;
@@ -103,6 +133,8 @@ module _ (words : Words) (first : Encoder) (block : List Event) (old : List Pack
           packets = before.packets;
           goes = subst (λ es. GoesOn words first es middle before.packets)
               (take_all at block (omega (arith, far, on))) before.goes;
+          turn = subst (λ es. GivesInTurn words first es before.packets)
+              (take_all at block (omega (arith, far, on))) before.turn;
           counted = last ∙ before.counted;
           few = omega arith;
           written = subst (λ n. now ≡ map numbers_of before.packets ++ drop n old) (sym last) before.written;
@@ -139,6 +171,8 @@ pushed_block words first numbers old place next count more middle after block no
           ∙ sym (map-append numbers_of_event before.events block);
       goes = goes_more words first middle after before.events block before.packets pushed.packets before.goes
           pushed.goes;
+      turn = turn_more words first middle after before.events block before.packets pushed.packets before.goes
+          before.turn pushed.turn;
       still = λ none. absurd (omega (arith, none));
       counted = ap (λ n. n + more) before.counted
           ∙ ap (λ n. length before.packets + n) pushed.counted

@@ -1,8 +1,8 @@
 -- What holds of the events that were pushed is said of those that a caller knows.
-use Rattle.std.proofs.Common.{◌≡◌, ℕ, ◌+◌, ◌<◌, List, ◌∷◌, [], ◌++◌, Ok, Some, drop, length, map, take}
+use Rattle.std.proofs.Common.{◌≡◌, ℕ, ◌+◌, ◌<◌, ◌≤◌, List, ◌∷◌, [], ◌++◌, Ok, Some, drop, length, map, take}
 use Rattle.std.proofs.Common.{refl, sym, ap, subst, ◌∙◌, append_assoc, arith}
 use Rattle.std.proofs.Math.Seq.{drop-append_seam, take-append_seam}
-use Rattle.std.proofs.lemmas.List.{append-nil, length-append, map-append, take_all, take_more}
+use Rattle.std.proofs.lemmas.List.{append-nil, length-append, length-map, map-append, take-map, take-take, take_all, take_more}
 use Rattle.std.proofs.lemmas.List.Elements.{All-nil}
 use Rattle.std.proofs.lemmas.Option.{get_or_from_slice_get, slice_get_within}
 use Rattle.encoder.specs.EncoderStands.{EncoderStands}
@@ -26,13 +26,14 @@ use Rattle.tracebench_c.specs.Events.{numbers_of_event}
 use Rattle.tracebench_c.specs.EventsChecked.{AreOfEvents}
 use Rattle.tracebench_c.specs.Images.{Judged}
 use Rattle.tracebench_c.specs.Numbers.{numbers_of}
-use Rattle.tracebench_c.specs.PushedAll.{AllTaken, AreNext, AreWritten, EndsPushAll, FillRoom, HaveNoRoom}
+use Rattle.tracebench_c.specs.PushedAll.{AllTaken, AreNext, AreWritten, AreWrittenFirst, EndsPushAll, FillRoom}
+use Rattle.tracebench_c.specs.PushedAll.{HaveNoRoom}
 use Rattle.tracebench_c.specs.PushedAll.{NoEvent, NoRoom}
 use Rattle.tracebench_c.specs.declared.encoder_state.EncoderNumbers.{EncoderNumbers}
 use Rattle.tracebench_c.specs.declared.events.EventNumbers.{EventNumbers}
 use Rattle.tracebench_c.specs.declared.numbers.PacketNumbers.{PacketNumbers}
 use Rattle.tracebench_c.specs.declared.status.TheConstants.{TOO_SMALL}
-use Rattle.tracebench_c.specs.steps.PushingAll.{ArePushed, EndsPushes, StandsOn}
+use Rattle.tracebench_c.specs.steps.PushingAll.{ArePushed, BeginWith, EndsPushes, GivesInTurn, StandsOn}
 use Rattle.tracebench_c.specs.steps.PushingAll as steps
 use Rattle.tracebench_c.specs.steps.ReadingEvents.{event_in}
 
@@ -95,6 +96,25 @@ module _ (image : Judged) (program : Image) (period : ℕ) (mode : Mode) (log ne
     written = refl;
   }
 
+-- Nothing is written for no event.
+pub first_none : (image : Judged) (program : Image) (period n : ℕ) (mode : Mode) (log nexts : List Event)
+    (state : EncoderNumbers) (numbers : List EventNumbers) (new : List PacketNumbers) → n ≤ 0
+    → AreNext image program period mode log nexts state (take n numbers)
+    → AreWrittenFirst (packets_so_far (words_of program) period mode log)
+    (packets_so_far (words_of program) period mode (log ++ nexts)) 0 new
+first_none image program period n mode log nexts state numbers new low next =
+    let none : n ≡ 0 = omega (arith, low) in
+    let empty : take n numbers ≡ [] = ap (λ k. take k numbers) none in
+    let same = ap (λ es. log ++ es) (same_events [] nexts [] (sym empty ∙ next.are) refl) ∙ append-nil log in
+    record {
+      more = [];
+      grown = ap (packets_so_far (words_of program) period mode) same
+          ∙ sym (append-nil (packets_so_far (words_of program) period mode log));
+      profile = All-nil InProfile;
+      within = omega arith;
+      written = refl;
+    }
+
 module _ (image : Judged) (made : Image) (makes : image ≡ Ok made) (state : EncoderNumbers)
     (read : EncoderState) (only : (other : EncoderState) → IsOfState state other → Some read ≡ Some other)
     (first : Encoder)
@@ -134,6 +154,43 @@ module _ (image : Judged) (made : Image) (makes : image ≡ Ok made) (state : En
           profile = on.profile;
           counted = pushed.counted;
           written = pushed.written;
+        }
+
+    -- The first packets are those of the first events that are next, whatever comes after these.
+    pub written_first : (n : ℕ) → n ≤ taken → AreNext image program period mode log nexts state (take n numbers)
+        → AreWrittenFirst (packets_so_far (words_of program) period mode log)
+        (packets_so_far (words_of program) period mode (log ++ nexts)) count new
+    written_first n few next =
+        let same = one_program made program image makes next.made in
+        let read_first : take n numbers ≡ map numbers_of_event (take n pushed.events) =
+        sym (take-take n taken numbers few)
+        ∙ ap (take n) pushed.read
+        ∙ take-map numbers_of_event n pushed.events in
+        let events : take n pushed.events ≡ nexts =
+        same_events (take n numbers) (take n pushed.events) nexts read_first next.are in
+        let begin =
+        subst (λ es. BeginWith (packets_so_far (words_of program) period mode log)
+        (packets_so_far (words_of program) period mode (log ++ es)) pushed.packets) events
+        (subst (λ p. GivesInTurn (words_of p) first pushed.events pushed.packets) same pushed.turn period n mode log
+        (begins (words_of program) period mode log
+        (state_stands (words_of program) period mode log state read only next.stand))
+        (subst (λ es. Legal (words_of program) (log ++ es)) (sym events) next.legal)) in
+        let counted = pushed.counted in
+        let long = ap length begin.whole ∙ length-append begin.more begin.behind in
+        let mapped = length-map begin.more numbers_of in
+        record {
+          more = begin.more;
+          grown = begin.grown;
+          profile = begin.profile;
+          within = omega (arith, counted, long);
+          written = ap (take (length begin.more))
+              (pushed.written
+              ∙ ap (λ ps. map numbers_of ps ++ drop count old) begin.whole
+              ∙ ap (λ ns. ns ++ drop count old) (map-append numbers_of begin.more begin.behind)
+              ∙ append_assoc (map numbers_of begin.more) (map numbers_of begin.behind) (drop count old))
+              ∙ ap (λ k. take k (map numbers_of begin.more ++ (map numbers_of begin.behind ++ drop count old)))
+              (sym mapped)
+              ∙ take-append_seam (map numbers_of begin.more) (map numbers_of begin.behind ++ drop count old);
         }
 
     -- The packets of the event after those have no room.

@@ -60,6 +60,15 @@ pub record AreWritten (earlier later : List Packet) (count : ℕ) (old new : Lis
   pub counted : count ≡ length more
   pub written : new ≡ map numbers_of more ++ drop count old
 
+-- The packets by which the later ones are more than the earlier ones are the first of so many in the buffer. All are of
+-- the profile.
+pub record AreWrittenFirst (earlier later : List Packet) (count : ℕ) (new : List PacketNumbers) : Type 0 where
+  pub more : List Packet
+  pub grown : later ≡ earlier ++ more
+  pub profile : All InProfile more
+  pub within : length more ≤ count
+  pub written : take (length more) new ≡ map numbers_of more
+
 -- After so many packets in the buffer, those by which the later ones are more than the earlier ones have no room.
 pub record HaveNoRoom (earlier later : List Packet) (count : ℕ) (old : List PacketNumbers) : Type 0 where
   pub more : List Packet

@@ -1,5 +1,7 @@
 -- Faults as statuses.
 use Rattle.std.specs.Prelude.{ℕ}
+use Rattle.capture_lines.specs.declared.fault.LineFault.{LineFault}
+use Rattle.capture_lines.specs.declared.fault.LineFault.TheVariants as line
 use Rattle.captures.specs.declared.outcome.CaptureFault.{CaptureFault}
 use Rattle.captures.specs.declared.outcome.CaptureFault.TheVariants as capture
 use Rattle.decoder.specs.declared.fault.DecodeFault.{DecodeFault}
@@ -12,12 +14,16 @@ use Rattle.message.specs.declared.fault.DemuxFault.{DemuxFault}
 use Rattle.message.specs.declared.fault.DemuxFault.TheVariants as demux
 use Rattle.message.specs.declared.fault.MessageFault.{MessageFault}
 use Rattle.message.specs.declared.fault.MessageFault.TheVariants as message
+use Rattle.message.specs.declared.header.Version.{Version}
+use Rattle.message.specs.declared.header.Version.TheVariants as version
 use Rattle.payload.specs.declared.fault.PackFault.{PackFault}
 use Rattle.payload.specs.declared.fault.PackFault.TheVariants as pack
 use Rattle.retire.specs.declared.fault.LogFault.{LogFault}
 use Rattle.retire.specs.declared.fault.LogFault.TheVariants as log
 use Rattle.rvclass.specs.declared.fault.ProgramFault.{ProgramFault}
 use Rattle.rvclass.specs.declared.fault.ProgramFault.TheVariants as image
+use Rattle.symbols.specs.declared.fault.SymbolsFault.{SymbolsFault}
+use Rattle.symbols.specs.declared.fault.SymbolsFault.TheVariants as symbols
 use Rattle.tracebench_c.specs.declared.fault.Fault.{Fault}
 use Rattle.tracebench_c.specs.declared.fault.Fault.TheVariants as fault
 use Rattle.tracebench_c.specs.declared.fault.ImageFault.{ImageFault}
@@ -37,6 +43,9 @@ use Rattle.tracebench_c.specs.declared.status.TheConstants.{STRANGER, REPEAT, GA
 use Rattle.tracebench_c.specs.declared.status.TheConstants.{NOT_OPENED, WALKS_OFF_PROGRAM, MISSED_NOTIFY}
 use Rattle.tracebench_c.specs.declared.status.TheConstants.{WRONG_BRANCHES, WRONG_PLACE, WALKS_AT_WRONG_PRIVILEGE}
 use Rattle.tracebench_c.specs.declared.status.TheConstants.{AFTER_CLOSING_PACKET}
+use Rattle.tracebench_c.specs.declared.status.TheConstants.{LINE_FIELDS, LINE_HART_ONE, LINE_HART_TWO, LINE_NUMBER}
+use Rattle.tracebench_c.specs.declared.status.TheConstants.{LINE_BYTES, LINE_ABOVE}
+use Rattle.tracebench_c.specs.declared.status.TheConstants.{NO_SYMBOL, SYMBOLS_TOO_LARGE}
 
 -- Why a message or a header is not read or not written.
 abbrev pub message_status : MessageFault → ℕ
@@ -164,3 +173,22 @@ fault_row (fault.Illegal why) = why.row
 fault_row fault.NoHart = 0
 fault_row fault.Range = 0
 fault_row fault.Ends = 0
+
+-- A line's hart is not below the most harts of a version.
+abbrev pub line_hart_status : Version → ℕ
+line_hart_status version.One = LINE_HART_ONE
+line_hart_status version.Two = LINE_HART_TWO
+
+-- What is wrong with a line of a text that becomes a capture.
+abbrev pub line_status : LineFault → ℕ
+line_status line.Fields = LINE_FIELDS
+line_status (line.Hart its) = line_hart_status its
+line_status line.Number = LINE_NUMBER
+line_status line.Bytes = LINE_BYTES
+line_status line.Above = LINE_ABOVE
+
+-- Why symbols are not read.
+abbrev pub symbols_status : SymbolsFault → ℕ
+symbols_status symbols.TooLarge = SYMBOLS_TOO_LARGE
+symbols_status symbols.NoSymbol = NO_SYMBOL
+symbols_status symbols.Memory = MEMORY

@@ -6,3 +6,8 @@ pub mod Hearing
 pub mod PushingAll
 pub mod FeedingAll
 pub mod Adding
+pub mod Walking
+pub mod Listing
+pub mod Explaining
+pub mod Measuring
+pub mod Comparing

@@ -90,7 +90,7 @@ fn add_copy(alloc: Global, program: &mut Program, piece: &ImagePiece<'_>) -> Res
 }
 
 /// A copy of bytes.
-fn copy_bytes(alloc: Global, bytes: &[u8]) -> Result<Vec<u8>, AllocError>
+pub(crate) fn copy_bytes(alloc: Global, bytes: &[u8]) -> Result<Vec<u8>, AllocError>
     ensures { IfOk result (λ copy. copy.items ≡ bytes.now) }
 {
     let mut copy = Vec::with_capacity(alloc, bytes.len())?;

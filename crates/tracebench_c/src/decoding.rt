@@ -122,7 +122,7 @@ fn decode_hart(
 }
 
 /// Where decoding stops.
-fn stop_place(stop: Option<(u64, CaptureFault)>) -> u64
+pub(crate) fn stop_place(stop: Option<(u64, CaptureFault)>) -> u64
     ensures { result ≡ stop_place stop }
 {
     match stop {
@@ -132,7 +132,7 @@ fn stop_place(stop: Option<(u64, CaptureFault)>) -> u64
 }
 
 /// Why decoding stops, as a status.
-fn stop_fault(stop: Option<(u64, CaptureFault)>) -> u32
+pub(crate) fn stop_fault(stop: Option<(u64, CaptureFault)>) -> u32
     ensures { result ≡ stop_fault stop }
 {
     match stop {
@@ -142,7 +142,7 @@ fn stop_fault(stop: Option<(u64, CaptureFault)>) -> u32
 }
 
 /// Whether the closing packet of a hart was decoded.
-fn closed_at(closed: &[bool], hart: usize) -> u32
+pub(crate) fn closed_at(closed: &[bool], hart: usize) -> u32
     ensures { result ≡ closed_at closed.now hart }
 {
     match closed.get(hart) {

@@ -173,7 +173,7 @@ pub(crate) fn mode_of(number: u32) -> Option<Mode>
 }
 
 /// The version of a number.
-fn version_of(number: u32) -> Option<Version>
+pub(crate) fn version_of(number: u32) -> Option<Version>
     ensures { result ≡ version_of number }
 {
     match number {

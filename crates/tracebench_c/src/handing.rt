@@ -1,6 +1,6 @@
 //! Bytes, and the numbers of packets and events, that go into a caller's buffer.
 
-ghost use Rattle.std.specs.Prelude.{◌≡◌, ◌⊎◌, ◌<◌, ◌≤◌, length, map};
+ghost use Rattle.std.specs.Prelude.{◌≡◌, ◌⊎◌, ◌+◌, ◌^◌, ◌<◌, ◌≤◌, ◌++◌, length, map};
 ghost use Rattle.tracebench_c.specs.Events.{numbers_of_event};
 ghost use Rattle.tracebench_c.specs.Handed.{IsHandedOut};
 ghost use Rattle.tracebench_c.specs.Numbers.{numbers_of};
@@ -22,6 +22,22 @@ pub(crate) fn hand_out(bytes: &[u8], buffer: &mut [u8], wanted: &mut u64) -> u32
         return TOO_SMALL;
     }
     buffer[..bytes.len()].copy_from_slice(bytes);
+    DONE
+}
+
+/// Writes the bytes of two parts, one after the other, as [`hand_out`] does.
+pub(crate) fn hand_out_both(first: &[u8], second: &[u8], buffer: &mut [u8], wanted: &mut u64) -> u32
+    requires { length first.now + length second.now < 2 ^ 64 }
+    ensures { IsHandedOut (first.now ++ second.now) result wanted.new buffer.old buffer.new }
+{
+    let front = first.len();
+    let size = front + second.len();
+    *wanted = size as u64;
+    if buffer.len() < size {
+        return TOO_SMALL;
+    }
+    buffer[..front].copy_from_slice(first);
+    buffer[front..size].copy_from_slice(second);
     DONE
 }
 

@@ -179,7 +179,7 @@ fn heard_fault(stop: Option<(u64, MessageFault)>) -> u32
 }
 
 /// A tally in numbers.
-fn tally_reported(tally: Tally) -> HartTally
+pub(crate) fn tally_reported(tally: Tally) -> HartTally
     ensures { result ≡ tally_reported tally }
 {
     HartTally {
@@ -204,7 +204,7 @@ fn audit_status(fault: AuditFault) -> u32
 }
 
 /// Why SENT is refused, as a status.
-fn sent_status(why: SentFault) -> u32
+pub(crate) fn sent_status(why: SentFault) -> u32
     ensures { result ≡ sent_status why }
 {
     match why {

@@ -1,6 +1,6 @@
 //! The packets of a log, many steps at a call: events in, their packets out.
 
-ghost use Rattle.std.specs.Prelude.{◌≡◌, ◌+◌, ◌<◌, ◌++◌, ◌∷◌, [], ℕ, List, length, take};
+ghost use Rattle.std.specs.Prelude.{◌≡◌, ◌+◌, ◌<◌, ◌≤◌, ◌++◌, ◌∷◌, [], ℕ, List, length, take};
 ghost use Rattle.encoder.specs.PacketsSoFar.{packets_so_far};
 ghost use Rattle.payload.specs.declared.mode.Mode.{Mode};
 ghost use Rattle.retire.specs.declared.event.Event.{Event as AnyEvent};
@@ -8,7 +8,7 @@ ghost use Rattle.rvclass.specs.Fetch.{words_of};
 ghost use Rattle.rvclass.specs.Image.{Image};
 ghost use Rattle.tracebench_c.specs.EncoderKept.{AreOfEncoder, NumbersStand};
 ghost use Rattle.tracebench_c.specs.Images.{judged_image};
-ghost use Rattle.tracebench_c.specs.PushedAll.{AreNext, AreWritten, EndsPushAll, FillRoom, HaveNoRoom};
+ghost use Rattle.tracebench_c.specs.PushedAll.{AreNext, AreWritten, AreWrittenFirst, EndsPushAll, FillRoom, HaveNoRoom};
 ghost use Rattle.tracebench_c.specs.declared.status.TheConstants.{TOO_SMALL};
 ghost use Rattle.tracebench_c.specs.steps.PushingAll.{ArePushed, EndsPushes, IsPushed};
 
@@ -54,6 +54,11 @@ pub extern "C" fn tracebench_push_all(
         AreNext (judged_image base image.now) program period mode log nexts state.old (take taken.new events.now) →
         AreWritten (packets_so_far (words_of program) period mode log)
         (packets_so_far (words_of program) period mode (log ++ nexts)) count.new packets.old packets.new }
+    // The packets of the first events are written, as long as these are legal, whatever comes after them.
+    ensures front { (program : Image) (period n : ℕ) (mode : Mode) (log nexts : List AnyEvent) → n ≤ taken.new →
+        AreNext (judged_image base image.now) program period mode log nexts state.old (take n events.now) →
+        AreWrittenFirst (packets_so_far (words_of program) period mode log)
+        (packets_so_far (words_of program) period mode (log ++ nexts)) count.new packets.new }
     ensures no_room { (program : Image) (period : ℕ) (mode : Mode) (log nexts : List AnyEvent) (next : AnyEvent) →
         result ≡ TOO_SMALL →
         AreNext (judged_image base image.now) program period mode log (nexts ++ next ∷ []) state.old
@@ -87,6 +92,11 @@ pub(crate) fn push_all_over(
         AreNext image.now program period mode log nexts state.old (take taken.new events.now) →
         AreWritten (packets_so_far (words_of program) period mode log)
         (packets_so_far (words_of program) period mode (log ++ nexts)) count.new packets.old packets.new }
+    // The packets of the first events are written, as long as these are legal, whatever comes after them.
+    ensures front { (program : Image) (period n : ℕ) (mode : Mode) (log nexts : List AnyEvent) → n ≤ taken.new →
+        AreNext image.now program period mode log nexts state.old (take n events.now) →
+        AreWrittenFirst (packets_so_far (words_of program) period mode log)
+        (packets_so_far (words_of program) period mode (log ++ nexts)) count.new packets.new }
     ensures no_room { (program : Image) (period : ℕ) (mode : Mode) (log nexts : List AnyEvent) (next : AnyEvent) →
         result ≡ TOO_SMALL →
         AreNext image.now program period mode log (nexts ++ next ∷ []) state.old

@@ -1,6 +1,6 @@
 //! The packets of a log, step by step, over pieces.
 
-ghost use Rattle.std.specs.Prelude.{◌≡◌, ◌≢◌, ◌<◌, ◌⊎◌, ◌+◌, ◌++◌, ◌∷◌, [], ℕ, List, length, take};
+ghost use Rattle.std.specs.Prelude.{◌≡◌, ◌≢◌, ◌<◌, ◌≤◌, ◌⊎◌, ◌+◌, ◌++◌, ◌∷◌, [], ℕ, List, length, take};
 ghost use Rattle.encoder.specs.Packets.{packets as packets_of};
 ghost use Rattle.encoder.specs.PacketsSoFar.{packets_so_far};
 ghost use Rattle.payload.specs.declared.mode.Mode.{Mode};
@@ -10,7 +10,7 @@ ghost use Rattle.rvclass.specs.Image.{Image};
 ghost use Rattle.tracebench_c.specs.EncoderKept.{AreOfEncoder, NumbersStand};
 ghost use Rattle.tracebench_c.specs.Images.{OfPieces, judged_pieces};
 ghost use Rattle.tracebench_c.specs.Pushed.{AreFew, AreMore, EndsFinish, EndsPush, IsNext, IsOn};
-ghost use Rattle.tracebench_c.specs.PushedAll.{AreNext, AreWritten, EndsPushAll, FillRoom, HaveNoRoom};
+ghost use Rattle.tracebench_c.specs.PushedAll.{AreNext, AreWritten, AreWrittenFirst, EndsPushAll, FillRoom, HaveNoRoom};
 ghost use Rattle.tracebench_c.specs.PushedChecked.{EndsPushChecked, JudgesNext, MayBeNext};
 ghost use Rattle.tracebench_c.specs.declared.status.TheConstants.{DONE, MEMORY, TOO_SMALL};
 
@@ -108,6 +108,12 @@ pub extern "C" fn tracebench_push_all_over_pieces(
         AreNext (judged_pieces pieces.now) program period mode log nexts state.old (take taken.new events.now) →
         AreWritten (packets_so_far (words_of program) period mode log)
         (packets_so_far (words_of program) period mode (log ++ nexts)) count.new packets.old packets.new }
+    // The packets of the first events are written, as long as these are legal, whatever comes after them.
+    ensures front { (program : Image) (period n : ℕ) (mode : Mode) (log nexts : List AnyEvent) → n ≤ taken.new →
+        result ≢ MEMORY →
+        AreNext (judged_pieces pieces.now) program period mode log nexts state.old (take n events.now) →
+        AreWrittenFirst (packets_so_far (words_of program) period mode log)
+        (packets_so_far (words_of program) period mode (log ++ nexts)) count.new packets.new }
     ensures no_room { (program : Image) (period : ℕ) (mode : Mode) (log nexts : List AnyEvent) (next : AnyEvent) →
         result ≡ TOO_SMALL →
         AreNext (judged_pieces pieces.now) program period mode log (nexts ++ next ∷ []) state.old

@@ -168,6 +168,33 @@ pub const NO_EVENT: u32 = 129;
 /// The event before is illegal, whatever comes before it.
 pub const BAD_BEFORE: u32 = 130;
 
+/// A line has not as many fields as the first one, or an empty field.
+pub const LINE_FIELDS: u32 = 144;
+
+/// Hart is not a number below 64: a line's, in version 1.
+pub const LINE_HART_ONE: u32 = 145;
+
+/// Hart is not a number below 1024: a line's, in version 2.
+pub const LINE_HART_TWO: u32 = 146;
+
+/// A line's number is not a decimal number below 2^64.
+pub const LINE_NUMBER: u32 = 147;
+
+/// A line's bytes are not 1 to 18, of two hexadecimal digits each.
+pub const LINE_BYTES: u32 = 148;
+
+/// A line's hart is not below the count of harts that was asked for.
+pub const LINE_ABOVE: u32 = 149;
+
+/// No line of the symbols is a symbol of code.
+pub const NO_SYMBOL: u32 = 150;
+
+/// The symbols have more than 16,777,216 bytes.
+pub const SYMBOLS_TOO_LARGE: u32 = 151;
+
+/// There are more or fewer logs than harts.
+pub const UNEQUAL_COUNTS: u32 = 152;
+
 // Each status is above the one before it, so no two of them are the same.
 const _: () = prove!(
     DONE < TOO_SMALL
@@ -225,4 +252,13 @@ const _: () = prove!(
         && AFTER_CLOSING_PACKET < BAD_STATE
         && BAD_STATE < NO_EVENT
         && NO_EVENT < BAD_BEFORE
+        && BAD_BEFORE < LINE_FIELDS
+        && LINE_FIELDS < LINE_HART_ONE
+        && LINE_HART_ONE < LINE_HART_TWO
+        && LINE_HART_TWO < LINE_NUMBER
+        && LINE_NUMBER < LINE_BYTES
+        && LINE_BYTES < LINE_ABOVE
+        && LINE_ABOVE < NO_SYMBOL
+        && NO_SYMBOL < SYMBOLS_TOO_LARGE
+        && SYMBOLS_TOO_LARGE < UNEQUAL_COUNTS
 );

@@ -4,18 +4,28 @@
 mod all_at_once;
 mod audited;
 mod blocks;
+mod compared;
 mod decoded;
+mod decoded_all;
 mod encoded;
 mod event_logs;
+mod explained;
 mod fed;
 mod followed;
 mod images;
 mod large;
+mod large_texts;
+mod listed;
 mod many_steps;
+mod measured;
+mod messages;
+mod of_lines;
 mod packed;
+mod path_all;
 mod payload_traces;
 mod pieces;
 mod pushed;
+mod pushed_past;
 mod received;
 mod refused_pieces;
 mod rows;
@@ -35,4 +45,13 @@ fn agree<P: Debug + Drop, T: PartialEq + Debug + Drop>(
         found == wanted,
         "{place:?}: {found:?} in place of {wanted:?}"
     );
+}
+
+/// Ends the test where a buffer does not begin with these bytes, or has another one than 0xaa after them.
+fn holds<P: Debug + Drop>(rt: &impl Abort, place: P, buffer: &[u8], bytes: &[u8]) {
+    let untouched = match buffer.strip_prefix(bytes) {
+        Some(rest) => rest.iter().all(|byte| *byte == 0xaa),
+        None => false,
+    };
+    assert!(rt; untouched, "{place:?}: other bytes");
 }

@@ -14,13 +14,13 @@
 #define BYTES given->bytes.at, given->bytes.length
 #define OTHER given->other.at, given->other.length
 #define EVENT(slice) (const struct tracebench_event *)(const void *)given->slice.at
-#define BUFFER answer->buffer.at, answer->buffer.length, (uint64_t *)(void *)answer->wanted.at
+#define BUFFER answer->buffer.at, answer->buffer.length, (size_t *)(void *)answer->wanted.at
 #define FIRST (void *)answer->first.at
 #define SECOND (void *)answer->second.at
 #define PACKETS (struct tracebench_packet *)(void *)answer->buffer.at, \
-                answer->buffer.length / sizeof(struct tracebench_packet), (uint64_t *)(void *)answer->wanted.at
+                answer->buffer.length / sizeof(struct tracebench_packet), (size_t *)(void *)answer->wanted.at
 #define EVENTS (struct tracebench_event *)(void *)answer->buffer.at, \
-               answer->buffer.length / sizeof(struct tracebench_event), (uint64_t *)(void *)answer->wanted.at
+               answer->buffer.length / sizeof(struct tracebench_event), (size_t *)(void *)answer->wanted.at
 
 static uint32_t make_pack(const struct given *given, struct answer *answer) {
     return tracebench_pack((const struct tracebench_packet *)(const void *)given->other.at, BUFFER);
@@ -35,7 +35,7 @@ static uint32_t make_check(const struct given *given, struct answer *answer) {
 }
 
 static uint32_t make_encode(const struct given *given, struct answer *answer) {
-    const uint64_t *ends = (const uint64_t *)(const void *)given->other.at;
+    const size_t *ends = (const size_t *)(const void *)given->other.at;
     return OVER(tracebench_encode, BYTES, ends, given->other.length / sizeof *ends, given->period, given->mode,
                              given->version, BUFFER, FIRST);
 }
@@ -66,7 +66,7 @@ static uint32_t make_push_checked(const struct given *given, struct answer *answ
 
 /* How far a call of many steps came, and the elements that it wrote, all in one slice. */
 #define AT_ONCE(type) (type *)(void *)(answer->second.at + 16), given->harts, \
-                      (uint64_t *)(void *)answer->second.at, (uint64_t *)(void *)(answer->second.at + 8)
+                      (size_t *)(void *)answer->second.at, (size_t *)(void *)(answer->second.at + 8)
 
 static uint32_t make_push_all(const struct given *given, struct answer *answer) {
     return OVER(tracebench_push_all, FIRST, EVENT(bytes), given->bytes.length / sizeof(struct tracebench_event),
@@ -74,7 +74,7 @@ static uint32_t make_push_all(const struct given *given, struct answer *answer) 
 }
 
 static uint32_t make_feed_all(const struct given *given, struct answer *answer) {
-    const uint64_t *ends = (const uint64_t *)(const void *)given->other.at;
+    const size_t *ends = (const size_t *)(const void *)given->other.at;
     return OVER(tracebench_feed_all, FIRST, BYTES, ends, given->other.length / sizeof *ends,
                                AT_ONCE(struct tracebench_event));
 }
@@ -113,6 +113,34 @@ static uint32_t make_receive(const struct given *given, struct answer *answer) {
 
 static uint32_t make_resume(const struct given *given, struct answer *answer) {
     return tracebench_resume(FIRST, given->number, given->mode);
+}
+
+static uint32_t make_write_message(const struct given *given, struct answer *answer) {
+    return tracebench_write_message(given->hart, given->number, BYTES, BUFFER);
+}
+
+static uint32_t make_read_message(const struct given *given, struct answer *answer) {
+    return tracebench_read_message(BYTES, FIRST, SECOND);
+}
+
+static uint32_t make_write_header(const struct given *given, struct answer *answer) {
+    return tracebench_write_header((const struct tracebench_header *)(const void *)given->other.at, BUFFER);
+}
+
+static uint32_t make_read_header(const struct given *given, struct answer *answer) {
+    return tracebench_read_header(BYTES, FIRST, SECOND);
+}
+
+static uint32_t make_capture_of_lines(const struct given *given, struct answer *answer) {
+    return tracebench_capture_of_lines(BYTES, given->version, given->mode, given->period, given->harts, BUFFER, FIRST);
+}
+
+/* Of each array, so much room as the bits of `harts` say: all or none. */
+static uint32_t make_audit_all(const struct given *given, struct answer *answer) {
+    struct found *found = SECOND;
+    return tracebench_audit_all(BYTES, OTHER, given->mode, found->rows, given->harts & 1 ? MOST_HART_ROWS : 0,
+                                found->arrivals, given->harts & 2 ? MOST_ARRIVALS : 0, found->lost, given->harts & 4 ? MOST_LOST : 0,
+                                found->runs, given->harts & 8 ? MOST_RUNS : 0, &found->refused, FIRST);
 }
 
 struct tracebench_packet packet_of(const struct answer *answer) {
@@ -196,6 +224,16 @@ static const struct span of_feed_all[] = {ONE(DONE), ONE(TOO_SMALL), ONE(MEMORY)
                                           SPAN(EMPTY, BAD_REPORT), SPAN(ODD_BASE, NOT_SORTED),
                                           SPAN(NOT_OPENED, AFTER_CLOSING_PACKET), ONE(BAD_STATE), END};
 static const struct span of_version[] = {ONE(DONE), ONE(TOO_SMALL), END};
+
+static const struct span of_write_message[] = {ONE(DONE), ONE(TOO_SMALL), ONE(EMPTY), ONE(TOO_LONG), END};
+static const struct span of_read_message[] = {ONE(DONE), ONE(SHORT), ONE(BAD_LENGTH), END};
+static const struct span of_write_header[] = {ONE(DONE), ONE(TOO_SMALL), ONE(OUT_OF_RANGE), END};
+static const struct span of_read_header[] = {ONE(DONE), ONE(SHORT), ONE(BAD_HEADER), END};
+static const struct span of_capture_of_lines[] = {ONE(DONE), ONE(TOO_SMALL), ONE(MEMORY), ONE(OUT_OF_RANGE),
+                                                  SPAN(LINE_FIELDS, LINE_ABOVE), END};
+static const struct span of_audit_all[] = {ONE(DONE), ONE(TOO_SMALL), ONE(MEMORY), ONE(OUT_OF_RANGE), ONE(SHORT),
+                                           ONE(BAD_LENGTH), ONE(BAD_HEADER), ONE(STRANGER), ONE(REPEAT), ONE(GAP),
+                                           END};
 
 /* Why a capture is not read on; and why it is not decoded on. */
 static const struct span unread[] = {ONE(DONE), ONE(SHORT), ONE(BAD_LENGTH), ONE(BAD_HEADER), END};
@@ -293,10 +331,36 @@ const struct call version = {
     .name = "version", .make = make_version, .statuses = of_version, .unit = 1,
 };
 
+const struct call write_message = {
+    .name = "write_message", .make = make_write_message, .statuses = of_write_message, .unit = 1,
+};
+const struct call read_message = {
+    .name = "read_message", .make = make_read_message, .statuses = of_read_message,
+    .first = {sizeof(struct tracebench_message), UP_TO(struct tracebench_message, payload)},
+    .second = ALL_OF(size_t), .written = WITH_DONE | WITH_REFUSAL,
+};
+const struct call write_header = {
+    .name = "write_header", .make = make_write_header, .statuses = of_write_header, .unit = 1,
+};
+const struct call read_header = {
+    .name = "read_header", .make = make_read_header, .statuses = of_read_header,
+    .first = ALL_OF(struct tracebench_header), .second = ALL_OF(size_t), .written = WITH_DONE | WITH_REFUSAL,
+};
+const struct call capture_of_lines = {
+    .name = "capture_of_lines", .make = make_capture_of_lines, .statuses = of_capture_of_lines,
+    .first = ALL_OF(uint64_t), .unit = 1, .written = WITH_DONE | WITH_TOO_SMALL | WITH_REFUSAL,
+};
+const struct call audit_all = {
+    .name = "audit_all", .make = make_audit_all, .statuses = of_audit_all,
+    .first = ALL_OF(struct tracebench_path_end), .second = {sizeof(struct found), 0},
+    .written = WITH_DONE | WITH_TOO_SMALL | WITH_REFUSAL,
+};
+
 const struct call *const calls[CALLS] = {&pack, &unpack, &check, &encode, &dump, &decode,
                                          &audit, &encoder, &push, &finish, &decoder, &feed,
                                          &follow, &check_events, &push_checked, &receive, &resume,
-                                         &push_all, &feed_all, &version};
+                                         &push_all, &feed_all, &version, &write_message, &read_message,
+                                         &write_header, &read_header, &capture_of_lines, &audit_all};
 
 bool is_listed(const struct span *spans, uint32_t status) {
     for (; spans->from <= spans->to; spans++)

@@ -60,13 +60,24 @@ struct call {
     bool goes_on; /* `first` is a state, which is at first the one that is given */
 };
 
-enum { CALLS = 20, STATUSES = 256 };
+enum { CALLS = 26, STATUSES = 256 };
+
+/* Room for what is found of a path: arrays of these lengths, one after the other behind the message that is refused. */
+enum { MOST_HART_ROWS = 4, MOST_ARRIVALS = 64, MOST_LOST = 32, MOST_RUNS = 32 };
+struct found {
+    struct tracebench_sent_place refused;
+    struct tracebench_hart_row rows[MOST_HART_ROWS];
+    struct tracebench_arrival arrivals[MOST_ARRIVALS];
+    struct tracebench_lost_run lost[MOST_LOST];
+    struct tracebench_byte_run runs[MOST_RUNS];
+};
 
 /* The most elements that a call of many steps is given room for. */
 enum { MOST_AT_ONCE = 16 };
 
 extern const struct call pack, unpack, check, encode, dump, decode, audit, encoder, push, finish, decoder, feed;
 extern const struct call follow, check_events, push_checked, receive, resume, push_all, feed_all, version;
+extern const struct call write_message, read_message, write_header, read_header, capture_of_lines, audit_all;
 
 /* All of them. */
 extern const struct call *const calls[CALLS];

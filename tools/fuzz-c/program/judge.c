@@ -68,6 +68,11 @@ struct answer run(const struct call *call, const struct given *given, size_t len
     return answer;
 }
 
+/* A struct is written the same, or not at all. */
+static bool are_alike(const struct slice *one, const struct slice *other, size_t meaning) {
+    return (is_kept_from(one, 0) && is_kept_from(other, 0)) || begin_alike(one, other, meaning);
+}
+
 /* Two answers to the same question say the same. */
 static void agree(const struct call *call, const struct answer *one, const struct answer *other) {
     bool answers = is_answer(one->status) && is_answer(other->status);
@@ -79,8 +84,8 @@ static void agree(const struct call *call, const struct answer *one, const struc
         require(begin_alike(&one->buffer, &other->buffer, length), call, "another answer than before");
     }
     if (!is_written(call, one->status) || !is_written(call, other->status)) return;
-    require(begin_alike(&one->first, &other->first, call->first.meaning) &&
-                begin_alike(&one->second, &other->second, call->second.meaning),
+    require(are_alike(&one->first, &other->first, call->first.meaning) &&
+                are_alike(&one->second, &other->second, call->second.meaning),
             call, "another struct than before");
 }
 

@@ -15,6 +15,8 @@
 #include "corpus.h"
 #include "judge.h"
 #include "laws.h"
+#include "parts.h"
+#include "paths.h"
 #include "slices.h"
 #include "steps.h"
 
@@ -23,7 +25,8 @@ int main(int count, char **words) {
                                                       try_dump,   try_decode,  try_audit, try_log_in_steps,
                                                       try_encoder, try_push, try_finish, try_feed,
                                                       try_follow, try_check_events, try_receive, try_resume,
-                                                      try_push_all, try_feed_all, try_version};
+                                                      try_push_all, try_feed_all, try_version, try_messages,
+                                                      try_headers, try_lines, try_audit_all};
     if (count < 4 || count > 5 || (count == 5 && strcmp(words[4], "rows") != 0)) {
         fputs("usage: fuzz-c CORPUS SEED COUNT [rows]\n", stderr);
         return 2;

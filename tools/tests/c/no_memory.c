@@ -61,7 +61,8 @@ int main(void) {
     struct tracebench_encoder_state state;
     struct tracebench_packet opening, packets[EVENTS];
     struct tracebench_event events[EVENTS];
-    uint64_t count = 77, taken = 77, row = 77;
+    size_t count = 77, taken = 77;
+    uint64_t row = 77;
 
     for (size_t at = 0; at < LENGTH; at += 2) image[at] = 1; /* C.NOP */
     for (size_t place = 0; place < EVENTS; place++)
@@ -82,6 +83,18 @@ int main(void) {
     expect("follow", tracebench_follow(BASE_OF_IMAGE, image, LENGTH, 1, &events[0], &events[1]), 0);
     expect("check_events", tracebench_check_events(BASE_OF_IMAGE, image, LENGTH, events, EVENTS, &row), 0);
     expect("rows", row, EVENTS);
+
+    uint8_t bytes[29];
+    struct tracebench_message message;
+    struct tracebench_header header = {TRACEBENCH_FULL, 5, 2};
+    expect("write_message", tracebench_write_message(1, 2, (const uint8_t *)"ab", 2, bytes, sizeof bytes, &count), 0);
+    expect("bytes of a message", count, 13);
+    expect("read_message", tracebench_read_message(bytes, count, &message, &taken), 0);
+    expect("bytes that were read", taken, 13);
+    expect("write_header", tracebench_write_header(&header, bytes, sizeof bytes, &count), 0);
+    expect("bytes of a header", count, 16);
+    expect("read_header", tracebench_read_header(bytes, count, &header, &taken), 0);
+    expect("bytes of a header that were read", taken, 16);
     expect("requests", requests, 0);
     return failures != 0;
 }

@@ -10,7 +10,7 @@ use Rattle.searching.specs.Harts.{harts_counted}
 use Rattle.searching.specs.Start.{spans_of}
 use Rattle.subcommands.specs.declared.words.Format.{Format}
 use Rattle.subcommands.specs.declared.words.Format.TheVariants.{Csv}
-use Rattle.capture_commands.specs.EachHart.{numbered_harts}
+use Rattle.hart_rows.specs.EachHart.{numbered_harts}
 use Rattle.capture_commands.specs.Frames.{AreFrames}
 use Rattle.salvaged_table.specs.Offsets.{own_offsets}
 use Rattle.capture_commands.specs.SalvagedText.{hart_text, rest_text}

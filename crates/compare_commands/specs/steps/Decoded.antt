@@ -1,21 +1,11 @@
 -- What is held of the harts of a capture.
-use Rattle.std.specs.Prelude.{ℕ, Bool, false, List, [], get_or}
+use Rattle.std.specs.Prelude.{List}
 use Rattle.bench.specs.Got.{Got}
-use Rattle.comparing.specs.Compared.{got_by, gots_by}
-use Rattle.comparing.specs.declared.hart_count.HartCount.{HartCount}
+use Rattle.comparing.specs.Compared.{gots_by}
+use Rattle.comparing.specs.steps.Held.{count_in}
 use Rattle.receiver.specs.Received.{events_in}
-use Rattle.retire.specs.declared.event.Event.{Event}
 use Rattle.compare_commands.specs.declared.decoded.Decoded.{Decoded}
-
--- The count of a hart, or nothing.
-abbrev pub count_in : List HartCount → ℕ → HartCount
-count_in counts hart = get_or counts hart (record { taken = 0; bytes = 0 })
 
 -- What is held of each hart.
 abbrev pub gots_in : Decoded → List Got
 gots_in decoded = gots_by (count_in decoded.counts.items) 0 (events_in decoded.lists.items) decoded.closed.items
-
--- What is held of a hart.
-abbrev pub got_at : List HartCount → List (List Event) → List Bool → ℕ → Got
-got_at counts lists closed hart =
-    got_by (count_in counts hart) (get_or lists hart []) (get_or closed hart false)

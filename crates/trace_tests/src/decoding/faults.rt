@@ -6,6 +6,7 @@ use self::Before::{
 use super::traces::Sent::{self, Notify, Plain, Sync, Trap, Updiscon, Walk};
 use super::traces::{
     ENDED_NTR, ENDED_REP, FULL_MAP, OPEN, OPEN_FULL, Place, START, TRAP, copy_of, fed, feed,
+    packet_of,
 };
 use crate::fixtures::{
     BACK_JUMP, BACK_JUMP_TWICE, BEQ, BRANCH_LOOP, ECALL, FAR, JUMP_LOOP, MRET, NOP, RET, SRET,
@@ -15,7 +16,7 @@ use crate::same::same_at;
 use decoder::DecodeFault::{
     self, AfterClose, Branches, MissedNotify, NotOpened, OffProgram, WrongPlace, WrongPrivilege,
 };
-use decoder::Decoder;
+use decoder::{Decoder, Paths};
 use payload::Report;
 use retire::Event;
 use rvclass::Program;
@@ -77,6 +78,28 @@ fn go_on_alike<R: Abort>(
     }
 }
 
+/// The packet is refused with the same fault where its events would be handed out in pieces, with room for no event and
+/// for some. Neither the decoder nor the piece changes.
+fn is_refused_in_pieces<R: Abort + AllocGlobal>(
+    rt: &R,
+    place: Place,
+    program: &Program,
+    before: &Decoder,
+    (next, fault): (Sent, DecodeFault),
+) {
+    for room in [0, 4] {
+        let mut decoder = *before;
+        let mut piece: Vec<Event> = Vec::with_capacity(rt.alloc(), room).expect(rt, "memory");
+        let paths = Paths::of(&*program);
+        let answer = match decoder.feed_in_pieces(paths, &packet_of(next), &mut piece) {
+            Ok(left) => Ok(left.len()),
+            Err(fault) => Err(fault),
+        };
+        same_at(rt, place, (answer, piece.len()), (Err(fault), 0));
+        same_at(rt, place, decoder.state(), before.state());
+    }
+}
+
 /// The packet of a row is refused as it says, and changes neither the log nor what `is_closed` returns. The decoder
 /// then goes on as one does that was never fed the packet.
 fn is_refused<R: Abort + AllocGlobal>(rt: &R, place: Place, row: &Row) {
@@ -85,6 +108,7 @@ fn is_refused<R: Abort + AllocGlobal>(rt: &R, place: Place, row: &Row) {
     let (mut decoder, mut log) = fed(rt, &program, packets_of(before));
     let mut twin = decoder;
     let mut copy = copy_of(rt, log.as_slice());
+    is_refused_in_pieces(rt, place, &program, &twin, (next, fault));
     let answer = feed(&mut decoder, &program, next, &mut log);
     let closed = (decoder.is_closed(), twin.is_closed());
     same_at(rt, place, (answer, closed.0), (Err(fault), closed.1));

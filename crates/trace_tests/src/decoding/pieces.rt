@@ -261,6 +261,9 @@ const RESUMED: &[Sent] = &[
     START,
 ];
 
+/// The packet that closes the trace right after a loss, and one after it.
+const ENDED: &[Sent] = &[ENDED_REP, START];
+
 /// A decoder that goes on after a loss gives the stretch behind it, in pieces of this room.
 fn goes_on<R: Abort + AllocGlobal>(rt: &R, program: &Program, room: usize) {
     let lines = Lines::new(rt.alloc(), program);
@@ -275,6 +278,20 @@ fn goes_on<R: Abort + AllocGlobal>(rt: &R, program: &Program, room: usize) {
     }
 }
 
+/// A decoder that is closed right after a loss gives no event, and remembers what one does that `feed` closes.
+fn ends<R: Abort + AllocGlobal>(rt: &R, program: &Program, room: usize) {
+    let lines = Lines::new(rt.alloc(), program);
+    let mut decoder = Decoder::new();
+    let mut twin = Decoder::new();
+    for (row, packets) in [BEFORE, ENDED].iter().enumerate() {
+        let place = ("ended", row, room);
+        let given = go_alike(rt, place, program, &lines, &mut decoder, &mut twin, packets);
+        same_at(rt, place, given.len(), if row == 0 { 1 } else { 0 });
+        decoder.resume(Differential);
+        twin.resume(Differential);
+    }
+}
+
 /// What waits before a loss is not handed out, and the events behind it are, from the first synchronisation on.
 #[test]
 fn resumed_in_pieces(rt: HostRuntime) {
@@ -282,6 +299,7 @@ fn resumed_in_pieces(rt: HostRuntime) {
     for room in ROOMS {
         goes_on(&rt, &program, room);
     }
+    ends(&rt, &program, 0);
 }
 
 /// A walk to the last of a thousand instructions, in pieces of this room.

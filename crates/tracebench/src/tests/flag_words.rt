@@ -4,9 +4,9 @@
 pub(crate) const TEXT: &str = r#"
 # Progress is shown for each capture.
 % tracebench dump --progress run.capture
-> Dump(Dump { search: false, progress: true, capture: "run.capture" })
+> Dump(Dump { search: false, only: None, progress: true, capture: "run.capture" })
 % tracebench dump run.capture --progress --search
-> Dump(Dump { search: true, progress: true, capture: "run.capture" })
+> Dump(Dump { search: true, only: None, progress: true, capture: "run.capture" })
 % tracebench decode --base 0 --progress image.bin run.capture
 > Decode(Decode { base: "0", also: [], harts: 1, lossy: false, progress: true, image: "image.bin", capture: "run.capture" })
 % tracebench list --base 0 image.bin --progress run.capture

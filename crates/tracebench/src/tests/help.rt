@@ -40,11 +40,11 @@ $ tracebench --help
 # The version has the toolchain's line. A subcommand has none.
 $ tracebench --version
 ! tracebench 1.0.0
-! rattle-kit-13b logic dac8208d650f15bf
+! rattle-kit-13f logic dac8208d650f15bf
 ? 2
 $ tracebench -V
 ! tracebench 1.0.0
-! rattle-kit-13b logic dac8208d650f15bf
+! rattle-kit-13f logic dac8208d650f15bf
 ? 2
 $ tracebench dump --version
 ! error: unexpected argument '--version' found
@@ -111,9 +111,10 @@ $ tracebench help dump
 !   <CAPTURE>  File of trace messages
 !
 ! Options:
-!       --search    Go on where bytes are no message, and print how many are passed over
-!       --progress  Show how far the capture is worked through, where standard error is a terminal
-!   -h, --help      Print help
+!       --search      Go on where bytes are no message, and print how many are passed over
+!       --only <A-B>  Look at harts A to B alone, or at hart A, 0 to 1023; without it, at all
+!       --progress    Show how far the capture is worked through, where standard error is a terminal
+!   -h, --help        Print help
 !
 ! Example:
 !   tracebench dump examples/loop/log.capture

@@ -111,11 +111,21 @@ pub(crate) const TEXT: &str = r#"
 !
 ! For more information, try '--help'.
 
-# `dump`, and its search.
+# `dump`, its search and its harts.
 % tracebench dump run.capture
-> Dump(Dump { search: false, progress: false, capture: "run.capture" })
+> Dump(Dump { search: false, only: None, progress: false, capture: "run.capture" })
 % tracebench dump run.capture --search
-> Dump(Dump { search: true, progress: false, capture: "run.capture" })
+> Dump(Dump { search: true, only: None, progress: false, capture: "run.capture" })
+% tracebench dump --only 3-5 run.capture
+> Dump(Dump { search: false, only: Some("3-5"), progress: false, capture: "run.capture" })
+% tracebench dump run.capture --search --only=-x
+> Dump(Dump { search: true, only: Some("-x"), progress: false, capture: "run.capture" })
+% tracebench dump --only 3 --only 4 run.capture
+! error: the argument '--only <A-B>' cannot be used multiple times
+!
+! Usage: tracebench dump [OPTIONS] <CAPTURE>
+!
+! For more information, try '--help'.
 % tracebench dump --full run.capture
 ! error: unexpected argument '--full' found
 !

@@ -37,6 +37,22 @@ Gives words encoder next packets =
     → Legal words (log ++ next ∷ [])
     → packets_so_far words period mode (log ++ next ∷ []) ≡ packets_so_far words period mode log ++ packets
 
+-- These packets begin with those by which the later ones are more than the earlier ones.
+pub record BeginWith (earlier later packets : List Packet) : Type 0 where
+  pub more : List Packet
+  pub behind : List Packet
+  pub grown : later ≡ earlier ++ more
+  pub profile : All InProfile more
+  pub whole : packets ≡ more ++ behind
+
+-- Whatever log an encoder stands for, these packets begin with those of the first so many of these events, where the log
+-- with these is legal, whatever comes after them.
+abbrev pub GivesInTurn : Words → Encoder → List Event → List Packet → Type 0
+GivesInTurn words before events packets =
+    (period n : ℕ) (mode : Mode) (log : List Event) → EncoderStands words period mode log before
+    → Legal words (log ++ take n events)
+    → BeginWith (packets_so_far words period mode log) (packets_so_far words period mode (log ++ take n events)) packets
+
 -- The next event was pushed, and its packets were written; or they have no room, and nothing changed.
 pub data IsPushed (words : Words) (before : Encoder) (next : Event) (status : ℕ) (after : Encoder) (count : ℕ)
     (old new : List PacketNumbers) : Type 0 where
@@ -55,6 +71,7 @@ pub record ArePushed (words : Words) (first : Encoder) (numbers : List EventNumb
   pub packets : List Packet
   pub read : AreOfEvents (take taken numbers) events
   pub goes : GoesOn words first events encoder packets
+  pub turn : GivesInTurn words first events packets
   pub still : taken ≡ 0 → encoder ≡ first
   pub counted : count ≡ length packets
   pub two : count ≤ 2 * taken
@@ -77,6 +94,7 @@ pub record IsBlockPushed (words : Words) (first : Encoder) (block : List Event) 
     (old new : List PacketNumbers) : Type 0 where
   pub packets : List Packet
   pub goes : GoesOn words first block encoder packets
+  pub turn : GivesInTurn words first block packets
   pub counted : count ≡ length packets
   pub few : count ≤ length block
   pub written : new ≡ map numbers_of packets ++ drop count old
@@ -86,6 +104,7 @@ pub record IsPartPushed (words : Words) (first : Encoder) (block : List Event) (
     (place : ℕ) (old now : List PacketNumbers) : Type 0 where
   pub packets : List Packet
   pub goes : GoesOn words first (take at block) encoder packets
+  pub turn : GivesInTurn words first (take at block) packets
   pub counted : place ≡ length packets
   pub far : place ≤ at
   pub within : at ≤ length block

@@ -46,7 +46,7 @@ fn audited(alloc: Global, sent: &[u8], received: &[u8], hart: u16) -> (u32, Tall
 const KEPT: Tally = ([9; 6], 9);
 
 /// Eight messages of a hart, and one of another. No audit unpacks their payloads.
-const SENT: [Sent; 9] = [
+pub(super) const SENT: [Sent; 9] = [
     (0, 0, b"a"),
     (0, 1, b"b"),
     (0, 2, b"c"),
@@ -60,7 +60,7 @@ const SENT: [Sent; 9] = [
 
 /// Numbers 5 to 7 of hart 0 are lost, number 1 is late, five messages are repeats, two are changed, and four are
 /// strangers.
-const CAME: [Sent; 17] = [
+pub(super) const CAME: [Sent; 17] = [
     (0, 0, b"a"),
     (0, 2, b"c"),
     (0, 1, b"b"),
@@ -81,7 +81,11 @@ const CAME: [Sent; 17] = [
 ];
 
 /// Messages after these bytes.
-fn capture_of<R: Abort + AllocGlobal>(rt: &R, first: &[u8], messages: &[Sent]) -> Vec<u8> {
+pub(super) fn capture_of<R: Abort + AllocGlobal>(
+    rt: &R,
+    first: &[u8],
+    messages: &[Sent],
+) -> Vec<u8> {
     let mut capture = Vec::new(rt.alloc());
     add(rt, &mut capture, first);
     add_sent(rt, &mut capture, messages);

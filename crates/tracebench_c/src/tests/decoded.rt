@@ -193,16 +193,17 @@ fn is_refused<R: Abort + AllocGlobal>(
 }
 
 /// Two instructions, and two instructions with a return to the second of them.
-const PLAIN: &[&[u8]] = &[b"\x1f", b"\x73\0\0\0\x20", b"\x0a", b"\x4f"];
+pub(super) const PLAIN: &[&[u8]] = &[b"\x1f", b"\x73\0\0\0\x20", b"\x0a", b"\x4f"];
 
-const RETURNS: &[&[u8]] = &[b"\x1f", b"\x73\0\0\0\x20", b"\x0a", b"\xcf\0"];
+pub(super) const RETURNS: &[&[u8]] = &[b"\x1f", b"\x73\0\0\0\x20", b"\x0a", b"\xcf\0"];
 
 /// The same in full-address mode.
-const FULL: &[&[u8]] = &[b"\x1f\x01", b"\x73\0\0\0\x20", b"\x0a\0\0\0\x01", b"\x4f"];
+pub(super) const FULL: &[&[u8]] = &[b"\x1f\x01", b"\x73\0\0\0\x20", b"\x0a\0\0\0\x01", b"\x4f"];
 
-const PLAIN_ROWS: &[u8] = b"80000000,0,3,,\n80000004,0,3,,\n";
+pub(super) const PLAIN_ROWS: &[u8] = b"80000000,0,3,,\n80000004,0,3,,\n";
 
-const RETURNS_ROWS: &[u8] = b"80000000,0,3,,\n80000004,0,3,,\n80000008,6,3,,\n80000004,0,3,,\n";
+pub(super) const RETURNS_ROWS: &[u8] =
+    b"80000000,0,3,,\n80000004,0,3,,\n80000008,6,3,,\n80000004,0,3,,\n";
 
 #[test]
 fn captures_are_decoded(rt: HostRuntime) {
@@ -238,12 +239,12 @@ fn captures_are_decoded(rt: HostRuntime) {
 
 /// The instructions of a program, what follows the first two of the messages of a plain log, the rows that are decoded,
 /// and where and why decoding stops.
-type Stop = (&'static [u32], &'static [Sent], &'static [u8], u64, u32);
+pub(super) type Stop = (&'static [u32], &'static [Sent], &'static [u8], u64, u32);
 
 /// The row that the first two messages settle.
 const FIRST_ROW: &[u8] = b"80000000,0,3,,\n";
 
-const STOPS: [Stop; 19] = [
+pub(super) const STOPS: [Stop; 19] = [
     (&WORDS, &[(0, 2, b"\x0a"), (0, 3, b"")], FIRST_ROW, 3, 17),
     (&WORDS, &[(0, 2, &[0; 19])], FIRST_ROW, 2, 17),
     (&WORDS, &[(0, 2, b"\x1f\x20")], FIRST_ROW, 2, 34),

@@ -11,13 +11,13 @@ use crate::{
 use std::process::Abort;
 
 /// More events than 65,536, of one log.
-const EVENTS: usize = 70_000;
+pub(super) const EVENTS: usize = 70_000;
 
 /// The most harts.
 const HARTS: usize = 1_024;
 
 /// A row of a branch to itself.
-const BRANCH: &[u8] = b"8000000c,5,3,,\n";
+pub(super) const BRANCH: &[u8] = b"8000000c,5,3,,\n";
 
 /// What a call for a capture says that is as long as this one, and the capture: the status, and how many bytes are
 /// wanted.
@@ -125,7 +125,7 @@ fn is_whole<R: Abort + AllocGlobal>(rt: &R, capture: &[u8], hart: u16, messages:
 }
 
 /// The capture of a branch to itself that is taken so many times, with a sync at each.
-fn syncs_of<R: Abort + AllocGlobal>(rt: &R, count: usize) -> Vec<u8> {
+pub(super) fn syncs_of<R: Abort + AllocGlobal>(rt: &R, count: usize) -> Vec<u8> {
     let mut capture = header_of(rt, 0, 1, 1);
     add_message(rt, &mut capture, 0, 0, b"\x1f");
     for number in 0..count {

@@ -1,5 +1,8 @@
 -- The prover tries no chain of steps by itself: what each step found is handed to it, in order.
-use Rattle.std.proofs.Common.{Bool, Err, List, Ok, Option, Result, ap, arith, false, inr, refl, subst, sym, true, ℕ, ◌≡◌, ◌∙◌, ◌⊎◌}
+use Rattle.std.proofs.Common.{Bool, Err, List, Ok, Option, Result, ap, arith, false, inl, inr, refl, subst, sym, true, true≢false, ℕ}
+use Rattle.std.proofs.Common.{◌≡◌, ◌∙◌, ◌⊎◌}
+use Rattle.std.proofs.KnownBytes.{Keeps-refl}
+use Rattle.std.specs.Io.KnownBytes.{Keeps}
 use Rattle.std.proofs.lemmas.Grind.{common_steps}
 use Rattle.std.specs.Prelude.{IfSome}
 use Rattle.subcommands.specs.declared.words.Decode.{Decode}
@@ -72,6 +75,15 @@ returns-in_err-bytes-clause-printed g c =
       ),
     ))
 
+-- What was not touched keeps its bytes.
+kept : {O : Type 0} (contents : O → Option (List ℕ)) (old new : O) → new ≡ old → Keeps (contents old) (contents new)
+kept contents old new same = subst (λ out. Keeps (contents old) (contents out)) (sym same) (Keeps-refl (contents old))
+
+-- Nothing or a prefix was written where messages may be lost.
+cut_begun : {A B : Type 0} {lossy : Bool} → lossy ≡ true → A ⊎ B → A ⊎ ((lossy ≡ true) × B)
+cut_begun is (inl keeps) = inl keeps
+cut_begun is (inr begins) = inr (is, begins)
+
 module _ (g : _) (c : After-as_slice-capture g) (slice : List ℕ) (same : slice ≡ c.in_ok-bytes.bytes.items)
     (lossy : Bool) (is : c.args.asked.now.lossy ≡ lossy) where
   abbrev content : Content
@@ -124,7 +136,10 @@ returns-then-asked-clause-cut g c =
     (g.O.Write.contents c.decode_lossy.new.out) c.decode_lossy.ensures.cut
 
 pub returns-then-asked-clause-begun : goal.returns-then-asked-clause-begun
-returns-then-asked-clause-begun g c = λ memory. returns-then-asked-clause-cut g c
+returns-then-asked-clause-begun g c = λ memory. cut_begun c.if-asked.true (returns-then-asked-clause-cut g c)
+
+pub returns-then-asked-clause-untouched : goal.returns-then-asked-clause-untouched
+returns-then-asked-clause-untouched g c = λ whole memory. absurd (true≢false (sym c.if-asked.true ∙ whole))
 
 pub returns-clause-printed : goal.returns-clause-printed
 returns-clause-printed g c =
@@ -139,4 +154,5 @@ returns-clause-cut g c =
     (g.O.Write.contents c.decode_whole.new.out) c.decode_whole.ensures.cut
 
 pub returns-clause-begun : goal.returns-clause-begun
-returns-clause-begun g c = λ memory. returns-clause-cut g c
+returns-clause-begun g c = λ memory.
+    inl (kept (g.O.Write.contents) c.args.out.now c.decode_whole.new.out (c.decode_whole.ensures.untouched memory))

@@ -1,110 +1,49 @@
--- The prover tries no chain of steps by itself: what each step found is handed to it, in order.
-use Rattle.std.proofs.Common.{◌≡◌, refl, subst, arith, inr, ℕ, Bool, List, Option, Ok, Err}
+-- The prover tries no chain of steps by itself: what the first step found is handed to it, and then the dump.
+use Rattle.std.proofs.Common.{◌≡◌, refl, arith, inr, Ok, Err}
 use Rattle.std.proofs.lemmas.Grind.{common_steps}
-use Rattle.output.specs.Begun.{AppendsBeginning}
-use Rattle.output.proofs.Beginnings.{begun_kept, whole_begun}
-use Rattle.captures.specs.Dump.{AppendsDump, BeginsDump}
-use Rattle.message.specs.declared.fault.MessageFault.{MessageFault}
-use Rattle.subcommands.specs.declared.words.Dump.{Dump}
-use Rattle.command_inputs.specs.Begun.{IsCutOf}
-use Rattle.command_inputs.specs.Found.{IsRead}
-use Rattle.files.specs.Known.{Content}
-use Rattle.command_inputs.specs.declared.fault.Fault.TheVariants as fault
-use Rattle.command_inputs.proofs.Runs.{appends-keeps, ends_silently, output_failed, prints}
-use Rattle.capture_commands.specs.Dumping.{CanDump, Dumps, IsDumpAsked, end_of_dump}
-use Rattle.capture_commands.specs.declared.reason.CaptureReason.{CaptureReason}
-use Rattle.capture_commands.proofs.dumping.dump.Goals.{After-flush}
+use Rattle.command_inputs.proofs.Beginnings.{cut_leads}
+use Rattle.command_inputs.proofs.Formats.{found_ends, none_ends}
+use Rattle.command_inputs.proofs.Runs.{ends_silently, leads_on}
+use Rattle.command_inputs.specs.OnlyHarts.{IsOnly, asked_harts}
+use Rattle.command_inputs.specs.Order.{only_fault}
+use Rattle.capture_commands.specs.Dumping.{CanDump, CanDumpHarts, Dumps, DumpsHarts}
 use Rattle.capture_commands.proofs.dumping.dump.Goals as goal
 
-pub returns-in_err-bytes-clause-printed : goal.returns-in_err-bytes-clause-printed
-returns-in_err-bytes-clause-printed g c =
-    let out = g.O.Write.contents c.args.out.now in
+pub returns-in_err-harts-clause-early : goal.returns-in_err-harts-clause-early
+returns-in_err-harts-clause-early g c =
+    let why = c.in_err-harts.field-0.0 in
+    let is : c.from_residual.result ≡ Err why = grind (arith, common_steps) in
+    found_ends (only_fault (asked_harts c.args.asked.now.only)) why c.from_residual.result c.in_err-harts.ensures.none is
+
+pub returns-in_err-harts-clause-printed : goal.returns-in_err-harts-clause-printed
+returns-in_err-harts-clause-printed g c =
     let asked = c.args.asked.now in
     let content = g.F.Files.content c.args.files.now in
-    let run = Dumps content asked in
-    let can = CanDump content asked in
-    let why = c.in_err-bytes.field-0.0 in
+    let why = c.in_err-harts.field-0.0 in
     let is : c.from_residual.result ≡ Err why = grind (arith, common_steps) in
-    ends_silently run can (IsRead content asked.capture (Err why)) why c.from_residual.result out is
-    c.in_err-bytes.ensures.lacked (λ none. (Err why, none, refl))
+    ends_silently (Dumps content asked) (CanDump content asked) (IsOnly asked.only (Err why)) why
+    c.from_residual.result (g.O.Write.contents c.args.out.now) is (inr c.in_err-harts.ensures.found)
+    (λ none. (Err why, none, refl))
 
--- The capture was read, and a beginning of its dump was written.
-dump_cut : (content : Content) (asked : Dump) (bytes : List ℕ) (bad : Bool) (stop : Option (ℕ × MessageFault))
-    (text : List ℕ)
-    (old new : Option (List ℕ)) → IsRead {W = CaptureReason} content asked.capture (Ok bytes)
-    → IsDumpAsked asked.search bytes bad stop text
-    → AppendsBeginning text old new → IsCutOf (Dumps content asked) old new
-dump_cut content asked bytes bad stop text old new read dumped begun = inr (record {
-  printed = record { text = text; ended = end_of_dump bad stop };
-  prints = (Ok bytes, read, record { bad = bad; stop = stop; dumped = dumped; ended = refl });
-  begun = begun;
-})
-
-module _ (g : _) (c : After-flush g) where
-  -- What was dumped.
-  dumped : AppendsDump (IsDumpAsked c.args.asked.now.search c.in_ok-bytes.bytes.items) c.in_ok-dumped.dumped.bad c.in_ok-dumped.dumped.fault
-      (g.O.Write.contents c.args.out.now) (g.O.Write.contents c.show_dump.new.out)
-  dumped =
-      let dumped = c.in_ok-dumped.dumped in
-      subst (λ bytes. AppendsDump (IsDumpAsked c.args.asked.now.search bytes) dumped.bad dumped.fault (g.O.Write.contents c.args.out.now)
-      (g.O.Write.contents c.show_dump.new.out)) c.as_slice.ensures.value c.in_ok-dumped.ensures.dumped
-
-  -- Whatever the flush answers, the whole dump was written.
-  cut : IsCutOf (Dumps (g.F.Files.content c.args.files.now) c.args.asked.now) (g.O.Write.contents c.args.out.now)
-      (g.O.Write.contents c.flush.new.self)
-  cut =
-      let old = g.O.Write.contents c.args.out.now in
-      let mid = g.O.Write.contents c.show_dump.new.out in
-      let new = g.O.Write.contents c.flush.new.self in
-      dump_cut (g.F.Files.content c.args.files.now) c.args.asked.now c.in_ok-bytes.bytes.items
-      c.in_ok-dumped.dumped.bad c.in_ok-dumped.dumped.fault dumped.text old new c.in_ok-bytes.ensures.held dumped.dumped
-      (begun_kept dumped.text old mid new (whole_begun dumped.text old mid dumped.appended) c.flush.ensures.bytes)
+pub returns-clause-early : goal.returns-clause-early
+returns-clause-early g c =
+    none_ends (only_fault (asked_harts c.args.asked.now.only)) c.dump_of.result c.in_ok-harts.ensures.some
 
 pub returns-clause-printed : goal.returns-clause-printed
 returns-clause-printed g c =
-    let contents = g.O.Write.contents in
     let asked = c.args.asked.now in
     let content = g.F.Files.content c.args.files.now in
-    let is = dumped g (goal.at.returns-clause-printed g c).After-flush in
-    let old = contents c.args.out.now in
-    let new = contents c.flush.new.self in
-    prints (Dumps content asked) (CanDump content asked) c.ended.result old new (record {
-      text = is.text;
-      prints = (
-        Ok c.in_ok-bytes.bytes.items,
-        c.in_ok-bytes.ensures.held,
-        record {
-          bad = c.in_ok-dumped.dumped.bad;
-          stop = c.in_ok-dumped.dumped.fault;
-          dumped = is.dumped;
-          ended = c.ended.ensures.value;
-        },
-      );
-      appended = appends-keeps old (contents c.show_dump.new.out) new is.text is.appended c.flush.ensures.bytes;
-    })
-
-pub returns-in_err-dumped-clause-cut : goal.returns-in_err-dumped-clause-cut
-returns-in_err-dumped-clause-cut g c =
-    let old = g.O.Write.contents c.args.out.now in
-    let new = g.O.Write.contents c.show_dump.new.out in
-    let bytes = c.in_ok-bytes.bytes.items in
-    let search = c.args.asked.now.search in
-    let is : BeginsDump (IsDumpAsked search bytes) old new =
-    subst (λ bytes. BeginsDump (IsDumpAsked search bytes) old new) c.as_slice.ensures.value c.in_err-dumped.ensures.begun in
-    dump_cut (g.F.Files.content c.args.files.now) c.args.asked.now bytes is.bad is.fault is.text old new
-    c.in_ok-bytes.ensures.held is.dumped is.begun
-
-pub returns-in_err-flush-clause-cut : goal.returns-in_err-flush-clause-cut
-returns-in_err-flush-clause-cut g c = cut g (goal.at.returns-in_err-flush-clause-cut g c).After-flush
+    let harts = c.in_ok-harts.harts in
+    leads_on (DumpsHarts content asked harts) (Dumps content asked) (CanDumpHarts content asked harts)
+    (CanDump content asked) c.dump_of.result (g.O.Write.contents c.args.out.now) (g.O.Write.contents c.dump_of.new.out)
+    (λ printed is. (Ok harts, c.in_ok-harts.ensures.found, is)) (λ can. (harts, c.in_ok-harts.ensures.found, can))
+    c.dump_of.ensures.printed
 
 pub returns-clause-cut : goal.returns-clause-cut
-returns-clause-cut g c = cut g (goal.at.returns-clause-cut g c).After-flush
-
-pub returns-in_err-flush-clause-printed : goal.returns-in_err-flush-clause-printed
-returns-in_err-flush-clause-printed g c =
-    let content = g.F.Files.content c.args.files.now in
+returns-clause-cut g c =
     let asked = c.args.asked.now in
-    let is : c.from_residual-in_err-flush.result ≡ Err fault.Output = grind (arith, common_steps) in
-    output_failed (Dumps content asked) (CanDump content asked) c.from_residual-in_err-flush.result
-    (g.O.Write.contents c.args.out.now) (g.O.Write.contents c.flush.new.self) is
-    (c.in_ok-bytes.bytes.items, c.in_ok-bytes.ensures.held, tt)
+    let content = g.F.Files.content c.args.files.now in
+    let harts = c.in_ok-harts.harts in
+    cut_leads (DumpsHarts content asked harts) (Dumps content asked) (g.O.Write.contents c.args.out.now)
+    (g.O.Write.contents c.dump_of.new.out) (λ printed is. (Ok harts, c.in_ok-harts.ensures.found, is))
+    c.dump_of.ensures.cut

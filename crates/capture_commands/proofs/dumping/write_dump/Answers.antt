@@ -7,13 +7,13 @@ use Rattle.capture_commands.proofs.dumping.write_dump.Goals as goal
 pub returns-else-asked-clause-dumped : goal.returns-else-asked-clause-dumped
 returns-else-asked-clause-dumped g c =
     subst
-    (λ search. IfOk c.dump_watched.result (λ dumped. AppendsDump (IsDumpAsked search c.args.bytes.now) dumped.bad
-    dumped.fault (g.O.Write.contents c.args.out.now) (g.O.Write.contents c.dump_watched.new.sink)))
-    (sym c.if-asked.false) c.dump_watched.ensures.dumped
+    (λ search. IfOk c.dump_harts.result (λ dumped. AppendsDump (IsDumpAsked search c.args.harts c.args.bytes.now) dumped.bad
+    dumped.fault (g.O.Write.contents c.args.out.now) (g.O.Write.contents c.dump_harts.new.sink)))
+    (sym c.if-asked.false) c.dump_harts.ensures.dumped
 
 pub returns-else-asked-clause-begun : goal.returns-else-asked-clause-begun
 returns-else-asked-clause-begun g c =
     subst
-    (λ search. OnErr c.dump_watched.result (BeginsDump (IsDumpAsked search c.args.bytes.now)
-    (g.O.Write.contents c.args.out.now) (g.O.Write.contents c.dump_watched.new.sink)))
-    (sym c.if-asked.false) c.dump_watched.ensures.begun
+    (λ search. OnErr c.dump_harts.result (BeginsDump (IsDumpAsked search c.args.harts c.args.bytes.now)
+    (g.O.Write.contents c.args.out.now) (g.O.Write.contents c.dump_harts.new.sink)))
+    (sym c.if-asked.false) c.dump_harts.ensures.begun

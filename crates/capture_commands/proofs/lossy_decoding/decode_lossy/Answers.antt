@@ -10,7 +10,7 @@ use Rattle.rvclass.specs.Image.{Image}
 use Rattle.command_inputs.specs.Begun.{IsCutOf}
 use Rattle.command_inputs.proofs.Beginnings.{printed_begun}
 use Rattle.command_inputs.proofs.Runs.{appends-keeps, ends_silently, prints}
-use Rattle.capture_commands.specs.EachHart.{each_hart}
+use Rattle.hart_rows.specs.EachHart.{each_hart}
 use Rattle.capture_commands.specs.Pieces.{ArePieces, HasPieces, WritesPieces, end_of_pieces, parts_of, parts_text}
 use Rattle.capture_commands.proofs.lossy_decoding.decode_lossy.Goals as goal
 

@@ -7,9 +7,9 @@ use Rattle.losses.specs.PartsIn.{parts_in}
 use Rattle.losses.specs.declared.part.HartPieces.{HartPieces}
 use Rattle.output.specs.Begun.{AppendsBeginning}
 use Rattle.output.proofs.Beginnings.{begun_behind, begun_in_front}
-use Rattle.capture_commands.specs.EachHart.{hart_line}
+use Rattle.hart_rows.specs.EachHart.{hart_line}
 use Rattle.capture_commands.specs.Pieces.{parts_text}
-use Rattle.capture_commands.proofs.HartTexts.{hart_begun, hart_written}
+use Rattle.hart_rows.proofs.HartTexts.{hart_begun, hart_written}
 use Rattle.capture_commands.proofs.lossy_decoding.write_pieces.Goals as goal
 
 -- The parts of a hart.

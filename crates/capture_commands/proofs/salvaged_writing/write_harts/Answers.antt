@@ -7,10 +7,10 @@ use Rattle.output.specs.Begun.{AppendsBeginning}
 use Rattle.output.proofs.Beginnings.{begun_behind, begun_in_front}
 use Rattle.message.specs.declared.header.Header.{Header}
 use Rattle.salvaging.specs.declared.salvaged.SalvagedHart.{SalvagedHart}
-use Rattle.capture_commands.specs.EachHart.{hart_line, numbered_harts}
+use Rattle.hart_rows.specs.EachHart.{hart_line, numbered_harts}
 use Rattle.salvaged_table.specs.Offsets.{own_offsets}
 use Rattle.capture_commands.specs.SalvagedText.{hart_text}
-use Rattle.capture_commands.proofs.HartTexts.{numbered_begun, numbered_written}
+use Rattle.hart_rows.proofs.HartTexts.{numbered_begun, numbered_written}
 use Rattle.capture_commands.proofs.salvaged_writing.write_harts.Goals as goal
 use Rattle.capture_commands.proofs.salvaged_writing.write_harts.Goals.{After-write_text}
 

@@ -1,7 +1,7 @@
 -- The texts of the harts so far are written, and there is still room.
 use Rattle.std.proofs.Common.{◌≤◌, take, vec_capacity}
 use Rattle.std.specs.Io.KnownBytes.{Appends}
-use Rattle.capture_commands.specs.EachHart.{numbered_harts}
+use Rattle.hart_rows.specs.EachHart.{numbered_harts}
 use Rattle.salvaged_table.specs.Offsets.{own_offsets}
 use Rattle.capture_commands.specs.SalvagedText.{hart_text}
 use Rattle.capture_commands.proofs.salvaged_writing.write_harts.Given as goal

@@ -5,7 +5,7 @@ use Rattle.std.specs.Prelude.{OnOk}
 use Rattle.output.specs.Begun.{AppendsBeginning}
 use Rattle.output.proofs.Beginnings.{begun_behind, begun_in_front}
 use Rattle.searching.specs.Start.{spans_of}
-use Rattle.capture_commands.specs.EachHart.{numbered_harts}
+use Rattle.hart_rows.specs.EachHart.{numbered_harts}
 use Rattle.salvaged_table.specs.Offsets.{own_offsets}
 use Rattle.capture_commands.specs.SalvagedText.{hart_text, rest_text}
 use Rattle.capture_commands.specs.steps.Reading.{found_harts}

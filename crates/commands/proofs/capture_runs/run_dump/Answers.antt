@@ -1,8 +1,8 @@
 -- The prover makes no record by itself: what is said of the subcommand's run is handed to it, with the joined reasons.
 use Rattle.std.proofs.Common.{◌∙◌, sym}
-use Rattle.capture_commands.specs.Dumping.{CanDump, Dumps}
+use Rattle.capture_commands.specs.Dumping.{CanDump, Dumps, dump_meaning}
 use Rattle.commands.specs.declared.reason.CommandReason.TheVariants.{Capture}
-use Rattle.commands.proofs.JoinedRuns.{joined_cut, joined_prints, keeps_same}
+use Rattle.commands.proofs.JoinedRuns.{joined_cut, joined_early, joined_prints, keeps_same}
 use Rattle.commands.proofs.capture_runs.run_dump.Goals as goal
 
 pub returns : goal.returns
@@ -13,11 +13,11 @@ returns g c =
     let out = c.args.out.now in
     let value = c.joined_end.ensures.value in record {
       cut = joined_cut Capture (Dumps content asked) (contents out) (contents c.dump.new.out) c.dump.ensures.cut;
-      early = tt;
+      early = joined_early Capture (dump_meaning asked).early c.dump.result c.joined_end.result value c.dump.ensures.early;
       printed = joined_prints Capture (Dumps content asked) (CanDump content asked) c.dump.result c.joined_end.result
           (contents out) (contents c.dump.new.out) value c.dump.ensures.printed;
       begun = λ memory. keeps_same contents out c.dump.new.out
           (c.dump.ensures.untouched (c.joined_end.ensures.memory memory));
       untouched = λ whole memory. c.dump.ensures.untouched (c.joined_end.ensures.memory memory);
-      refused = λ other ended. absurd (c.dump.ensures.refused (sym c.joined_end.ensures.status ∙ ended));
+      refused = λ other ended. c.dump.ensures.refused (sym c.joined_end.ensures.status ∙ ended);
     }

@@ -4,9 +4,9 @@ use Rattle.std.proofs.lemmas.List.{length-map}
 use Rattle.comparing.specs.Counts.{AreCounted}
 use Rattle.receiver.specs.Received.{events_in}
 use Rattle.rvclass.specs.Fetch.{words_of}
-use Rattle.compare_commands.specs.steps.Decoded.{count_in}
+use Rattle.comparing.specs.steps.Held.{count_in}
 use Rattle.comparing.proofs.DecodedHarts.{flags_many, gots_many}
-use Rattle.compare_commands.proofs.DecodedHarts.{held}
+use Rattle.comparing.proofs.HeldHarts.{held}
 use Rattle.compare_commands.proofs.decoded.decoded_of.Goals as goal
 
 pub returns-clause-got : goal.returns-clause-got

@@ -10,7 +10,8 @@ use Rattle.comparing.specs.Compared.{gots_by}
 use Rattle.log_streams.specs.Made.{AreMade}
 use Rattle.receiver.specs.Received.{events_in}
 use Rattle.compare_commands.specs.Comparison.{rows_of}
-use Rattle.compare_commands.specs.steps.Decoded.{count_in, gots_in}
+use Rattle.comparing.specs.steps.Held.{count_in}
+use Rattle.compare_commands.specs.steps.Decoded.{gots_in}
 use Rattle.compare_commands.specs.steps.Lines.{AreLinesOfLogs}
 use Rattle.compare_commands.proofs.LinesMade.{OfEvents, lines_made}
 use Rattle.compare_commands.proofs.hart_lines.lines_of_logs.Goals as goal

@@ -4,4 +4,4 @@ use Rattle.searching.proofs.searched.write_spans.Given as goal
 
 abbrev pub invariant-loop-span : goal.invariant-loop-span
 invariant-loop-span g l =
-    HasWritten l.mode l.fn.spans l.span-iterator l.damaged (g.W.Write.contents l.fn.sink) (g.W.Write.contents l.sink)
+    HasWritten l.harts l.mode l.fn.spans l.span-iterator l.damaged (g.W.Write.contents l.fn.sink) (g.W.Write.contents l.sink)

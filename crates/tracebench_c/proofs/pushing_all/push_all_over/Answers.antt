@@ -2,8 +2,8 @@
 use Rattle.std.proofs.Common.{◌++◌, ap, refl, sym, ◌∙◌}
 use Rattle.encoder.specs.StateStands.{state_of}
 use Rattle.rvclass.specs.Fetch.{words_of}
-use Rattle.tracebench_c.proofs.PushesReported.{buffer_stays, encoder_stays, ends_all, fill, reaches, room_is_full}
-use Rattle.tracebench_c.proofs.PushesReported.{stands_none, two_left, written_all, written_none}
+use Rattle.tracebench_c.proofs.PushesReported.{buffer_stays, encoder_stays, ends_all, fill, first_none, reaches}
+use Rattle.tracebench_c.proofs.PushesReported.{room_is_full, stands_none, two_left, written_all, written_first, written_none}
 use Rattle.tracebench_c.specs.EncoderKept.{numbers_of_state}
 use Rattle.tracebench_c.specs.PushedAll.{BadState, NoProgram}
 use Rattle.tracebench_c.proofs.pushing_all.push_all_over.Goals as goal
@@ -18,6 +18,16 @@ returns-in-None-clause-stands c = λ program period mode log nexts next.
 pub returns-in-None-clause-packets : goal.returns-in-None-clause-packets
 returns-in-None-clause-packets c = λ program period mode log nexts next.
     written_none c.args.image.now program period mode log nexts c.args.state.now c.args.packets.now next
+
+pub returns-in-None-clause-front : goal.returns-in-None-clause-front
+returns-in-None-clause-front c = λ program period n mode log nexts few next.
+    first_none c.args.image.now program period n mode log nexts c.args.state.now c.args.events.now c.args.packets.now few
+    next
+
+pub returns-in-Err-clause-front : goal.returns-in-Err-clause-front
+returns-in-Err-clause-front c = λ program period n mode log nexts few next.
+    first_none c.args.image.now program period n mode log nexts c.args.state.now c.args.events.now c.args.packets.now few
+    next
 
 pub returns-in-Err-clause-ends : goal.returns-in-Err-clause-ends
 returns-in-Err-clause-ends c =
@@ -64,6 +74,16 @@ returns-clause-packets c = λ program period mode log nexts next.
     c.push_while_room-status.new.count c.args.packets.now c.push_while_room-status.new.packets
     c.push_while_room-status.ensures.pushed
     program period mode log nexts next
+
+pub returns-clause-front : goal.returns-clause-front
+returns-clause-front c = λ program period n mode log nexts few next.
+    written_first c.args.image.now c.in-Ok.program c.in-Ok.is c.args.state.now c.in-Some.before
+    c.in-Some.ensures.only c.from_state-encoder.result
+    (λ words period mode log stands. c.from_state-encoder.ensures.stands words period mode log stands)
+    c.args.events.now c.push_while_room-status.new.taken c.push_while_room-status.new.encoder
+    c.push_while_room-status.new.count c.args.packets.now c.push_while_room-status.new.packets
+    c.push_while_room-status.ensures.pushed
+    program period mode log nexts n few next
 
 pub returns-clause-no_room : goal.returns-clause-no_room
 returns-clause-no_room c = λ program period mode log nexts next small are.

@@ -12,3 +12,6 @@ returns-clause-packets c = rw (← c.judge_image-judged.ensures) c.push_all_over
 
 pub returns-clause-no_room : goal.returns-clause-no_room
 returns-clause-no_room c = rw (← c.judge_image-judged.ensures) c.push_all_over.ensures.no_room
+
+pub returns-clause-front : goal.returns-clause-front
+returns-clause-front c = rw (← c.judge_image-judged.ensures) c.push_all_over.ensures.front

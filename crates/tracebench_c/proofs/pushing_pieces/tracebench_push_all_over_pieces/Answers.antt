@@ -35,3 +35,12 @@ returns-clause-no_room c = λ program period mode log nexts next small is.
     c.push_all_over.ensures.no_room program period mode log nexts next small (subst (λ image. AreNext image program
     period mode log (nexts ++ next ∷ []) c.args.state.now (take (c.push_all_over.new.taken + 1) c.args.events.now))
     same is)
+
+pub returns-clause-front : goal.returns-clause-front
+returns-clause-front c = λ program period n mode log nexts few other is.
+    let same = is_judged c.args.pieces.now c.judge_pieces-judged.result c.push_all_over.result
+    c.judge_pieces-judged.ensures
+    (all_memory c.judge_pieces-judged.result c.args.state.now c.args.events.now c.push_all_over.new.taken
+    c.push_all_over.result (is.stand.state, is.stand.is) c.push_all_over.ensures.ends) other in
+    c.push_all_over.ensures.front program period n mode log nexts few (subst (λ image. AreNext image program period mode
+    log nexts c.args.state.now (take n c.args.events.now)) same is)

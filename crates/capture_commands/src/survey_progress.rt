@@ -1,0 +1,23 @@
+//! Showing how far the first pass over a capture's messages is.
+
+use command_inputs::{Files, MessageProgress};
+use hart_rows::WatchSurvey;
+use watching::Watch;
+
+/// Shows how far the first pass over a capture's messages is, where that is asked for, and ends that with the pass.
+#[derive(Drop)]
+pub(crate) struct SurveyProgress<'a, 'f, F> {
+    pub(crate) progress: &'a MessageProgress<'f, F>,
+}
+
+impl<F: Files> Watch for SurveyProgress<'_, '_, F> {
+    fn note(&self, messages: usize) {
+        self.progress.note(messages);
+    }
+}
+
+impl<F: Files> WatchSurvey for SurveyProgress<'_, '_, F> {
+    fn surveyed(&self) {
+        self.progress.end();
+    }
+}

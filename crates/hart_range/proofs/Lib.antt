@@ -1,0 +1,2 @@
+pub mod Selecting
+mod Spelling

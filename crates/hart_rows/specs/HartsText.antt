@@ -1,0 +1,9 @@
+-- The text of the logs of harts.
+use Rattle.std.specs.Prelude.{ℕ, List}
+use Rattle.retire.specs.LogText.{log_text}
+use Rattle.retire.specs.declared.event.Event.{Event}
+use Rattle.hart_rows.specs.EachHart.{each_hart}
+
+-- For each hart, from this one on, its line and the text of its log.
+abbrev pub harts_text : ℕ → List (List Event) → List ℕ
+harts_text hart lists = each_hart log_text hart lists

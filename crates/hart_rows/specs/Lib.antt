@@ -1,0 +1,4 @@
+pub mod EachHart
+pub mod HartsText
+pub mod Written
+pub mod steps

@@ -1,0 +1,5 @@
+pub mod Tracking
+pub mod Placing
+pub mod Surveying
+pub mod Rows
+pub mod Nothing

@@ -1,0 +1,22 @@
+//! The logs of a capture's harts, written while they are decoded.
+//!
+//! [`write_decoded`] writes what `captures::decode_capture` returns, and holds no list of events. It goes over the
+//! messages twice. The first pass decodes all of them and throws the events away: it finds the first fault of the
+//! capture, which harts are closed, and where each hart's messages are. The second pass decodes one hart after the
+//! other, and writes its rows a piece at a time.
+//!
+//! So it holds 8 bytes a message, and one piece of events and of text, however many events there are. All memory is
+//! taken before anything is written.
+#![tactic(auto)]
+
+mod decoded;
+mod feeding;
+mod packet_rows;
+mod placing;
+mod rows;
+mod surveying;
+mod tracking;
+mod watch;
+
+pub use decoded::{DecodedHarts, write_decoded};
+pub use watch::WatchSurvey;
