@@ -22,6 +22,7 @@ mod messages;
 mod of_lines;
 mod packed;
 mod path_all;
+mod path_said;
 mod payload_traces;
 mod pieces;
 mod pushed;
