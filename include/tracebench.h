@@ -873,7 +873,7 @@ uint32_t tracebench_dump(const uint8_t *capture, size_t capture_length, uint8_t 
  * failed for events: the call ends as if decoding had stopped there for another reason.
  */
 struct tracebench_decode_end {
-    uint64_t harts;  /* how many harts there are: as the header counts, or else as are asked for */
+    size_t harts;    /* how many harts there are: as the header counts, or else as are asked for */
     uint64_t place;  /* the message, counted from 0, at which decoding stops before the end; 0 where `fault` is 0 */
     uint32_t fault;  /* why it stops there, as a status; 0 where it comes to the end */
     uint32_t closed; /* 1 where the closing packet of the hart was decoded */
@@ -906,7 +906,7 @@ struct tracebench_tally {
 
 /* What an audit finds besides. */
 struct tracebench_audit_end {
-    uint64_t harts;     /* how many harts SENT has */
+    size_t harts;       /* how many harts SENT has */
     uint64_t strangers; /* how many strangers came, of whatever hart */
     uint64_t place;     /* after how many messages RECEIVED stops before its end; 0 where `fault` is 0 */
     uint32_t fault;     /* why: TRACEBENCH_SHORT, TRACEBENCH_BAD_LENGTH or TRACEBENCH_BAD_HEADER; 0 at the end */
@@ -1066,8 +1066,8 @@ uint32_t tracebench_decode_all(uint64_t base, const uint8_t *image, size_t image
 
 /* How a text about a capture ends. */
 struct tracebench_text_end {
-    uint64_t harts;    /* how many harts there are */
-    uint64_t unclosed; /* the lowest hart whose closing packet was not decoded; where each was, as `harts` */
+    size_t harts;      /* how many harts there are */
+    size_t unclosed;   /* the lowest hart whose closing packet was not decoded; where each was, as `harts` */
     uint64_t place;    /* the message, counted from 0, at which decoding stops before the end; 0 where `fault` is 0 */
     uint32_t fault;    /* why it stops there, as tracebench_decode says it; 0 where it comes to the end */
     uint32_t whole;    /* 1 where the program ends with status 0 after this text */

@@ -182,7 +182,7 @@ static void ends(void) {
     length = capture_of(capture, decoded, COUNT(decoded));
     done("decode", tracebench_decode(BASE, image, sizeof image, 3, capture, length, 0, text, sizeof text, &wanted,
                                      &decode_end));
-    printf("DecodeEnd { harts: %" PRIu64 ", place: %" PRIu64 ", fault: %" PRIu32 ", closed: %" PRIu32 " }\n",
+    printf("DecodeEnd { harts: %zu, place: %" PRIu64 ", fault: %" PRIu32 ", closed: %" PRIu32 " }\n",
            decode_end.harts, decode_end.place, decode_end.fault, decode_end.closed);
 }
 
@@ -207,7 +207,7 @@ static void audit(void) {
     printf("Tally { sent: %" PRIu64 ", came: %" PRIu64 ", lost: %" PRIu64 ", repeated: %" PRIu64 ", late: %" PRIu64,
            tally.sent, tally.came, tally.lost, tally.repeated, tally.late);
     printf(", changed: %" PRIu64 ", whole: %" PRIu32 " }\n", tally.changed, tally.whole);
-    printf("AuditEnd { harts: %" PRIu64 ", strangers: %" PRIu64 ", place: %" PRIu64 ", fault: %" PRIu32 " }\n",
+    printf("AuditEnd { harts: %zu, strangers: %" PRIu64 ", place: %" PRIu64 ", fault: %" PRIu32 " }\n",
            end.harts, end.strangers, end.place, end.fault);
 }
 

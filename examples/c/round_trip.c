@@ -70,7 +70,7 @@ static void decode(struct bytes image, struct bytes capture) {
         uint32_t status = tracebench_decode(BASE, image.at, image.length, 2, capture.at, capture.length, hart, text,
                                             sizeof text, &wanted, &ended);
         if (status != TRACEBENCH_DONE) stop("decode", status);
-        printf("hart %u of %" PRIu64 ": closed %" PRIu32 ", ends at message %" PRIu64 " with status %" PRIu32 "\n",
+        printf("hart %u of %zu: closed %" PRIu32 ", ends at message %" PRIu64 " with status %" PRIu32 "\n",
                hart, ended.harts, ended.closed, ended.place, ended.fault);
         fwrite(text, 1, wanted, stdout);
     }
@@ -83,7 +83,7 @@ static void audit(struct bytes sent, struct bytes received) {
     for (uint16_t hart = 0; hart < 2; hart++) {
         uint32_t status = tracebench_audit(sent.at, sent.length, received.at, received.length, hart, &tally, &ended);
         if (status != TRACEBENCH_DONE) stop("audit", status);
-        printf("hart %u of %" PRIu64 ": %" PRIu64 " sent, %" PRIu64 " came, %" PRIu64 " lost, whole %" PRIu32
+        printf("hart %u of %zu: %" PRIu64 " sent, %" PRIu64 " came, %" PRIu64 " lost, whole %" PRIu32
                ", strangers %" PRIu64 ", ends with status %" PRIu32 "\n",
                hart, ended.harts, tally.sent, tally.came, tally.lost, tally.whole, ended.strangers, ended.fault);
     }

@@ -141,7 +141,7 @@ class DumpEnd(Struct):
 
 @of_hints
 class DecodeEnd(Struct):
-    harts: U64
+    harts: SIZE
     place: U64
     fault: U32
     closed: U32
@@ -160,7 +160,7 @@ class Tally(Struct):
 
 @of_hints
 class AuditEnd(Struct):
-    harts: U64
+    harts: SIZE
     strangers: U64
     place: U64
     fault: U32
@@ -266,8 +266,8 @@ class DecodeAllEnd(Struct):
 
 @of_hints
 class TextEnd(Struct):
-    harts: U64
-    unclosed: U64
+    harts: SIZE
+    unclosed: SIZE
     place: U64
     fault: U32
     whole: U32

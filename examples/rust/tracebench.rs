@@ -145,7 +145,7 @@ pub struct DumpEnd {
 #[repr(C)]
 #[allow(missing_docs)]
 pub struct DecodeEnd {
-    pub harts: u64,
+    pub harts: usize,
     pub place: u64,
     pub fault: u32,
     pub closed: u32,
@@ -170,10 +170,60 @@ pub struct Tally {
 #[repr(C)]
 #[allow(missing_docs)]
 pub struct AuditEnd {
-    pub harts: u64,
+    pub harts: usize,
     pub strangers: u64,
     pub place: u64,
     pub fault: u32,
+}
+
+/// Where the text of a hart ends, and whether the hart is closed, `struct tracebench_hart_end`.
+#[derive(Clone, Copy, Debug, Default, PartialEq, Eq)]
+#[repr(C)]
+#[allow(missing_docs)]
+pub struct HartEnd {
+    pub end: usize,
+    pub closed: u32,
+}
+
+/// How decoding a capture ends for all harts, `struct tracebench_decode_all_end`.
+#[derive(Clone, Copy, Debug, Default, PartialEq, Eq)]
+#[repr(C)]
+#[allow(missing_docs)]
+pub struct DecodeAllEnd {
+    pub harts: usize,
+    pub place: u64,
+    pub fault: u32,
+}
+
+/// How a text about a capture ends, `struct tracebench_text_end`.
+#[derive(Clone, Copy, Debug, Default, PartialEq, Eq)]
+#[repr(C)]
+#[allow(missing_docs)]
+pub struct TextEnd {
+    pub harts: usize,
+    pub unclosed: usize,
+    pub place: u64,
+    pub fault: u32,
+    pub whole: u32,
+}
+
+/// How a log ends that is explained, `struct tracebench_explain_end`.
+#[derive(Clone, Copy, Debug, Default, PartialEq, Eq)]
+#[repr(C)]
+#[allow(missing_docs)]
+pub struct ExplainEnd {
+    pub row: u64,
+    pub fault: u32,
+}
+
+/// How a listing is laid out.
+#[derive(Clone, Copy, Debug, PartialEq, Eq)]
+#[repr(u32)]
+pub enum Format {
+    /// A line for each message.
+    Text = 0,
+    /// A table of CSV, with a row for each message.
+    Csv = 1,
 }
 
 #[rustfmt::skip]
@@ -200,6 +250,20 @@ extern "C" {
         ended: *mut DecodeEnd) -> u32;
     fn tracebench_audit(sent: *const u8, sent_length: usize, received: *const u8, received_length: usize, hart: u16,
         tally: *mut Tally, ended: *mut AuditEnd) -> u32;
+    fn tracebench_decode_all(base: u64, image: *const u8, image_length: usize, harts: u16, capture: *const u8,
+        capture_length: usize, buffer: *mut u8, buffer_length: usize, wanted: *mut usize, ends: *mut HartEnd,
+        ends_length: usize, ended: *mut DecodeAllEnd) -> u32;
+    fn tracebench_list(base: u64, image: *const u8, image_length: usize, harts: u16, capture: *const u8,
+        capture_length: usize, symbols: *const u8, symbols_length: usize, format: u32, buffer: *mut u8,
+        buffer_length: usize, wanted: *mut usize, ended: *mut TextEnd) -> u32;
+    fn tracebench_measure(base: u64, image: *const u8, image_length: usize, logs: *const u8, logs_length: usize,
+        ends: *const usize, ends_length: usize, period: u16, mode: u32, buffer: *mut u8, buffer_length: usize,
+        wanted: *mut usize, place: *mut LogPlace) -> u32;
+    fn tracebench_compare(base: u64, image: *const u8, image_length: usize, harts: u16, capture: *const u8,
+        capture_length: usize, logs: *const u8, logs_length: usize, ends: *const usize, ends_length: usize,
+        buffer: *mut u8, buffer_length: usize, wanted: *mut usize, ended: *mut TextEnd, place: *mut LogPlace) -> u32;
+    fn tracebench_explain(base: u64, image: *const u8, image_length: usize, log: *const u8, log_length: usize,
+        buffer: *mut u8, buffer_length: usize, wanted: *mut usize, ended: *mut ExplainEnd) -> u32;
 }
 
 /// Nothing where the status is that all is done.
@@ -340,6 +404,19 @@ pub fn check(base: u64, image: &[u8], log: &[u8]) -> Result<u64, (Status, u64)> 
     done(status).map(|()| row).map_err(|status| (status, row))
 }
 
+/// The texts of logs one after the other, and where each ends.
+fn joined(logs: &[&[u8]]) -> (Vec<u8>, Vec<usize>) {
+    let mut end = 0;
+    let ends = logs
+        .iter()
+        .map(|log| {
+            end += log.len();
+            end
+        })
+        .collect();
+    (logs.concat(), ends)
+}
+
 /// The capture of harts' logs, hart 0 first; or why there is none, and the log and row that are at fault.
 pub fn encode(
     base: u64,
@@ -349,15 +426,7 @@ pub fn encode(
     mode: Mode,
     version: Version,
 ) -> Result<Vec<u8>, (Status, LogPlace)> {
-    let texts = logs.concat();
-    let mut end = 0;
-    let ends: Vec<usize> = logs
-        .iter()
-        .map(|log| {
-            end += log.len();
-            end
-        })
-        .collect();
+    let (texts, ends) = joined(logs);
     let mut place = LogPlace::default();
     // SAFETY: as above.
     let capture = handed_out(|buffer, wanted| unsafe {
@@ -442,4 +511,169 @@ pub fn audit(sent: &[u8], received: &[u8], hart: u16) -> Result<(Tally, AuditEnd
         )
     })?;
     Ok((tally, ended))
+}
+
+/// The log of each hart of a capture as text, whether the hart is closed, and how decoding ends.
+#[allow(clippy::type_complexity)]
+pub fn decode_all(
+    base: u64,
+    image: &[u8],
+    harts: u16,
+    capture: &[u8],
+) -> Result<(Vec<(Vec<u8>, bool)>, DecodeAllEnd), Status> {
+    let mut ended = DecodeAllEnd::default();
+    let mut ends = vec![HartEnd::default(); 64];
+    let mut call = |text: &mut [u8], wanted: &mut usize, ends: &mut [HartEnd]| {
+        // SAFETY: as above.
+        unsafe {
+            tracebench_decode_all(
+                base,
+                image.as_ptr(),
+                image.len(),
+                harts,
+                capture.as_ptr(),
+                capture.len(),
+                text.as_mut_ptr(),
+                text.len(),
+                wanted,
+                ends.as_mut_ptr(),
+                ends.len(),
+                &mut ended,
+            )
+        }
+    };
+    let (mut text, mut wanted) = (vec![0; 4096], 0);
+    let mut status = Status(call(&mut text, &mut wanted, &mut ends));
+    if status == TOO_SMALL {
+        text.resize(wanted.max(text.len()), 0);
+        ends.resize(usize::from(u16::MAX), HartEnd::default());
+        status = Status(call(&mut text, &mut wanted, &mut ends));
+    }
+    done(status.0)?;
+    let mut start = 0;
+    let logs = ends[..ended.harts].iter().map(|hart| {
+        let log = text[start..hart.end].to_vec();
+        start = hart.end;
+        (log, hart.closed == 1)
+    });
+    Ok((logs.collect(), ended))
+}
+
+/// The listing of a capture, and how it ends. Without symbols, places have no names.
+pub fn list(
+    base: u64,
+    image: &[u8],
+    harts: u16,
+    capture: &[u8],
+    symbols: &[u8],
+    format: Format,
+) -> Result<(Vec<u8>, TextEnd), Status> {
+    let mut ended = TextEnd::default();
+    // SAFETY: as above.
+    let text = handed_out(|buffer, wanted| unsafe {
+        tracebench_list(
+            base,
+            image.as_ptr(),
+            image.len(),
+            harts,
+            capture.as_ptr(),
+            capture.len(),
+            symbols.as_ptr(),
+            symbols.len(),
+            format as u32,
+            buffer.as_mut_ptr(),
+            buffer.len(),
+            wanted,
+            &mut ended,
+        )
+    })?;
+    Ok((text, ended))
+}
+
+/// The table of what the logs of harts cost; or why there is none, and the log and row that are at fault.
+pub fn measure(
+    base: u64,
+    image: &[u8],
+    logs: &[&[u8]],
+    period: u16,
+    mode: Mode,
+) -> Result<Vec<u8>, (Status, LogPlace)> {
+    let (texts, ends) = joined(logs);
+    let mut place = LogPlace::default();
+    // SAFETY: as above.
+    let table = handed_out(|buffer, wanted| unsafe {
+        tracebench_measure(
+            base,
+            image.as_ptr(),
+            image.len(),
+            texts.as_ptr(),
+            texts.len(),
+            ends.as_ptr(),
+            ends.len(),
+            period,
+            mode as u32,
+            buffer.as_mut_ptr(),
+            buffer.len(),
+            wanted,
+            &mut place,
+        )
+    });
+    table.map_err(|status| (status, place))
+}
+
+/// How a capture compares with the logs of its harts, and how that ends; or why it is not compared, and the log and row
+/// that are at fault.
+pub fn compare(
+    base: u64,
+    image: &[u8],
+    harts: u16,
+    capture: &[u8],
+    logs: &[&[u8]],
+) -> Result<(Vec<u8>, TextEnd), (Status, LogPlace)> {
+    let (texts, ends) = joined(logs);
+    let (mut ended, mut place) = (TextEnd::default(), LogPlace::default());
+    // SAFETY: as above.
+    let text = handed_out(|buffer, wanted| unsafe {
+        tracebench_compare(
+            base,
+            image.as_ptr(),
+            image.len(),
+            harts,
+            capture.as_ptr(),
+            capture.len(),
+            texts.as_ptr(),
+            texts.len(),
+            ends.as_ptr(),
+            ends.len(),
+            buffer.as_mut_ptr(),
+            buffer.len(),
+            wanted,
+            &mut ended,
+            &mut place,
+        )
+    });
+    match text {
+        Ok(text) => Ok((text, ended)),
+        Err(status) => Err((status, place)),
+    }
+}
+
+/// The lines that explain the first illegal row of a log, and how the log ends.
+pub fn explain(base: u64, image: &[u8], log: &[u8]) -> Result<(Vec<u8>, ExplainEnd), Status> {
+    let mut ended = ExplainEnd::default();
+    // SAFETY: as above.
+    let text = handed_out(|buffer, wanted| unsafe {
+        tracebench_explain(
+            base,
+            image.as_ptr(),
+            image.len(),
+            log.as_ptr(),
+            log.len(),
+            buffer.as_mut_ptr(),
+            buffer.len(),
+            wanted,
+            &mut ended,
+        )
+    })?;
+    Ok((text, ended))
 }

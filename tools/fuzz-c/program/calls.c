@@ -143,6 +143,29 @@ static uint32_t make_audit_all(const struct given *given, struct answer *answer)
                                 found->runs, given->harts & 8 ? MOST_RUNS : 0, &found->refused, FIRST);
 }
 
+static uint32_t make_decode_all(const struct given *given, struct answer *answer) {
+    return OVER(tracebench_decode_all, given->harts, BYTES, BUFFER, SECOND, MOST_ENDS, FIRST);
+}
+
+#define BESIDE given->beside.at, given->beside.length
+#define ENDS (const size_t *)(const void *)given->other.at, given->other.length / sizeof(size_t)
+
+static uint32_t make_list(const struct given *given, struct answer *answer) {
+    return OVER(tracebench_list, given->harts, BYTES, BESIDE, given->mode, BUFFER, FIRST);
+}
+
+static uint32_t make_measure(const struct given *given, struct answer *answer) {
+    return OVER(tracebench_measure, BYTES, ENDS, given->period, given->mode, BUFFER, FIRST);
+}
+
+static uint32_t make_compare(const struct given *given, struct answer *answer) {
+    return OVER(tracebench_compare, given->harts, BYTES, BESIDE, ENDS, BUFFER, FIRST, SECOND);
+}
+
+static uint32_t make_explain(const struct given *given, struct answer *answer) {
+    return OVER(tracebench_explain, BYTES, BUFFER, FIRST);
+}
+
 struct tracebench_packet packet_of(const struct answer *answer) {
     struct tracebench_packet packet;
     memcpy(&packet, answer->first.at, sizeof packet);
@@ -173,9 +196,33 @@ struct tracebench_audit_end audit_end_of(const struct answer *answer) {
     return ended;
 }
 
+struct tracebench_decode_all_end decode_all_end_of(const struct answer *answer) {
+    struct tracebench_decode_all_end ended;
+    memcpy(&ended, answer->first.at, sizeof ended);
+    return ended;
+}
+
+struct tracebench_text_end text_end_of(const struct answer *answer) {
+    struct tracebench_text_end ended;
+    memcpy(&ended, answer->first.at, sizeof ended);
+    return ended;
+}
+
+struct tracebench_explain_end explain_end_of(const struct answer *answer) {
+    struct tracebench_explain_end ended;
+    memcpy(&ended, answer->first.at, sizeof ended);
+    return ended;
+}
+
 static uint32_t dump_fault(const struct answer *answer) { return dump_end_of(answer).fault; }
 static uint32_t decode_fault(const struct answer *answer) { return decode_end_of(answer).fault; }
 static uint32_t audit_fault(const struct answer *answer) { return audit_end_of(answer).fault; }
+static uint32_t decode_all_fault(const struct answer *answer) { return decode_all_end_of(answer).fault; }
+static uint32_t text_fault(const struct answer *answer) { return text_end_of(answer).fault; }
+static uint32_t explain_fault(const struct answer *answer) { return explain_end_of(answer).fault; }
+
+/* There is no room for where the text of each hart ends. */
+static bool has_few_ends(const struct answer *answer) { return decode_all_end_of(answer).harts > MOST_ENDS; }
 
 #define END {1, 0}
 #define ONE(status) {TRACEBENCH_##status, TRACEBENCH_##status}
@@ -235,11 +282,22 @@ static const struct span of_audit_all[] = {ONE(DONE), ONE(TOO_SMALL), ONE(MEMORY
                                            ONE(BAD_LENGTH), ONE(BAD_HEADER), ONE(STRANGER), ONE(REPEAT), ONE(GAP),
                                            END};
 
-/* Why a capture is not read on; and why it is not decoded on. */
+static const struct span of_decode_all[] = {ONE(DONE), ONE(TOO_SMALL), ONE(MEMORY), SPAN(ODD_BASE, NOT_SORTED), END};
+static const struct span of_list[] = {ONE(DONE), ONE(TOO_SMALL), ONE(MEMORY), ONE(OUT_OF_RANGE),
+                                      SPAN(ODD_BASE, NOT_SORTED), ONE(NO_SYMBOL), ONE(SYMBOLS_TOO_LARGE), END};
+static const struct span of_compare[] = {ONE(DONE), ONE(TOO_SMALL), ONE(MEMORY), ONE(UNEQUAL_COUNTS), ONE(BAD_ENDS),
+                                         SPAN(ODD_BASE, NOT_SORTED), SPAN(WRONG_HEADER, TOO_MANY_ROWS),
+                                         SPAN(OFF_PROGRAM, WRONG_EPC), END};
+static const struct span of_explain[] = {ONE(DONE), ONE(TOO_SMALL), ONE(MEMORY), SPAN(ODD_BASE, NOT_SORTED),
+                                         SPAN(WRONG_HEADER, TOO_MANY_ROWS), END};
+
+/* Why a capture is not read on; and why it is not decoded on; and why a log is not legal. */
 static const struct span unread[] = {ONE(DONE), ONE(SHORT), ONE(BAD_LENGTH), ONE(BAD_HEADER), END};
 static const struct span undecoded[] = {ONE(DONE), ONE(MEMORY), ONE(SHORT), ONE(BAD_LENGTH), ONE(BAD_HEADER),
                                         SPAN(BAD_PAD, BAD_REPORT), SPAN(STRANGER, OTHER_MODE),
                                         SPAN(NOT_OPENED, WALKS_AT_WRONG_PRIVILEGE), END};
+
+static const struct span illegal[] = {ONE(DONE), SPAN(OFF_PROGRAM, WRONG_EPC), END};
 
 #define ALL_OF(type) {sizeof(type), sizeof(type)}
 
@@ -356,11 +414,39 @@ const struct call audit_all = {
     .written = WITH_DONE | WITH_TOO_SMALL | WITH_REFUSAL,
 };
 
+const struct call decode_all = {
+    .name = "decode_all", .make = make_decode_all, .takes_image = true, .statuses = of_decode_all, .faults = undecoded,
+    .fault = decode_all_fault,
+    .first = {sizeof(struct tracebench_decode_all_end), UP_TO(struct tracebench_decode_all_end, fault)},
+    .second = {MOST_ENDS * sizeof(struct tracebench_hart_end), 0}, .unit = 1, .written = WITH_DONE | WITH_TOO_SMALL,
+    .in_texts = true, .is_short = has_few_ends,
+};
+const struct call list_capture = {
+    .name = "list", .make = make_list, .takes_image = true, .statuses = of_list, .faults = undecoded,
+    .fault = text_fault, .first = ALL_OF(struct tracebench_text_end), .unit = 1, .written = WITH_DONE | WITH_TOO_SMALL,
+};
+const struct call measure = {
+    .name = "measure", .make = make_measure, .takes_image = true, .statuses = of_encode,
+    .first = ALL_OF(struct tracebench_log_place), .unit = 1, .written = WITH_REFUSAL,
+};
+const struct call compare_logs = {
+    .name = "compare", .make = make_compare, .takes_image = true, .statuses = of_compare, .faults = undecoded,
+    .fault = text_fault, .first = ALL_OF(struct tracebench_text_end), .second = ALL_OF(struct tracebench_log_place),
+    .unit = 1, .written = WITH_DONE | WITH_TOO_SMALL | WITH_REFUSAL,
+};
+const struct call explain = {
+    .name = "explain", .make = make_explain, .takes_image = true, .statuses = of_explain, .faults = illegal,
+    .fault = explain_fault,
+    .first = {sizeof(struct tracebench_explain_end), UP_TO(struct tracebench_explain_end, fault)},
+    .unit = 1, .written = WITH_DONE | WITH_TOO_SMALL | WITH_REFUSAL,
+};
+
 const struct call *const calls[CALLS] = {&pack, &unpack, &check, &encode, &dump, &decode,
                                          &audit, &encoder, &push, &finish, &decoder, &feed,
                                          &follow, &check_events, &push_checked, &receive, &resume,
                                          &push_all, &feed_all, &version, &write_message, &read_message,
-                                         &write_header, &read_header, &capture_of_lines, &audit_all};
+                                         &write_header, &read_header, &capture_of_lines, &audit_all, &decode_all,
+                                         &list_capture, &measure, &compare_logs, &explain};
 
 bool is_listed(const struct span *spans, uint32_t status) {
     for (; spans->from <= spans->to; spans++)
@@ -390,6 +476,7 @@ struct given given_bytes(struct slice bytes) {
     given.bytes = bytes;
     given.other = room(0);
     given.state = room(0);
+    given.beside = room(0);
     given.pieces = room(0);
     return given;
 }
@@ -399,6 +486,7 @@ void give_back_given(struct given *given) {
     give_back(&given->bytes);
     give_back(&given->other);
     give_back(&given->state);
+    give_back(&given->beside);
     give_back(&given->pieces);
 }
 

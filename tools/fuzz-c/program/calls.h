@@ -15,10 +15,11 @@ struct given {
     struct slice pieces; /* the image in pieces */
     bool in_pieces;      /* these are handed in in its place */
     struct slice state; /* of an encoder or a decoder, before the call; or the numbers of an event before */
+    struct slice beside; /* symbols; or the texts of logs that a capture is compared with */
     uint16_t harts; /* or for how many elements there is room */
     uint16_t hart;
     uint16_t period;
-    uint32_t mode; /* or whether there is an event before */
+    uint32_t mode; /* or whether there is an event before, or the format of a listing */
     uint32_t version;
 };
 
@@ -58,9 +59,11 @@ struct call {
     int written; /* with which statuses `first` and `second` are written */
     bool takes_image; /* and there is the same call over pieces */
     bool goes_on; /* `first` is a state, which is at first the one that is given */
+    bool in_texts; /* an allocation that fails ends the text of each hart, and so of all not at one place */
+    bool (*is_short)(const struct answer *answer); /* too small is what is given besides the buffer; NULL: never */
 };
 
-enum { CALLS = 26, STATUSES = 256 };
+enum { CALLS = 31, STATUSES = 256 };
 
 /* Room for what is found of a path: arrays of these lengths, one after the other behind the message that is refused. */
 enum { MOST_HART_ROWS = 4, MOST_ARRIVALS = 64, MOST_LOST = 32, MOST_RUNS = 32 };
@@ -75,9 +78,13 @@ struct found {
 /* The most elements that a call of many steps is given room for. */
 enum { MOST_AT_ONCE = 16 };
 
+/* The most harts that tracebench_decode_all is given room for. */
+enum { MOST_ENDS = 32 };
+
 extern const struct call pack, unpack, check, encode, dump, decode, audit, encoder, push, finish, decoder, feed;
 extern const struct call follow, check_events, push_checked, receive, resume, push_all, feed_all, version;
 extern const struct call write_message, read_message, write_header, read_header, capture_of_lines, audit_all;
+extern const struct call decode_all, list_capture, measure, compare_logs, explain;
 
 /* All of them. */
 extern const struct call *const calls[CALLS];
@@ -99,6 +106,9 @@ struct tracebench_dump_end dump_end_of(const struct answer *answer);
 struct tracebench_decode_end decode_end_of(const struct answer *answer);
 struct tracebench_tally tally_of(const struct answer *answer);
 struct tracebench_audit_end audit_end_of(const struct answer *answer);
+struct tracebench_decode_all_end decode_all_end_of(const struct answer *answer);
+struct tracebench_text_end text_end_of(const struct answer *answer);
+struct tracebench_explain_end explain_end_of(const struct answer *answer);
 
 /* What a call is given that takes these bytes and no program. */
 struct given given_bytes(struct slice bytes);

@@ -1,5 +1,7 @@
 #include "draws.h"
 
+#include <inttypes.h>
+#include <stdio.h>
 #include <string.h>
 
 #include "draft.h"
@@ -175,6 +177,29 @@ struct given drawn_for_decode(const struct program *program) {
     struct given given = given_program(program, drawn_capture(program));
     given.harts = (uint16_t)(one_in(64) ? any_number() % 2000 : below(5));
     given.hart = (uint16_t)(one_in(64) ? any_number() : below(4));
+    return given;
+}
+
+/* Lines as nm prints them, near the program, or now and then any bytes. */
+static struct slice drawn_symbols(const struct program *program) {
+    static const char *const kinds = "TtTtWDb?";
+    char line[80];
+    draft.length = 0;
+    if (one_in(16)) put_random(&draft, below(60));
+    for (size_t count = one_in(4) ? 0 : below(6); count != 0; count--) {
+        uint64_t address = one_in(16) ? any_number() : program->base + below(program->image.length + 8);
+        int length = snprintf(line, sizeof line, "%016" PRIx64 " %c name%zu\n", address, kinds[below(8)], below(40));
+        put(&draft, line, (size_t)length);
+    }
+    if (one_in(8)) damage(&draft, 0);
+    return taken();
+}
+
+struct given drawn_for_list(const struct program *program) {
+    struct given given = drawn_for_decode(program);
+    give_back(&given.beside);
+    given.beside = drawn_symbols(program);
+    given.mode = one_in(32) ? (uint32_t)any_number() : (uint32_t)below(2);
     return given;
 }
 

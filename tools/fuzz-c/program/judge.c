@@ -38,14 +38,16 @@ static void judge_buffer(const struct call *call, const struct answer *answer) {
     }
     bool done = answer->status == TRACEBENCH_DONE;
     uint64_t wanted = wanted_of(answer);
-    require(done == (wanted <= answer->buffer.length / call->unit), call, "the status does not fit what is wanted");
+    bool is_short = call->is_short != NULL && call->is_short(answer);
+    require(done == (!is_short && wanted <= answer->buffer.length / call->unit), call,
+            "the status does not fit what is wanted");
     size_t written = done ? (size_t)wanted * call->unit : 0;
     require(is_kept_from(&answer->buffer, written), call, "too much of the buffer is written");
 }
 
 static void judge(const struct call *call, const struct given *given, const struct answer *answer) {
     const struct slice *const read[] = {&given->image, &given->bytes, &given->other, &given->state,
-                                        &given->pieces};
+                                        &given->beside, &given->pieces};
     const struct slice *const written[] = {&answer->buffer, &answer->wanted, &answer->first, &answer->second};
     for (size_t place = 0; place < sizeof read / sizeof *read; place++)
         require(is_guarded(read[place]) && is_kept_from(read[place], 0), call, "what it was given to read changed");
@@ -97,7 +99,8 @@ static void run_refused(const struct call *call, const struct given *given, size
     bool stops = call->fault != NULL && is_answer(answer.status) && call->fault(&answer) == TRACEBENCH_MEMORY;
     if (refused && stops) {
         bool fits = answer.status == TRACEBENCH_DONE && whole->status == TRACEBENCH_DONE;
-        require(fits && begin_alike(&answer.buffer, &whole->buffer, (size_t)wanted_of(&answer) * call->unit), call,
+        size_t size = fits ? (size_t)wanted_of(&answer) * call->unit : 0;
+        require(call->in_texts || (fits && begin_alike(&answer.buffer, &whole->buffer, size)), call,
                 "where an allocation fails, the text is no beginning of the whole one");
     } else if (!refused || answer.status != TRACEBENCH_MEMORY) {
         agree(call, &answer, whole);
@@ -141,7 +144,8 @@ struct answer exercise(const struct call *call, const struct given *given) {
     size_t length = sized ? (size_t)wanted_of(&any) : below(64);
     struct answer whole = run(call, given, length);
     agree(call, &any, &whole);
-    require(!sized || whole.status == TRACEBENCH_DONE, call, "a buffer as large as is wanted is too small");
+    bool is_short = call->is_short != NULL && call->is_short(&whole);
+    require(!sized || is_short || whole.status == TRACEBENCH_DONE, call, "a buffer as large as is wanted is too small");
     if (sized && length != 0 && one_in(4)) {
         struct answer small = run(call, given, below(length));
         agree(call, &small, &whole);

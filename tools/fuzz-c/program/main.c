@@ -19,6 +19,7 @@
 #include "paths.h"
 #include "slices.h"
 #include "steps.h"
+#include "texts.h"
 
 int main(int count, char **words) {
     static void (*const tries[])(struct program *) = {try_pack,   try_unpack,  try_check, try_encode,
@@ -26,7 +27,8 @@ int main(int count, char **words) {
                                                       try_encoder, try_push, try_finish, try_feed,
                                                       try_follow, try_check_events, try_receive, try_resume,
                                                       try_push_all, try_feed_all, try_version, try_messages,
-                                                      try_headers, try_lines, try_audit_all};
+                                                      try_headers, try_lines, try_audit_all, try_decode_all,
+                                                      try_list, try_measure, try_compare, try_explain};
     if (count < 4 || count > 5 || (count == 5 && strcmp(words[4], "rows") != 0)) {
         fputs("usage: fuzz-c CORPUS SEED COUNT [rows]\n", stderr);
         return 2;

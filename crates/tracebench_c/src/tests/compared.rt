@@ -1,9 +1,10 @@
 //! Captures that are compared with logs.
 
 use super::agree;
-use super::decoded::{FULL, PLAIN, PLAIN_ROWS, RETURNS, RETURNS_ROWS};
+use super::decoded::{FULL, PLAIN, PLAIN_ROWS, RETURNS, RETURNS_ROWS, STOPS};
 use super::images::{
-    BASE, NOP, RET, WORDS, add, add_message, add_messages, filled, header_of, image_of, text_of,
+    BASE, NOP, RET, WORDS, add, add_message, add_messages, add_sent, filled, header_of, image_of,
+    text_of,
 };
 use super::listed::{UNWRITTEN, end_of};
 use super::measured::logs_of;
@@ -165,6 +166,23 @@ fn comparisons_stop(rt: HostRuntime) {
         &rows,
         (text, (2, 1, 6, 98, 0)),
     );
+}
+
+/// A comparison names each reason for which decoding stops. The log is what is decoded.
+#[test]
+fn comparisons_stop_for_each_reason(rt: HostRuntime) {
+    for (words, messages, rows, place, fault) in STOPS {
+        let image = image_of(&rt, words);
+        let mut capture = header_of(&rt, 0, 1024, 1);
+        add_messages(&rt, &mut capture, 0, &PLAIN[..2]);
+        add_sent(&rt, &mut capture, messages);
+        let closed = fault == 99 || rows == PLAIN_ROWS;
+        let whole = u32::from(closed && fault == 0);
+        let end = (1, u64::from(closed), place, fault, whole);
+        let (logs, ends) = logs_of(&rt, &[rows]);
+        let said = compared(&rt, (BASE, &image), (&capture, 0), (&logs, &ends), 1_000);
+        agree(&rt, fault, (said.0, said.3, said.4), (0, end, (88, 99)));
+    }
 }
 
 #[test]

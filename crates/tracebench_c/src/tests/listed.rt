@@ -1,7 +1,7 @@
 //! The listings of captures.
 
 use super::agree;
-use super::decoded::{FULL, PLAIN, RETURNS};
+use super::decoded::{self, FULL, PLAIN, PLAIN_ROWS, RETURNS};
 use super::images::{
     BASE, NOP, RET, Sent, WORDS, add, add_messages, add_sent, filled, header_of, image_of,
 };
@@ -185,6 +185,24 @@ fn listings_stop(rt: HostRuntime) {
     add_messages(&rt, &mut second, 0, PLAIN);
     let said = listed(&rt, (BASE, &image), (&second, 0), (b"", 0), 0);
     agree(&rt, "second", said.3, (2, 1, 0, 0, 0));
+}
+
+/// A listing stops for each reason for which decoding does, in both formats.
+#[test]
+fn listings_stop_for_each_reason(rt: HostRuntime) {
+    for (words, messages, rows, place, fault) in decoded::STOPS {
+        let image = image_of(&rt, words);
+        let mut capture = header_of(&rt, 0, 1024, 1);
+        add_messages(&rt, &mut capture, 0, &PLAIN[..2]);
+        add_sent(&rt, &mut capture, messages);
+        let closed = fault == 99 || rows == PLAIN_ROWS;
+        let whole = u32::from(closed && fault == 0);
+        let end = (1, u64::from(closed), place, fault, whole);
+        for format in [0, 1] {
+            let said = listed(&rt, (BASE, &image), (&capture, 0), (b"", format), 5_000);
+            agree(&rt, (format, fault), (said.0, said.3), (0, end));
+        }
+    }
 }
 
 #[test]

@@ -1,0 +1,22 @@
+/* Tries of the calls that write texts of all harts. */
+#ifndef TEXTS_H
+#define TEXTS_H
+
+#include "corpus.h"
+
+/* The text of each hart, and whether it is closed, are those that tracebench_decode says. */
+void try_decode_all(struct program *program);
+
+/* How a listing ends is how decoding all harts ends. */
+void try_list(struct program *program);
+
+/* What is refused is what encoding refuses. */
+void try_measure(struct program *program);
+
+/* The capture of legal logs is whole against them. How any comparison ends is how decoding all harts ends. */
+void try_compare(struct program *program);
+
+/* A log is explained where, and only where, it is not legal. */
+void try_explain(struct program *program);
+
+#endif
