@@ -17,15 +17,15 @@ _tracebench() {
     check) options="--base --also --explain --long --progress --help" ;;
     encode) options="--base --also --period --full --v1 --hex --first --of --long --progress --help" ;;
     dump) options="--search --only --progress --help" ;;
-    decode) options="--base --also --harts --lossy --progress --help" ;;
+    decode) options="--base --also --harts --only --lossy --progress --help" ;;
     replay) options="--base --also --period --full --capacity --progress --help" ;;
     bench) options="--base --also --period --full --capacity --progress --help" ;;
-    audit) options="--packets --unnumbered --summary --format --progress --help" ;;
+    audit) options="--packets --unnumbered --only --summary --format --progress --help" ;;
     measure) options="--base --also --period --full --long --progress --help" ;;
-    list) options="--base --also --harts --symbols --salvage --format --progress --help" ;;
-    salvage) options="--base --also --harts --summary --format --progress --help" ;;
+    list) options="--base --also --harts --only --symbols --salvage --format --progress --help" ;;
+    salvage) options="--base --also --harts --only --summary --format --progress --help" ;;
     capture) options="--v1 --full --period --harts --help" ;;
-    compare) options="--base --also --harts --long --progress --help" ;;
+    compare) options="--base --also --harts --only --long --progress --help" ;;
     help)
         mapfile -t COMPREPLY < <(compgen -W "$subcommands" -- "$current")
         return

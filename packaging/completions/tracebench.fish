@@ -52,6 +52,7 @@ complete -c tracebench -n '__tracebench_given decode' -F
 complete -c tracebench -n '__tracebench_given decode' -l base -x -d 'Address of the image'\''s first byte, in hexadecimal'
 complete -c tracebench -n '__tracebench_given decode' -l also -x -d 'Further piece of the image, any number of times: address in hexadecimal, =, file'
 complete -c tracebench -n '__tracebench_given decode' -l harts -x -d 'How many harts a capture of version 1 may have, 1 to 1024'
+complete -c tracebench -n '__tracebench_given decode' -l only -x -d 'Look at harts A to B alone, or at hart A, 0 to 1023; without it, at all'
 complete -c tracebench -n '__tracebench_given decode' -l lossy -d 'Go on where messages are missing, and print how many are'
 complete -c tracebench -n '__tracebench_given decode' -l progress -d 'Show how far the capture is worked through, where standard error is a terminal'
 
@@ -74,6 +75,7 @@ complete -c tracebench -n '__tracebench_given bench' -l progress -d 'Show how fa
 complete -c tracebench -n '__tracebench_given audit' -F
 complete -c tracebench -n '__tracebench_given audit' -l packets -d 'Compare messages by the packets that they unpack to, not by their bytes'
 complete -c tracebench -n '__tracebench_given audit' -l unnumbered -d 'Do not look at the numbers of RECEIVED: align what came with what was sent'
+complete -c tracebench -n '__tracebench_given audit' -l only -x -d 'Look at harts A to B alone, or at hart A, 0 to 1023; without it, at all'
 complete -c tracebench -n '__tracebench_given audit' -l summary -d 'Leave out the lines of single messages, of bytes and of lost numbers'
 complete -c tracebench -n '__tracebench_given audit' -l format -x -d 'What is printed: text, or csv, a table'
 complete -c tracebench -n '__tracebench_given audit' -l progress -d 'Show how far the capture is worked through, where standard error is a terminal'
@@ -90,6 +92,7 @@ complete -c tracebench -n '__tracebench_given list' -F
 complete -c tracebench -n '__tracebench_given list' -l base -x -d 'Address of the image'\''s first byte, in hexadecimal'
 complete -c tracebench -n '__tracebench_given list' -l also -x -d 'Further piece of the image, any number of times: address in hexadecimal, =, file'
 complete -c tracebench -n '__tracebench_given list' -l harts -x -d 'How many harts a capture of version 1 may have, 1 to 1024; without it, 1, with --salvage those of its messages'
+complete -c tracebench -n '__tracebench_given list' -l only -x -d 'Look at harts A to B alone, or at hart A, 0 to 1023; without it, at all'
 complete -c tracebench -n '__tracebench_given list' -l symbols -r -F -d 'File of the program'\''s symbols, as `nm` prints them'
 complete -c tracebench -n '__tracebench_given list' -l salvage -d 'List every message that is found, and what `salvage` does with it'
 complete -c tracebench -n '__tracebench_given list' -l format -x -d 'What is printed: text, or csv, a table'
@@ -99,6 +102,7 @@ complete -c tracebench -n '__tracebench_given salvage' -F
 complete -c tracebench -n '__tracebench_given salvage' -l base -x -d 'Address of the image'\''s first byte, in hexadecimal'
 complete -c tracebench -n '__tracebench_given salvage' -l also -x -d 'Further piece of the image, any number of times: address in hexadecimal, =, file'
 complete -c tracebench -n '__tracebench_given salvage' -l harts -x -d 'How many harts a capture with no valid header has, 1 to 1024; without it, those of its messages'
+complete -c tracebench -n '__tracebench_given salvage' -l only -x -d 'Look at harts A to B alone, or at hart A, 0 to 1023; without it, at all'
 complete -c tracebench -n '__tracebench_given salvage' -l summary -d 'Leave out the texts of the logs'
 complete -c tracebench -n '__tracebench_given salvage' -l format -x -d 'What is printed: text, or csv, a table'
 complete -c tracebench -n '__tracebench_given salvage' -l progress -d 'Show how far the capture is worked through, where standard error is a terminal'
@@ -113,5 +117,6 @@ complete -c tracebench -n '__tracebench_given compare' -F
 complete -c tracebench -n '__tracebench_given compare' -l base -x -d 'Address of the image'\''s first byte, in hexadecimal'
 complete -c tracebench -n '__tracebench_given compare' -l also -x -d 'Further piece of the image, any number of times: address in hexadecimal, =, file'
 complete -c tracebench -n '__tracebench_given compare' -l harts -x -d 'How many harts a capture of version 1 may have, 1 to 1024'
+complete -c tracebench -n '__tracebench_given compare' -l only -x -d 'Look at harts A to B alone, or at hart A, 0 to 1023; without it, at all'
 complete -c tracebench -n '__tracebench_given compare' -l long -d 'Take logs of up to 4294967295 rows, not 16777216'
 complete -c tracebench -n '__tracebench_given compare' -l progress -d 'Show how far the logs are read, where standard error is a terminal'

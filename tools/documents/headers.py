@@ -23,9 +23,6 @@ OF_LIBRARY = {"crates/tracebench_c/src/version.rt": r'VERSION: \[u8; \d+\] = \*b
 BEFORE = {"pack": "bad packet: "}
 # What has faults of an image beside its own, which keep the texts of an image.
 PIECES = "piece"
-# Constants of captures, which the package for SystemVerilog does not have.
-NOT_OF_PACKAGE = {"VERSION_ONE", "VERSION_TWO", "BY_PACKETS", "FATE_IN_ORDER", "FATE_LATE", "FATE_REPEAT",
-                  "FATE_CHANGED", "FATE_STRANGER", "TEXT", "CSV"}
 
 
 def version():
@@ -118,7 +115,7 @@ def of_package():
     text = grammar.content(PACKAGE)
     lists = "".join(re.findall(r"localparam int unsigned (.*?);", text, re.DOTALL))
     told = {name: int(number) for name, number in re.findall(r"([A-Z_]+) = (\d+)", lists)}
-    wanted = {name: number for name, number in constants().items() if name not in NOT_OF_PACKAGE}
+    wanted = constants()
     for name in sorted(told.keys() | wanted.keys()):
         if told.get(name) != wanted.get(name):
             yield f"{PACKAGE}: {name} is {told.get(name)}, and {HEADER} has {wanted.get(name)}"

@@ -34,6 +34,9 @@ def judged(capture):
 
 HEAD = 11
 
+# The fate of a message of a hart that is not chosen.
+UNSEEN = "in order", 0
+
 
 class Sent:
     """What was sent: the payloads of each hart, and whether a payload that came is the one that was sent."""
@@ -163,8 +166,8 @@ def row_of(sent, hart, mine, fates):
     return row, same, lost_runs(lost), max((far for what, far in fates if what == "late"), default=0)
 
 
-def audit(sent, received, summary=False, packets=False):
-    """The status, the text and the error of an audit."""
+def audit(sent, received, summary=False, packets=False, only=None):
+    """The status, the text and the error of an audit of the harts that are chosen."""
     try:
         header, own = judged(sent)
     except reading.Refused as why:
@@ -177,7 +180,7 @@ def audit(sent, received, summary=False, packets=False):
     spans = list(read(sent, received, at))
     came = [it for _, it in spans if not isinstance(it, int)]
     runs = [it for _, it in spans if isinstance(it, int)]
-    fates = list(found(sent, came))
+    fates = [fate if reading.is_chosen(only, it[0]) else UNSEEN for it, fate in zip(came, found(sent, came))]
     single, places = lines_of(sent, spans, fates)
     of_hart = [[] for _ in own]
     for message, fate in zip(came, fates):
@@ -185,6 +188,8 @@ def audit(sent, received, summary=False, packets=False):
             of_hart[message[0]].append((message, fate))
     rows, all_rows, all_same = "", [], True
     for hart, its in enumerate(of_hart):
+        if not reading.is_chosen(only, hart):
+            continue
         row, same, lost, latest = row_of(sent, hart, [it for it, _ in its], [it for _, it in its])
         for first, last in lost:
             which = f"number {last}" if first == last else f"numbers {first} to {last}"
@@ -196,7 +201,7 @@ def audit(sent, received, summary=False, packets=False):
             rows += f"hart {hart}: lost in {len(lost)} runs, the longest of {max(last - first + 1 for first, last in lost)}\n"
         if latest:
             rows += f"hart {hart}: late by at most {latest}\n"
-    if len(own) > 1:
+    if len(all_rows) > 1:
         rows += f"all: {counts({name: sum(row[name] for row in all_rows) for name in all_rows[0]}, all_same)}"
     text = rows if summary else single + rows
     if strangers := [what for what, _ in fates].count("stranger"):

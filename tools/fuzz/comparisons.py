@@ -40,7 +40,7 @@ def fault_of(program, text):
 
 
 def taken(capture, stop):
-    """The messages before the first fault of a capture, where decoding stops so."""
+    """The messages before the first fault of a capture, where decoding stops so, of whatever hart."""
     try:
         _, at = reading.start(capture)
     except reading.NoHeader:
@@ -58,20 +58,22 @@ def verdict(log, decoded, is_closed):
     return "beginning" if row == len(decoded) + 1 else f"differs at row {row}"
 
 
-def compare(program, harts, capture, logs):
-    """The status, the text and the error of a comparison."""
-    stop, decoders = reading.decode(program, harts or DEFAULT_HARTS, capture)
-    if len(logs) != len(decoders):
-        return 2, "", f"{len(logs)} logs for {len(decoders)} harts"
-    for hart, text in enumerate(logs):
+def compare(program, harts, capture, logs, only=None):
+    """The status, the text and the error of a comparison of the harts that are chosen with their logs."""
+    stop, decoders = reading.decode(program, harts or DEFAULT_HARTS, capture, only)
+    chosen = [hart for hart in range(len(decoders)) if reading.is_chosen(only, hart)]
+    if len(logs) != len(chosen):
+        return 2, "", f"{len(logs)} logs for {len(chosen)} harts"
+    for place, text in enumerate(logs):
         if fault := fault_of(program, text):
-            return 2, "", f"{name_of(hart)}: {fault}"
-    came = [[] for _ in logs]
+            return 2, "", f"{name_of(place)}: {fault}"
+    came = {hart: [] for hart in chosen}
     for hart, _, payload in taken(capture, stop):
-        came[hart].append(payload)
+        if hart in came:
+            came[hart].append(payload)
     lines, verdicts = [], []
-    for hart, (text, decoder, own) in enumerate(zip(logs, decoders, came)):
-        events = events_of(text)
+    for text, (hart, own) in zip(logs, came.items()):
+        events, decoder = events_of(text), decoders[hart]
         verdicts.append(verdict(events, decoder.events, decoder.closed))
         counts = f"{len(events)} events, {len(own)} packets, {sum(map(len, own))} payload bytes"
         lines.append(f"hart {hart}: {counts}, decoded {len(decoder.events)}, {verdicts[-1]}\n")

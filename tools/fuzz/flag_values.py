@@ -24,6 +24,7 @@ FLAGS = {
     "tables": ("--format text", "--format csv", "--packets", "--summary", "--unnumbered"),
     "comparisons": ("--long", "--progress", *(f"--harts {count}" for count in comparisons.ASKED_HARTS)),
     "threads": ("--full", *PERIODS, *FEW_CAPACITIES),
+    "only": (*FEW_HARTS, "--only", "--lossy", "--salvage", "--search", "--summary", "--packets", "--unnumbered", "--format csv"),
     "memories": (
         *("--also", "--explain", "--hex", "--full", "--lossy", "--salvage", "--format csv"),
         *(*FEW_HARTS, *PERIODS, *FEW_CAPACITIES),

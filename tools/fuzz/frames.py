@@ -63,14 +63,16 @@ def message_line(message, mode):
         return f"{hart} {number} bad {why}\n", True
 
 
-def search(capture):
-    """The status, the text and the error of a dump by a search."""
+def search(capture, only=None):
+    """The status, the text and the error of a dump of the harts that are chosen, by a search."""
     header, at, fault = start(capture)
     text = reading.dump(capture[:at])[0] if header else ""
     is_good = not fault
     for offset, found in spans(capture, header, at):
         if isinstance(found, int):
             line, is_damaged = f"bytes: {found} at {offset:08x}\n", True
+        elif not reading.is_chosen(only, found[0]):
+            continue
         else:
             line, is_damaged = message_line(found, header[0] if header else reading.DIFFERENTIAL)
         text, is_good = text + line, is_good and not is_damaged

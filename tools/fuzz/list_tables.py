@@ -96,14 +96,16 @@ def line(row, is_salvaged):
     return f"{head} => {word(row) if is_salvaged else effect(row)}"
 
 
-def text_of(table, is_salvaged):
-    """The lines of a table, which is bytes; the line of the header is none of them."""
+def text_of(table, is_salvaged, places=None):
+    """The lines of a table, which is bytes; the line of the header is none of them. `places` has the place of the message
+    at each offset, where rows may be missing."""
     read = rows_of(table)
     made, count = [], 0
     for row in read:
         if row["kind"] != "bytes":
-            if row.pop("place") != str(count):
-                raise NotTheText(f"place {count} is lacking")
+            wanted = places.get(int(row["offset"], 16)) if places is not None else count
+            if row.pop("place") != str(wanted):
+                raise NotTheText(f"place {wanted} is lacking")
             count += 1
         try:
             made.append(line(row, is_salvaged) + "\n")
@@ -129,10 +131,10 @@ def rows_of(table):
     return [dict(zip(COLUMNS, row)) for row in rows]
 
 
-def fault_of(table, text, is_salvaged):
+def fault_of(table, text, is_salvaged, places=None):
     """Why a table is not that of a text, or nothing. The first line of the text may be that of the header."""
     try:
-        made = text_of(table, is_salvaged)
+        made = text_of(table, is_salvaged, places)
     except NotTheText as why:
         return f"{why}\n"
     header, end, rest = text.partition(b"\n")

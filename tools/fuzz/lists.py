@@ -42,9 +42,9 @@ def effect(events, packet, symbols):
     return made + b", closed" * packet[0].startswith("ended")
 
 
-def listing(program, harts, capture, symbols):
-    """The status, the text and the error of a list."""
-    stop, decoders = reading.decode(program, harts, capture)
+def listing(program, harts, capture, symbols, only=None):
+    """The status, the text and the error of a list of the harts that are chosen."""
+    stop, decoders = reading.decode(program, harts, capture, only)
     try:
         header, at = reading.start(capture)
     except reading.NoHeader as why:
@@ -56,9 +56,12 @@ def listing(program, harts, capture, symbols):
     accepted = int(place_of_stop[1]) if place_of_stop else None
     decoders = [reading.Decoder(program) for _ in range(harts)]
     for place, message in enumerate(reading.messages(capture, at)):
-        text += b"%08x" % at
         if isinstance(message, str):
-            return 1, text + b"\n", stop
+            return 1, text + b"%08x\n" % at, stop
+        if not reading.is_chosen(only, message[0]):
+            at += 11 + len(message[2])
+            continue
+        text += b"%08x" % at
         line = lines[place].encode().removesuffix(b"\n")
         if place == accepted:
             return 1, text + b" " + line + b"\n", stop
@@ -67,7 +70,8 @@ def listing(program, harts, capture, symbols):
         decoder.feed(packet)
         text += b" %s => %s\n" % (line, effect(decoder.events[before:], packet, symbols))
         at += 11 + len(message[2])
-    left = next((hart for hart, it in enumerate(decoders) if not it.closed), None)
+    chosen = (hart for hart in range(harts) if reading.is_chosen(only, hart))
+    left = next((hart for hart in chosen if not decoders[hart].closed), None)
     if left is not None:
         return 1, text, f"hart {left}: no closing packet"
     return 0, text, None

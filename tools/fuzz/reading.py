@@ -563,6 +563,11 @@ def messages(capture, at):
         at += 11 + len(payload)
 
 
+def is_chosen(only, hart):
+    """Whether a hart is one of those that `--only` asks for: the first and the last of them, or None for all."""
+    return only is None or only[0] <= hart <= only[1]
+
+
 def accepted(message, expected, decoders, is_lossy=False):
     """The packet of a message that a demultiplexer accepts; `is_lossy` where messages may be lost."""
     hart, count, payload = message
@@ -580,8 +585,9 @@ def accepted(message, expected, decoders, is_lossy=False):
         raise Refused(f"bad packet: {why}") from None
 
 
-def decode(program, harts, capture):
-    """Where decoding stops, and the decoder of each hart; `harts` says how many there are where no header does."""
+def decode(program, harts, capture, only=None):
+    """Where decoding stops, and the decoder of each hart; `harts` says how many there are where no header does. Messages
+    of harts that are not chosen are passed over."""
     try:
         header, at = start(capture)
     except NoHeader as why:
@@ -592,6 +598,8 @@ def decode(program, harts, capture):
     for place, message in enumerate(messages(capture, at)):
         if isinstance(message, str):
             return f"message {place}: {message}", decoders
+        if not is_chosen(only, message[0]):
+            continue
         try:
             packet = accepted(message, expected, decoders)
         except Refused as why:
@@ -635,8 +643,9 @@ class Left:
             self.parts.append(self.decoder.events)
 
 
-def lossy(program, harts, capture):
-    """What is left of each hart's log, and the fault at which decoding stops, or None. All messages are read first."""
+def lossy(program, harts, capture, only=None):
+    """What is left of each hart's log, and the fault at which decoding stops, or None. All messages are read first; those
+    of harts that are not chosen are passed over."""
     try:
         header, at = start(capture)
     except NoHeader as why:
@@ -647,6 +656,8 @@ def lossy(program, harts, capture):
         return [], f"message {len(made) - 1}: {made[-1]}"
     left, expected = [Left(program) for _ in range(harts)], [0] * harts
     for place, message in enumerate(made):
+        if not is_chosen(only, message[0]):
+            continue
         try:
             packet = accepted(message, expected, left, is_lossy=True)
         except Refused as why:
@@ -662,8 +673,9 @@ def lossy(program, harts, capture):
     return left, None
 
 
-def dump(capture):
-    """The lines of a capture's header and messages, where they stop, and whether a payload is bad."""
+def dump(capture, only=None):
+    """The lines of a capture's header and messages, where they stop, and whether a payload is bad. Messages of harts that
+    are not chosen are passed over."""
     try:
         header, at = start(capture)
     except NoHeader as why:
@@ -678,6 +690,8 @@ def dump(capture):
             stop = f"message {place}: {message}"
             break
         hart, count, payload = message
+        if not is_chosen(only, hart):
+            continue
         try:
             text = packet_text(unpack(payload), mode)
         except Refused as why:

@@ -14,6 +14,7 @@ import list_tables
 import lists
 import measures
 import memories
+import only_harts
 import reading
 import salvages
 import treated
@@ -265,13 +266,13 @@ def of_listed(maker, harts, case):
     yield Run([*words, "--format", "csv"], None, list_table_of(found, False), None)
 
 
-def list_table_of(found, is_salvaged):
+def list_table_of(found, is_salvaged, places=None):
     """What a run has to be that prints the table of a list in text, by the status, the text and the error of that: the
-    table says what the text says."""
+    table says what the text says. `places` has the place of the message at each offset, where some have no row."""
     status, text, error = found
 
     def wanted(answer):
-        fault = list_tables.fault_of(answer, text, is_salvaged)
+        fault = list_tables.fault_of(answer, text, is_salvaged, places)
         return status, fault.encode() if fault else answer, error
     return wanted
 
@@ -324,8 +325,122 @@ def of_memories(maker, harts, case):
     yield from (Run(*run) for run in memories.runs(maker, case, inner))
 
 
+def of_only(maker, harts, given):
+    """What comes of a case of another kind, where some harts of it are asked for."""
+    yield from ONLY[given.kind](maker, harts, given.case, given.only, only_harts.words_of(maker.random, given.only))
+
+
+def only_of_capture(maker, harts, capture, only, asked):
+    """What comes of some harts of a capture: their logs, what is left of these where messages may be lost, and the dump."""
+    words = ["--base", f"{maker.program.base:x}", "--harts", str(harts), *asked, "image", "case"]
+    yield texts(["decode", *words], only_harts.decoded(maker.program, harts, capture, only))
+    yield texts(["decode", "--lossy", *words], only_harts.lossy(maker.program, harts, capture, only))
+    yield texts(["dump", *asked, "case"], only_harts.dumped(capture, only))
+
+
+def texts(words, found):
+    """A run that prints this text, by its status, its text and its error."""
+    status, text, error = found
+    return Run(words, status, text.encode(), error)
+
+
+def only_searched(_, __, capture, only, asked):
+    """What a search of a damaged capture prints of some harts."""
+    yield texts(["dump", "--search", *asked, "case"], only_harts.searched(capture, only))
+
+
+def only_salvaged(maker, harts, capture, only, asked):
+    """What is salvaged of some harts of a damaged capture, with a count of harts and without one."""
+    words = ["salvage", "--base", f"{maker.program.base:x}", *asked, "image", "case"]
+    for count, flags in ((harts, ["--harts", str(harts)]), (None, [])):
+        for summary in ([], ["--summary"]):
+            found = only_harts.salvaged(maker.program, count, capture, bool(summary), only)
+            yield texts([*words, *flags, *summary], found)
+        yield Run([*words, *flags, "--format", "csv"], None, only_salvaged_table(maker, count, capture, found), None)
+
+
+def only_salvaged_table(maker, harts, capture, found):
+    """What a run has to be that prints a table, by the summary of the same."""
+    status, text, error = found
+    ends = salvages.modes_and_ends(maker.program, harts, capture)
+
+    def wanted(answer):
+        is_good = salvages.is_table_of(answer, text, ends) if text else answer == b"" or not error
+        return status, answer if is_good else text.encode(), error
+    return wanted
+
+
+def only_listed(maker, harts, case, only, asked):
+    """What `list` prints of some harts of a capture, as text and as a table."""
+    yield from only_lists(maker, case, asked, ["list", "--harts", str(harts)], False,
+                          lambda capture, known: only_harts.listed(maker.program, harts, capture, known, only))
+
+
+def only_treated(maker, harts, case, only, asked):
+    """What `list --salvage` prints of some harts of a damaged capture, with a count of harts and without one."""
+    for count, flags in ((harts, ["--harts", str(harts)]), (None, [])):
+        yield from only_lists(maker, case, asked, ["list", "--salvage", *flags], True,
+                              lambda capture, known: only_harts.list_treated(maker.program, count, capture, known, only))
+
+
+def only_lists(maker, case, asked, words, is_salvaged, found_of):
+    """What a list prints as text and as a table."""
+    capture, symbols = case
+    words = [*words, "--base", f"{maker.program.base:x}", *asked, "image", lists.CAPTURE]
+    known = {}
+    if symbols is not None:
+        words += ["--symbols", lists.SYMBOLS]
+        known = lists.symbols_of(symbols)
+    found = (2, b"", f"{lists.SYMBOLS}: {lists.NO_SYMBOL}")
+    if symbols is None or known:
+        found = found_of(capture, known)
+    yield Run(words, *found)
+    is_none = found[0] == 2 or (found[2] or "").startswith("no hart of")
+    places = only_harts.places_of(capture, is_salvaged)
+    table = (found[0], b"", found[2]) if is_none else (None, list_table_of(found, is_salvaged, places), None)
+    yield Run([*words, "--format", "csv"], *table)
+
+
+def only_audited(maker, _, pair, only, asked):
+    """What an audit of a pair of captures prints of some harts."""
+    for flags in ([], maker.random.choice((["--packets"], ["--summary"], ["--packets", "--summary"]))):
+        found = only_harts.audited(pair, "--summary" in flags, "--packets" in flags, only)
+        yield texts(["audit", *flags, *asked, audits.SENT, audits.RECEIVED], found)
+
+
+def only_unnumbered(maker, _, pair, only, asked):
+    """What an audit of a pair of captures prints of some harts where its numbers are not looked at."""
+    packets = maker.random.choice(([], ["--packets"]))
+    words = ["audit", "--unnumbered", *packets, *asked, audits.SENT, audits.RECEIVED]
+    said = []
+
+    def wanted(answer):
+        said.append(answer)
+        return only_harts.aligned(pair, answer, False, bool(packets), only)
+
+    yield Run(words, None, wanted, None)
+    yield Run([*words, "--summary"], None, lambda _: only_harts.aligned(pair, said[0], True, bool(packets), only), None)
+
+
+def only_compared(maker, _, case, only, asked):
+    """What `compare` prints of some harts of a capture."""
+    harts, capture, logs = case
+    counted = [] if harts is None else ["--harts", str(harts)]
+    names = [comparisons.name_of(hart) for hart in range(len(logs))]
+    words = ["compare", "--base", f"{maker.program.base:x}", *counted, *asked, "image", comparisons.CAPTURE, *names]
+    yield texts(words, only_harts.compared(maker.program, harts, capture, logs, only))
+
+
+ONLY = {
+    "captures": only_of_capture, "lists": only_listed, "salvages": only_salvaged, "treated": only_treated,
+    "dumps": only_searched, "audits": only_audited, "unnumbered": only_unnumbered, "comparisons": only_compared,
+}
+
+
 def files_of(kind, case):
     """The files that the runs over a case read, but for the image."""
+    if kind == "only":
+        return files_of(case.kind, case.case)
     if kind == "memories":
         return files_of(case.kind, case.case) | memories.files_of(case.pieces)
     if kind == "threads":
@@ -354,7 +469,7 @@ OF_CASE = {
     "captures": of_capture, "logs": of_log, "audits": of_pair, "measures": of_measured, "lists": of_listed,
     "salvages": of_salvaged, "lines": of_lines, "dumps": of_searched, "unnumbered": of_unnumbered, "parts": of_parts,
     "tables": of_table, "treated": of_treated, "comparisons": of_comparison, "threads": of_threads,
-    "memories": of_memories,
+    "memories": of_memories, "only": of_only,
 }
 
 

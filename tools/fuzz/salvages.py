@@ -187,25 +187,27 @@ def harts_of(found, header, harts):
     return max((hart for _, (hart, *_) in found), default=0) + 1
 
 
-def salvage(program, harts, capture, is_summary=False):
-    """The status, the text and the error of salvaging a capture; `harts` is the count that is asked for, or None."""
+def salvage(program, harts, capture, is_summary=False, only=None):
+    """The status, the text and the error of salvaging the chosen harts of a capture; `harts` is the count that is asked
+    for, or None."""
     header, at, fault = frames.start(capture)
     spans = list(frames.spans(capture, header, at))
     found = [span for span in spans if not isinstance(span[1], int)]
     runs = [span for span in spans if isinstance(span[1], int)]
     count = harts_of(found, header, harts)
+    found = [(offset, message) for offset, message in found if reading.is_chosen(only, message[0])]
     own = [(offset, message) for offset, message in found if not is_stranger(message, count)]
-    text, left = "", []
-    for hart in range(count):
+    text, left = "", {}
+    for hart in filter(lambda it: reading.is_chosen(only, it), range(count)):
         mine = [(offset, message[1:]) for offset, message in own if message[0] == hart]
         it = Salvage(program, header[0] if header else reading.DIFFERENTIAL, [came for _, came in mine])
         text += f"hart {hart}\n" + it.text([offset for offset, _ in mine], header and header[0], is_summary)
-        left.append(it)
+        left[hart] = it
     text += "".join(f"bytes: {size} at {offset:08x}\n" for offset, size in runs)
     text += counted("strangers", len(found) - len(own))
-    open_harts = (f"hart {hart}: no closing packet" for hart, it in enumerate(left) if not it.closed)
+    open_harts = (f"hart {hart}: no closing packet" for hart, it in left.items() if not it.closed)
     error = fault or next(open_harts, None)
-    is_good = not error and not runs and len(found) == len(own) and all(it.is_whole() for it in left)
+    is_good = not error and not runs and len(found) == len(own) and all(it.is_whole() for it in left.values())
     return (0 if is_good else 1), text, error
 
 
@@ -247,7 +249,7 @@ def is_table_of(table, text, harts):
 
 
 def modes_and_ends(program, harts, capture):
-    """Of each hart of a capture in which mode it is read, and whether it is closed."""
+    """Of each hart of a capture in which mode it is read, and whether it is closed, where all are chosen."""
     header, at, _ = frames.start(capture)
     found = [span for span in frames.spans(capture, header, at) if not isinstance(span[1], int)]
     count = harts_of(found, header, harts)

@@ -39,9 +39,9 @@ class Harts:
         return lists.effect(it.added[number], reading.unpack(it.used[number][0]), symbols)
 
 
-def listing(program, harts, capture, symbols):
-    """The status, the text and the error of a list of what salvaging does; `harts` is the count that is asked for, or
-    None. The events that the lines add have to be the rows that `salvage` prints."""
+def listing(program, harts, capture, symbols, only=None):
+    """The status, the text and the error of a list of what salvaging does with the messages of the harts that are chosen;
+    `harts` is the count that is asked for, or None. The events that the lines add have to be the rows that `salvage` prints."""
     header, at, fault = frames.start(capture)
     spans = list(frames.spans(capture, header, at))
     found = [span for span in spans if not isinstance(span[1], int)]
@@ -54,10 +54,12 @@ def listing(program, harts, capture, symbols):
         if isinstance(one, int):
             text += b"%08x bytes: %d\n" % (offset, one)
             continue
+        if not reading.is_chosen(only, one[0]):
+            continue
         word, is_late = treated.treat(one, symbols)
         line = frames.message_line(one, mode)[0].encode().removesuffix(b"\n")
         text += b"%08x %s => %s%s\n" % (offset, line, word, b", late" * is_late)
-    status, salvaged, error = salvages.salvage(program, harts, capture)
+    status, salvaged, error = salvages.salvage(program, harts, capture, only=only)
     assert added_by(text) == rows_of(salvaged), (text, salvaged)
     return status, text, error
 

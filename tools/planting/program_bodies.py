@@ -24,6 +24,7 @@ CONFIG = "    let config = Config {\n"
 CAPTURE = "    let bytes = content_of(files, asked.capture)?;\n"
 IMAGE = "    let bytes = content_of(files, image)?;\n"
 SENT = "    let sent = content_of(files, asked.sent)?;\n"
+RECEIVED = "    let received = content_of(files, asked.received)?;\n"
 LINES = "    let text = content_of(files, asked.lines)?;\n"
 TREATED = "    let treated = treat_watched(alloc, program, harts, mode, messages, progress);\n"
 
@@ -102,6 +103,18 @@ BODIES = [
         *memory_first(CAPTURE, "asked.summary")),
     ("audit --packets always Memory", "path_commands", "comparing.rt", *memory_first(SENT, "asked.packets")),
     ("audit --summary always Memory", "path_commands", "comparing.rt", *memory_first(SENT, "asked.summary")),
+    *(
+        (f"{command} --only always Memory", crate, file, *memory_first(line, "asked.only.is_some()"))
+        for command, crate, file, line in (
+            ("dump", "capture_commands", "dumping.rt", CAPTURE),
+            ("decode", "capture_commands", "decoding.rt", CAPTURE),
+            ("list", "capture_commands", "message_listing.rt", CAPTURE),
+            ("salvage", "capture_commands", "salvaging_capture.rt", CAPTURE),
+            ("compare", "compare_commands", "against_logs.rt", CAPTURE),
+            ("audit", "path_commands", "comparing.rt", SENT),
+            ("audit --unnumbered", "path_commands", "matching.rt", RECEIVED),
+        )
+    ),
     ("capture --v1 always Memory", "line_commands", "capturing.rt",
         *memory_first(LINES, "matches!(asked.version, message::Version::One)")),
     ("capture --harts always Memory", "line_commands", "capturing.rt", *memory_first(LINES, "asked.harts.is_some()")),
@@ -123,7 +136,7 @@ BODIES = [
     ("audit tells of a message twice", "path_commands", "received.rt",
         "        watch.note(1);\n", "        watch.note(2);\n"),
     ("audit --unnumbered tells of no stranger", "path_commands", "matching.rt",
-        "        progress.note(strangers_among(all.len(), came.harts.as_slice()) as usize);\n", "        let _ = all;\n"),
+        "        progress.note(strangers_among(harts, all.len(), came.harts.as_slice()) as usize);\n", "        let _ = all;\n"),
     ("salvage tells of no copy", "salvaging", "trail.rt", "        watch.note(count);\n", "        watch.note(1);\n"),
     ("salvage tells of nothing after an end", "salvaging", "hart.rt", "    watch.note(beyond.len());\n", ""),
     ("salvage tells of no stranger", "salvaging", "salvaging.rt", "    watch.note(all.strangers);\n", ""),

@@ -14,6 +14,8 @@ use Rattle.frames.proofs.ScatteredLemmas.{written}
 use Rattle.frames.specs.Frame.{IsFrame, end_of_frames}
 use Rattle.frames.specs.Spans.{spans_from}
 use Rattle.frames.specs.Written.{frames_from}
+use Rattle.hart_range.proofs.Selecting.{all_selected}
+use Rattle.hart_range.specs.Range.{every_hart, selected}
 use Rattle.losses.specs.Collects.{GivesPieces}
 use Rattle.losses.specs.Parts.{LogPart}
 use Rattle.losses.specs.Parts.{Missing as LogMissing, Events as LogEvents}
@@ -188,13 +190,15 @@ module _ (harts : ℕ) (asked : Option ℕ) (program : Image) (bytes : List ℕ)
     (alike : CountAlike harts asked header) (pieces : List (HartPieces Global)) where
   -- What is collected is collected of this header and these messages.
   collected_of : (read : Result (Option Header × List Message) ReadFault) → IsReadWhole bytes read
-      → AreCollectedFrom harts program read (Ok pieces)
+      → AreCollectedFrom harts every_hart program read (Ok pieces)
       → GivesPieces program (pieces_counted harts header) (mode_of_header header) messages pieces
   collected_of (Err why) is from = let never : Ok pieces ≡ Err (reading_fault why) = from in cc
   collected_of (Ok read) is from =
       let same = whole_only bytes read.0 header read.1 messages is whole in
-      subst (λ ms. GivesPieces program (pieces_counted harts header) (mode_of_header header) ms pieces) same.1
-      (subst (λ h. GivesPieces program (pieces_counted harts h) (mode_of_header h) read.1 pieces) same.0 from)
+      subst (λ ms. GivesPieces program (pieces_counted harts header) (mode_of_header header) ms pieces)
+      (ap (selected every_hart) same.1 ∙ all_selected messages whole.ranges)
+      (subst (λ h. GivesPieces program (pieces_counted harts h) (mode_of_header h) (selected every_hart read.1) pieces)
+      same.0 from)
 
   pub kept_too : (found : Option Header) (why : Option MessageFault) (salvaged : Salvaged Global)
       → ArePieces harts program bytes (Ok pieces) → IsSalvagedCapture asked program bytes found why salvaged
@@ -216,13 +220,13 @@ module _ (harts : ℕ) (asked : Option ℕ) (program : Image) (bytes : List ℕ)
       let start = reads.start found why is.start in
       let counted = counted_alike harts asked bytes header messages alike frames known in
       let of_header : GivesSalvaged program (harts_counted asked header bytes) (mode_of_header header)
-      (messages_in (spans_of header bytes)) salvaged =
+      (selected every_hart (messages_in (spans_of header bytes))) salvaged =
       subst (λ h. GivesSalvaged program (harts_counted asked h bytes) (mode_of_header h)
-      (messages_in (spans_of h bytes)) salvaged) start.0 is.left in
+      (selected every_hart (messages_in (spans_of h bytes))) salvaged) start.0 is.left in
       let left : GivesSalvaged program (pieces_counted harts header) (mode_of_header header) messages salvaged =
       subst (λ n. GivesSalvaged program n (mode_of_header header) messages salvaged) counted
       (subst (λ ms. GivesSalvaged program (harts_counted asked header bytes) (mode_of_header header) ms salvaged)
-      reads.frames of_header) in
+      (ap (selected every_hart) reads.frames ∙ all_selected messages whole.ranges) of_header) in
       let count : length salvaged.harts.items ≡ length pieces = left.left.count ∙ sym gives.count in
       let both = left.collected pieces gives in
       let ends = end_alike pieces salvaged.harts.items count both.each in
@@ -246,7 +250,7 @@ module _ (harts : ℕ) (asked : Option ℕ) (program : Image) (bytes : List ℕ)
           or_false false = refl
 
           damage : AreCollectedToo pieces salvaged → EndAlike pieces salvaged.harts.items
-              → (is_damaged salvaged || false) ≡ have_gaps (parts_of pieces)
+              → (is_damaged salvaged.harts.items salvaged.strangers || false) ≡ have_gaps (parts_of pieces)
           damage both ends =
               ap (λ n. (list_any has_loss salvaged.harts.items || not (n == 0)) || false) both.strangers
               ∙ or_false (list_any has_loss salvaged.harts.items) ∙ ends.losses

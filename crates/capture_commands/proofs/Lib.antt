@@ -2,7 +2,11 @@ mod DecodedRuns
 mod ItemTexts
 mod ListedRuns
 mod OffsetLists
+mod OwnSpans
+mod HartLists
+mod OnlyOrders
 mod PartTexts
+mod PlacesAmong
 mod SalvageRuns
 mod SymbolsFound
 mod TextsBehind

@@ -1,13 +1,13 @@
 -- What `list` prints, from what was found.
 use Rattle.std.proofs.Common.{◌≡◌, inl, inr, ℕ, List, Option, Result, Ok, Err}
 use Rattle.std.specs.Io.KnownBytes.{Keeps}
-use Rattle.std.specs.Prelude.{⊤}
+use Rattle.hart_range.specs.declared.range.HartRange.{HartRange}
 use Rattle.rvclass.specs.Fetch.{words_of}
 use Rattle.rvclass.specs.Image.{Image}
 use Rattle.listing.specs.Begun.{BeginsPart}
-use Rattle.listing.specs.Begun.IsPartOfListing.{OfAll as OfAllLines}
+use Rattle.listing.specs.BegunOf.IsPartOfListingOf.{OfAll as OfAllLines}
 use Rattle.listing.specs.Listing.{AppendsListing}
-use Rattle.listing_table.specs.Part.IsPartOfTable.{OfAll as OfAllRows}
+use Rattle.listing_table.specs.PartOf.IsPartOfTableOf.{OfAll as OfAllRows}
 use Rattle.captures.specs.declared.outcome.CaptureFault.{CaptureFault}
 use Rattle.output.proofs.Beginnings.{begun_kept, whole_begun}
 use Rattle.subcommands.specs.declared.words.Format.{Format}
@@ -16,72 +16,73 @@ use Rattle.subcommands.specs.declared.words.Listing.{Listing}
 use Rattle.command_inputs.proofs.Beginnings.{cut_leads}
 use Rattle.command_inputs.proofs.Runs.{appends-keeps, leads_on}
 use Rattle.command_inputs.specs.Begun.{IsCutOf}
-use Rattle.command_inputs.specs.Found.{IsAskedBase, IsProgramAt, IsRead}
+use Rattle.command_inputs.specs.Found.{IsProgramAt, IsRead}
 use Rattle.files.specs.Known.{Content}
 use Rattle.command_inputs.specs.Printed.{IsPrinted, PrintsUnlessDenied}
 use Rattle.capture_commands.specs.Faults.{Fault, Printed}
 use Rattle.capture_commands.specs.Symbols.{AreSymbols}
 use Rattle.command_inputs.specs.declared.fault.Fault.TheVariants as fault
 use Rattle.command_inputs.specs.declared.status.Status.{Status}
-use Rattle.capture_commands.specs.Decoding.{end_of_capture}
-use Rattle.capture_commands.specs.Listed.{CanList, Lists, ListsInPart, ListsUpToMemory, WritesListing, WritesPart}
-use Rattle.capture_commands.specs.Listed.{WritesListed, WritesListedPart}
+use Rattle.capture_commands.specs.Decoding.{end_of_capture_of}
+use Rattle.capture_commands.specs.Listed.{CanListHarts, CanWriteListed, ListsHarts, ListsHartsInPart}
+use Rattle.capture_commands.specs.Listed.{ListsUpToMemory, WritesListed, WritesListedPart, WritesListing, WritesPart}
 use Rattle.capture_commands.specs.ListedFormats.{IsListedIn, IsPartListedIn}
 use Rattle.capture_commands.specs.declared.reason.CaptureReason.{CaptureReason}
 
-module _ (content : Content) (asked : Listing) (base : ℕ) (program : Image) (symbols : Option (List ℕ))
-    (bytes : List ℕ)
-    (based : IsAskedBase {W = CaptureReason} asked.format asked.base.now asked.also.items (Ok base))
+-- What is written where an allocation fails is what the run writes then, where it leads there.
+pub memory_leads : (Own Prints : Printed → Type 0) → ((printed : Printed) → Own printed → Prints printed)
+    → (old new : Option (List ℕ)) → ListsUpToMemory Own old new → ListsUpToMemory Prints old new
+memory_leads Own Prints leads old new (inl kept) = inl kept
+memory_leads Own Prints leads old new (inr is) = inr (record {
+  text = is.text;
+  prints = leads (record { text = is.text; ended = Err fault.Memory }) is.prints;
+  appended = is.appended;
+})
+
+module _ (content : Content) (asked : Listing) (base : ℕ) (only : HartRange) (program : Image)
+    (symbols : Option (List ℕ)) (bytes : List ℕ)
     (found : IsProgramAt {W = CaptureReason} content base asked.image asked.also.items (Ok program))
     (named : AreSymbols content asked.symbols (Ok symbols))
     (read : IsRead {W = CaptureReason} content asked.capture (Ok bytes)) where
-  -- What is written of the capture is what `list` prints.
-  list_leads : (printed : Printed) → WritesListed asked.format asked.salvage asked.harts program symbols bytes printed
-      → Lists content asked printed
-  list_leads printed writes =
-      (Ok base, based, (Ok program, found, (Ok symbols, named, (Ok bytes, read, writes))))
+  abbrev Own : Printed → Type 0
+  Own = WritesListed asked.format asked.salvage only asked.harts program symbols bytes
 
-  -- All is found that `list` writes from.
-  can_list : CanList content asked
-  can_list = (base, based, (program, found, (symbols, named, (bytes, read, tt))))
+  abbrev OwnPart : Printed → Type 0
+  OwnPart = WritesListedPart asked.format asked.salvage only asked.harts program symbols bytes
+
+  -- What is written of the capture is what `list` prints.
+  list_leads : (printed : Printed) → Own printed → ListsHarts content asked base only printed
+  list_leads printed writes = (Ok program, found, (Ok symbols, named, (Ok bytes, read, writes)))
 
   -- A part of the capture's listing is a part of what `list` prints.
-  part_leads : (printed : Printed) → WritesListedPart asked.format asked.salvage asked.harts program symbols bytes printed
-      → ListsInPart content asked printed
-  part_leads printed part = (base, based, (program, found, (symbols, named, (bytes, read, part))))
+  part_leads : (printed : Printed) → OwnPart printed → ListsHartsInPart content asked base only printed
+  part_leads printed part = (program, found, (symbols, named, (bytes, read, part)))
 
   -- What is printed of the capture is what `list` prints.
   pub list_printed : (ended : Result Status Fault) (old new : Option (List ℕ))
-      → PrintsUnlessDenied (WritesListed asked.format asked.salvage asked.harts program symbols bytes) ⊤ ended old new
-      → PrintsUnlessDenied (Lists content asked) (CanList content asked) ended old new
+      → PrintsUnlessDenied Own (CanWriteListed asked.salvage only asked.harts bytes) ended old new
+      → PrintsUnlessDenied (ListsHarts content asked base only) (CanListHarts content asked base only) ended old new
   list_printed ended old new =
-      leads_on (WritesListed asked.format asked.salvage asked.harts program symbols bytes) (Lists content asked) ⊤
-      (CanList content asked) ended old new list_leads (λ _. can_list)
+      leads_on Own (ListsHarts content asked base only) (CanWriteListed asked.salvage only asked.harts bytes)
+      (CanListHarts content asked base only) ended old new list_leads
+      (λ can. (program, found, (symbols, named, (bytes, read, can))))
 
   -- What is written where an allocation fails is what `list` writes then.
-  pub list_begun : (old new : Option (List ℕ))
-      → ListsUpToMemory (WritesListed asked.format asked.salvage asked.harts program symbols bytes) old new
-      → ListsUpToMemory (Lists content asked) old new
-  list_begun old new (inl kept) = inl kept
-  list_begun old new (inr is) = inr (record {
-    text = is.text;
-    prints = list_leads (record { text = is.text; ended = Err fault.Memory }) is.prints;
-    appended = is.appended;
-  })
+  pub list_begun : (old new : Option (List ℕ)) → ListsUpToMemory Own old new
+      → ListsUpToMemory (ListsHarts content asked base only) old new
+  list_begun old new = memory_leads Own (ListsHarts content asked base only) list_leads old new
 
   -- A cut of it is one of what `list` prints.
-  pub list_cut : (old new : Option (List ℕ))
-      → IsCutOf (WritesListedPart asked.format asked.salvage asked.harts program symbols bytes) old new
-      → IsCutOf (ListsInPart content asked) old new
-  list_cut old new =
-      cut_leads (WritesListedPart asked.format asked.salvage asked.harts program symbols bytes) (ListsInPart content asked) old new
-      part_leads
+  pub list_cut : (old new : Option (List ℕ)) → IsCutOf OwnPart old new
+      → IsCutOf (ListsHartsInPart content asked base only) old new
+  list_cut old new = cut_leads OwnPart (ListsHartsInPart content asked base only) old new part_leads
 
-module _ (format : Format) (harts : ℕ) (program : Image) (symbols : Option (List ℕ)) (bytes : List ℕ) where
+module _ (format : Format) (only : HartRange) (harts : ℕ) (program : Image) (symbols : Option (List ℕ))
+    (bytes : List ℕ) where
   -- The beginning of a part of a listing was written.
   pub part_cut : (old new : Option (List ℕ))
-      → BeginsPart (IsPartListedIn format (words_of program) harts symbols bytes) old new
-      → IsCutOf (WritesPart format harts program symbols bytes) old new
+      → BeginsPart (IsPartListedIn format (words_of program) only harts symbols bytes) old new
+      → IsCutOf (WritesPart format only harts program symbols bytes) old new
   part_cut old new begins = inr (record {
     printed = record { text = begins.text; ended = Err fault.Output };
     prints = begins.part;
@@ -90,26 +91,26 @@ module _ (format : Format) (harts : ℕ) (program : Image) (symbols : Option (Li
 
   -- A whole listing is a part of it.
   whole_part : (which : Format) (closed : List _) (stop : Option (ℕ × CaptureFault)) (text : List ℕ)
-      → IsListedIn which (words_of program) harts symbols bytes closed stop text
-      → IsPartListedIn which (words_of program) harts symbols bytes text
+      → IsListedIn which (words_of program) only harts symbols bytes closed stop text
+      → IsPartListedIn which (words_of program) only harts symbols bytes text
   whole_part Csv closed stop text is = OfAllRows closed stop is
   whole_part Text closed stop text is = OfAllLines closed stop is
   whole_part Other closed stop text is = OfAllLines closed stop is
 
   module _ (closed : List _) (stop : Option (ℕ × CaptureFault)) (old mid new : Option (List ℕ))
-      (appends : AppendsListing (IsListedIn format (words_of program) harts symbols bytes) closed stop old mid)
+      (appends : AppendsListing (IsListedIn format (words_of program) only harts symbols bytes) closed stop old mid)
       (kept : Keeps mid new) where
     -- The whole listing was written, and then nothing more.
-    pub whole_cut : IsCutOf (WritesPart format harts program symbols bytes) old new
+    pub whole_cut : IsCutOf (WritesPart format only harts program symbols bytes) old new
     whole_cut = inr (record {
-      printed = record { text = appends.text; ended = end_of_capture stop closed };
+      printed = record { text = appends.text; ended = end_of_capture_of only stop closed };
       prints = whole_part format closed stop appends.text appends.listed;
       begun = begun_kept appends.text old mid new (whole_begun appends.text old mid appends.appended) kept;
     })
 
     -- And the run ends as decoding does.
-    pub whole_printed : (ended : Result Status Fault) → ended ≡ end_of_capture stop closed
-        → IsPrinted (WritesListing format harts program symbols bytes) ended old new
+    pub whole_printed : (ended : Result Status Fault) → ended ≡ end_of_capture_of only stop closed
+        → IsPrinted (WritesListing format only harts program symbols bytes) ended old new
     whole_printed ended is = record {
       text = appends.text;
       prints = record { closed = closed; stop = stop; listing = appends.listed; ended = is };

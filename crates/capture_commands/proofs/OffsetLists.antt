@@ -11,10 +11,12 @@ use Rattle.std.specs.declared.alloc.Global.{Global}
 use Rattle.std.specs.declared.vec.Vec.{Vec}
 use Rattle.frames.specs.declared.span.Span.{Span}
 use Rattle.frames.specs.declared.span.Span.TheVariants.{Frame, Bytes}
+use Rattle.hart_range.specs.declared.range.HartRange.{HartRange}
+use Rattle.searching.specs.Search.{chosen, is_chosen}
 use Rattle.capture_commands.specs.Frames.{AreFrames, is_run, messages_in}
 use Rattle.salvaged_table.specs.Offsets.{offsets_in}
 use Rattle.capture_commands.specs.declared.frame_reading.Frames.{Frames}
-use Rattle.capture_commands.specs.steps.Reading.{AddsOffset, AddsSpan}
+use Rattle.capture_commands.specs.steps.Reading.{AddsOffset, AddsSpan, AddsWhere}
 
 abbrev Lists : Type 0
 Lists = List (Vec ℕ Global)
@@ -145,6 +147,18 @@ read_next harts all left (Bytes offset count) old new so_far (messages, runs, of
     or_true : (b : Bool) → (b || true) ≡ true
     or_true true = refl
     or_true false = refl
+
+-- The same of the spans of some harts: one of another hart is passed over.
+pub read_chosen : (only : HartRange) (harts : ℕ) (all left : List Span) (span : Span) (old new : Frames)
+    → ReadSo harts all (chosen only (span ∷ left)) old → AddsWhere (is_chosen only span) span old new
+    → ReadSo harts all (chosen only left) new
+read_chosen only harts all left span old new so_far adds = by_hart (is_chosen only span) so_far adds
+  where
+    by_hart : (own : Bool)
+        → ReadSo harts all (if own then span ∷ chosen only left else chosen only left) old → AddsWhere own span old new
+        → ReadSo harts all (chosen only left) new
+    by_hart true so_far adds = read_next harts all (chosen only left) span old new so_far adds
+    by_hart false so_far adds = subst (ReadSo harts all (chosen only left)) (sym adds) so_far
 
 pub read_all : (harts : ℕ) (all : List Span) (frames : Frames) → ReadSo harts all [] frames
     → AreFrames harts all frames

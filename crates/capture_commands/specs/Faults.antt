@@ -38,8 +38,9 @@ Meaning = meaning.Meaning CaptureReason
 abbrev pub Once : {A : Type 0} → (Result A Fault → Type 0) → (A → Type 0) → Type 0
 Once Finds Holds = finding.Once Finds Holds
 
--- The status at a reason of such a subcommand's own. At faults of a capture's header, of its messages, of a hart that is
--- not closed and of a capture that has no hart that is asked for, the capture is not good. A file of symbols is refused, and so is another count of logs than of harts.
+-- The status at a reason of such a subcommand's own. At faults of a capture's header, of its messages, of a hart that
+-- is not closed and of a capture that has no hart that is asked for, the capture is not good. A file of symbols is
+-- refused, and so is another count of logs than of harts.
 abbrev pub capture_reason_status : CaptureReason → Status
 capture_reason_status (Symbols path why) = Refused
 capture_reason_status (Logs logs harts) = Refused

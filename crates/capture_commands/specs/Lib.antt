@@ -4,12 +4,16 @@ pub mod Symbols
 pub mod OnlyHarts
 pub mod Dumping
 pub mod Decoding
+pub mod HartItems
+pub mod Placed
 pub mod Pieces
+pub mod CountedHarts
 pub mod Decoded
 pub mod ListedSalvaged
 pub mod ListedFormats
 pub mod Listed
 pub mod Frames
+pub mod HartsFound
 pub mod SalvagedText
 pub mod SalvagedFormats
 pub mod Salvaging

@@ -6,6 +6,8 @@ use Rattle.std.specs.List.{flat_map, list_any}
 use Rattle.std.specs.declared.alloc.Global.{Global}
 use Rattle.captures.specs.Whole.{IsReadFault, IsWhole}
 use Rattle.captures.specs.declared.capture_reading.ReadFault.{ReadFault}
+use Rattle.hart_range.specs.Range.{every_hart, selected}
+use Rattle.hart_range.specs.declared.range.HartRange.{HartRange}
 use Rattle.losses.specs.Collects.{GivesFault, GivesPieces}
 use Rattle.losses.specs.Parts.{LogPart, Events, Missing}
 use Rattle.losses.specs.PartsIn.{parts_in}
@@ -22,6 +24,8 @@ use Rattle.capture_commands.specs.Faults.{Fault, Printed, lossy_fault, reading_f
 use Rattle.command_inputs.specs.declared.status.Status.{Status}
 use Rattle.command_inputs.specs.declared.status.Status.TheVariants.{NotWhole}
 use Rattle.capture_commands.specs.Decoding.{end_of_harts}
+use Rattle.capture_commands.specs.HartItems.{items_of}
+use Rattle.capture_commands.specs.Placed.{placed_fault}
 use Rattle.hart_rows.specs.EachHart.{each_hart}
 
 -- The line of a count of messages, after the name of what they are.
@@ -61,9 +65,14 @@ end_with_gaps gaps (Err why) = Err why
 end_with_gaps true (Ok status) = Ok NotWhole
 end_with_gaps false (Ok status) = Ok status
 
--- The fault names the first hart that is not closed. Where all are closed, the end is by whether there are gaps.
+-- The fault names the first hart that is not closed, of these harts, from this one on. Where all are closed, the end is
+-- by whether there are gaps.
+abbrev pub end_of_pieces_from : ℕ → List (HartPieces Global) → Result Status Fault
+end_of_pieces_from first pieces = end_with_gaps (have_gaps (parts_of pieces)) (end_of_harts first (closed_of pieces))
+
+-- The end by the pieces of all harts.
 abbrev pub end_of_pieces : List (HartPieces Global) → Result Status Fault
-end_of_pieces pieces = end_with_gaps (have_gaps (parts_of pieces)) (end_of_harts 0 (closed_of pieces))
+end_of_pieces pieces = end_of_pieces_from 0 pieces
 
 -- The count of harts: the header's, or without a header this one.
 abbrev pub harts_counted : ℕ → Option Header → ℕ
@@ -80,36 +89,40 @@ abbrev pub IsReadWhole : List ℕ → Result (Option Header × List Message) Rea
 IsReadWhole bytes (Ok whole) = IsWhole bytes whole.0 whole.1
 IsReadWhole bytes (Err why) = IsReadFault bytes why
 
--- What is left of the logs is collected from the header and the messages, or collecting ends at a fault. Where the
--- capture was not read to its end, its fault stays.
-abbrev pub AreCollectedFrom : ℕ → Image → Result (Option Header × List Message) ReadFault
+-- What is left of the logs is collected from the header and the messages of these harts, or collecting ends at a fault,
+-- which names a message by its place among all. Where the capture was not read to its end, its fault stays.
+abbrev pub AreCollectedFrom : ℕ → HartRange → Image → Result (Option Header × List Message) ReadFault
     → Result (List (HartPieces Global)) Fault → Type 0
-AreCollectedFrom harts program (Err why) found = found ≡ Err (reading_fault why)
-AreCollectedFrom harts program (Ok whole) (Ok pieces) =
-    GivesPieces program (harts_counted harts whole.0) (mode_of_header whole.0) whole.1 pieces
-AreCollectedFrom harts program (Ok whole) (Err why) =
-    (fault : LossyFault) × (why ≡ lossy_fault fault)
-    × GivesFault program (harts_counted harts whole.0) (mode_of_header whole.0) whole.1 fault
+AreCollectedFrom harts only program (Err why) found = found ≡ Err (reading_fault why)
+AreCollectedFrom harts only program (Ok whole) (Ok pieces) =
+    GivesPieces program (harts_counted harts whole.0) (mode_of_header whole.0) (selected only whole.1) pieces
+AreCollectedFrom harts only program (Ok whole) (Err why) =
+    (fault : LossyFault) × (why ≡ lossy_fault (placed_fault only whole.1 fault))
+    × GivesFault program (harts_counted harts whole.0) (mode_of_header whole.0) (selected only whole.1) fault
 
--- What is left of the logs of a capture's harts is found, or the first fault. All messages are read before any is
--- checked.
-pub record ArePieces (harts : ℕ) (program : Image) (bytes : List ℕ) (found : Result (List (HartPieces Global)) Fault)
-    : Type 0 where
+-- What the messages of these harts leave of the logs of a capture's harts is found, or the first fault. All messages
+-- are read before any is checked.
+pub record ArePiecesOf (harts : ℕ) (only : HartRange) (program : Image) (bytes : List ℕ)
+    (found : Result (List (HartPieces Global)) Fault) : Type 0 where
   pub whole : Result (Option Header × List Message) ReadFault
   pub read : IsReadWhole bytes whole
-  pub collected : AreCollectedFrom harts program whole found
+  pub collected : AreCollectedFrom harts only program whole found
+
+-- What the messages of all harts leave.
+abbrev pub ArePieces : ℕ → Image → List ℕ → Result (List (HartPieces Global)) Fault → Type 0
+ArePieces harts program bytes found = ArePiecesOf harts every_hart program bytes found
 
 -- What is left of the logs is found, with no fault.
-pub record HasPieces (harts : ℕ) (program : Image) (bytes : List ℕ) : Type 0 where
+pub record HasPieces (harts : ℕ) (only : HartRange) (program : Image) (bytes : List ℕ) : Type 0 where
   pub pieces : List (HartPieces Global)
-  pub found : ArePieces harts program bytes (Ok pieces)
+  pub found : ArePiecesOf harts only program bytes (Ok pieces)
 
--- For each hart its line and the texts of its log's parts are written. The run ends by which harts are closed and by
--- whether there are gaps.
-pub record WritesParts (pieces : List (HartPieces Global)) (printed : Printed) : Type 0 where
-  pub text : printed.text ≡ each_hart parts_text 0 (parts_of pieces)
-  pub ended : printed.ended ≡ end_of_pieces pieces
+-- For each of these harts its line and the texts of its log's parts are written. The run ends by which of them are
+-- closed and by whether there are gaps.
+pub record WritesParts (only : HartRange) (pieces : List (HartPieces Global)) (printed : Printed) : Type 0 where
+  pub text : printed.text ≡ each_hart parts_text only.first (parts_of (items_of only pieces))
+  pub ended : printed.ended ≡ end_of_pieces_from only.first (items_of only pieces)
 
--- What is left of the logs is found first. Where there is no fault, its parts are written.
-abbrev pub WritesPieces : ℕ → Image → List ℕ → Printed → Type 0
-WritesPieces harts program bytes = First (ArePieces harts program bytes) WritesParts
+-- What is left of the logs is found first. Where there is no fault, its parts are written, of these harts alone.
+abbrev pub WritesPieces : ℕ → HartRange → Image → List ℕ → Printed → Type 0
+WritesPieces harts only program bytes = First (ArePiecesOf harts only program bytes) (WritesParts only)

@@ -6,6 +6,7 @@ use Rattle.std.specs.declared.alloc.Global.{Global}
 use Rattle.captures.specs.Offsets.{bytes_line, offset_text}
 use Rattle.frames.specs.declared.span.Span.{Span}
 use Rattle.frames.specs.declared.span.Span.TheVariants.{Frame, Bytes}
+use Rattle.hart_range.specs.declared.range.HartRange.{HartRange}
 use Rattle.message.specs.declared.header.Header.{Header}
 use Rattle.payload.specs.declared.mode.Mode.{Mode}
 use Rattle.payload.specs.declared.mode.Mode.TheVariants.{Differential, Full}
@@ -19,6 +20,7 @@ use Rattle.salvaging.specs.declared.salvaged.Salvaged.{Salvaged}
 use Rattle.salvaging.specs.declared.salvaged.SalvagedHart.{SalvagedHart}
 use Rattle.hart_rows.specs.EachHart.{numbered_harts}
 use Rattle.salvaged_table.specs.Offsets.{offset_at, offsets_in}
+use Rattle.capture_commands.specs.HartItems.{items_of}
 use Rattle.capture_commands.specs.Pieces.{messages_line}
 
 -- The line of a stretch: how many events it has, and its first and its last number.
@@ -95,9 +97,10 @@ run_text (Bytes offset count) = bytes_line offset count
 abbrev pub rest_text : List Span → ℕ → List ℕ
 rest_text spans strangers = flat_map run_text spans ++ counted_line (codes "strangers") strangers
 
--- For each hart its line and its text, then the lines of bytes that belong to no frame, and then how many messages are
--- strangers.
-abbrev pub salvaged_text : Bool → Option Header → List Span → Salvaged Global → List ℕ
-salvaged_text summary header spans salvaged =
-    numbered_harts (λ hart. hart_text summary header (offsets_in hart spans)) 0 salvaged.harts.items
+-- For each of these harts its line and its text, then the lines of bytes that belong to no frame, and then how many
+-- messages are strangers.
+abbrev pub salvaged_text : Bool → HartRange → Option Header → List Span → Salvaged Global → List ℕ
+salvaged_text summary only header spans salvaged =
+    numbered_harts (λ hart. hart_text summary header (offsets_in hart spans)) only.first
+    (items_of only salvaged.harts.items)
     ++ rest_text spans salvaged.strangers

@@ -30,8 +30,8 @@ use subcommands::Dump;
 /// for each longest run of bytes between. Where there is such a run, the capture is not good. Where its header is cut
 /// short or bad, the lines go on to its end, and then that fault is returned.
 ///
-/// Where some harts are asked for, messages of all other harts are passed over: they have no line, and their payloads may
-/// be bad. A fault counts them. Where the capture has none of these harts, nothing is written.
+/// Where some harts are asked for, messages of all other harts are passed over: they have no line, and their payloads
+/// may be bad. A fault counts them. Where the capture has none of these harts, nothing is written.
 pub fn dump<'a, F: Files, O: Write>(
     files: &mut F,
     asked: &Dump<'a>,
@@ -72,7 +72,8 @@ fn dump_of<'a, F: Files, O: Write>(
     ended(&dumped)
 }
 
-/// Writes the dump of what a capture's bytes have of these harts. How far their messages are worked through is shown, where that is asked for.
+/// Writes the dump of what a capture's bytes have of these harts. How far their messages are worked through is shown,
+/// where that is asked for.
 fn show_dump<'a, F: Files, O: Write>(
     progress: &MessageProgress<'_, F>,
     asked: &Dump<'a>,

@@ -1,10 +1,12 @@
 //! The messages of a damaged capture, found among its bytes.
 
 ghost use Rattle.std.specs.Prelude.{ℕ, ◌≡◌, All, IfOk, OnOk, [], length};
+ghost use Rattle.searching.specs.Search.{chosen, is_chosen};
 ghost use Rattle.capture_commands.specs.Frames.{AreFrames};
-ghost use Rattle.capture_commands.specs.steps.Reading.{AddsOffset, AddsSpan};
+ghost use Rattle.capture_commands.specs.steps.Reading.{AddsFrame, AddsOffset, AddsWhere};
 
 use frames::{Span, Spans};
+use hart_range::HartRange;
 use message::Message;
 use std::alloc::{AllocError, Global};
 
@@ -45,15 +47,25 @@ fn add_offset(lists: &mut Vec<Vec<usize>>, hart: u16, offset: usize) -> Result<(
     }
 }
 
-/// Adds what is at a place of the capture.
-fn add_span(frames: &mut Frames, span: Span) -> Result<(), AllocError>
-    ensures { OnOk result (AddsSpan span frames.old frames.new) }
+/// Adds the message of a frame, and its offset.
+fn add_frame(frames: &mut Frames, offset: usize, message: Message) -> Result<(), AllocError>
+    ensures { OnOk result (AddsFrame offset message frames.old frames.new) }
+{
+    add_offset(&mut frames.offsets, message.hart, offset)?;
+    frames.messages.reserve(1)?;
+    frames.messages.push_reserved(message);
+    Ok(())
+}
+
+/// Adds what is at a place of the capture. A message of any hart but these is passed over.
+fn add_span(frames: &mut Frames, only: HartRange, span: Span) -> Result<(), AllocError>
+    ensures { OnOk result (AddsWhere (is_chosen only span) span frames.old frames.new) }
 {
     match span {
         Span::Frame { offset, message } => {
-            add_offset(&mut frames.offsets, message.hart, offset)?;
-            frames.messages.reserve(1)?;
-            frames.messages.push_reserved(message);
+            if only.selects(message.hart) {
+                add_frame(frames, offset, message)?;
+            }
         }
         Span::Bytes { .. } => {
             frames.runs = true;
@@ -62,10 +74,15 @@ fn add_span(frames: &mut Frames, span: Span) -> Result<(), AllocError>
     Ok(())
 }
 
-/// The messages of the frames among these, their offsets by their harts, of which there are so many, and whether there
-/// are bytes that belong to no frame.
-pub(crate) fn frames_of(alloc: Global, harts: u16, spans: Spans<'_>) -> Result<Frames, AllocError>
-    ensures { IfOk result (AreFrames harts spans.entry) }
+/// The messages of the frames among these whose harts are asked for, their offsets by their harts, of which there are
+/// so many in all, and whether there are bytes that belong to no frame.
+pub(crate) fn frames_of(
+    alloc: Global,
+    only: HartRange,
+    harts: u16,
+    spans: Spans<'_>,
+) -> Result<Frames, AllocError>
+    ensures { IfOk result (AreFrames harts (chosen only spans.entry)) }
 {
     let mut frames = Frames {
         messages: Vec::new(alloc),
@@ -73,7 +90,7 @@ pub(crate) fn frames_of(alloc: Global, harts: u16, spans: Spans<'_>) -> Result<F
         runs: false,
     };
     for span in spans {
-        add_span(&mut frames, span)?;
+        add_span(&mut frames, only, span)?;
     }
     Ok(frames)
 }

@@ -1,6 +1,7 @@
 //! What the definitions of what is read and kept of a capture promise.
 
 ghost use Rattle.std.specs.Prelude.{ℕ, List, Option, Ok};
+ghost use Rattle.capture_commands.specs.HartItems.{AllHartsHaveItems};
 ghost use Rattle.std.specs.declared.alloc.Global.{Global as AnyGlobal};
 ghost use Rattle.captures.specs.Whole.{IsWhole};
 ghost use Rattle.losses.specs.declared.part.HartPieces.{HartPieces};
@@ -9,9 +10,16 @@ ghost use Rattle.message.specs.declared.header.Header.{Header};
 ghost use Rattle.message.specs.declared.message.Message.{Message};
 ghost use Rattle.rvclass.specs.Image.{Image};
 ghost use Rattle.salvaging.specs.declared.salvaged.Salvaged.{Salvaged};
+ghost use Rattle.salvaging.specs.declared.salvaged.SalvagedHart.{SalvagedHart};
 ghost use Rattle.capture_commands.specs.KeptToo.{AreReadAlike, CountAlike, HaveSmallNumbers, IsKeptToo, IsOfFrames};
 ghost use Rattle.capture_commands.specs.Pieces.{ArePieces};
 ghost use Rattle.capture_commands.specs.Salvaging.{IsSalvagedCapture};
+
+/// Where no range of harts is asked for, `salvage` and `decode --lossy` leave no hart out.
+pub fn all_harts_have_items()
+    ensures salvaged { AllHartsHaveItems (SalvagedHart AnyGlobal) }
+    ensures pieces { AllHartsHaveItems (HartPieces AnyGlobal) }
+{}
 
 /// The messages that `decode --lossy` reads of a capture are those of its frames, in their order, which `salvage`
 /// reads. The capture has a valid header or none. The hart of each message is below the header's count, or without a

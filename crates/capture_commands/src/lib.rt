@@ -9,10 +9,12 @@ mod dumping;
 mod ending;
 mod frame_reading;
 mod hart_check;
+mod hart_items;
 mod laws;
 mod lossy_decoding;
 mod message_listing;
 mod messages_line;
+mod own_messages;
 mod reason;
 mod salvaged_listing;
 mod salvaged_writing;
@@ -21,9 +23,12 @@ mod stopping;
 mod survey_progress;
 mod symbols_input;
 
-pub use decoding::{decode, outcome_of};
+pub use decoding::{decode, outcome_of_harts};
 pub use dumping::dump;
-pub use laws::{captures_are_read_alike, what_is_collected_of_a_capture_is_salvaged};
+pub use hart_check::check_harts_below;
+pub use laws::{
+    all_harts_have_items, captures_are_read_alike, what_is_collected_of_a_capture_is_salvaged,
+};
 pub use message_listing::list;
 pub use reason::{CaptureReason, Fault};
 pub use salvaging_capture::salvage;

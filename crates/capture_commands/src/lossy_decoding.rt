@@ -3,6 +3,8 @@
 ghost use Rattle.std.specs.Prelude.{⊤, ◌≡◌, ◌≢◌, Ok, Err, IfErr, IfOk, OnOk};
 ghost use Rattle.std.specs.Io.KnownBytes.{Appends};
 ghost use Rattle.std.specs.List.{list_any};
+ghost use Rattle.hart_range.specs.Range.{selected};
+ghost use Rattle.losses.specs.Collects.{GivesFault, GivesPieces};
 ghost use Rattle.losses.specs.Parts.{Events, Missing};
 ghost use Rattle.losses.specs.PartsIn.{part_of, parts_in};
 ghost use Rattle.output.specs.Begun.{AppendsBeginning};
@@ -11,17 +13,20 @@ ghost use Rattle.command_inputs.specs.Printed.{IsPrintingDenied, PrintsUnlessDen
 ghost use Rattle.capture_commands.specs.Faults.{final_status, status_of};
 ghost use Rattle.capture_commands.specs.Decoding.{end_of_harts};
 ghost use Rattle.hart_rows.specs.EachHart.{each_hart};
-ghost use Rattle.capture_commands.specs.Pieces.{ArePieces, HasPieces, WritesPieces, closed_of, end_of_pieces};
+ghost use Rattle.capture_commands.specs.Pieces.{ArePiecesOf, HasPieces, WritesPieces, closed_of, end_of_pieces_from};
 ghost use Rattle.capture_commands.specs.Pieces.{harts_counted, have_gaps, is_gap, mode_of_header, part_text, parts_of};
 ghost use Rattle.capture_commands.specs.Pieces.{parts_text};
 
 use crate::counting::messages_in;
+use crate::hart_items::items_of;
 use crate::messages_line::write_messages;
+use crate::own_messages::{fault_among, select_messages};
 use crate::reason::{CaptureReason, Fault};
-use crate::stopping::{lossy_fault, reading_fault};
-use captures::read_messages;
+use crate::stopping::reading_fault;
+use captures::{WholeCapture, read_messages};
 use command_inputs::{Files, MessageProgress, Status};
-use losses::{HartPieces, Part, collect_watched};
+use hart_range::HartRange;
+use losses::{HartPieces, LossyFault, Part, collect_watched};
 use message::Header;
 use output::write_text;
 use payload::Mode;
@@ -29,77 +34,104 @@ use retire::{Event, write_log};
 use rvclass::ProgramOver;
 use std::alloc::Global;
 use std::io::Write;
+use watching::Watch;
 
-/// Writes what is left of the log of each hart. Returns that all is done where each hart's closing packet came and
-/// there is no gap. Where the capture is not read to its end, a message is refused or its packet is not decoded, nothing
-/// is written.
+/// Writes what is left of the log of each of these harts. Returns that all is done where the closing packet of each
+/// came and there is no gap. Where the capture is not read to its end, a message of these harts is refused or its
+/// packet is not decoded, nothing is written. Messages of all other harts are passed over; a fault counts them.
 pub(crate) fn decode_lossy<'a, F: Files, O: Write>(
     alloc: Global,
     progress: &MessageProgress<'_, F>,
     program: &ProgramOver,
     harts: u16,
+    only: HartRange,
     bytes: &[u8],
     out: &mut O,
 ) -> Result<Status, Fault<'a>>
     ensures never_refused { final_status result ≢ Status.Refused }
-    ensures printed { PrintsUnlessDenied (WritesPieces harts program.now bytes.now)
-        (HasPieces harts program.now bytes.now) result (O.contents out.old) (O.contents out.new) }
-    ensures cut { IsCutOf (WritesPieces harts program.now bytes.now) (O.contents out.old) (O.contents out.new) }
+    ensures printed { PrintsUnlessDenied (WritesPieces harts only program.now bytes.now)
+        (HasPieces harts only program.now bytes.now) result (O.contents out.old) (O.contents out.new) }
+    ensures cut { IsCutOf (WritesPieces harts only program.now bytes.now) (O.contents out.old) (O.contents out.new) }
 {
-    let pieces = pieces_of(alloc, progress, program, harts, bytes)?;
-    write_pieces(alloc, pieces.as_slice(), out)?;
+    let pieces = pieces_of(alloc, progress, program, harts, only, bytes)?;
+    let own = items_of(only, pieces.as_slice());
+    write_pieces(alloc, only.first, own, out)?;
     out.flush()?;
-    ended(pieces.as_slice())
+    ended(only.first, own)
 }
 
-/// What is left of the logs of a capture's harts. How far its messages are worked through is shown, where that is asked
-/// for.
+/// What the messages of these harts leave of the logs of a capture's harts. How far its messages are worked through is
+/// shown, where that is asked for.
 fn pieces_of<'a, F: Files>(
     alloc: Global,
     progress: &MessageProgress<'_, F>,
     program: &ProgramOver,
     harts: u16,
+    only: HartRange,
     bytes: &[u8],
 ) -> Result<Vec<HartPieces>, Fault<'a>>
-    ensures found { IfOk result (λ pieces. ArePieces harts program.now bytes.now (Ok pieces.items)) }
-    ensures fault { IfErr result (λ fault. ArePieces harts program.now bytes.now (Err fault)) }
+    ensures found { IfOk result (λ pieces. ArePiecesOf harts only program.now bytes.now (Ok pieces.items)) }
+    ensures fault { IfErr result (λ fault. ArePiecesOf harts only program.now bytes.now (Err fault)) }
     ensures never_refused { IfErr result (λ fault. status_of fault ≢ Status.Refused) }
 {
     if progress.is_asked() {
         progress.begin(messages_in(bytes));
     }
-    let pieces = collect(alloc, progress, program, harts, bytes);
+    let pieces = collect(alloc, progress, program, harts, only, bytes);
     progress.end();
     pieces
 }
 
-/// Collects what is left of the logs of a capture's harts.
+/// Collects what the messages of these harts leave of the logs of a capture's harts.
 fn collect<'a, F: Files>(
     alloc: Global,
     progress: &MessageProgress<'_, F>,
     program: &ProgramOver,
     harts: u16,
+    only: HartRange,
     bytes: &[u8],
 ) -> Result<Vec<HartPieces>, Fault<'a>>
-    ensures found { IfOk result (λ pieces. ArePieces harts program.now bytes.now (Ok pieces.items)) }
-    ensures fault { IfErr result (λ fault. ArePieces harts program.now bytes.now (Err fault)) }
+    ensures found { IfOk result (λ pieces. ArePiecesOf harts only program.now bytes.now (Ok pieces.items)) }
+    ensures fault { IfErr result (λ fault. ArePiecesOf harts only program.now bytes.now (Err fault)) }
     ensures never_refused { IfErr result (λ fault. status_of fault ≢ Status.Refused) }
 {
     let whole = match read_messages(alloc, bytes) {
         Ok(whole) => whole,
         Err(fault) => return Err(reading_fault(fault)),
     };
-    match collect_watched(
+    match collect_own(alloc, progress, program, harts, only, whole) {
+        Ok(pieces) => Ok(pieces),
+        Err(fault) => Err(fault_among(alloc, only, fault, bytes)),
+    }
+}
+
+/// Collects what the messages of these harts leave of the logs of a capture's harts. The other messages are dropped
+/// first, and shown as worked through.
+fn collect_own<F: Files>(
+    alloc: Global,
+    progress: &MessageProgress<'_, F>,
+    program: &ProgramOver,
+    harts: u16,
+    only: HartRange,
+    whole: WholeCapture,
+) -> Result<Vec<HartPieces>, LossyFault>
+    ensures found { IfOk result (λ pieces. GivesPieces program.now (harts_counted harts whole.header)
+        (mode_of_header whole.header) (selected only whole.messages.items) pieces.items) }
+    ensures fault { IfErr result (λ fault. GivesFault program.now (harts_counted harts whole.header)
+        (mode_of_header whole.header) (selected only whole.messages.items) fault) }
+{
+    let header = whole.header;
+    let count = whole.messages.len();
+    let messages = select_messages(only, whole.messages);
+    progress.note(count.saturating_sub(messages.len()));
+    collect_watched(
         alloc,
         program,
-        harts_counted(harts, whole.header),
-        mode_of_header(whole.header),
-        whole.messages.as_slice(),
+        harts_counted(harts, header),
+        mode_of_header(header),
+        messages.as_slice(),
         progress,
-    ) {
-        Ok(pieces) => Ok(pieces),
-        Err(fault) => Err(lossy_fault(fault)),
-    }
+    )
 }
 
 /// How many harts a capture has: as many as its header counts, or without a header this many.
@@ -123,20 +155,22 @@ pub(crate) fn mode_of_header(header: Option<Header>) -> Mode
     }
 }
 
-/// Writes what is left of each hart's log, after a line with the hart's number.
+/// Writes what is left of the log of each of these harts, from this number on, after a line with the hart's number.
 fn write_pieces<'a, O: Write>(
     alloc: Global,
+    first: u16,
     harts: &[HartPieces],
     out: &mut O,
 ) -> Result<(), Fault<'a>>
     ensures machine { IfErr result (λ fault. status_of fault ≡ Status.Machine) }
     ensures denied { IfErr result (IsPrintingDenied ⊤) }
     ensures text { OnOk result
-        (Appends (O.contents out.old) (O.contents out.new) (each_hart parts_text 0 (parts_of harts.now))) }
-    ensures begun { AppendsBeginning (each_hart parts_text 0 (parts_of harts.now)) (O.contents out.old)
+        (Appends (O.contents out.old) (O.contents out.new) (each_hart parts_text first (parts_of harts.now))) }
+    ensures begun { AppendsBeginning (each_hart parts_text first (parts_of harts.now)) (O.contents out.old)
         (O.contents out.new) }
 {
-    for (hart, pieces) in harts.iter().enumerate() {
+    for (place, pieces) in harts.iter().enumerate() {
+        let hart = usize::from(first) + place;
         write_text(out, format_args!("hart {hart}\n"))?;
         write_parts(alloc, pieces.parts.as_slice(), out)?;
     }
@@ -196,24 +230,27 @@ fn write_stretch<'a, O: Write>(
     Ok(())
 }
 
-/// How this ended: at the first hart whose closing packet did not come, or else by whether there are gaps.
-fn ended<'a>(harts: &[HartPieces]) -> Result<Status, Fault<'a>>
-    ensures value { result ≡ end_of_pieces harts.now }
+/// How this ended: at the first of these harts, from this number on, whose closing packet did not come, or else by
+/// whether there are gaps.
+fn ended<'a>(first: u16, harts: &[HartPieces]) -> Result<Status, Fault<'a>>
+    ensures value { result ≡ end_of_pieces_from first harts.now }
     ensures never_refused { final_status result ≢ Status.Refused }
 {
-    match closed(harts) {
+    match closed(first, harts) {
         Ok(_) if have_gaps(harts) => Ok(Status::NotWhole),
         ended => ended,
     }
 }
 
-/// That all is done where each hart's closing packet came, or else the fault of the first hart whose did not.
-fn closed<'a>(harts: &[HartPieces]) -> Result<Status, Fault<'a>>
-    ensures value { result ≡ end_of_harts 0 (closed_of harts.now) }
+/// That all is done where the closing packet of each of these harts, from this number on, came, or else the fault of
+/// the first whose did not.
+fn closed<'a>(first: u16, harts: &[HartPieces]) -> Result<Status, Fault<'a>>
+    ensures value { result ≡ end_of_harts first (closed_of harts.now) }
     ensures never_refused { final_status result ≢ Status.Refused }
 {
-    for (hart, pieces) in harts.iter().enumerate() {
+    for (place, pieces) in harts.iter().enumerate() {
         if !pieces.closed {
+            let hart = usize::from(first) + place;
             return Err(Fault::Own(CaptureReason::Unclosed(hart)));
         }
     }

@@ -6,22 +6,29 @@ ghost use Rattle.listing.specs.Listing.{AppendsListing};
 ghost use Rattle.rvclass.specs.Fetch.{words_of};
 ghost use Rattle.command_inputs.specs.Begun.{IsCutOf};
 ghost use Rattle.command_inputs.specs.FurtherPieces.{base_number};
-ghost use Rattle.command_inputs.specs.Order.{format_or_base_fault};
+ghost use Rattle.command_inputs.specs.OnlyHarts.{asked_harts};
+ghost use Rattle.command_inputs.specs.Order.{format_base_or_only_fault};
 ghost use Rattle.command_inputs.specs.Printed.{PrintsUnlessDenied};
 ghost use Rattle.capture_commands.specs.Faults.{final_status};
-ghost use Rattle.capture_commands.specs.Listed.{CanList, Lists, ListsInPart, ListsUpToMemory, WritesListing, harts_or_one};
-ghost use Rattle.capture_commands.specs.Listed.{WritesListed, WritesListedPart, WritesPart};
+ghost use Rattle.capture_commands.specs.Listed.{CanList, CanListBelow, CanListHarts, CanWriteListed, Lists, ListsBelow};
+ghost use Rattle.capture_commands.specs.Listed.{ListsHarts, ListsHartsInPart, ListsInPart, ListsPartBelow};
+ghost use Rattle.capture_commands.specs.Listed.{ListsUpToMemory, WritesListed, WritesListedPart, WritesListing};
+ghost use Rattle.capture_commands.specs.Listed.{WritesPart, harts_or_one};
 ghost use Rattle.capture_commands.specs.ListedFormats.{IsListedIn, IsPartListedIn};
 ghost use Rattle.command_inputs.specs.declared.fault.Fault.TheVariants as Fault;
 
 use crate::counting::messages_in;
-use crate::ending::ended;
+use crate::ending::ended_of;
+use crate::hart_check::check_harts_below;
 use crate::reason::Fault;
 use crate::salvaged_listing::list_salvaged;
 use crate::symbols_input::symbols_of;
-use command_inputs::{Files, MessageProgress, Status, asked_base, content_of, program_of};
-use listing::{Listed, list_watched};
-use listing_table::write_listing_table;
+use command_inputs::{
+    Files, MessageProgress, Status, asked_base, content_of, harts_asked, program_of,
+};
+use hart_range::HartRange;
+use listing::{Listed, list_harts as list_lines};
+use listing_table::write_harts_table;
 use retire::WriteFault;
 use rvclass::ProgramOver;
 use std::alloc::Global;
@@ -39,10 +46,14 @@ use watching::Watch;
 ///
 /// The format is looked at first. As CSV the same is written as a table, whose rows are of the same definitions.
 ///
-/// Where `salvage` is asked for, it writes a line for each message that is found whatever happened to the capture's bytes,
-/// and for the bytes between, and the word for what [`salvage`](crate::salvage) does with the message. It ends as `salvage`
-/// does. The messages are worked through twice: once for how it ends, and once for the words. Nothing is allocated once
-/// something is written then.
+/// Where `salvage` is asked for, it writes a line for each message that is found whatever happened to the capture's
+/// bytes, and for the bytes between, and the word for what [`salvage`](crate::salvage) does with the message. It ends
+/// as `salvage` does. The messages are worked through twice: once for how it ends, and once for the words. Nothing is
+/// allocated once something is written then.
+///
+/// Where some harts are asked for, messages of all other harts are passed over, unjudged: the lines are those of these
+/// harts, and only the closing packets of these harts are missed. Offsets, places and a fault's message are those of
+/// the whole capture. Where it has none of these harts, nothing is written.
 pub fn list<'a, F: Files, O: Write>(
     alloc: Global,
     files: &mut F,
@@ -50,7 +61,8 @@ pub fn list<'a, F: Files, O: Write>(
     out: &mut O,
 ) -> Result<Status, Fault<'a>>
     ensures early { IfSome
-        (format_or_base_fault asked.now.format (base_number asked.now.base.now asked.now.also.items))
+        (format_base_or_only_fault asked.now.format (base_number asked.now.base.now asked.now.also.items)
+        (asked_harts asked.now.only))
         (λ fault. result ≡ Err fault) }
     ensures refused { final_status result ≡ Status.Refused → out.new ≡ out.old }
     ensures untouched { asked.now.salvage ≡ true → result ≡ Err Fault.Memory → out.new ≡ out.old }
@@ -62,6 +74,30 @@ pub fn list<'a, F: Files, O: Write>(
     ensures cut { IsCutOf (ListsInPart (F.content files.old) asked.now) (O.contents out.old) (O.contents out.new) }
 {
     let base = asked_base(asked.format, asked.base, &asked.also)?;
+    let only = harts_asked(asked.only)?;
+    list_harts(alloc, files, asked, base, only, out)
+}
+
+/// Writes what is listed of these harts of a capture, by the program at this base.
+fn list_harts<'a, F: Files, O: Write>(
+    alloc: Global,
+    files: &mut F,
+    asked: &Listing<'a>,
+    base: u64,
+    only: HartRange,
+    out: &mut O,
+) -> Result<Status, Fault<'a>>
+    ensures refused { final_status result ≡ Status.Refused → out.new ≡ out.old }
+    ensures untouched { asked.now.salvage ≡ true → result ≡ Err Fault.Memory → out.new ≡ out.old }
+    ensures printed { PrintsUnlessDenied (ListsHarts (F.content files.old) asked.now base only)
+        (CanListHarts (F.content files.old) asked.now base only) result
+        (O.contents out.old) (O.contents out.new) }
+    ensures begun { result ≡ Err Fault.Memory
+        → ListsUpToMemory (ListsHarts (F.content files.old) asked.now base only)
+        (O.contents out.old) (O.contents out.new) }
+    ensures cut { IsCutOf (ListsHartsInPart (F.content files.old) asked.now base only)
+        (O.contents out.old) (O.contents out.new) }
+{
     let program = program_of(alloc, files, base, asked.image, &asked.also)?;
     let symbols = symbols_of(alloc, files, asked.symbols)?;
     let bytes = content_of(files, asked.capture)?;
@@ -72,6 +108,7 @@ pub fn list<'a, F: Files, O: Write>(
         &program,
         asked.format,
         asked.salvage,
+        only,
         asked.harts,
         symbols.as_ref(),
         bytes.as_slice(),
@@ -79,14 +116,15 @@ pub fn list<'a, F: Files, O: Write>(
     )
 }
 
-/// Writes what is listed of a capture's bytes: what salvaging does with each of their messages, where that is asked for,
-/// and else their listing.
+/// Writes what is listed of these harts of a capture's bytes, where it has one of them: what salvaging does with each
+/// of their messages, where that is asked for, and else their listing.
 fn write_listed<'a, F: Files, O: Write>(
     alloc: Global,
     progress: &MessageProgress<'_, F>,
     program: &ProgramOver,
     format: Format,
     salvage: bool,
+    only: HartRange,
     harts: Option<u16>,
     symbols: Option<&Symbols>,
     bytes: &[u8],
@@ -95,27 +133,59 @@ fn write_listed<'a, F: Files, O: Write>(
     ensures never_refused { final_status result ≢ Status.Refused }
     ensures untouched { salvage ≡ true → result ≡ Err Fault.Memory → out.new ≡ out.old }
     ensures printed { PrintsUnlessDenied
-        (WritesListed format salvage harts program.now (option_map (λ file. file.now) symbols.entry) bytes.now) ⊤ result
-        (O.contents out.old) (O.contents out.new) }
+        (WritesListed format salvage only harts program.now (option_map (λ file. file.now) symbols.entry) bytes.now)
+        (CanWriteListed salvage only harts bytes.now) result (O.contents out.old) (O.contents out.new) }
     ensures begun { result ≡ Err Fault.Memory → ListsUpToMemory
-        (WritesListed format salvage harts program.now (option_map (λ file. file.now) symbols.entry) bytes.now)
+        (WritesListed format salvage only harts program.now (option_map (λ file. file.now) symbols.entry) bytes.now)
         (O.contents out.old) (O.contents out.new) }
     ensures cut { IsCutOf
-        (WritesListedPart format salvage harts program.now (option_map (λ file. file.now) symbols.entry) bytes.now)
+        (WritesListedPart format salvage only harts program.now (option_map (λ file. file.now) symbols.entry) bytes.now)
         (O.contents out.old) (O.contents out.new) }
 {
     if salvage {
-        return list_salvaged(alloc, progress, program, format, harts, symbols, bytes, out);
+        return list_salvaged(
+            alloc, progress, program, format, only, harts, symbols, bytes, out,
+        );
     }
-    write_listing(
+    list_below(
         alloc,
         progress,
         program,
         format,
+        only,
         harts_or_one(harts),
         symbols,
         bytes,
         out,
+    )
+}
+
+/// Writes the listing of these harts of a capture's bytes, where it has one of them.
+fn list_below<'a, F: Files, O: Write>(
+    alloc: Global,
+    progress: &MessageProgress<'_, F>,
+    program: &ProgramOver,
+    format: Format,
+    only: HartRange,
+    harts: u16,
+    symbols: Option<&Symbols>,
+    bytes: &[u8],
+    out: &mut O,
+) -> Result<Status, Fault<'a>>
+    ensures never_refused { final_status result ≢ Status.Refused }
+    ensures printed { PrintsUnlessDenied
+        (ListsBelow format only harts program.now (option_map (λ file. file.now) symbols.entry) bytes.now)
+        (CanListBelow only harts bytes.now) result (O.contents out.old) (O.contents out.new) }
+    ensures begun { result ≡ Err Fault.Memory → ListsUpToMemory
+        (ListsBelow format only harts program.now (option_map (λ file. file.now) symbols.entry) bytes.now)
+        (O.contents out.old) (O.contents out.new) }
+    ensures cut { IsCutOf
+        (ListsPartBelow format only harts program.now (option_map (λ file. file.now) symbols.entry) bytes.now)
+        (O.contents out.old) (O.contents out.new) }
+{
+    check_harts_below(harts, only, bytes)?;
+    write_listing(
+        alloc, progress, program, format, only, harts, symbols, bytes, out,
     )
 }
 
@@ -126,12 +196,13 @@ fn harts_or_one(given: Option<u16>) -> u16
     given.unwrap_or(1)
 }
 
-/// Writes the listing of a capture's bytes, and returns how their decoding ended.
+/// Writes the listing of these harts of a capture's bytes, and returns how their decoding ended.
 fn write_listing<'a, F: Files, O: Write>(
     alloc: Global,
     progress: &MessageProgress<'_, F>,
     program: &ProgramOver,
     format: Format,
+    only: HartRange,
     harts: u16,
     symbols: Option<&Symbols>,
     bytes: &[u8],
@@ -139,52 +210,58 @@ fn write_listing<'a, F: Files, O: Write>(
 ) -> Result<Status, Fault<'a>>
     ensures never_refused { final_status result ≢ Status.Refused }
     ensures printed { PrintsUnlessDenied
-        (WritesListing format harts program.now (option_map (λ file. file.now) symbols.entry) bytes.now) ⊤ result
+        (WritesListing format only harts program.now (option_map (λ file. file.now) symbols.entry) bytes.now) ⊤ result
         (O.contents out.old) (O.contents out.new) }
     ensures begun { result ≡ Err Fault.Memory → ListsUpToMemory
-        (WritesListing format harts program.now (option_map (λ file. file.now) symbols.entry) bytes.now)
+        (WritesListing format only harts program.now (option_map (λ file. file.now) symbols.entry) bytes.now)
         (O.contents out.old) (O.contents out.new) }
-    ensures cut { IsCutOf (WritesPart format harts program.now (option_map (λ file. file.now) symbols.entry) bytes.now)
+    ensures cut { IsCutOf (WritesPart format only harts program.now (option_map (λ file. file.now) symbols.entry) bytes.now)
         (O.contents out.old) (O.contents out.new) }
 {
-    let listed = show_listing(alloc, progress, program, format, harts, symbols, bytes, out)?;
+    let listed = show_listing(
+        alloc, progress, program, format, only, harts, symbols, bytes, out,
+    )?;
     out.flush()?;
-    ended(listed.fault, listed.closed.as_slice())
+    ended_of(only, listed.fault, listed.closed.as_slice())
 }
 
-/// Writes the listing of a capture's bytes. How far their messages are worked through is shown, where that is asked
-/// for.
+/// Writes the listing of these harts of a capture's bytes. How far their messages are worked through is shown, where
+/// that is asked for.
 fn show_listing<F: Files, O: Write>(
     alloc: Global,
     progress: &MessageProgress<'_, F>,
     program: &ProgramOver,
     format: Format,
+    only: HartRange,
     harts: u16,
     symbols: Option<&Symbols>,
     bytes: &[u8],
     out: &mut O,
 ) -> Result<Listed, WriteFault>
     ensures listed { IfOk result (λ listed. AppendsListing
-        (IsListedIn format (words_of program.now) harts (option_map (λ file. file.now) symbols.entry) bytes.now)
+        (IsListedIn format (words_of program.now) only harts (option_map (λ file. file.now) symbols.entry) bytes.now)
         listed.closed.items listed.fault (O.contents out.old) (O.contents out.new)) }
     ensures begun { OnErr result (BeginsPart
-        (IsPartListedIn format (words_of program.now) harts (option_map (λ file. file.now) symbols.entry) bytes.now)
+        (IsPartListedIn format (words_of program.now) only harts (option_map (λ file. file.now) symbols.entry) bytes.now)
         (O.contents out.old) (O.contents out.new)) }
     ensures memory { result ≡ Err WriteFault.Memory → out.new ≡ out.old }
 {
     if progress.is_asked() {
         progress.begin(messages_in(bytes));
     }
-    let listed = list_in(alloc, format, program, harts, symbols, bytes, out, progress);
+    let listed = list_in(
+        alloc, format, program, only, harts, symbols, bytes, out, progress,
+    );
     progress.end();
     listed
 }
 
-/// Writes the listing of a capture's bytes in a format, and tells `watch` of each message.
+/// Writes the listing of these harts of a capture's bytes in a format, and tells `watch` of each message.
 fn list_in<O: Write, V: Watch>(
     alloc: Global,
     format: Format,
     program: &ProgramOver,
+    only: HartRange,
     harts: u16,
     symbols: Option<&Symbols>,
     bytes: &[u8],
@@ -192,17 +269,19 @@ fn list_in<O: Write, V: Watch>(
     watch: &V,
 ) -> Result<Listed, WriteFault>
     ensures listed { IfOk result (λ listed. AppendsListing
-        (IsListedIn format (words_of program.now) harts (option_map (λ file. file.now) symbols.entry) bytes.now)
+        (IsListedIn format (words_of program.now) only harts (option_map (λ file. file.now) symbols.entry) bytes.now)
         listed.closed.items listed.fault (O.contents out.old) (O.contents out.new)) }
     ensures begun { OnErr result (BeginsPart
-        (IsPartListedIn format (words_of program.now) harts (option_map (λ file. file.now) symbols.entry) bytes.now)
+        (IsPartListedIn format (words_of program.now) only harts (option_map (λ file. file.now) symbols.entry) bytes.now)
         (O.contents out.old) (O.contents out.new)) }
     ensures memory { result ≡ Err WriteFault.Memory → out.new ≡ out.old }
 {
     match format {
-        Format::Csv => write_listing_table(alloc, program, harts, bytes, symbols, out, watch),
+        Format::Csv => {
+            write_harts_table(alloc, program, harts, only, bytes, symbols, out, watch)
+        }
         Format::Text | Format::Other => {
-            list_watched(alloc, program, harts, bytes, symbols, out, watch)
+            list_lines(alloc, program, harts, only, bytes, symbols, out, watch)
         }
     }
 }

@@ -1,6 +1,6 @@
 //! The subcommand `list` with `--salvage`.
 
-ghost use Rattle.std.specs.Prelude.{⊤, ◌≡◌, ◌≢◌, Err, IfErr, IfOk, OnOk, option_map};
+ghost use Rattle.std.specs.Prelude.{◌≡◌, ◌≢◌, Err, IfErr, IfOk, OnOk, option_map};
 ghost use Rattle.std.specs.Io.KnownBytes.{Appends};
 ghost use Rattle.output.specs.Begun.{AppendsBeginning};
 ghost use Rattle.command_inputs.specs.Begun.{IsCutOf};
@@ -9,7 +9,8 @@ ghost use Rattle.rvclass.specs.Fetch.{words_of};
 ghost use Rattle.salvaging.specs.Treatments.{AreTreated};
 ghost use Rattle.capture_commands.specs.Faults.{final_status};
 ghost use Rattle.capture_commands.specs.ListedFormats.{treated_in};
-ghost use Rattle.capture_commands.specs.ListedSalvaged.{AreTreatedIn, WritesTreated};
+ghost use Rattle.capture_commands.specs.Listed.{CanTreat};
+ghost use Rattle.capture_commands.specs.ListedSalvaged.{AreTreatedIn, TreatsHarts};
 ghost use Rattle.capture_commands.specs.steps.Reading.{IsFound};
 ghost use Rattle.command_inputs.specs.declared.fault.Fault.TheVariants as Fault;
 
@@ -17,22 +18,23 @@ use crate::lossy_decoding::mode_of_header;
 use crate::reason::Fault;
 use crate::salvaging_capture::{Found, ended, find};
 use command_inputs::{Files, MessageProgress, Status};
-use frames::Spans;
+use hart_range::HartRange;
 use message::{Header, Message};
 use payload::Mode;
 use retire::WriteFault;
 use rvclass::ProgramOver;
-use salvaged_lines::write_treated;
+use salvaged_lines::write_treated_harts;
 use salvaging::{Treated, treat_watched};
-use searching::{harts_counted, spans_of};
+use searching::harts_counted;
 use std::alloc::{AllocError, Global};
 use std::io::Write;
 use subcommands::Format;
 use symbols::Symbols;
-use treated_table::write_treated_table;
+use treated_table::write_treated_harts_table;
 
-/// Writes what salvaging does with each message of a capture's bytes, and returns how salvaging them ends. The messages
-/// are worked through twice: once for what is salvaged of them, and once for what is done with each.
+/// Writes what salvaging does with each message of these harts of a capture's bytes, where it has one of them, and
+/// returns how salvaging them ends. The messages are worked through twice: once for what is salvaged of them, and once
+/// for what is done with each.
 ///
 /// Nothing is allocated once something is written.
 pub(crate) fn list_salvaged<'a, F: Files, O: Write>(
@@ -40,6 +42,7 @@ pub(crate) fn list_salvaged<'a, F: Files, O: Write>(
     progress: &MessageProgress<'_, F>,
     program: &ProgramOver,
     format: Format,
+    only: HartRange,
     harts: Option<u16>,
     symbols: Option<&Symbols>,
     bytes: &[u8],
@@ -48,18 +51,20 @@ pub(crate) fn list_salvaged<'a, F: Files, O: Write>(
     ensures never_refused { final_status result ≢ Status.Refused }
     ensures untouched { result ≡ Err Fault.Memory → out.new ≡ out.old }
     ensures printed { PrintsUnlessDenied
-        (WritesTreated format harts program.now (option_map (λ file. file.now) symbols.entry) bytes.now) ⊤ result
-        (O.contents out.old) (O.contents out.new) }
-    ensures cut { IsCutOf (WritesTreated format harts program.now (option_map (λ file. file.now) symbols.entry) bytes.now)
+        (TreatsHarts format only harts program.now (option_map (λ file. file.now) symbols.entry) bytes.now)
+        (CanTreat only harts bytes.now) result (O.contents out.old) (O.contents out.new) }
+    ensures cut { IsCutOf
+        (TreatsHarts format only harts program.now (option_map (λ file. file.now) symbols.entry) bytes.now)
         (O.contents out.old) (O.contents out.new) }
 {
-    let found = find(alloc, progress, 2, program, harts, bytes)?;
-    let treated = treat_found(alloc, progress, program, harts, &found, bytes)?;
+    let found = find(alloc, progress, 2, program, only, harts, bytes)?;
+    let treated = treat_found(alloc, progress, program, only, harts, &found, bytes)?;
     write_treated_in(
         format,
+        only,
         symbols,
         found.header,
-        spans_of(bytes, found.header),
+        bytes,
         treated.as_slice(),
         out,
     )?;
@@ -67,39 +72,43 @@ pub(crate) fn list_salvaged<'a, F: Files, O: Write>(
     ended(&found)
 }
 
-/// Writes what salvaging does with each message in a format.
+/// Writes what salvaging does with each message of these harts in a format.
 fn write_treated_in<O: Write>(
     format: Format,
+    only: HartRange,
     symbols: Option<&Symbols>,
     header: Option<Header>,
-    spans: Spans<'_>,
+    bytes: &[u8],
     treated: &[Treated],
     sink: &mut O,
 ) -> Result<(), WriteFault>
     ensures text { OnOk result (Appends (O.contents sink.old) (O.contents sink.new)
-        (treated_in format (option_map (λ file. file.now) symbols.entry) header spans.entry treated.now)) }
+        (treated_in format only (option_map (λ file. file.now) symbols.entry) header bytes.now treated.now)) }
     ensures begun { AppendsBeginning
-        (treated_in format (option_map (λ file. file.now) symbols.entry) header spans.entry treated.now)
+        (treated_in format only (option_map (λ file. file.now) symbols.entry) header bytes.now treated.now)
         (O.contents sink.old) (O.contents sink.new) }
     ensures fault { IfErr result (λ fault. fault ≡ WriteFault.Write) }
 {
     match format {
-        Format::Csv => write_treated_table(symbols, header, spans, treated, sink),
-        Format::Text | Format::Other => write_treated(symbols, header, spans, treated, sink),
+        Format::Csv => write_treated_harts_table(symbols, header, only, bytes, treated, sink),
+        Format::Text | Format::Other => {
+            write_treated_harts(symbols, header, only, bytes, treated, sink)
+        }
     }
 }
 
-/// What is done with each message that was found of a capture's bytes.
+/// What is done with each message of these harts that was found of a capture's bytes.
 fn treat_found<F: Files>(
     alloc: Global,
     progress: &MessageProgress<'_, F>,
     program: &ProgramOver,
+    only: HartRange,
     harts: Option<u16>,
     found: &Found,
     bytes: &[u8],
 ) -> Result<Vec<Treated>, AllocError>
-    requires { IsFound harts program.now bytes.now found.now }
-    ensures { IfOk result (λ treated. AreTreatedIn harts program.now found.now.header bytes.now treated.items) }
+    requires { IsFound only harts program.now bytes.now found.now }
+    ensures { IfOk result (λ treated. AreTreatedIn only harts program.now found.now.header bytes.now treated.items) }
 {
     treat_shown(
         alloc,
@@ -111,8 +120,8 @@ fn treat_found<F: Files>(
     )
 }
 
-/// What is done with each of these messages. How far they are worked through is shown, where that is asked for, as the last
-/// round over them.
+/// What is done with each of these messages. How far they are worked through is shown, where that is asked for, as the
+/// last round over them.
 fn treat_shown<F: Files>(
     alloc: Global,
     progress: &MessageProgress<'_, F>,

@@ -24,25 +24,27 @@ use salvaged_table::{offset_at, offsets_of};
 use salvaging::{Part, Reason, SalvagedHart};
 use std::io::Write;
 
-/// Writes of each hart its line and its text. `offsets` are those of each hart's messages. It does not allocate, since
-/// the buffer `room` is large enough for the text of a log.
+/// Writes of each of these harts, from the number `first` on, its line and its text. `offsets` are those of each hart's
+/// messages, from hart 0 on. It does not allocate, since the buffer `room` is large enough for the text of a log.
 pub(crate) fn write_harts<'a, O: Write>(
     room: &mut Vec<u8>,
     summary: bool,
     header: Option<Header>,
     offsets: &[Vec<usize>],
+    first: u16,
     harts: &[SalvagedHart],
     out: &mut O,
 ) -> Result<(), Fault<'a>>
     requires { LOG_ROOM ≤ vec_capacity room.old }
     ensures output { IfErr result (λ fault. fault ≡ Fault.Output) }
     ensures text { OnOk result (Appends (O.contents out.old) (O.contents out.new)
-        (numbered_harts (λ hart. hart_text summary header (own_offsets offsets.now hart)) 0 harts.now)) }
+        (numbered_harts (λ hart. hart_text summary header (own_offsets offsets.now hart)) first harts.now)) }
     ensures begun { AppendsBeginning
-        (numbered_harts (λ hart. hart_text summary header (own_offsets offsets.now hart)) 0 harts.now)
+        (numbered_harts (λ hart. hart_text summary header (own_offsets offsets.now hart)) first harts.now)
         (O.contents out.old) (O.contents out.new) }
 {
-    for (hart, own) in harts.iter().enumerate() {
+    for (place, own) in harts.iter().enumerate() {
+        let hart = usize::from(first) + place;
         write_text(out, format_args!("hart {hart}\n"))?;
         write_hart(room, summary, header, offsets_of(offsets, hart), own, out)?;
     }

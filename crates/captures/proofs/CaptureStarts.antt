@@ -1,5 +1,5 @@
 -- A capture is what stands before the messages, and their bytes behind it.
-use Rattle.std.proofs.Common.{◌≡◌, ◌≤◌, ℕ, List, Option, length, sym, ap, subst}
+use Rattle.std.proofs.Common.{◌≡◌, ℕ, List, Option, sym, subst}
 use Rattle.std.specs.List.{flat_map}
 use Rattle.std.specs.Io.KnownBytes.{Appends}
 use Rattle.std.proofs.KnownBytes.{Appends-trans}

@@ -5,6 +5,7 @@ pub mod NoMessage
 pub mod Whole
 pub mod Heard
 pub mod Decoded
+pub mod OfHarts
 pub mod Returned
 pub mod FaultText
 pub mod PacketText

@@ -6,7 +6,7 @@
 //! messages as they are, [`read_front`] those up to the first place where there is none. [`dump_capture`] writes a line
 //! of text for each message, [`write_message_line`] that line alone, and [`write_bytes_line`] the line of bytes that are
 //! of no message. [`decode_watched`] and [`dump_watched`] do the same as the calls without a watch, and tell a
-//! [`Watch`](watching::Watch) of each message; [`dump_harts`] does so of some harts alone.
+//! [`Watch`](watching::Watch) of each message; [`decode_harts`] and [`dump_harts`] do so of some harts alone.
 #![tactic(auto)]
 
 mod capture_decoding;
@@ -19,7 +19,7 @@ mod offsets;
 mod outcome;
 mod packet_text;
 
-pub use capture_decoding::{decode_capture, decode_watched};
+pub use capture_decoding::{decode_capture, decode_harts, decode_watched};
 pub use capture_reading::{CaptureFront, ReadFault, WholeCapture, read_front, read_messages};
 pub use dumping::{
     Dumped, dump_capture, dump_harts, dump_watched, write_header_line, write_message_line,

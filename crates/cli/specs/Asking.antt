@@ -123,6 +123,7 @@ Asks name rows (Decode asked) = (name ≡ codes "decode")
     × (asked.base.now ≡ text_of (codes "base") rows)
     × (map (λ piece. piece.now) asked.also.items ≡ texts_of (codes "also") rows)
     × IsHarts (one_of (codes "harts") rows) asked.harts
+    × (option_map (λ text. text.now) asked.only ≡ first_of (codes "only") rows)
     × IsFlag (one_of (codes "lossy") rows) asked.lossy × IsFlag (one_of (codes "progress") rows) asked.progress
     × (asked.image.now ≡ text_of (codes "IMAGE") rows)
     × (asked.capture.now ≡ text_of (codes "CAPTURE") rows)
@@ -146,6 +147,7 @@ Asks name rows (Bench asked) = (name ≡ codes "bench")
     × (map (λ log. log.now) asked.logs.items ≡ texts_of (codes "LOG") rows)
 Asks name rows (Audit asked) = (name ≡ codes "audit") × IsFlag (one_of (codes "packets") rows) asked.packets
     × IsFlag (one_of (codes "unnumbered") rows) asked.unnumbered
+    × (option_map (λ text. text.now) asked.only ≡ first_of (codes "only") rows)
     × IsFlag (one_of (codes "summary") rows) asked.summary
     × IsFormat (text_of (codes "format") rows) asked.format × IsFlag (one_of (codes "progress") rows) asked.progress
     × (asked.sent.now ≡ text_of (codes "SENT") rows) × (asked.received.now ≡ text_of (codes "RECEIVED") rows)
@@ -161,6 +163,7 @@ Asks name rows (Listing asked) = (name ≡ codes "list")
     × (asked.base.now ≡ text_of (codes "base") rows)
     × (map (λ piece. piece.now) asked.also.items ≡ texts_of (codes "also") rows)
     × IsGivenHarts (one_of (codes "harts") rows) asked.harts
+    × (option_map (λ text. text.now) asked.only ≡ first_of (codes "only") rows)
     × (option_map (λ path. path.now) asked.symbols ≡ first_of (codes "symbols") rows)
     × IsFlag (one_of (codes "salvage") rows) asked.salvage
     × IsFormat (text_of (codes "format") rows) asked.format
@@ -170,6 +173,7 @@ Asks name rows (Salvage asked) = (name ≡ codes "salvage")
     × (asked.base.now ≡ text_of (codes "base") rows)
     × (map (λ piece. piece.now) asked.also.items ≡ texts_of (codes "also") rows)
     × IsGivenHarts (one_of (codes "harts") rows) asked.harts
+    × (option_map (λ text. text.now) asked.only ≡ first_of (codes "only") rows)
     × IsFlag (one_of (codes "summary") rows) asked.summary
     × IsFormat (text_of (codes "format") rows) asked.format × IsFlag (one_of (codes "progress") rows) asked.progress
     × (asked.image.now ≡ text_of (codes "IMAGE") rows) × (asked.capture.now ≡ text_of (codes "CAPTURE") rows)
@@ -181,6 +185,7 @@ Asks name rows (Compare asked) = (name ≡ codes "compare")
     × (asked.base.now ≡ text_of (codes "base") rows)
     × (map (λ piece. piece.now) asked.also.items ≡ texts_of (codes "also") rows)
     × IsHarts (one_of (codes "harts") rows) asked.harts
+    × (option_map (λ text. text.now) asked.only ≡ first_of (codes "only") rows)
     × IsFlag (one_of (codes "long") rows) asked.long × IsFlag (one_of (codes "progress") rows) asked.progress
     × (asked.image.now ≡ text_of (codes "IMAGE") rows) × (asked.capture.now ≡ text_of (codes "CAPTURE") rows)
     × (map (λ log. log.now) asked.logs.items ≡ texts_of (codes "LOG") rows)

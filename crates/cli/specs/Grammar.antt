@@ -32,10 +32,10 @@ encode_app = with_arguments (codes "encode") (base_rule ∷ also_rule ∷ period
 abbrev pub dump_app : App
 dump_app = with_arguments (codes "dump") (search_rule ∷ only_rule ∷ progress_rule ∷ capture_rule ∷ [])
 
--- `decode --base B [--also B2=FILE]... [--harts N] [--lossy] [--progress] IMAGE CAPTURE`.
+-- `decode --base B [--also B2=FILE]... [--harts N] [--only A-B] [--lossy] [--progress] IMAGE CAPTURE`.
 abbrev pub decode_app : App
-decode_app = with_arguments (codes "decode") (base_rule ∷ also_rule ∷ harts_rule ∷ lossy_rule ∷ progress_rule ∷
-    image_rule ∷ capture_rule ∷ [])
+decode_app = with_arguments (codes "decode") (base_rule ∷ also_rule ∷ harts_rule ∷ only_rule ∷ lossy_rule ∷
+    progress_rule ∷ image_rule ∷ capture_rule ∷ [])
 
 -- `replay --base B [--also B2=FILE]... [--period N] [--full] [--capacity N] [--progress] IMAGE SCHEDULE LOG...`.
 abbrev pub replay_app : App
@@ -47,36 +47,37 @@ abbrev pub bench_app : App
 bench_app = with_arguments (codes "bench") (base_rule ∷ also_rule ∷ period_rule ∷ full_rule ∷ capacity_rule ∷
     progress_rule ∷ image_rule ∷ logs_rule ∷ [])
 
--- `audit [--packets] [--unnumbered] [--summary] [--format FORMAT] [--progress] SENT RECEIVED`.
+-- `audit [--packets] [--unnumbered] [--only A-B] [--summary] [--format FORMAT] [--progress] SENT RECEIVED`.
 abbrev pub audit_app : App
-audit_app = with_arguments (codes "audit") (packets_rule ∷ unnumbered_rule ∷ summary_rule ∷ format_rule ∷
-    progress_rule ∷ sent_rule ∷ received_rule ∷ [])
+audit_app = with_arguments (codes "audit") (packets_rule ∷ unnumbered_rule ∷ only_rule ∷ summary_rule ∷
+    format_rule ∷ progress_rule ∷ sent_rule ∷ received_rule ∷ [])
 
 -- `measure --base B [--also B2=FILE]... [--period N] [--full] [--long] [--progress] IMAGE LOG...`.
 abbrev pub measure_app : App
 measure_app = with_arguments (codes "measure") (base_rule ∷ also_rule ∷ period_rule ∷ full_rule ∷ long_rule ∷
     progress_rule ∷ image_rule ∷ logs_rule ∷ [])
 
--- `list --base B [--also B2=FILE]... [--harts N] [--symbols FILE] [--salvage] [--format FORMAT] [--progress] IMAGE
--- CAPTURE`.
+-- `list --base B [--also B2=FILE]... [--harts N] [--only A-B] [--symbols FILE] [--salvage] [--format FORMAT] [--progress]
+-- IMAGE CAPTURE`.
 abbrev pub list_app : App
-list_app = with_arguments (codes "list") (base_rule ∷ also_rule ∷ given_harts_rule ∷ symbols_rule ∷ salvage_rule ∷
-    format_rule ∷ progress_rule ∷ image_rule ∷ capture_rule ∷ [])
+list_app = with_arguments (codes "list") (base_rule ∷ also_rule ∷ given_harts_rule ∷ only_rule ∷ symbols_rule ∷
+    salvage_rule ∷ format_rule ∷ progress_rule ∷ image_rule ∷ capture_rule ∷ [])
 
--- `salvage --base B [--also B2=FILE]... [--harts N] [--summary] [--format FORMAT] [--progress] IMAGE CAPTURE`.
+-- `salvage --base B [--also B2=FILE]... [--harts N] [--only A-B] [--summary] [--format FORMAT] [--progress] IMAGE
+-- CAPTURE`.
 abbrev pub salvage_app : App
-salvage_app = with_arguments (codes "salvage") (base_rule ∷ also_rule ∷ given_harts_rule ∷ summary_rule ∷
-    format_rule ∷ progress_rule ∷ image_rule ∷ capture_rule ∷ [])
+salvage_app = with_arguments (codes "salvage") (base_rule ∷ also_rule ∷ given_harts_rule ∷ only_rule ∷
+    summary_rule ∷ format_rule ∷ progress_rule ∷ image_rule ∷ capture_rule ∷ [])
 
 -- `capture [--v1] [--full] [--period N] [--harts N] LINES`.
 abbrev pub capture_app : App
 capture_app = with_arguments (codes "capture") (version_one_rule ∷ full_rule ∷ period_rule ∷ given_harts_rule ∷
     lines_rule ∷ [])
 
--- `compare --base B [--also B2=FILE]... [--harts N] [--long] [--progress] IMAGE CAPTURE LOG...`.
+-- `compare --base B [--also B2=FILE]... [--harts N] [--only A-B] [--long] [--progress] IMAGE CAPTURE LOG...`.
 abbrev pub compare_app : App
-compare_app = with_arguments (codes "compare") (base_rule ∷ also_rule ∷ harts_rule ∷ long_rule ∷ progress_rule ∷
-    image_rule ∷ capture_rule ∷ logs_rule ∷ [])
+compare_app = with_arguments (codes "compare") (base_rule ∷ also_rule ∷ harts_rule ∷ only_rule ∷ long_rule ∷
+    progress_rule ∷ image_rule ∷ capture_rule ∷ logs_rule ∷ [])
 
 -- The program's subcommands, in the order in which help lists them.
 abbrev pub all_apps : List App

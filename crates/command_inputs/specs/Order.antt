@@ -21,6 +21,22 @@ abbrev pub only_fault : {W : Type 0} → Option HartRange → Option (Fault W)
 only_fault None = Some fault.Only
 only_fault (Some range) = None
 
+-- The fault of a base that is no number; then that of an argument that is no range of harts.
+abbrev pub base_or_only_fault : {W : Type 0} → Option ℕ → Option HartRange → Option (Fault W)
+base_or_only_fault None range = Some fault.Base
+base_or_only_fault (Some base) range = only_fault range
+
+-- The fault of an argument that names no format; then that of an argument that is no range of harts.
+abbrev pub format_or_only_fault : {W : Type 0} → Format → Option HartRange → Option (Fault W)
+format_or_only_fault Other range = Some fault.Format
+format_or_only_fault format range = only_fault range
+
+-- The fault of an argument that names no format; then that of a base that is no number; then that of an argument that
+-- is no range of harts.
+abbrev pub format_base_or_only_fault : {W : Type 0} → Format → Option ℕ → Option HartRange → Option (Fault W)
+format_base_or_only_fault Other base range = Some fault.Format
+format_base_or_only_fault format base range = base_or_only_fault base range
+
 -- The fault of an argument that names no format; then that of a base that is no number.
 abbrev pub format_or_base_fault : {W : Type 0} → Format → Option ℕ → Option (Fault W)
 format_or_base_fault Other base = Some fault.Format

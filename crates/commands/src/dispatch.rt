@@ -22,8 +22,9 @@ use std::thread::Threads;
 use subcommands::Asked;
 
 /// Does what is asked, and returns how that ended: with a status, or at the first fault in the order base, bases of
-/// further pieces, count of logs or harts, image, further pieces, symbols, each log in turn, schedule, capture or lines;
-/// of `compare` bases, image, further pieces, capture, count of logs, each log in turn.
+/// further pieces, count of logs or harts, image, further pieces, symbols, each log in turn, schedule, capture or
+/// lines; of `compare` bases, harts that are asked for, image, further pieces, capture and whether it has one of these
+/// harts, count of logs, each log in turn.
 ///
 /// Illegal logs are no fault of `check`, which has a line for each log on `out`.
 pub fn carry_out<'a, F: Files + Sync, O: Write, R: Threads + Wait + Sync>(

@@ -1,5 +1,6 @@
 -- The lines that are made of logs are those of the harts.
-use Rattle.std.proofs.Common.{◌≡◌, ◌∙◌, ◌+◌, ℕ, suc, Bool, List, [], ◌∷◌, Some, Ok, ap, arith, inl, inr, length, refl}
+use Rattle.std.proofs.Math.Nat.{min-eq_left}
+use Rattle.std.proofs.Common.{◌≡◌, ◌∙◌, ◌+◌, ◌<◌, ◌^◌, ℕ, suc, Bool, List, [], ◌∷◌, Some, Ok, ap, arith, inl, inr, length, refl}
 use Rattle.std.proofs.Common.{slice_get, subst, sym}
 use Rattle.std.proofs.lemmas.Option.{same_Some, slice_get_within}
 use Rattle.std.specs.List.{AllZip}
@@ -7,7 +8,7 @@ use Rattle.bench.specs.Got.{Got}
 use Rattle.command_inputs.proofs.StreamLemmas.{log_read_in}
 use Rattle.command_inputs.specs.Faults.{Path}
 use Rattle.command_inputs.specs.FoundLogs.{IsLegalLogUpTo}
-use Rattle.comparing.specs.Compared.{gots_by}
+use Rattle.comparing.specs.Compared.{gots_by, of_harts}
 use Rattle.comparing.specs.Lines.{line_of, lines_of}
 use Rattle.comparing.specs.declared.hart_count.HartCount.{HartCount}
 use Rattle.comparing.specs.declared.hart_line.ComparedHart.{ComparedHart}
@@ -19,13 +20,16 @@ use Rattle.rvclass.specs.Image.{Image}
 use Rattle.capture_commands.specs.declared.reason.CaptureReason.{CaptureReason}
 use Rattle.comparing.specs.steps.Held.{count_in, got_at}
 use Rattle.compare_commands.specs.steps.Lines.{AreLinesOfLogs}
-use Rattle.comparing.proofs.DecodedHarts.{gots_many}
-use Rattle.comparing.proofs.HeldHarts.{got_here}
+use Rattle.comparing.proofs.SomeHarts.{got_of, hart_within}
+use Rattle.compare_commands.specs.steps.Places.{hart_at_place}
+use Rattle.hart_range.specs.declared.range.HartRange.{HartRange}
 
 -- This is made of the events of a log.
-abbrev pub OfEvents : Image → List HartCount → List (List Event) → List Bool → ℕ → List Event → ComparedHart → Type 0
-OfEvents program counts lists closed hart events line =
-    line ≡ line_of hart (got_at counts lists closed hart) (program_log program events)
+abbrev pub OfEvents : Image → List HartCount → List (List Event) → List Bool → ℕ → ℕ → List Event → ComparedHart
+    → Type 0
+OfEvents program counts lists closed first place events line =
+    line ≡ line_of (hart_at_place first place) (got_at counts lists closed (hart_at_place first place))
+    (program_log program events)
 
 module _ (rows : ℕ) (content : Content) (program : Image) where
   -- The legal log at a path, and the line of it.
@@ -64,18 +68,23 @@ module _ (rows : ℕ) (content : Content) (program : Image) where
             ∙ ap (λ others. line_of hart got here.log ∷ others) rest.each;
       }
 
-  module _ (counts : List HartCount) (lists : List (List Event)) (closed : List Bool)
-      (flags : length closed ≡ length lists) where
+  module _ (range : HartRange) (few : range.last < 2 ^ 64) (counts : List HartCount) (lists : List (List Event))
+      (closed : List Bool) (flags : length closed ≡ length lists) where
     abbrev gots : List Got
-    gots = gots_by (count_in counts) 0 lists closed
+    gots = of_harts range (gots_by (count_in counts) 0 lists closed)
 
-    line_at : (hart : ℕ) (got : Got) (path : Path) (line : ComparedHart) → slice_get gots hart ≡ Some got
-        → IsMadeOf (OfEvents program counts lists closed) (λ events row line. ⊥) (content path.now) program rows hart (Ok line) → LineAt hart got path line
-    line_at hart got path line there (inl made) =
-        let many = gots_many (count_in counts) 0 lists closed flags in
-        let within = slice_get_within gots hart got there in
-        let is = same_Some (got_at counts lists closed hart) got
-        (sym (got_here counts hart lists closed flags (omega (arith, many, within))) ∙ there) in
+    abbrev Of : ℕ → List Event → ComparedHart → Type 0
+    Of = OfEvents program counts lists closed range.first
+
+    line_at : (place : ℕ) (got : Got) (path : Path) (line : ComparedHart) → slice_get gots place ≡ Some got
+        → IsMadeOf Of (λ events row line. ⊥) (content path.now) program rows place (Ok line)
+        → LineAt (range.first + place) got path line
+    line_at place got path line there (inl made) =
+        let within = slice_get_within gots place got there in
+        let below = hart_within range (gots_by (count_in counts) 0 lists closed) place within in
+        let hart : hart_at_place range.first place ≡ range.first + place = min-eq_left (omega (arith, below, few)) in
+        let is = same_Some (got_at counts lists closed (range.first + place)) got
+        (sym (got_of range counts place lists closed flags within) ∙ there) in
         record {
           log = program_log program made.events;
           legal = record {
@@ -83,18 +92,19 @@ module _ (rows : ℕ) (content : Content) (program : Image) where
             read = log_read_in rows content path made.events made.read;
             judged = (refl, made.legal.legal);
           };
-          is = made.makes ∙ ap (λ got. line_of hart got (program_log program made.events)) is;
+          is = made.makes
+              ∙ ap (λ hart. line_of hart (got_at counts lists closed hart) (program_log program made.events)) hart
+              ∙ ap (λ got. line_of (range.first + place) got (program_log program made.events)) is;
         }
-    line_at hart got path line there (inr made) = elim made.makes [ ]
+    line_at place got path line there (inr made) = elim made.makes [ ]
 
     -- All logs are legal, and these are the lines.
     pub lines_made : (paths : List Path) (lines : List ComparedHart) (end : Unit {0}) → length paths ≡ length gots
-        → AreMade (OfEvents program counts lists closed) (λ events row line. ⊥) content program rows paths lines (Ok end)
-        → AreLinesOfLogs rows content program paths gots lines
+        → AreMade Of (λ events row line. ⊥) content program rows paths lines (Ok end)
+        → AreLinesOfLogs rows content program paths range.first gots lines
     lines_made paths lines end same are =
-        let front = lines_from 0 gots paths lines same (are.all refl) (λ i got path line a b c.
-        let here : i ≡ 0 + i = omega arith in
-        subst (λ hart. LineAt hart got path line) here (line_at i got path line a (are.each i path line b c))) in record {
+        let front = lines_from range.first gots paths lines same (are.all refl) (λ i got path line a b c.
+        line_at i got path line a (are.each i path line b c)) in record {
           logs = front.logs;
           legal = front.legal;
           many = front.many;

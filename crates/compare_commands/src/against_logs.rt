@@ -3,18 +3,21 @@
 ghost use Rattle.std.specs.Prelude.{◌≡◌, Err, IfSome};
 ghost use Rattle.command_inputs.specs.Begun.{IsCutOf};
 ghost use Rattle.command_inputs.specs.FurtherPieces.{base_number};
-ghost use Rattle.command_inputs.specs.Order.{base_fault};
+ghost use Rattle.command_inputs.specs.OnlyHarts.{asked_harts};
+ghost use Rattle.command_inputs.specs.Order.{base_or_only_fault};
 ghost use Rattle.command_inputs.specs.Printed.{PrintsUnlessDenied};
 ghost use Rattle.command_inputs.specs.declared.fault.Fault.TheVariants as Fault;
 ghost use Rattle.capture_commands.specs.Faults.{final_status};
-ghost use Rattle.compare_commands.specs.Comparing.{CanCompare, CanCompareCapture, Compares, ComparesCapture};
+ghost use Rattle.compare_commands.specs.Comparing.{CanCompare, CanCompareCapture, CanCompareHarts, Compares, ComparesCapture};
+ghost use Rattle.compare_commands.specs.Comparing.{ComparesHarts};
 
-use crate::decoded::decoded_of;
+use crate::decoded::{decoded_of, harts_below};
 use crate::hart_lines::{check_count, lines_of_logs};
 use crate::report::write_report;
-use capture_commands::Fault;
-use command_inputs::{Status, base_of, content_of, program_of};
+use capture_commands::{Fault, check_harts_below};
+use command_inputs::{Status, base_of, content_of, harts_asked, program_of};
 use files::Files;
+use hart_range::HartRange;
 use rvclass::ProgramOver;
 use std::alloc::Global;
 use std::io::Write;
@@ -28,7 +31,13 @@ use subcommands::Compare;
 /// There have to be as many logs as the capture has harts: by its header, or else by `harts`; where its header is bad
 /// there are `harts` harts, and nothing of them is decoded. Each log has to be legal for the program, also behind a
 /// difference. A log may have 4,294,967,295 rows where long logs are asked for, and else 16,777,216. The logs are read
-/// side by side, each a piece at a time; no list holds the events of a log. Nothing is written before all logs are read.
+/// side by side, each a piece at a time; no list holds the events of a log. Nothing is written before all logs are
+/// read.
+///
+/// Where some harts are asked for, the logs have to be those of the harts among them that the capture has, in their
+/// order. Messages of all other harts are passed over, whatever they are. The lines, the result and how the run ends
+/// are those of these harts; a fault counts the messages of all. Where the capture has none of these harts, nothing is
+/// written.
 pub fn compare<'a, F: Files + Sync, O: Write, R: Threads + Sync>(
     alloc: Global,
     rt: &R,
@@ -38,8 +47,8 @@ pub fn compare<'a, F: Files + Sync, O: Write, R: Threads + Sync>(
 ) -> Result<Status, Fault<'a>>
 where
     F::Reader: Send,
-    ensures early { IfSome (base_fault (base_number asked.now.base.now asked.now.also.items))
-        (λ fault. result ≡ Err fault) }
+    ensures early { IfSome (base_or_only_fault (base_number asked.now.base.now asked.now.also.items)
+        (asked_harts asked.now.only)) (λ fault. result ≡ Err fault) }
     ensures refused { final_status result ≡ Status.Refused → out.new ≡ out.old }
     ensures untouched { result ≡ Err Fault.Memory → out.new ≡ out.old }
     ensures printed { PrintsUnlessDenied (Compares (F.content files.old) asked.now)
@@ -48,18 +57,21 @@ where
     ensures cut { IsCutOf (Compares (F.content files.old) asked.now) (O.contents out.old) (O.contents out.new) }
 {
     let base = base_of(asked.base, &asked.also)?;
+    let range = harts_asked(asked.only)?;
     let program = program_of(alloc, files, base, asked.image, &asked.also)?;
     let bytes = content_of(files, asked.capture)?;
     let capture = bytes.as_slice();
-    compare_capture(alloc, rt, &*files, &program, asked, capture, out)
+    compare_harts(alloc, rt, &*files, &program, range, asked, capture, out)
 }
 
-/// Compares what the bytes of a capture decode to with the logs that are asked for, and writes the report.
-fn compare_capture<'a, F: Files + Sync, O: Write, R: Threads + Sync>(
+/// Compares what a capture has of these harts with the logs that are asked for, where it has any of them, and writes
+/// the report.
+fn compare_harts<'a, F: Files + Sync, O: Write, R: Threads + Sync>(
     alloc: Global,
     rt: &R,
     files: &F,
     program: &ProgramOver,
+    range: HartRange,
     asked: &Compare<'a>,
     capture: &[u8],
     out: &mut O,
@@ -68,15 +80,49 @@ where
     F::Reader: Send,
     ensures refused { final_status result ≡ Status.Refused → out.new ≡ out.old }
     ensures untouched { result ≡ Err Fault.Memory → out.new ≡ out.old }
-    ensures printed { PrintsUnlessDenied (ComparesCapture (F.content files.now) asked.now program.now capture.now)
-        (CanCompareCapture (F.content files.now) asked.now program.now capture.now) result
+    ensures printed { PrintsUnlessDenied (ComparesHarts (F.content files.now) asked.now range program.now capture.now)
+        (CanCompareHarts (F.content files.now) asked.now range program.now capture.now) result
         (O.contents out.old) (O.contents out.new) }
-    ensures cut { IsCutOf (ComparesCapture (F.content files.now) asked.now program.now capture.now)
+    ensures cut { IsCutOf (ComparesHarts (F.content files.now) asked.now range program.now capture.now)
         (O.contents out.old) (O.contents out.new) }
 {
-    let decoded = decoded_of(alloc, files, asked.progress, program, asked.harts, capture)?;
+    check_harts_below(asked.harts, range, capture)?;
+    compare_capture(alloc, rt, files, program, range, asked, capture, out)
+}
+
+/// Compares what the bytes of a capture decode to, of these harts, with the logs that are asked for, and writes the
+/// report.
+fn compare_capture<'a, F: Files + Sync, O: Write, R: Threads + Sync>(
+    alloc: Global,
+    rt: &R,
+    files: &F,
+    program: &ProgramOver,
+    range: HartRange,
+    asked: &Compare<'a>,
+    capture: &[u8],
+    out: &mut O,
+) -> Result<Status, Fault<'a>>
+where
+    F::Reader: Send,
+    ensures refused { final_status result ≡ Status.Refused → out.new ≡ out.old }
+    ensures untouched { result ≡ Err Fault.Memory → out.new ≡ out.old }
+    ensures printed { PrintsUnlessDenied (ComparesCapture (F.content files.now) asked.now range program.now capture.now)
+        (CanCompareCapture (F.content files.now) asked.now range program.now capture.now) result
+        (O.contents out.old) (O.contents out.new) }
+    ensures cut { IsCutOf (ComparesCapture (F.content files.now) asked.now range program.now capture.now)
+        (O.contents out.old) (O.contents out.new) }
+{
+    let decoded = decoded_of(
+        alloc,
+        files,
+        asked.progress,
+        program,
+        range,
+        asked.harts,
+        capture,
+    )?;
     let paths = asked.logs.as_slice();
-    check_count(decoded.lists.len(), paths)?;
+    check_count(harts_below(range, decoded.lists.len()), paths)?;
     let lines = lines_of_logs(
         alloc,
         rt,
@@ -85,6 +131,7 @@ where
         asked.long,
         program,
         paths,
+        range,
         &decoded,
     )?;
     write_report(lines.as_slice(), decoded.stop, out)

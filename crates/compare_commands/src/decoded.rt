@@ -1,18 +1,19 @@
 //! What is decoded of the harts of a capture.
 
-ghost use Rattle.std.specs.Prelude.{◌≡◌, ◌≢◌, Err, IfErr, IfOk, length};
+ghost use Rattle.std.specs.Prelude.{◌+◌, ◌-◌, ◌^◌, ◌<◌, ◌≡◌, ◌≢◌, Err, IfErr, IfOk, length, min};
 ghost use Rattle.command_inputs.specs.declared.fault.Fault.TheVariants as Fault;
 ghost use Rattle.capture_commands.specs.Faults.{status_of};
-ghost use Rattle.comparing.specs.Compared.{AreGot};
+ghost use Rattle.comparing.specs.Compared.{AreGotOf, of_harts};
 ghost use Rattle.compare_commands.specs.Comparison.{end_of_stop};
 ghost use Rattle.compare_commands.specs.steps.Decoded.{gots_in};
 ghost use Rattle.receiver.specs.Received.{events_in};
 ghost use Rattle.rvclass.specs.Fetch.{words_of};
 
-use capture_commands::{Fault, capture_fault, outcome_of};
+use capture_commands::{Fault, capture_fault, outcome_of_harts};
 use captures::CaptureFault;
 use command_inputs::{Files, MessageProgress, Status};
 use comparing::{HartCount, counts_of};
+use hart_range::HartRange;
 use retire::Event;
 use rvclass::ProgramOver;
 use std::alloc::Global;
@@ -30,24 +31,26 @@ pub(crate) struct Decoded {
     pub(crate) stop: Option<(u64, CaptureFault)>,
 }
 
-/// What is decoded of the harts of a capture. How far its messages are worked through is shown, where that is asked for.
-/// The only fault is that an allocation failed.
+/// What is decoded of the harts of a capture, of which only these are looked at. How far its messages are worked
+/// through is shown, where that is asked for. The only fault is that an allocation failed.
 pub(crate) fn decoded_of<'a, F: Files>(
     alloc: Global,
     files: &F,
     progress: bool,
     program: &ProgramOver,
+    range: HartRange,
     harts: u16,
     capture: &[u8],
 ) -> Result<Decoded, Fault<'a>>
     ensures fault { IfErr result (λ fault. fault ≡ Fault.Memory) }
-    ensures got { IfOk result (λ decoded. AreGot (words_of program.now) harts capture.now (gots_in decoded) decoded.stop) }
-    ensures many { IfOk result (λ decoded. length (gots_in decoded) ≡ length decoded.lists.items) }
+    ensures got { IfOk result (λ decoded.
+        AreGotOf range (words_of program.now) harts capture.now (gots_in range decoded) decoded.stop) }
+    ensures many { IfOk result (λ decoded. length (gots_in range decoded) ≡ length (of_harts range decoded.lists.items)) }
     ensures flags { IfOk result (λ decoded. length decoded.closed.items ≡ length (events_in decoded.lists.items)) }
     ensures no_memory { IfOk result (λ decoded. end_of_stop decoded.stop ≢ Err Fault.Memory) }
 {
     let progress = MessageProgress::new(files, progress);
-    let outcome = outcome_of(alloc, &progress, program, harts, capture)?;
+    let outcome = outcome_of_harts(alloc, &progress, program, harts, range, capture)?;
     check_memory(outcome.fault)?;
     let counts = counts_of(alloc, outcome.harts.len(), outcome.fault, capture)?;
     Ok(Decoded {
@@ -56,6 +59,16 @@ pub(crate) fn decoded_of<'a, F: Files>(
         counts,
         stop: outcome.fault,
     })
+}
+
+/// How many of these harts there are below this count.
+pub(crate) fn harts_below(range: HartRange, harts: usize) -> usize
+    ensures count { result ≡ min (range.last + 1 - range.first) (harts - range.first) }
+    ensures few { range.last < 2 ^ 64 }
+{
+    let first = usize::from(range.first);
+    let end = usize::from(range.last) + 1;
+    end.saturating_sub(first).min(harts.saturating_sub(first))
 }
 
 /// Refuses a stop for which an allocation failed.

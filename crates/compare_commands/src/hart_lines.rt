@@ -1,6 +1,6 @@
 //! The lines of harts, by their logs.
 
-ghost use Rattle.std.specs.Prelude.{◌≡◌, ◌⊎◌, Err, IfErr, IfOk, length};
+ghost use Rattle.std.specs.Prelude.{◌^◌, ◌<◌, ◌≡◌, ◌⊎◌, Err, IfErr, IfOk, length};
 ghost use Rattle.command_inputs.specs.FoundLogs.{AreLegalLogsUpTo};
 ghost use Rattle.command_inputs.specs.declared.fault.Fault.TheVariants as Fault;
 ghost use Rattle.receiver.specs.Received.{events_in};
@@ -14,6 +14,7 @@ use capture_commands::{CaptureReason, Fault};
 use command_inputs::begin_progress;
 use comparing::ComparedHart;
 use files::Files;
+use hart_range::HartRange;
 use log_streams::{LogsFault, MadeLogs, made_of_logs};
 use retire::{MOST_LONG_ROWS, MOST_ROWS};
 use rvclass::ProgramOver;
@@ -37,8 +38,8 @@ fn rows_of(long: bool) -> u32
     if long { MOST_LONG_ROWS } else { MOST_ROWS }
 }
 
-/// The line of each hart, by the log at its path. The logs are read side by side, and compared as they are read. It is
-/// shown how far they are read, where that is asked for.
+/// The line of each of these harts, by the log at its path. The logs are read side by side, and compared as they are
+/// read. It is shown how far they are read, where that is asked for.
 pub(crate) fn lines_of_logs<'a, F: Files + Sync, R: Threads + Sync>(
     alloc: Global,
     rt: &R,
@@ -47,14 +48,17 @@ pub(crate) fn lines_of_logs<'a, F: Files + Sync, R: Threads + Sync>(
     long: bool,
     program: &ProgramOver,
     paths: &[&'a str],
+    range: HartRange,
     decoded: &Decoded,
 ) -> Result<Vec<ComparedHart>, Fault<'a>>
 where
     F::Reader: Send,
-    requires many { length paths.now ≡ length (gots_in decoded.now) }
+    requires many { length paths.now ≡ length (gots_in range decoded.now) }
+    requires few { range.last < 2 ^ 64 }
     requires flags { length decoded.now.closed.items ≡ length (events_in decoded.now.lists.items) }
     ensures lines { IfOk result (λ lines.
-        AreLinesOfLogs (rows_of long) (F.content files.now) program.now paths.now (gots_in decoded.now) lines.items) }
+        AreLinesOfLogs (rows_of long) (F.content files.now) program.now paths.now range.first (gots_in range decoded.now)
+        lines.items) }
     ensures fault { IfErr result (λ why. (why ≡ Fault.Memory)
         ⊎ AreLegalLogsUpTo (rows_of long) (F.content files.now) program.now paths.now (Err why)) }
 {
@@ -62,6 +66,7 @@ where
     let closed = decoded.closed.as_slice();
     let counts = decoded.counts.as_slice();
     let task = AgainstDecoded {
+        first: usize::from(range.first),
         lists,
         closed,
         counts,

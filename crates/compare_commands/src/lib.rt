@@ -1,7 +1,8 @@
 //! The subcommand `compare` of `tracebench`: whether a capture describes just these logs.
 //!
 //! It reads a base, an image, a capture and as many logs as the capture has harts, in this order, and ends at the first
-//! fault. The logs are read side by side, each a piece at a time, and compared as they are read.
+//! fault. Where some harts are asked for, the logs are those of these. The logs are read side by side, each a piece at
+//! a time, and compared as they are read.
 #![tactic(auto)]
 
 mod against_logs;

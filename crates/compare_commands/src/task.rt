@@ -6,6 +6,7 @@ ghost use Rattle.comparing.specs.Lines.{line_of};
 ghost use Rattle.legalpath.specs.ProgramLog.{program_log};
 ghost use Rattle.receiver.specs.Received.{events_in};
 ghost use Rattle.comparing.specs.steps.Held.{count_in, got_at};
+ghost use Rattle.compare_commands.specs.steps.Places.{hart_at_place};
 
 use comparing::{ComparedHart, Comparing, HartCount};
 use legalpath::PathFault;
@@ -14,9 +15,10 @@ use retire::Event;
 use rvclass::ProgramOver;
 use std::alloc::AllocError;
 
-/// Compares each log with what was decoded of its hart.
+/// Compares each log with what was decoded of its hart. The first log is that of this hart, and the others follow.
 #[derive(Clone, Copy)]
 pub(crate) struct AgainstDecoded<'d> {
+    pub(crate) first: usize,
     pub(crate) lists: &'d [Vec<Event>],
     pub(crate) closed: &'d [bool],
     pub(crate) counts: &'d [HartCount],
@@ -64,18 +66,19 @@ impl AgainstDecoded<'_> {
 impl LogTask<ComparedHart> for AgainstDecoded<'_> {
     type State = ComparingHart;
 
-    ghost Keeps = { λ task program hart seen state. (state.hart ≡ hart)
-        × HasCompared (get_or (events_in task.lists.now) hart []) seen state.comparing };
+    ghost Keeps = { λ task program place seen state. (state.hart ≡ hart_at_place task.first place)
+        × HasCompared (get_or (events_in task.lists.now) (hart_at_place task.first place) []) seen state.comparing };
 
-    ghost Makes = { λ task program hart events line.
-        line ≡ line_of hart (got_at task.counts.now (events_in task.lists.now) task.closed.now hart)
+    ghost Makes = { λ task program place events line.
+        line ≡ line_of (hart_at_place task.first place)
+        (got_at task.counts.now (events_in task.lists.now) task.closed.now (hart_at_place task.first place))
         (program_log program events) };
 
     ghost MakesOfIllegal = { λ task program events row line. ⊥ };
 
-    fn begin(&self, _: &ProgramOver, hart: usize) -> Result<ComparingHart, AllocError> {
+    fn begin(&self, _: &ProgramOver, place: usize) -> Result<ComparingHart, AllocError> {
         Ok(ComparingHart {
-            hart,
+            hart: self.first.saturating_add(place),
             comparing: Comparing::new(),
         })
     }

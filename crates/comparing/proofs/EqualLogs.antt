@@ -2,7 +2,7 @@
 use Rattle.std.proofs.Common.{◌≡◌, ◌∙◌, ℕ, suc, Bool, true, false, List, [], ◌∷◌, Option, Some, None, ap, arith, length}
 use Rattle.std.proofs.Common.{refl, replicate, subst, sym, true≢false}
 use Rattle.std.proofs.lemmas.Bool.{eq-eqb, eqb-true}
-use Rattle.std.specs.Prelude.{◌+◌, ◌==◌, ◌&&◌, if◌then◌else◌, is_none}
+use Rattle.std.specs.Prelude.{◌+◌, ◌==◌, ◌&&◌, ◌↔◌, if◌then◌else◌, is_none}
 use Rattle.bench.specs.Report.{are_whole, is_whole_verdict}
 use Rattle.bench.specs.Verdict.{count_alike, is_alike, is_same_flag, verdict}
 use Rattle.bench.specs.declared.verdict.Verdict.TheVariants.{Whole, Beginning, Differs}
@@ -151,18 +151,26 @@ no_stop : (stop : Option (ℕ × CaptureFault)) → is_none stop ≡ true → st
 no_stop None is = refl
 no_stop (Some at) is = absurd (true≢false (sym is))
 
-pub whole_equal : WholeIsEqual
-whole_equal count lists closed stop logs same many = (
+-- A comparison is whole where it comes to the end, and the logs are what was decoded. The first hart has this number.
+pub whole_from : (hart : ℕ) (count : ℕ → HartCount) (lists : List (List Event)) (closed : List Bool)
+    (stop : Option (ℕ × CaptureFault)) (logs : List ProgramLog) → length closed ≡ length lists
+    → length logs ≡ length lists
+    → (is_compared_whole stop (gots_by count hart lists closed) logs ≡ true)
+    ↔ ((stop ≡ None) × (lists ≡ events_of_logs logs) × (closed ≡ replicate (length lists) true))
+whole_from hart count lists closed stop logs same many = (
   (λ is.
-      let parts = both_true (is_none stop) (are_whole (gots_by count 0 lists closed) logs) is in
-      let equal = are_equal count 0 lists closed logs same many parts.1 in
+      let parts = both_true (is_none stop) (are_whole (gots_by count hart lists closed) logs) is in
+      let equal = are_equal count hart lists closed logs same many parts.1 in
       (no_stop stop parts.0, equal.0, equal.1)),
   (λ (none, own, flags).
-      let all = equal_are count 0 logs in
+      let all = equal_are count hart logs in
       let closed_is : closed ≡ replicate (length (events_of_logs logs)) true =
       flags ∙ ap (λ lists. replicate (length lists) true) own in
-      subst (λ stop. is_compared_whole stop (gots_by count 0 lists closed) logs ≡ true) (sym none)
-      (subst (λ closed. are_whole (gots_by count 0 lists closed) logs ≡ true) (sym closed_is)
-      (subst (λ lists. are_whole (gots_by count 0 lists (replicate (length (events_of_logs logs)) true)) logs ≡ true)
+      subst (λ stop. is_compared_whole stop (gots_by count hart lists closed) logs ≡ true) (sym none)
+      (subst (λ closed. are_whole (gots_by count hart lists closed) logs ≡ true) (sym closed_is)
+      (subst (λ lists. are_whole (gots_by count hart lists (replicate (length (events_of_logs logs)) true)) logs ≡ true)
       (sym own) all))),
 )
+
+pub whole_equal : WholeIsEqual
+whole_equal count lists closed stop logs same many = whole_from 0 count lists closed stop logs same many

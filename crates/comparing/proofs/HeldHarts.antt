@@ -3,10 +3,12 @@ use Rattle.std.proofs.Common.{◌≡◌, ◌∙◌, ◌≤◌, ◌<◌, ◌+◌,
 use Rattle.std.proofs.Common.{length, refl, slice_get}
 use Rattle.std.proofs.lemmas.Option.{slice_get-get_or}
 use Rattle.captures.specs.Decoded.{IsDecoded}
+use Rattle.captures.specs.OfHarts.{IsDecodedOf}
 use Rattle.captures.specs.declared.outcome.CaptureFault.{CaptureFault}
-use Rattle.comparing.specs.Compared.{AreGot, got_by, gots_by}
+use Rattle.comparing.specs.Compared.{AreGot, AreGotOf, got_by, gots_by, of_harts}
 use Rattle.comparing.specs.Counts.{AreCounted, AreCounts, count_of}
 use Rattle.comparing.specs.declared.hart_count.HartCount.{HartCount}
+use Rattle.hart_range.specs.declared.range.HartRange.{HartRange}
 use Rattle.message.specs.declared.message.Message.{Message}
 use Rattle.retire.specs.declared.event.Event.{Event}
 use Rattle.rvclass.specs.Words.{Words}
@@ -47,6 +49,23 @@ held words harts bytes lists closed counts stop decoded counted = record {
   front = counted.front;
   each = same_gots (count_in counts) _ 0 (length lists) lists closed (omega arith)
       (counts_same (length lists) _ counts counted.are);
+}
+
+-- What is held of each of some harts is what the bytes of the capture decode to.
+pub held_of : (range : HartRange) (words : Words) (harts : ℕ) (bytes : List ℕ) (lists : List (List Event))
+    (closed : List Bool) (counts : List HartCount) (stop : Option (ℕ × CaptureFault))
+    → IsDecodedOf range words harts bytes lists closed stop → AreCounted bytes (length lists) stop counts
+    → AreGotOf range words harts bytes (of_harts range (gots_by (count_in counts) 0 lists closed)) stop
+held_of range words harts bytes lists closed counts stop decoded counted = record {
+  lists = lists;
+  closed = closed;
+  decoded = decoded;
+  header = counted.header;
+  messages = counted.messages;
+  end = counted.end;
+  front = counted.front;
+  each = ap (of_harts range) (same_gots (count_in counts) _ 0 (length lists) lists closed (omega arith)
+      (counts_same (length lists) _ counts counted.are));
 }
 
 -- What is held of a hart.

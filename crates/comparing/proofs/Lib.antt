@@ -5,3 +5,5 @@ pub mod EqualLogs
 pub mod HeldHarts
 pub mod LineTexts
 pub mod MessageBounds
+pub mod SomeHarts
+pub mod EqualHarts

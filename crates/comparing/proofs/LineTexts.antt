@@ -14,7 +14,7 @@ use Rattle.bench.specs.Report.{are_whole, is_whole_verdict, report_lines, result
 use Rattle.bench.specs.Verdict.{verdict}
 use Rattle.captures.specs.declared.outcome.CaptureFault.{CaptureFault}
 use Rattle.legalpath.specs.ProgramLog.{ProgramLog}
-use Rattle.comparing.specs.Compared.{comparison_text, is_compared_whole}
+use Rattle.comparing.specs.Compared.{comparison_text, comparison_text_of, is_compared_whole}
 use Rattle.comparing.specs.Lines.{are_whole_lines, is_whole_line, line_of, line_text, lines_of, lines_text}
 use Rattle.comparing.specs.declared.hart_line.ComparedHart.{ComparedHart}
 
@@ -72,14 +72,24 @@ whole_of_lines hart (got ∷ gots) (log ∷ logs) same =
     ap (λ rest. is_whole_verdict (verdict got.closed got.decoded log.events) && rest)
     (whole_of_lines (hart + 1) gots logs (omega (arith, same)))
 
-module _ (stop : Option (ℕ × CaptureFault)) (gots : List Got) (logs : List ProgramLog)
+module _ (hart : ℕ) (stop : Option (ℕ × CaptureFault)) (gots : List Got) (logs : List ProgramLog)
     (same : length logs ≡ length gots) where
   -- The lines are whole where the comparison is.
-  pub lines_whole : are_whole_lines (is_none stop) (lines_of 0 gots logs) ≡ is_compared_whole stop gots logs
-  lines_whole = ap (λ whole. is_none stop && whole) (whole_of_lines 0 gots logs same)
+  pub lines_whole_of : are_whole_lines (is_none stop) (lines_of hart gots logs) ≡ is_compared_whole stop gots logs
+  lines_whole_of = ap (λ whole. is_none stop && whole) (whole_of_lines hart gots logs same)
 
   -- What is written of them is the report.
+  pub lines_written_of : lines_text (is_none stop) (lines_of hart gots logs) ≡ comparison_text_of hart stop gots logs
+  lines_written_of =
+      ap (λ lines. lines ++ result_line (are_whole_lines (is_none stop) (lines_of hart gots logs)))
+      (texts_of_lines hart gots logs)
+      ∙ ap (λ whole. report_lines hart gots logs ++ result_line whole) lines_whole_of
+
+module _ (stop : Option (ℕ × CaptureFault)) (gots : List Got) (logs : List ProgramLog)
+    (same : length logs ≡ length gots) where
+  -- The same, where the first hart is 0.
+  pub lines_whole : are_whole_lines (is_none stop) (lines_of 0 gots logs) ≡ is_compared_whole stop gots logs
+  lines_whole = lines_whole_of 0 stop gots logs same
+
   pub lines_written : lines_text (is_none stop) (lines_of 0 gots logs) ≡ comparison_text stop gots logs
-  lines_written =
-      ap (λ lines. lines ++ result_line (are_whole_lines (is_none stop) (lines_of 0 gots logs))) (texts_of_lines 0 gots logs)
-      ∙ ap (λ whole. report_lines 0 gots logs ++ result_line whole) lines_whole
+  lines_written = lines_written_of 0 stop gots logs same

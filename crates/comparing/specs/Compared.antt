@@ -1,11 +1,13 @@
 -- What a capture has of logs.
-use Rattle.std.specs.Prelude.{ℕ, ◌+◌, ◌≡◌, ◌++◌, ◌&&◌, is_none, Bool, List, [], ◌∷◌, Option, length}
+use Rattle.std.specs.Prelude.{ℕ, ◌+◌, ◌-◌, ◌≡◌, ◌++◌, ◌&&◌, is_none, Bool, List, [], ◌∷◌, Option, drop, length, take}
 use Rattle.bench.specs.Got.{Got}
 use Rattle.bench.specs.Report.{are_whole, report_lines, result_line}
 use Rattle.bench.specs.Verdict.{count_alike}
 use Rattle.captures.specs.Decoded.{IsDecoded}
+use Rattle.captures.specs.OfHarts.{IsDecodedOf}
 use Rattle.captures.specs.Whole.{IsFront}
 use Rattle.captures.specs.declared.outcome.CaptureFault.{CaptureFault}
+use Rattle.hart_range.specs.declared.range.HartRange.{HartRange}
 use Rattle.legalpath.specs.ProgramLog.{ProgramLog}
 use Rattle.message.specs.declared.fault.MessageFault.{MessageFault}
 use Rattle.message.specs.declared.header.Header.{Header}
@@ -52,10 +54,32 @@ pub record AreGot (words : Words) (harts : ℕ) (bytes : List ℕ) (gots : List 
   pub front : IsFront bytes header messages end
   pub each : gots ≡ gots_by (count_of (before_stop stop messages)) 0 lists closed
 
+-- What there is of these harts, where there is something of each hart: from the first of them to the last.
+abbrev pub of_harts : {X : Type 0} → HartRange → List X → List X
+of_harts range each = take (range.last + 1 - range.first) (drop range.first each)
+
+-- The bytes of a capture decode to this of each of these harts that it has, and decoding them stops there. Messages of
+-- other harts are passed over. The messages of a hart are counted before that place.
+pub record AreGotOf (range : HartRange) (words : Words) (harts : ℕ) (bytes : List ℕ) (gots : List Got)
+    (stop : Option (ℕ × CaptureFault)) : Type 0 where
+  pub lists : List (List Event)
+  pub closed : List Bool
+  pub decoded : IsDecodedOf range words harts bytes lists closed stop
+  pub header : Option Header
+  pub messages : List Message
+  pub end : Option MessageFault
+  pub front : IsFront bytes header messages end
+  pub each : gots ≡ of_harts range (gots_by (count_of (before_stop stop messages)) 0 lists closed)
+
 -- Each hart's log came back whole, and decoding came to the end.
 abbrev pub is_compared_whole : Option (ℕ × CaptureFault) → List Got → List ProgramLog → Bool
 is_compared_whole stop gots logs = is_none stop && are_whole gots logs
 
--- The report of a comparison: a line for each hart, and one for the result.
+-- The report of a comparison: a line for each hart, of which the first has this number, and one for the result.
+abbrev pub comparison_text_of : ℕ → Option (ℕ × CaptureFault) → List Got → List ProgramLog → List ℕ
+comparison_text_of hart stop gots logs =
+    report_lines hart gots logs ++ result_line (is_compared_whole stop gots logs)
+
+-- The report of a comparison of all harts.
 abbrev pub comparison_text : Option (ℕ × CaptureFault) → List Got → List ProgramLog → List ℕ
-comparison_text stop gots logs = report_lines 0 gots logs ++ result_line (is_compared_whole stop gots logs)
+comparison_text stop gots logs = comparison_text_of 0 stop gots logs

@@ -1,16 +1,19 @@
 //! Messages of several harts and the captures that hold them: writing, also from lines of text, reading, dumping,
-//! listing, also as a table, and decoding.
+//! listing, also as a table, and decoding, of all harts or of some.
 
 pub use capture_lines::{LineFault, LinesFault, Settings, write_capture};
 pub use captures::{
     CaptureBytes, CaptureFault, CaptureFront, CaptureOutcome, Dumped, Form, HexLines, Offset,
-    ReadFault, ReadingText, WholeCapture, decode_capture, decode_watched, dump_capture,
-    dump_watched, encode_capture, encode_hart, encode_hex, hex_lines, read_front, read_messages,
-    write_bytes_line, write_header_line, write_message_line, write_start,
+    ReadFault, ReadingText, WholeCapture, decode_capture, decode_harts, decode_watched,
+    dump_capture, dump_harts, dump_watched, encode_capture, encode_hart, encode_hex, hex_lines,
+    read_front, read_messages, write_bytes_line, write_header_line, write_message_line,
+    write_start,
 };
 pub use hart_encoding::HartMessages;
-pub use listing::{Listed, list_capture, list_watched};
-pub use listing_table::write_listing_table;
+pub use hart_range::{HartRange, range_of};
+pub use hart_rows::{DecodedHarts, WatchSurvey, write_decoded, write_decoded_of};
+pub use listing::{Listed, list_capture, list_harts, list_watched};
+pub use listing_table::{write_harts_table, write_listing_table};
 pub use message::{
     Demux, DemuxFault, Header, MOST_HARTS, Message, MessageFault, Messages, Start, Version,
     read_message, read_start, write_header, write_message,

@@ -5,3 +5,4 @@ pub mod TrackLemmas
 pub mod RowLemmas
 pub mod SurveyLemmas
 pub mod WrittenLemmas
+pub mod AllHarts

@@ -1,12 +1,14 @@
 -- Places of messages, and one message more.
-use Rattle.std.proofs.Common.{◌≡◌, ◌≢◌, ◌⊎◌, inl, inr, ◌<◌, ◌≤◌, ◌+◌, ℕ, zero, suc, All, List, [], ◌∷◌, ◌++◌, Option}
+use Rattle.std.proofs.Common.{◌≡◌, ◌≢◌, ◌⊎◌, inl, inr, ◌<◌, ◌≤◌, ◌+◌, ℕ, zero, suc, true, false, true≢false, All, List, []}
+use Rattle.std.proofs.Common.{◌∷◌, ◌++◌, Bool}
 use Rattle.std.proofs.Common.{Some, None, Ok, drop, get_or, length, set, slice_get, take, arith, refl, sym, ap, subst, ◌∙◌, take-append-drop}
-use Rattle.std.proofs.lemmas.Bool.{cases_eq}
 use Rattle.std.proofs.lemmas.List.{append_assoc, drop-drop, drop_at, drop_more, length-append, length-drop, take_all, take_more}
 use Rattle.std.proofs.lemmas.List.Elements.{All-cons, All-nil}
 use Rattle.message.proofs.Elements.{All-slice_get}
-use Rattle.std.proofs.lemmas.Option.{same_Some}
 use Rattle.std.specs.declared.vec.Vec.{Vec}
+use Rattle.hart_range.proofs.Selecting.{selected-append}
+use Rattle.hart_range.specs.Range.{selected, selects}
+use Rattle.hart_range.specs.declared.range.HartRange.{HartRange}
 use Rattle.message.proofs.AcceptedLemmas.{answered, slice_get-set}
 use Rattle.message.proofs.OfHartLemmas.{of_hart-next, of_hart-other}
 use Rattle.message.specs.Accepted.{AreAccepted}
@@ -17,16 +19,36 @@ use Rattle.message.specs.Harts.{Harts}
 use Rattle.message.specs.OfHart.{of_hart}
 use Rattle.message.specs.declared.message.Message.{Message}
 use Rattle.receiver.proofs.AcceptLemmas.{packet_read}
-use Rattle.hart_rows.specs.steps.Placing.{AreAt, AreFirst, ArePlaced, IsAt, IsRead}
+use Rattle.hart_rows.specs.steps.Placing.{AreAt, AreFirst, ArePlaced, IsAt, IsReadOf}
 
--- Each message that a demultiplexer accepts has a packet.
-pub all_read : (expected : Harts) (messages : List Message) → AreAccepted expected messages → All IsRead messages
-all_read expected [] accepted = All-nil IsRead
-all_read expected (message ∷ messages) accepted =
-    let packet = answered (accepting expected message) accepted.0 in
-    let read = packet_read expected message (Ok packet.0) (sym packet.1) in
-    All-cons IsRead message messages (record { packet = packet.0; read = read })
-    (all_read (harts_after expected message) messages accepted.1)
+-- What is selected of a message and others behind it.
+pub selected_first : (range : HartRange) (message : Message) (messages : List Message)
+    → selects range message.hart ≡ true → selected range (message ∷ messages) ≡ message ∷ selected range messages
+selected_first range message messages is = rw is refl
+
+pub selected_others : (range : HartRange) (message : Message) (messages : List Message)
+    → selects range message.hart ≡ false → selected range (message ∷ messages) ≡ selected range messages
+selected_others range message messages is = rw is refl
+
+-- Each message of some harts has a packet, where a demultiplexer accepts all messages of these.
+pub all_read : (range : HartRange) (expected : Harts) (messages : List Message)
+    → AreAccepted expected (selected range messages) → All (IsReadOf range) messages
+all_read range expected [] accepted = All-nil (IsReadOf range)
+all_read range expected (message ∷ messages) accepted =
+    by_range (selects range message.hart) refl (λ expected. all_read range expected messages)
+  where
+    by_range : (is_selected : Bool) → selects range message.hart ≡ is_selected
+        → ((expected : Harts) → AreAccepted expected (selected range messages) → All (IsReadOf range) messages)
+        → All (IsReadOf range) (message ∷ messages)
+    by_range true is others =
+        let all = subst (AreAccepted expected) (selected_first range message messages is) accepted in
+        let packet = answered (accepting expected message) all.0 in
+        let read = packet_read expected message (Ok packet.0) (sym packet.1) in
+        All-cons (IsReadOf range) message messages (λ _. record { packet = packet.0; read = read })
+        (others (harts_after expected message) all.1)
+    by_range false other others =
+        All-cons (IsReadOf range) message messages (λ is. absurd (true≢false (sym is ∙ other)))
+        (others expected (subst (AreAccepted expected) (selected_others range message messages other) accepted))
 
 -- One place more, of one message more.
 pub places-push : (bytes places : List ℕ) (messages : List Message) (place : ℕ) (message : Message)
@@ -120,27 +142,27 @@ module _ {A : Type 0} (bytes : List ℕ) (places : List (Vec ℕ A)) (messages :
       some_none : (found : Vec ℕ A) → Some found ≡ None → ⊥
       some_none found is = cc
 
--- The places of the first messages are known, and the bytes of the others are left.
-pub record Places {A : Type 0} (bytes : List ℕ) (places : List (Vec ℕ A)) (left : List ℕ) (count : ℕ)
-    (messages : List Message) : Type 0 where
+-- The places of the first messages are known, as far as they are of some harts, and the bytes of the others are left.
+pub record Places {A : Type 0} (range : HartRange) (bytes : List ℕ) (places : List (Vec ℕ A)) (left : List ℕ)
+    (count : ℕ) (messages : List Message) : Type 0 where
   pub rest : List ℕ
   pub left_is : left ≡ capture (drop count messages) ++ rest
-  pub placed : ArePlaced bytes places (take count messages)
+  pub placed : ArePlaced bytes places (selected range (take count messages))
 
 -- At first none is.
-pub places_none : {A : Type 0} (bytes : List ℕ) (places : List (Vec ℕ A)) (left : List ℕ) (count : ℕ)
-    (messages : List Message) → All (λ (own : Vec ℕ A). own.items ≡ []) places → left ≡ bytes
-    → AreFirst bytes count messages → Places bytes places left 0 messages
-places_none bytes places left count messages empty same first = record {
+pub places_none : {A : Type 0} (range : HartRange) (bytes : List ℕ) (places : List (Vec ℕ A)) (left : List ℕ)
+    (count : ℕ) (messages : List Message) → All (λ (own : Vec ℕ A). own.items ≡ []) places → left ≡ bytes
+    → AreFirst range bytes count messages → Places range bytes places left 0 messages
+places_none range bytes places left count messages empty same first = record {
   rest = first.rest;
   left_is = same ∙ first.whole;
   placed = λ hart own is.
       subst (λ items. AreAt bytes items []) (sym (All-slice_get (λ (own : Vec ℕ _). own.items ≡ []) places hart own is empty)) tt;
 }
 
-module _ {A : Type 0} (bytes : List ℕ) (places : List (Vec ℕ A)) (left : List ℕ) (n count : ℕ)
-    (messages : List Message) (first : AreFirst bytes count messages) (are : Places bytes places left n messages)
-    (more : n < count) where
+module _ {A : Type 0} (range : HartRange) (bytes : List ℕ) (places : List (Vec ℕ A)) (left : List ℕ) (n count : ℕ)
+    (messages : List Message) (first : AreFirst range bytes count messages)
+    (are : Places range bytes places left n messages) (more : n < count) where
   -- The next message.
   abbrev pub next_message : Message
   next_message = get_or messages n any_message
@@ -161,32 +183,37 @@ module _ {A : Type 0} (bytes : List ℕ) (places : List (Vec ℕ A)) (left : Lis
       ∙ ap (λ ms. capture ms ++ are.rest) (drop_more messages n any_message within)
       ∙ append_assoc (message_bytes next_message) (capture (drop (n + 1) messages)) are.rest
 
-  -- It begins at the place where the bytes are left.
-  pub next_is_at : (place : ℕ) → place ≤ length bytes → drop place bytes ≡ left → IsAt bytes place next_message
-  next_is_at place fits here = record {
+  -- It begins at the place where the bytes are left. If it is of the harts in the range, its payload is a packet.
+  pub next_is_at : (place : ℕ) → place ≤ length bytes → drop place bytes ≡ left
+      → selects range next_message.hart ≡ true → IsAt bytes place next_message
+  next_is_at place fits here is = record {
     rest = next_left;
     within = fits;
     begins = here ∙ begins_next;
     ranges = next_is_message;
-    read = first.read n any_message within;
+    read = first.read n any_message within is;
   }
 
   -- With it one more is known.
   pub places_more : (places' : List (Vec ℕ A)) (left' : List ℕ) → left' ≡ next_left
-      → ArePlaced bytes places' (take n messages ++ next_message ∷ []) → Places bytes places' left' (n + 1) messages
+      → ArePlaced bytes places' (selected range (take n messages) ++ selected range (next_message ∷ []))
+      → Places range bytes places' left' (n + 1) messages
   places_more places' left' same placed = record {
     rest = are.rest;
     left_is = same;
-    placed = subst (ArePlaced bytes places') (sym (take_more messages n any_message within)) placed;
+    placed = subst (ArePlaced bytes places')
+        (sym (ap (selected range) (take_more messages n any_message within)
+        ∙ selected-append range (take n messages) (next_message ∷ []))) placed;
   }
 
 -- At last all are.
-pub places_all : {A : Type 0} (bytes : List ℕ) (places : List (Vec ℕ A)) (left : List ℕ) (n count : ℕ)
-    (messages : List Message) → AreFirst bytes count messages → Places bytes places left n messages → count ≤ n
-    → ArePlaced bytes places messages
-places_all bytes places left n count messages first are over =
+pub places_all : {A : Type 0} (range : HartRange) (bytes : List ℕ) (places : List (Vec ℕ A)) (left : List ℕ)
+    (n count : ℕ) (messages : List Message) → AreFirst range bytes count messages
+    → Places range bytes places left n messages → count ≤ n → ArePlaced bytes places (selected range messages)
+places_all range bytes places left n count messages first are over =
     let counted = first.counted in
-    subst (ArePlaced bytes places) (take_all n messages (omega (arith, over, counted))) are.placed
+    subst (λ ms. ArePlaced bytes places (selected range ms)) (take_all n messages (omega (arith, over, counted)))
+    are.placed
 
 -- The place behind a message.
 pub place_behind : (bytes left next : List ℕ) (place size : ℕ) (message : Message) → drop place bytes ≡ left

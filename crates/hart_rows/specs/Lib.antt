@@ -1,4 +1,5 @@
 pub mod EachHart
 pub mod HartsText
+pub mod Laws
 pub mod Written
 pub mod steps

@@ -5,18 +5,24 @@
 //! capture, which harts are closed, and where each hart's messages are. The second pass decodes one hart after the
 //! other, and writes its rows a piece at a time.
 //!
+//! [`write_decoded_of`] does the same of some harts alone: it passes over the messages of all others.
+//!
 //! So it holds 8 bytes a message, and one piece of events and of text, however many events there are. All memory is
 //! taken before anything is written.
 #![tactic(auto)]
 
 mod decoded;
 mod feeding;
+mod laws;
 mod packet_rows;
 mod placing;
 mod rows;
+mod selecting;
 mod surveying;
 mod tracking;
 mod watch;
 
-pub use decoded::{DecodedHarts, write_decoded};
+pub use decoded::{DecodedHarts, write_decoded, write_decoded_of};
+pub use laws::all_harts_are_decoded;
+pub use selecting::selects_hart;
 pub use watch::WatchSurvey;

@@ -1,26 +1,29 @@
 //! Where each hart's messages are.
 
-ghost use Rattle.std.specs.Prelude.{ℕ, ◌≡◌, ◌++◌, All, List, [], ◌∷◌, IfOk, OnOk, Ok, Some, length};
+ghost use Rattle.std.specs.Prelude.{ℕ, ◌≡◌, ◌++◌, true, All, List, [], ◌∷◌, IfOk, OnOk, Ok, Some, length};
+ghost use Rattle.hart_range.specs.Range.{selected, selects};
 ghost use Rattle.payload.specs.Reading.{reading};
 ghost use Rattle.payload.specs.declared.packet.Packet.{Packet as AnyPacket};
 ghost use Rattle.message.specs.declared.message.Message.{Message as AnyMessage};
 ghost use Rattle.hart_rows.specs.steps.Placing.{AreFirst, ArePlaced, IsAt};
 
+use hart_range::HartRange;
 use message::{Message, Messages};
 use payload::{Packet, unpack};
 use std::alloc::{AllocError, Allocator};
 
-/// Where the first `count` messages of these bytes begin, for each of so many harts as there are counts. A hart's count
-/// is how much memory is taken for it.
+/// Where those of the first `count` messages of these bytes begin that are of the harts in a range, for each of so many
+/// harts as there are counts. A hart's count is how much memory is taken for it.
 pub(crate) fn places_of<A: Allocator + Copy>(
     alloc: A,
+    range: HartRange,
     counts: &[usize],
     count: u64,
     bytes: &[u8],
 ) -> Result<Vec<Vec<usize, A>, A>, AllocError>
     ensures harts { IfOk result (λ places. length places.items ≡ length counts.now) }
-    ensures places { (messages : List AnyMessage) → AreFirst bytes.now count messages
-        → IfOk result (λ places. ArePlaced bytes.now places.items messages) }
+    ensures places { (messages : List AnyMessage) → AreFirst range bytes.now count messages
+        → IfOk result (λ places. ArePlaced bytes.now places.items (selected range messages)) }
 {
     let mut places = empty_lists(alloc, counts)?;
     let mut messages = Messages::new(bytes);
@@ -28,7 +31,7 @@ pub(crate) fn places_of<A: Allocator + Copy>(
     for _ in 0..count {
         match messages.next() {
             Ok(Some(message)) => {
-                add_place(&mut places, message.hart, place)?;
+                add_selected(&mut places, range, &message, place)?;
                 place += message.size();
             }
             Ok(None) => return Ok(places),
@@ -36,6 +39,25 @@ pub(crate) fn places_of<A: Allocator + Copy>(
         }
     }
     Ok(places)
+}
+
+/// Adds the place of a message to the list of its hart, if that is one of the harts in a range and there is a list.
+fn add_selected<A: Allocator>(
+    places: &mut Vec<Vec<usize, A>, A>,
+    range: HartRange,
+    message: &Message,
+    place: usize,
+) -> Result<(), AllocError>
+    ensures placed { (bytes : List ℕ) (messages : List AnyMessage) → ArePlaced bytes places.old.items messages
+        → (selects range message.now.hart ≡ true → IsAt bytes place message.now)
+        → OnOk result (ArePlaced bytes places.new.items (messages ++ selected range (message.now ∷ []))) }
+    ensures harts { length places.new.items ≡ length places.old.items }
+{
+    if range.selects(message.hart) {
+        add_place(places, message.hart, place)
+    } else {
+        Ok(())
+    }
 }
 
 /// Adds a place to the list of a hart, if there is one.

@@ -10,6 +10,7 @@ ghost use Rattle.hart_rows.specs.steps.Tracking.{IsTracker, received_of};
 use crate::placing::places_of;
 use crate::tracking::Tracker;
 use captures::CaptureFault;
+use hart_range::HartRange;
 use message::Messages;
 use payload::Mode;
 use retire::Event;
@@ -20,7 +21,7 @@ use watching::Watch;
 /// What the first pass finds.
 #[derive(Drop)]
 pub(crate) struct Survey<A: Allocator> {
-    /// Where each hart's messages begin, as far as they are decoded.
+    /// Where each hart's messages begin, as far as they are decoded. Those of a hart that is passed over are not.
     pub(crate) places: Vec<Vec<usize, A>, A>,
     /// Whether each hart's closing packet was decoded.
     pub(crate) closed: Vec<bool, A>,
@@ -31,23 +32,25 @@ pub(crate) struct Survey<A: Allocator> {
 /// Where the receiving of messages ends.
 #[derive(Clone, Copy)]
 pub(crate) struct End {
-    /// How many messages were received.
+    /// How many messages were received or passed over.
     pub(crate) received: u64,
     /// Why no more were, where the bytes do not end there.
     pub(crate) fault: Option<(u64, CaptureFault)>,
 }
 
-/// Surveys the messages of these bytes, of so many harts, where the header announces this mode, if there is a header.
-/// `watch` is told of each message that is received.
+/// Surveys the messages that these bytes have of the harts in a range, of so many harts, where the header announces this
+/// mode, if there is a header. Messages of other harts are passed over. `watch` is told of each message that is received
+/// or passed over.
 pub(crate) fn survey_messages<A: Allocator + Copy, V: Watch>(
     alloc: A,
     program: &ProgramOver,
     harts: u16,
+    range: HartRange,
     announced: Option<Mode>,
     bytes: &[u8],
     watch: &V,
 ) -> Result<Survey<A>, AllocError>
-    ensures { IfOk result (IsSurvey (words_of program.now) harts announced bytes.now) }
+    ensures { IfOk result (IsSurvey range (words_of program.now) harts announced bytes.now) }
 {
     let mut tracker = Tracker::new(alloc, harts)?;
     // It has no capacity, so no event is written.
@@ -56,12 +59,13 @@ pub(crate) fn survey_messages<A: Allocator + Copy, V: Watch>(
     let end = receive_all(
         &mut tracker,
         program,
+        range,
         announced,
         messages,
         &mut piece,
         watch,
     );
-    let places = places_of(alloc, tracker.counts.as_slice(), end.received, bytes)?;
+    let places = places_of(alloc, range, tracker.counts.as_slice(), end.received, bytes)?;
     Ok(Survey {
         places,
         closed: tracker.closed,
@@ -69,10 +73,12 @@ pub(crate) fn survey_messages<A: Allocator + Copy, V: Watch>(
     })
 }
 
-/// Receives messages, where the header announces this mode, if there is a header. Returns where that ends.
+/// Receives messages of the harts in a range, where the header announces this mode, if there is a header. Returns where
+/// that ends.
 fn receive_all<A: Allocator + Copy, V: Watch>(
     tracker: &mut Tracker<A>,
     program: &ProgramOver,
+    range: HartRange,
     announced: Option<Mode>,
     mut messages: Messages<'_>,
     piece: &mut Vec<Event, A>,
@@ -81,8 +87,8 @@ fn receive_all<A: Allocator + Copy, V: Watch>(
     requires tracker { IsTracker tracker.old }
     ensures surveyed { (harts : ℕ) (lists : List (List AnyEvent))
         → HasReceived (λ hart. words_of program.now) harts [] (received_of tracker.old lists)
-        → (more : List (List AnyEvent)) × IsSurveyedUpTo (words_of program.now) harts announced messages.entry
-        (received_of tracker.new more) result.received result.fault }
+        → (more : List (List AnyEvent)) × IsSurveyedUpTo range (words_of program.now) harts announced
+        messages.entry (received_of tracker.new more) result.received result.fault }
     ensures tracker { IsTracker tracker.new }
     ensures harts { length tracker.new.demux ≡ length tracker.old.demux }
 {
@@ -103,7 +109,7 @@ fn receive_all<A: Allocator + Copy, V: Watch>(
                 };
             }
         };
-        match tracker.receive(program, announced, &message, piece) {
+        match tracker.receive_selected(range, program, announced, &message, piece) {
             Ok(()) => {
                 received += 1;
                 watch.note(1);

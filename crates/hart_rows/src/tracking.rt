@@ -1,7 +1,8 @@
 //! The receiving end of several harts in the first pass: it keeps no events.
 
-ghost use Rattle.std.specs.Prelude.{ℕ, ◌≡◌, ◌≢◌, ◌<◌, ◌↔◌, ◌++◌, true, List, [], ◌∷◌, Ok, Err, IfErr, IfOk, OnErr, OnOk};
-ghost use Rattle.std.specs.Prelude.{length, replicate};
+ghost use Rattle.std.specs.Prelude.{ℕ, ◌≡◌, ◌≢◌, ◌<◌, ◌↔◌, ◌++◌, true, All, List, [], ◌∷◌, Ok, Err, IfErr, IfOk};
+ghost use Rattle.std.specs.Prelude.{OnErr, OnOk, length, replicate};
+ghost use Rattle.hart_range.specs.Range.{selected, selects};
 ghost use Rattle.retire.specs.declared.event.Event.{Event as AnyEvent};
 ghost use Rattle.rvclass.specs.Fetch.{words_of};
 ghost use Rattle.rvclass.specs.Words.{Words};
@@ -19,6 +20,7 @@ ghost use Rattle.hart_rows.specs.steps.Tracking.{IsTracker, received_of};
 
 use crate::feeding::feed_packet;
 use decoder::{DecodeFault, Decoder};
+use hart_range::HartRange;
 use message::{Demux, Message};
 use payload::{Mode, Packet};
 use receiver::{ReceiveFault, opens_another};
@@ -53,6 +55,39 @@ impl<A: Allocator + Copy> Tracker<A> {
             closed: vec![in alloc; false; count]?,
             counts: vec![in alloc; 0; count]?,
         })
+    }
+
+    /// Receives the message if it is of one of these harts, and passes it over else.
+    pub(crate) fn receive_selected(
+        &mut self,
+        range: HartRange,
+        program: &ProgramOver,
+        announced: Option<Mode>,
+        message: &Message,
+        piece: &mut Vec<Event, A>,
+    ) -> Result<(), ReceiveFault>
+        requires tracker { IsTracker self.old }
+        ensures received { (harts : ℕ) (messages : List AnyMessage) (lists : List (List AnyEvent))
+            → HasReceived (λ hart. words_of program.now) harts messages (received_of self.old lists)
+            → OnOk result ((more : List (List AnyEvent)) × HasReceived (λ hart. words_of program.now) harts
+            (messages ++ selected range (message.now ∷ [])) (received_of self.new more)) }
+        ensures held { (harts : ℕ) (messages : List AnyMessage) (lists : List (List AnyEvent))
+            → HasReceived (λ hart. words_of program.now) harts messages (received_of self.old lists)
+            → OnErr result (Holds (λ hart. words_of program.now) harts messages (received_of self.new lists)) }
+        ensures not_received { (harts : ℕ) (messages : List AnyMessage) (lists : List (List AnyEvent))
+            → HasReceived (λ hart. words_of program.now) harts messages (received_of self.old lists)
+            → IfErr result (λ fault. IsNotReceived (words_of program.now) harts announced messages message.now fault) }
+        ensures of_range { OnErr result (selects range message.now.hart ≡ true) }
+        ensures never_memory { ¬ (result ≡ Err (ReceiveFault.Decode Memory)) }
+        ensures agree { OnOk result (All (Agrees announced) (selected range (message.now ∷ []))) }
+        ensures tracker { IsTracker self.new }
+        ensures harts { length self.new.demux ≡ length self.old.demux }
+    {
+        if range.selects(message.hart) {
+            self.receive(program, announced, message, piece)
+        } else {
+            Ok(())
+        }
     }
 
     /// Accepts the message and decodes its packet; the events are thrown away. Where a mode was announced before, by

@@ -1,4 +1,6 @@
 pub mod ListedMessages
+pub mod PlacedMessages
+pub mod AllHarts
 pub mod TakenMessages
 pub mod Reaching
 pub mod NothingListed

@@ -2,6 +2,7 @@
 use Rattle.std.proofs.Common.{◌≡◌, ℕ, false, List, [], Option, None, replicate, refl}
 use Rattle.std.proofs.lemmas.List.{length-replicate}
 use Rattle.std.proofs.lemmas.List.Elements.{All-nil, All-replicate}
+use Rattle.hart_range.specs.declared.range.HartRange.{HartRange}
 use Rattle.rvclass.specs.Words.{Words}
 use Rattle.payload.specs.declared.mode.Mode.{Mode}
 use Rattle.decoder.specs.Describes.{Describes}
@@ -9,7 +10,7 @@ use Rattle.message.proofs.Elements.{All-slice_get}
 use Rattle.message.specs.Cut.{IsMessage}
 use Rattle.receiver.specs.Agreeing.{Agrees}
 use Rattle.receiver.specs.Holds.{AreDecoded}
-use Rattle.listing.specs.Listing.{AreMessagesListed}
+use Rattle.listing.specs.ListingOf.{AreMessagesListedOf}
 
 -- No messages decode to no events, and close no hart.
 pub none_decoded : (words : Words) (harts : ℕ)
@@ -27,9 +28,10 @@ none_decoded words harts = record {
 }
 
 -- They have no lines.
-unfoldable pub none_listed : (words : Words) (harts : ℕ) (announced : Option Mode) (symbols : Option (List ℕ)) (first : ℕ)
-    → AreMessagesListed words harts announced symbols first [] (replicate harts false) None []
-none_listed words harts announced symbols first = record {
+unfoldable pub none_listed : (words : Words) (only : HartRange) (harts : ℕ) (announced : Option Mode)
+    (symbols : Option (List ℕ)) (first : ℕ)
+    → AreMessagesListedOf words only harts announced symbols first [] (replicate harts false) None []
+none_listed words only harts announced symbols first = record {
   messages = [];
   rest = [];
   ranges = All-nil IsMessage;

@@ -1,6 +1,6 @@
 -- How far a capture was listed.
 use Rattle.std.proofs.Common.{◌≡◌, ◌⊎◌, inl, inr, ℕ, ◌+◌, ◌++◌, All, Bool, List, [], ◌∷◌, Option, Some, None, length}
-use Rattle.std.proofs.Common.{refl, sym, ap, subst, ◌∙◌, append-nil, arith}
+use Rattle.std.proofs.Common.{true, false, refl, sym, ap, subst, ◌∙◌, append-nil, arith}
 use Rattle.std.specs.Io.KnownBytes.{Appends}
 use Rattle.std.proofs.KnownBytes.{Appends-nil, Appends-trans}
 use Rattle.std.proofs.lemmas.List.{length-append, length_push}
@@ -8,6 +8,8 @@ use Rattle.std.proofs.lemmas.List.Elements.{All-nil, All-push}
 use Rattle.std.proofs.lemmas.Option.{same_Some}
 use Rattle.output.specs.Begun.{AppendsBeginning}
 use Rattle.output.proofs.Beginnings.{begun_behind}
+use Rattle.hart_range.specs.Range.{selected, selects}
+use Rattle.hart_range.specs.declared.range.HartRange.{HartRange}
 use Rattle.rvclass.specs.Words.{Words}
 use Rattle.payload.specs.declared.mode.Mode.{Mode}
 use Rattle.decoder.specs.declared.fault.DecodeFault.TheVariants as decoding
@@ -23,37 +25,42 @@ use Rattle.receiver.specs.Received.{Received}
 use Rattle.receiver.specs.declared.fault.ReceiveFault.{ReceiveFault}
 use Rattle.receiver.specs.declared.fault.ReceiveFault.TheVariants as receiving
 use Rattle.captures.proofs.Reaching.{capture_next}
-use Rattle.captures.specs.Decoded.{BeginsRefused, StopsDecoding, as_capture_fault}
+use Rattle.captures.specs.Decoded.{BeginsRefused, as_capture_fault}
 use Rattle.captures.specs.NoMessage.{BeginsNone}
 use Rattle.captures.specs.declared.outcome.CaptureFault.{CaptureFault}
 use Rattle.captures.specs.declared.outcome.CaptureFault.TheVariants as fault
-use Rattle.listing.proofs.ListedMessages.{effects-next, lines-next}
+use Rattle.listing.proofs.ListedMessages.{effects-next}
+use Rattle.listing.proofs.PlacedMessages.{effects_counted, lines-taken, placed-passed, selected-passed, selected-taken}
 use Rattle.listing.specs.Begun.{BeginsPart}
 use Rattle.listing.specs.Effect.{Effect, HaveEffects}
-use Rattle.listing.specs.Lines.{effect_line, effect_lines, offset_line, refused_line}
-use Rattle.listing.specs.Listing.{AppendsListing, AreMessagesListed, IsFaultLine, IsRefusedLine, naming_mode}
-use Rattle.listing.specs.steps.Message.{IsJudged, IsRefused, IsTaken, fault_line}
+use Rattle.listing.specs.Lines.{effect_line, offset_line, refused_line}
+use Rattle.listing.specs.Listing.{AppendsListing, IsFaultLine, IsRefusedLine, naming_mode}
+use Rattle.listing.specs.ListingOf.{AreMessagesListedOf, BeginsRefusedOf, StopsDecodingOf}
+use Rattle.listing.specs.Placed.{placed_lines, placed_of}
+use Rattle.listing.specs.steps.Message.{IsJudgedOf, IsRefused, IsTaken, Judged, Passed, fault_line}
 use Rattle.listing.specs.steps.Part.{IsPartOfMessages, OfAll, OfFront}
 
--- So many messages before the bytes that are left were received, with these effects. What is left stands at this
--- offset.
-pub record HasTaken (words : Words) (harts : ℕ) (announced : Option Mode) (first : ℕ) (bytes left : List ℕ)
-    (number offset : ℕ) (received : Received) : Type 0 where
+-- So many messages stand before the bytes that are left. Those of these harts were received, with these effects. What is
+-- left stands at this offset.
+pub record HasTaken (words : Words) (only : HartRange) (harts : ℕ) (announced : Option Mode) (first : ℕ)
+    (bytes left : List ℕ) (number offset : ℕ) (received : Received) : Type 0 where
   pub messages : List Message
   pub counted : number ≡ length messages
   pub ranges : All IsMessage messages
   pub whole : bytes ≡ capture messages ++ left
-  pub agree : All (Agrees announced) messages
-  pub takes : HasReceived (λ hart. words) harts messages received
+  pub agree : All (Agrees announced) (selected only messages)
+  pub takes : HasReceived (λ hart. words) harts (selected only messages) received
   pub effects : List Effect
-  pub have : HaveEffects words [] messages effects
+  pub have : HaveEffects words [] (selected only messages) effects
   pub stands : offset ≡ first + length (capture messages)
 
 -- And their lines were written.
-pub record HasListed (words : Words) (harts : ℕ) (announced : Option Mode) (symbols : Option (List ℕ)) (first : ℕ)
-    (bytes left : List ℕ) (number offset : ℕ) (received : Received) (old new : Option (List ℕ)) : Type 0 where
-  pub taken : HasTaken words harts announced first bytes left number offset received
-  pub text : Appends old new (effect_lines symbols (naming_mode announced) first taken.messages taken.effects)
+pub record HasListed (words : Words) (only : HartRange) (harts : ℕ) (announced : Option Mode)
+    (symbols : Option (List ℕ)) (first : ℕ) (bytes left : List ℕ) (number offset : ℕ) (received : Received)
+    (old new : Option (List ℕ)) : Type 0 where
+  pub taken : HasTaken words only harts announced first bytes left number offset received
+  pub text : Appends old new
+      (placed_lines symbols (naming_mode announced) (placed_of only 0 first taken.messages) taken.effects)
 
 -- The refused message behind the bytes that decode has its line.
 pub fault_line_is : (mode : Mode) (offset : ℕ) (m : Message) (next left : List ℕ) (why : ReceiveFault) → IsMessage m
@@ -71,21 +78,22 @@ fault_line_is mode offset m next left why is here = by_fault why
     by_fault (receiving.Decode decoding.Memory) = refl
     by_fault (receiving.Decode d) = line
 
-module _ (words : Words) (harts : ℕ) (announced : Option Mode) (symbols : Option (List ℕ)) (first : ℕ)
-    (bytes : List ℕ) where
+module _ (words : Words) (only : HartRange) (harts : ℕ) (announced : Option Mode) (symbols : Option (List ℕ))
+    (first : ℕ) (bytes : List ℕ) where
   abbrev Takes : List ℕ → ℕ → ℕ → Received → Type 0
-  Takes left number offset received = HasTaken words harts announced first bytes left number offset received
+  Takes left number offset received = HasTaken words only harts announced first bytes left number offset received
 
   abbrev Lists : List ℕ → ℕ → ℕ → Received → Option (List ℕ) → Option (List ℕ) → Type 0
   Lists left number offset received old new =
-      HasListed words harts announced symbols first bytes left number offset received old new
+      HasListed words only harts announced symbols first bytes left number offset received old new
 
   abbrev lines_of : List Message → List Effect → List ℕ
-  lines_of messages effects = effect_lines symbols (naming_mode announced) first messages effects
+  lines_of messages effects =
+      placed_lines symbols (naming_mode announced) (placed_of only 0 first messages) effects
 
   abbrev AreListed : List ℕ → List Bool → Option (ℕ × CaptureFault) → List ℕ → Type 0
   AreListed bytes closed stop text =
-      AreMessagesListed words harts announced symbols first bytes closed stop text
+      AreMessagesListedOf words only harts announced symbols first bytes closed stop text
 
   -- At first none was.
   unfoldable pub listed_none : (received : Received) (old : Option (List ℕ)) → HasReceived (λ hart. words) harts [] received
@@ -116,7 +124,7 @@ module _ (words : Words) (harts : ℕ) (announced : Option Mode) (symbols : Opti
     accepted = r.takes.accepts.accepted;
     agree = r.agree;
     lists = received.lists;
-    decoded = holds_decoded (λ hart. words) harts r.messages received r.takes.holds;
+    decoded = holds_decoded (λ hart. words) harts (selected only r.messages) received r.takes.holds;
     stops = refl;
     effects = r.effects;
     have = r.have;
@@ -167,7 +175,7 @@ module _ (words : Words) (harts : ℕ) (announced : Option Mode) (symbols : Opti
         accepted = so_far.takes.accepts.accepted;
         agree = so_far.agree;
         lists = received.lists;
-        decoded = holds_decoded (λ hart. words) harts so_far.messages received so_far.takes.holds;
+        decoded = holds_decoded (λ hart. words) harts (selected only so_far.messages) received so_far.takes.holds;
         stops = (so_far.counted, none_by left why either cut bad);
         effects = so_far.effects;
         have = so_far.have;
@@ -187,7 +195,7 @@ module _ (words : Words) (harts : ℕ) (announced : Option Mode) (symbols : Opti
 
       -- A beginning of it was.
       pub cut_begun : AppendsBeginning (offset_line offset) mid new
-          → BeginsPart (IsPartOfMessages words harts announced symbols first bytes) old new
+          → BeginsPart (IsPartOfMessages words only harts announced symbols first bytes) old new
       cut_begun begun = record {
         text = lines ++ offset_line offset;
         part = OfAll received.closed (Some (number, fault.Message why)) cut_listed;
@@ -196,56 +204,109 @@ module _ (words : Words) (harts : ℕ) (announced : Option Mode) (symbols : Opti
 
     module _ (next : List ℕ) (after : Received) (m : Message) (is : IsMessage m) (here : left ≡ message_bytes m ++ next)
       where
-        -- One more message is received.
-        unfoldable pub taken_more : (line : List ℕ)
-            → IsTaken words harts announced symbols offset so_far.messages m after line
-            → Takes next (number + 1) (offset + length (message_bytes m)) after
-        taken_more line taken =
+        -- The messages of these harts before it.
+        abbrev before : List Message
+        before = selected only so_far.messages
+
+        -- It stands behind the others.
+        pub counted_more : number + 1 ≡ length (so_far.messages ++ m ∷ [])
+        counted_more = ap (λ n. n + 1) so_far.counted ∙ sym (length_push so_far.messages m)
+
+        pub whole_more : bytes ≡ capture (so_far.messages ++ m ∷ []) ++ next
+        whole_more =
+            so_far.whole ∙ ap (λ rest. capture so_far.messages ++ rest) here
+            ∙ sym (capture_next so_far.messages m next)
+
+        pub stands_more : offset + length (message_bytes m) ≡ first + length (capture (so_far.messages ++ m ∷ []))
+        stands_more =
             let stands = so_far.stands in
             let size = ap length (capture_next so_far.messages m []) in
             let front = length-append (capture (so_far.messages ++ m ∷ [])) [] in
             let behind = length-append (capture so_far.messages) (message_bytes m ++ []) in
             let last = length-append (message_bytes m) [] in
+            omega (arith, stands, size, front, behind, last)
+
+        -- One more message of these harts is received.
+        unfoldable pub taken_more : (line : List ℕ) → selects only m.hart ≡ true
+            → IsTaken words harts announced symbols offset before m after line
+            → Takes next (number + 1) (offset + length (message_bytes m)) after
+        taken_more line chosen taken =
+            let same = sym (selected-taken only so_far.messages m chosen) in
             record {
               messages = so_far.messages ++ m ∷ [];
-              counted = ap (λ n. n + 1) so_far.counted ∙ sym (length_push so_far.messages m);
+              counted = counted_more;
               ranges = All-push IsMessage so_far.messages m so_far.ranges is;
-              whole = so_far.whole ∙ ap (λ rest. capture so_far.messages ++ rest) here
-                  ∙ sym (capture_next so_far.messages m next);
-              agree = All-push (Agrees announced) so_far.messages m so_far.agree taken.agrees;
-              takes = taken.receives;
+              whole = whole_more;
+              agree = subst (All (Agrees announced)) same
+                  (All-push (Agrees announced) before m so_far.agree taken.agrees);
+              takes = subst (λ messages. HasReceived (λ hart. words) harts messages after) same taken.receives;
               effects = so_far.effects ++ taken.effect ∷ [];
-              have = effects-next words [] so_far.messages so_far.effects m taken.effect so_far.have taken.has;
-              stands = omega (arith, stands, size, front, behind, last);
+              have = subst
+                  (λ messages. HaveEffects words [] messages (so_far.effects ++ taken.effect ∷ [])) same
+                  (effects-next words [] before so_far.effects m taken.effect so_far.have taken.has);
+              stands = stands_more;
+            }
+
+        -- One more message of another hart is passed over.
+        unfoldable pub passed_more : selects only m.hart ≡ false → HasReceived (λ hart. words) harts before after
+            → Takes next (number + 1) (offset + length (message_bytes m)) after
+        passed_more passed has =
+            let same = sym (selected-passed only so_far.messages m passed) in
+            record {
+              messages = so_far.messages ++ m ∷ [];
+              counted = counted_more;
+              ranges = All-push IsMessage so_far.messages m so_far.ranges is;
+              whole = whole_more;
+              agree = subst (All (Agrees announced)) same so_far.agree;
+              takes = subst (λ messages. HasReceived (λ hart. words) harts messages after) same has;
+              effects = so_far.effects;
+              have = subst (λ messages. HaveEffects words [] messages so_far.effects) same so_far.have;
+              stands = stands_more;
             }
 
         -- Its line stands behind the others.
-        line_behind : (line : List ℕ)
-            → (taken : IsTaken words harts announced symbols offset so_far.messages m after line)
+        line_behind : (line : List ℕ) → selects only m.hart ≡ true
+            → (taken : IsTaken words harts announced symbols offset before m after line)
             → lines_of (so_far.messages ++ m ∷ []) (so_far.effects ++ taken.effect ∷ []) ≡ lines ++ line
-        line_behind line taken =
-            lines-next words symbols (naming_mode announced) [] first so_far.messages so_far.effects m taken.effect
-            so_far.have
+        line_behind line chosen taken =
+            lines-taken symbols (naming_mode announced) only first so_far.messages so_far.effects m taken.effect chosen
+            (effects_counted words [] before so_far.effects so_far.have)
             ∙ ap (λ l. lines ++ l)
             (sym (taken.text ∙ ap (λ at. effect_line symbols (naming_mode announced) at m taken.effect) so_far.stands))
 
+        -- A message that is passed over has none.
+        lines_stay : selects only m.hart ≡ false → lines_of (so_far.messages ++ m ∷ []) so_far.effects ≡ lines
+        lines_stay passed =
+            ap (λ l. placed_lines symbols (naming_mode announced) l so_far.effects)
+            (placed-passed only 0 first so_far.messages m passed)
+
         -- And then it is written.
-        pub listed_more : (line : List ℕ) (new : Option (List ℕ))
-            → IsTaken words harts announced symbols offset so_far.messages m after line
+        listed_more : (line : List ℕ) (new : Option (List ℕ)) → selects only m.hart ≡ true
+            → IsTaken words harts announced symbols offset before m after line
             → Appends mid new line
             → Lists next (number + 1) (offset + length (message_bytes m)) after old new
         unfolding taken_more
-        listed_more line new taken written = record {
-          taken = taken_more line taken;
-          text = subst (Appends old new) (sym (line_behind line taken))
+        listed_more line new chosen taken written = record {
+          taken = taken_more line chosen taken;
+          text = subst (Appends old new) (sym (line_behind line chosen taken))
               (Appends-trans old mid new lines line r.text written);
         }
 
+        passed_listed : (new : Option (List ℕ)) → selects only m.hart ≡ false
+            → HasReceived (λ hart. words) harts before after → Appends mid new []
+            → Lists next (number + 1) (offset + length (message_bytes m)) after old new
+        unfolding passed_more
+        passed_listed new passed has written = record {
+          taken = passed_more passed has;
+          text = subst (Appends old new) (append-nil lines ∙ sym (lines_stay passed))
+              (Appends-trans old mid new lines [] r.text written);
+        }
+
         -- The message behind them is refused, and has its line.
-        unfoldable pub refused_listed : (why : ReceiveFault) (line : List ℕ)
-            → IsRefused words harts announced offset so_far.messages m after why line
+        unfoldable pub refused_listed : (why : ReceiveFault) (line : List ℕ) → selects only m.hart ≡ true
+            → IsRefused words harts announced offset before m after why line
             → AreListed bytes after.closed (Some (number, as_capture_fault why)) (lines ++ line)
-        refused_listed why line refused = record {
+        refused_listed why line chosen refused = record {
           messages = so_far.messages;
           rest = left;
           ranges = so_far.ranges;
@@ -253,8 +314,8 @@ module _ (words : Words) (harts : ℕ) (announced : Option Mode) (symbols : Opti
           accepted = so_far.takes.accepts.accepted;
           agree = so_far.agree;
           lists = after.lists;
-          decoded = holds_decoded (λ hart. words) harts so_far.messages after refused.holds;
-          stops = (so_far.counted, stops why begins);
+          decoded = holds_decoded (λ hart. words) harts before after refused.holds;
+          stops = (so_far.counted, stops why (record { refused = begins; is_of_these = chosen }));
           effects = so_far.effects;
           have = so_far.have;
           last = line;
@@ -266,67 +327,81 @@ module _ (words : Words) (harts : ℕ) (announced : Option Mode) (symbols : Opti
           lines = refl;
         }
           where
-            begins : BeginsRefused words harts announced so_far.messages left why
+            begins : BeginsRefused words harts announced before left why
             begins = record { message = m; rest = next; ranges = is; begins = here; refused = refused.refused }
 
-            stops : (why : ReceiveFault) → BeginsRefused words harts announced so_far.messages left why
-                → StopsDecoding words harts announced so_far.messages left (as_capture_fault why)
+            stops : (why : ReceiveFault) → BeginsRefusedOf words only harts announced so_far.messages left why
+                → StopsDecodingOf words only harts announced so_far.messages left (as_capture_fault why)
             stops (receiving.Demux why) b = b
             stops receiving.Mode b = b
             stops (receiving.Decode why) b = b
 
         -- Its line was written behind the others.
-        pub refused_written : (why : ReceiveFault) (stop : CaptureFault) (line : List ℕ) (new : Option (List ℕ))
-            → IsRefused words harts announced offset so_far.messages m after why line
+        refused_written : (why : ReceiveFault) (stop : CaptureFault) (line : List ℕ) (new : Option (List ℕ))
+            → selects only m.hart ≡ true → IsRefused words harts announced offset before m after why line
             → stop ≡ as_capture_fault why
             → Appends mid new line
             → AppendsListing (AreListed bytes) after.closed (Some (number, stop)) old new
-        refused_written why stop line new refused is_stop written =
+        refused_written why stop line new chosen refused is_stop written =
             subst (λ stop. AppendsListing (AreListed bytes) after.closed (Some (number, stop)) old new) (sym is_stop)
             (record {
               text = lines ++ line;
-              listed = refused_listed why line refused;
+              listed = refused_listed why line chosen refused;
               appended = Appends-trans old mid new lines line r.text written;
             })
 
         -- A beginning of the line of the message behind them was written.
         pub next_begun : (why : Option ReceiveFault) (line : List ℕ) (new : Option (List ℕ))
-            → IsJudged words harts announced symbols offset so_far.messages m after why line
+            → IsJudgedOf words only harts announced symbols offset before m after why line
             → AppendsBeginning line mid new
-            → BeginsPart (IsPartOfMessages words harts announced symbols first bytes) old new
-        unfolding taken_more
-        next_begun None line new taken begun =
-            let more = taken_more line taken in
+            → BeginsPart (IsPartOfMessages words only harts announced symbols first bytes) old new
+        unfolding taken_more passed_more
+        next_begun None line new (Judged chosen taken) begun =
+            let more = taken_more line chosen taken in
             record {
               text = lines ++ line;
               part = OfFront (capture more.messages) next after.closed more.whole
-                  (subst (AreListed (capture more.messages) after.closed None) (line_behind line taken)
+                  (subst (AreListed (capture more.messages) after.closed None) (line_behind line chosen taken)
                   (front_listed next (number + 1) (offset + length (message_bytes m)) after more));
               begun = begun_behind lines line old mid new r.text begun;
             }
-        next_begun (Some why) line new refused begun = record {
+        next_begun None line new (Passed passed has none nothing) begun =
+            let more = passed_more passed has in
+            record {
+              text = lines ++ line;
+              part = OfFront (capture more.messages) next after.closed more.whole
+                  (subst (AreListed (capture more.messages) after.closed None)
+                  (lines_stay passed ∙ sym (append-nil lines) ∙ ap (λ l. lines ++ l) (sym nothing))
+                  (front_listed next (number + 1) (offset + length (message_bytes m)) after more));
+              begun = begun_behind lines line old mid new r.text begun;
+            }
+        next_begun (Some why) line new (Judged chosen refused) begun = record {
           text = lines ++ line;
-          part = OfAll after.closed (Some (number, as_capture_fault why)) (refused_listed why line refused);
+          part = OfAll after.closed (Some (number, as_capture_fault why)) (refused_listed why line chosen refused);
           begun = begun_behind lines line old mid new r.text begun;
         }
+        next_begun (Some why) line new (Passed passed has none nothing) begun = cc
 
-        -- The message was received, if no fault was found,
+        -- The message was received or passed over, if no fault was found,
         pub judged_more : (found : Option ReceiveFault) (line : List ℕ) (new : Option (List ℕ)) → found ≡ None
-            → IsJudged words harts announced symbols offset so_far.messages m after found line
+            → IsJudgedOf words only harts announced symbols offset before m after found line
             → Appends mid new line
             → Lists next (number + 1) (offset + length (message_bytes m)) after old new
-        judged_more None line new none taken written = listed_more line new taken written
-        judged_more (Some why) line new none refused written = cc
+        judged_more None line new none (Judged chosen taken) written = listed_more line new chosen taken written
+        judged_more None line new none (Passed passed has never nothing) written =
+            passed_listed new passed has (subst (Appends mid new) nothing written)
+        judged_more (Some why) line new none judged written = cc
 
         -- and else it was refused.
         pub judged_refused : (found : Option ReceiveFault) (why : ReceiveFault) (stop : CaptureFault) (line : List ℕ)
             (new : Option (List ℕ)) → found ≡ Some why
-            → IsJudged words harts announced symbols offset so_far.messages m after found line
+            → IsJudgedOf words only harts announced symbols offset before m after found line
             → stop ≡ as_capture_fault why
             → Appends mid new line
             → AppendsListing (AreListed bytes) after.closed (Some (number, stop)) old new
-        judged_refused None why stop line new some taken is_stop written = cc
-        judged_refused (Some other) why stop line new some refused is_stop written =
-            refused_written why stop line new
-            (subst (λ why. IsRefused words harts announced offset so_far.messages m after why line)
-            (same_Some other why some) refused) is_stop written
+        judged_refused None why stop line new some judged is_stop written = cc
+        judged_refused (Some other) why stop line new some (Judged chosen refused) is_stop written =
+            refused_written why stop line new chosen
+            (subst (λ why. IsRefused words harts announced offset before m after why line) (same_Some other why some)
+            refused) is_stop written
+        judged_refused (Some other) why stop line new some (Passed passed has none nothing) is_stop written = cc

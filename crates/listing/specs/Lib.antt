@@ -4,4 +4,7 @@ pub mod PacketEnding
 pub mod Lines
 pub mod Listing
 pub mod Begun
+pub mod Placed
+pub mod ListingOf
+pub mod BegunOf
 pub mod steps

@@ -7,15 +7,18 @@ ghost use Rattle.output.specs.Begun.{AppendsBeginning};
 ghost use Rattle.rvclass.specs.Fetch.{words_of};
 ghost use Rattle.receiver.specs.Holds.{HasReceived};
 ghost use Rattle.listing.specs.Begun.{BeginsPart, IsPartOfListing};
-ghost use Rattle.listing.specs.Listing.{AppendsListing, AreMessagesListed, IsListing};
+ghost use Rattle.listing.specs.BegunOf.{IsPartOfListingOf};
+ghost use Rattle.listing.specs.Listing.{AppendsListing, IsListing};
+ghost use Rattle.listing.specs.ListingOf.{AreMessagesListedOf, IsListingOf};
 ghost use Rattle.listing.specs.steps.Part.{IsPartOfMessages};
 ghost use Rattle.listing.specs.steps.Started.{IsListedBehind, IsPartBehind, announced_by, first_offset, harts_by};
 ghost use Rattle.listing.specs.steps.Started.{start_text};
 
 use crate::lines::write_offset_line;
-use crate::message_listing::list_message;
+use crate::message_listing::list_selected;
 use crate::outcome::Listed;
 use captures::{CaptureFault, write_header_line};
+use hart_range::HartRange;
 use message::{Header, MessageFault, Messages};
 use payload::Mode;
 use receiver::Receiver;
@@ -87,10 +90,46 @@ pub fn list_watched<A: Allocator + Copy, S: Allocator, W: Write, V: Watch>(
         (W.contents sink.old) (W.contents sink.new)) }
     ensures memory { result ≡ Err WriteFault.Memory → sink.new ≡ sink.old }
 {
+    list_harts(
+        alloc,
+        program,
+        harts,
+        HartRange::ALL,
+        capture,
+        symbols,
+        sink,
+        watch,
+    )
+}
+
+/// Writes what each message of some harts of a capture says and settles as [`list_watched`] does, where `only` says
+/// which. Messages of all other harts are passed over unjudged: they are not received, have no line, and cause no fault,
+/// whatever they are, also those of harts that the capture does not have. Offsets and the place in [`Listed::fault`] count
+/// them all the same, `watch` is told of them, and the line of a header is as it is.
+///
+/// In [`Listed::closed`] a hart that is not among `only` is not closed.
+pub fn list_harts<A: Allocator + Copy, S: Allocator, W: Write, V: Watch>(
+    alloc: A,
+    program: &ProgramOver,
+    harts: u16,
+    only: HartRange,
+    capture: &[u8],
+    symbols: Option<&Symbols<S>>,
+    sink: &mut W,
+    watch: &V,
+) -> Result<Listed<A>, WriteFault>
+    ensures listed { IfOk result (λ listed. AppendsListing
+        (IsListingOf (words_of program.now) only harts (option_map (λ file. file.now) symbols.entry) capture.now)
+        listed.closed.items listed.fault (W.contents sink.old) (W.contents sink.new)) }
+    ensures begun { OnErr result (BeginsPart
+        (IsPartOfListingOf (words_of program.now) only harts (option_map (λ file. file.now) symbols.entry) capture.now)
+        (W.contents sink.old) (W.contents sink.new)) }
+    ensures memory { result ≡ Err WriteFault.Memory → sink.new ≡ sink.old }
+{
     let mut messages = Messages::new(capture);
     match messages.header() {
         Ok(header) => list_behind(
-            alloc, program, harts, header, messages, symbols, sink, watch,
+            alloc, program, harts, only, header, messages, symbols, sink, watch,
         ),
         Err(fault) => list_nothing(alloc, harts, fault),
     }
@@ -112,11 +151,13 @@ fn list_nothing<A: Allocator>(
     })
 }
 
-/// Lists the messages after a header, or those of a capture that has none, and before them the header's line.
+/// Lists the messages of these harts after a header, or those of a capture that has none, and before them the header's
+/// line.
 fn list_behind<A: Allocator + Copy, S: Allocator, W: Write, V: Watch>(
     alloc: A,
     program: &ProgramOver,
     harts: u16,
+    only: HartRange,
     header: Option<Header>,
     messages: Messages<'_>,
     symbols: Option<&Symbols<S>>,
@@ -124,10 +165,10 @@ fn list_behind<A: Allocator + Copy, S: Allocator, W: Write, V: Watch>(
     watch: &V,
 ) -> Result<Listed<A>, WriteFault>
     requires { first_offset header + length messages < 2 ^ 64 }
-    ensures listed { IfOk result (λ listed. AppendsListing (IsListedBehind (words_of program.now) harts header
+    ensures listed { IfOk result (λ listed. AppendsListing (IsListedBehind (words_of program.now) only harts header
         (option_map (λ file. file.now) symbols.entry) messages.entry) listed.closed.items listed.fault
         (W.contents sink.old) (W.contents sink.new)) }
-    ensures begun { OnErr result (BeginsPart (IsPartBehind (words_of program.now) harts header
+    ensures begun { OnErr result (BeginsPart (IsPartBehind (words_of program.now) only harts header
         (option_map (λ file. file.now) symbols.entry) messages.entry) (W.contents sink.old) (W.contents sink.new)) }
     ensures memory { result ≡ Err WriteFault.Memory → sink.new ≡ sink.old }
 {
@@ -135,6 +176,7 @@ fn list_behind<A: Allocator + Copy, S: Allocator, W: Write, V: Watch>(
     let fault = list_started(
         &mut receiver,
         program,
+        only,
         header,
         messages,
         symbols,
@@ -187,10 +229,12 @@ fn write_start<W: Write>(header: Option<Header>, sink: &mut W) -> Result<(), Wri
     }
 }
 
-/// Lists the messages after a header with a receiver that received none, and before them the header's line.
+/// Lists the messages of these harts after a header with a receiver that received none, and before them the header's
+/// line.
 fn list_started<A: Allocator + Copy, S: Allocator, W: Write, V: Watch>(
     receiver: &mut Receiver<A>,
     program: &ProgramOver,
+    only: HartRange,
     header: Option<Header>,
     messages: Messages<'_>,
     symbols: Option<&Symbols<S>>,
@@ -201,12 +245,12 @@ fn list_started<A: Allocator + Copy, S: Allocator, W: Write, V: Watch>(
     requires none { (harts : ℕ) × HasReceived (λ hart. words_of program.now) harts [] receiver.old }
     ensures listed { (harts : ℕ)
         → HasReceived (λ hart. words_of program.now) (harts_by header harts) [] receiver.old
-        → IfOk result (λ stop. AppendsListing (IsListedBehind (words_of program.now) harts header
+        → IfOk result (λ stop. AppendsListing (IsListedBehind (words_of program.now) only harts header
         (option_map (λ file. file.now) symbols.entry) messages.entry) receiver.new.closed stop
         (W.contents sink.old) (W.contents sink.new)) }
     ensures begun { (harts : ℕ)
         → HasReceived (λ hart. words_of program.now) (harts_by header harts) [] receiver.old
-        → OnErr result (BeginsPart (IsPartBehind (words_of program.now) harts header
+        → OnErr result (BeginsPart (IsPartBehind (words_of program.now) only harts header
         (option_map (λ file. file.now) symbols.entry) messages.entry) (W.contents sink.old) (W.contents sink.new)) }
     ensures fault { IfErr result (λ fault. fault ≡ WriteFault.Write) }
 {
@@ -214,6 +258,7 @@ fn list_started<A: Allocator + Copy, S: Allocator, W: Write, V: Watch>(
     list_messages(
         receiver,
         program,
+        only,
         announced_by(header),
         first_offset(header),
         messages,
@@ -223,11 +268,12 @@ fn list_started<A: Allocator + Copy, S: Allocator, W: Write, V: Watch>(
     )
 }
 
-/// Lists messages with a receiver that received none. The first of them has this offset. Returns where that stops
-/// before their end, and why.
+/// Lists the messages of these harts with a receiver that received none. The first of all messages has this offset.
+/// Returns where that stops before their end, and why.
 fn list_messages<A: Allocator + Copy, S: Allocator, W: Write, V: Watch>(
     receiver: &mut Receiver<A>,
     program: &ProgramOver,
+    only: HartRange,
     announced: Option<Mode>,
     first: u64,
     mut messages: Messages<'_>,
@@ -238,11 +284,11 @@ fn list_messages<A: Allocator + Copy, S: Allocator, W: Write, V: Watch>(
     requires room { first + length messages < 2 ^ 64 }
     requires none { (harts : ℕ) × HasReceived (λ hart. words_of program.now) harts [] receiver.old }
     ensures listed { (harts : ℕ) → HasReceived (λ hart. words_of program.now) harts [] receiver.old
-        → IfOk result (λ stop. AppendsListing (AreMessagesListed (words_of program.now) harts announced
+        → IfOk result (λ stop. AppendsListing (AreMessagesListedOf (words_of program.now) only harts announced
         (option_map (λ file. file.now) symbols.entry) first messages.entry) receiver.new.closed stop
         (W.contents sink.old) (W.contents sink.new)) }
     ensures begun { (harts : ℕ) → HasReceived (λ hart. words_of program.now) harts [] receiver.old
-        → OnErr result (BeginsPart (IsPartOfMessages (words_of program.now) harts announced
+        → OnErr result (BeginsPart (IsPartOfMessages (words_of program.now) only harts announced
         (option_map (λ file. file.now) symbols.entry) first messages.entry)
         (W.contents sink.old) (W.contents sink.new)) }
     ensures fault { IfErr result (λ fault. fault ≡ WriteFault.Write) }
@@ -258,8 +304,8 @@ fn list_messages<A: Allocator + Copy, S: Allocator, W: Write, V: Watch>(
                 return Ok(Some((number, CaptureFault::Message(fault))));
             }
         };
-        match list_message(
-            receiver, program, announced, symbols, offset, &message, sink,
+        match list_selected(
+            receiver, program, only, announced, symbols, offset, &message, sink,
         )? {
             None => {
                 number += 1;

@@ -9,9 +9,10 @@ ghost use Rattle.message.specs.declared.message.Message.{Message as AnyMessage};
 ghost use Rattle.receiver.specs.Holds.{HasReceived};
 ghost use Rattle.receiver.specs.declared.fault.ReceiveFault.{ReceiveFault as AnyReceiveFault};
 ghost use Rattle.listing.specs.Listing.{naming_mode};
-ghost use Rattle.listing.specs.steps.Message.{IsJudged, ReceivedSome};
+ghost use Rattle.listing.specs.steps.Message.{IsJudged, IsJudgedOf, ReceivedSome};
 
 use crate::lines::{write_effect_line, write_fault_line};
+use hart_range::HartRange;
 use message::Message;
 use payload::Mode;
 use receiver::{ReceiveFault, Receiver};
@@ -39,7 +40,7 @@ fn events_of<A: Allocator + Copy>(receiver: &Receiver<A>, hart: u16) -> &[Event]
 }
 
 /// Receives a message and writes its line. Returns why it was not received, if it was not.
-pub(crate) fn list_message<A: Allocator + Copy, S: Allocator, W: Write>(
+fn list_message<A: Allocator + Copy, S: Allocator, W: Write>(
     receiver: &mut Receiver<A>,
     program: &ProgramOver,
     announced: Option<Mode>,
@@ -75,5 +76,37 @@ pub(crate) fn list_message<A: Allocator + Copy, S: Allocator, W: Write>(
             write_fault_line(mode, offset, message, why, sink)?;
             Ok(Some(why))
         }
+    }
+}
+
+/// Receives a message and writes its line, if it is of one of these harts. Any other is passed over. Returns why it was
+/// not received, if it is of one of them and was not.
+pub(crate) fn list_selected<A: Allocator + Copy, S: Allocator, W: Write>(
+    receiver: &mut Receiver<A>,
+    program: &ProgramOver,
+    only: HartRange,
+    announced: Option<Mode>,
+    symbols: Option<&Symbols<S>>,
+    offset: u64,
+    message: &Message,
+    sink: &mut W,
+) -> Result<Option<ReceiveFault>, WriteFault>
+    requires { ReceivedSome (words_of program.now) receiver.old }
+    ensures listed { (harts : ℕ) (messages : List AnyMessage)
+        → HasReceived (λ hart. words_of program.now) harts messages receiver.old
+        → IfOk result (λ fault. (line : List ℕ)
+        × IsJudgedOf (words_of program.now) only harts announced (option_map (λ file. file.now) symbols.entry) offset
+        messages message.now receiver.new fault line × Appends (W.contents sink.old) (W.contents sink.new) line) }
+    ensures begun { (harts : ℕ) (messages : List AnyMessage)
+        → HasReceived (λ hart. words_of program.now) harts messages receiver.old
+        → OnErr result ((fault : Option AnyReceiveFault) × (line : List ℕ)
+        × IsJudgedOf (words_of program.now) only harts announced (option_map (λ file. file.now) symbols.entry) offset
+        messages message.now receiver.new fault line × AppendsBeginning line (W.contents sink.old) (W.contents sink.new)) }
+    ensures fault { IfErr result (λ fault. fault ≡ WriteFault.Write) }
+{
+    if only.selects(message.hart) {
+        list_message(receiver, program, announced, symbols, offset, message, sink)
+    } else {
+        Ok(None)
     }
 }

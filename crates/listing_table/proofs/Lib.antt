@@ -3,6 +3,7 @@ pub mod RowParts
 pub mod NamesWritten
 pub mod NextRows
 pub mod RowsSoFar
+pub mod AllHarts
 pub mod PlainRows
 pub mod Behind
 mod WorkedRows

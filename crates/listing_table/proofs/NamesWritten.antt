@@ -1,5 +1,5 @@
 -- What is written of the names at the end of a row.
-use Rattle.std.proofs.Common.{◌≡◌, ◌++◌, ℕ, List, Option, codes, sym, ap, subst}
+use Rattle.std.proofs.Common.{◌≡◌, ◌++◌, ℕ, List, Option, codes, subst}
 use Rattle.std.specs.Io.KnownBytes.{Appends}
 use Rattle.std.proofs.KnownBytes.{Appends-trans}
 use Rattle.output.specs.Begun.{AppendsBeginning}

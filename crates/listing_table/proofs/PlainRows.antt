@@ -1,11 +1,11 @@
 -- The rows of the table are read back: but for the names of symbols no field calls for quotes.
 use Rattle.std.proofs.Common.{◌≡◌, ◌∙◌, ◌++◌, ℕ, Bool, true, false, List, [], ◌∷◌, Option, Some, None, Result}
 use Rattle.std.proofs.Common.{Ok, Err, codes}
-use Rattle.std.proofs.Common.{◌-◌, ap, arith, refl, replicate, subst, suc, sym, zero}
+use Rattle.std.proofs.Common.{◌-◌, ap, arith, refl, replicate, subst, suc, zero}
 use Rattle.std.proofs.lemmas.Bool.{ne_eqb}
 use Rattle.std.specs.Fmt.{decimal}
-use Rattle.std.specs.List.{flat_map, list_any}
-use Rattle.std.specs.Prelude.{if◌then◌else◌, length, map, not}
+use Rattle.std.specs.List.{flat_map}
+use Rattle.std.specs.Prelude.{length, map, not}
 use Rattle.retire.specs.LogText.{hex}
 use Rattle.payload.specs.FaultText.{pack_fault_text}
 use Rattle.payload.specs.Reading.{reading}
@@ -27,14 +27,13 @@ use Rattle.listing.specs.Effect.{Effect}
 use Rattle.tables.proofs.PlainFields.{ArePlain, IsPlain, are_plain, both_plain, decimal_plain, digits_plain, plain_read}
 use Rattle.tables.proofs.QuotedFields.{are_read_back, plain_field}
 use Rattle.tables.specs.Fields.{fields_line}
-use Rattle.tables.specs.Quoted.{quoted_field, quoted_line}
+use Rattle.tables.specs.Quoted.{quoted_field}
 use Rattle.tables.specs.ReadBack.{IsReadAs, IsReadBack}
 use Rattle.listing_table.specs.Packets.{cause_field, ended_field, hex_unless, is_full, mode_field, packet_fields}
 use Rattle.listing_table.specs.Packets.{support_field}
 use Rattle.listing_table.specs.ReadBack.{AreRowsReadBack}
 use Rattle.listing_table.specs.Rows.{begin_fields, columns, distance_field, effect_fields, first_of, flag_field}
 use Rattle.listing_table.specs.Rows.{incomplete_fields, last_of, name_field, naming_at, no_effect, place_field}
-use Rattle.listing_table.specs.Rows.{refused_fields, row_fields}
 use Rattle.listing_table.specs.Rows.{symbol_fields}
 
 zeros_plain : (count : ℕ) → IsPlain (replicate count 48)

@@ -3,5 +3,7 @@ pub mod Rows
 pub mod Cells
 pub mod Table
 pub mod Part
+pub mod TableOf
+pub mod PartOf
 pub mod ReadBack
 pub mod steps

@@ -1,14 +1,12 @@
 -- The rows of the table of a listing.
-use Rattle.std.specs.Prelude.{ℕ, ◌+◌, ◌++◌, Bool, true, false, List, [], ◌∷◌, Option, Some, None, Result, codes, length}
+use Rattle.std.specs.Prelude.{ℕ, ◌+◌, ◌++◌, Bool, true, false, List, [], ◌∷◌, Option, Some, None, codes, length}
 use Rattle.std.specs.Fmt.{decimal}
 use Rattle.retire.specs.Events.{place}
 use Rattle.retire.specs.LogText.{hex}
 use Rattle.retire.specs.declared.event.Event.{Event}
 use Rattle.legalpath.specs.LastPlace.{last_place}
 use Rattle.payload.specs.Reading.{reading}
-use Rattle.payload.specs.declared.fault.PackFault.{PackFault}
 use Rattle.payload.specs.declared.mode.Mode.{Mode}
-use Rattle.payload.specs.declared.packet.Packet.{Packet}
 use Rattle.message.specs.Capture.{message_bytes}
 use Rattle.message.specs.declared.message.Message.{Message}
 use Rattle.symbols.specs.Nearest.{Naming, symbol_at}

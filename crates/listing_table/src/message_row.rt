@@ -10,10 +10,11 @@ ghost use Rattle.receiver.specs.Holds.{HasReceived};
 ghost use Rattle.receiver.specs.declared.fault.ReceiveFault.{ReceiveFault as AnyReceiveFault};
 ghost use Rattle.listing.specs.Listing.{naming_mode};
 ghost use Rattle.listing.specs.steps.Message.{ReceivedSome};
-ghost use Rattle.listing_table.specs.steps.Writing.{IsJudgedRow};
+ghost use Rattle.listing_table.specs.steps.Writing.{IsJudgedRow, IsJudgedRowOf};
 
 use crate::effect_row::write_effect_row;
 use crate::rows::write_refused_row;
+use hart_range::HartRange;
 use message::Message;
 use payload::Mode;
 use receiver::{ReceiveFault, Receiver};
@@ -41,7 +42,7 @@ fn events_of<A: Allocator + Copy>(receiver: &Receiver<A>, hart: u16) -> &[Event]
 }
 
 /// Receives a message and writes its row. Returns why it was not received, if it was not.
-pub(crate) fn table_message<A: Allocator + Copy, S: Allocator, W: Write>(
+fn table_message<A: Allocator + Copy, S: Allocator, W: Write>(
     receiver: &mut Receiver<A>,
     program: &ProgramOver,
     announced: Option<Mode>,
@@ -78,5 +79,42 @@ pub(crate) fn table_message<A: Allocator + Copy, S: Allocator, W: Write>(
             write_refused_row(mode, at, offset, message, why, sink)?;
             Ok(Some(why))
         }
+    }
+}
+
+/// Receives a message and writes its row, if it is of one of these harts. Any other is passed over. Returns why it was not
+/// received, if it is of one of them and was not.
+pub(crate) fn table_selected<A: Allocator + Copy, S: Allocator, W: Write>(
+    receiver: &mut Receiver<A>,
+    program: &ProgramOver,
+    only: HartRange,
+    announced: Option<Mode>,
+    symbols: Option<&Symbols<S>>,
+    at: u64,
+    offset: u64,
+    message: &Message,
+    sink: &mut W,
+) -> Result<Option<ReceiveFault>, WriteFault>
+    requires { ReceivedSome (words_of program.now) receiver.old }
+    ensures listed { (harts : ℕ) (messages : List AnyMessage)
+        → HasReceived (λ hart. words_of program.now) harts messages receiver.old
+        → IfOk result (λ fault. (row : List ℕ)
+        × IsJudgedRowOf (words_of program.now) only harts announced (option_map (λ file. file.now) symbols.entry) at
+        offset messages message.now receiver.new fault row
+        × Appends (W.contents sink.old) (W.contents sink.new) row) }
+    ensures begun { (harts : ℕ) (messages : List AnyMessage)
+        → HasReceived (λ hart. words_of program.now) harts messages receiver.old
+        → OnErr result ((fault : Option AnyReceiveFault) × (row : List ℕ)
+        × IsJudgedRowOf (words_of program.now) only harts announced (option_map (λ file. file.now) symbols.entry) at
+        offset messages message.now receiver.new fault row
+        × AppendsBeginning row (W.contents sink.old) (W.contents sink.new)) }
+    ensures fault { IfErr result (λ fault. fault ≡ WriteFault.Write) }
+{
+    if only.selects(message.hart) {
+        table_message(
+            receiver, program, announced, symbols, at, offset, message, sink,
+        )
+    } else {
+        Ok(None)
     }
 }

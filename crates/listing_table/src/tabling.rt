@@ -12,12 +12,15 @@ ghost use Rattle.listing.specs.steps.Started.{announced_by, first_offset, harts_
 ghost use Rattle.tables.specs.Fields.{fields_line};
 ghost use Rattle.listing_table.specs.Part.{IsPartOfTable};
 ghost use Rattle.listing_table.specs.Rows.{columns};
-ghost use Rattle.listing_table.specs.Table.{AreMessagesTabled, IsTable};
+ghost use Rattle.listing_table.specs.PartOf.{IsPartOfTableOf};
+ghost use Rattle.listing_table.specs.Table.{IsTable};
+ghost use Rattle.listing_table.specs.TableOf.{AreMessagesTabledOf, IsTableOf};
 ghost use Rattle.listing_table.specs.steps.Parts.{IsPartBehind, IsPartOfRows, IsTabledBehind};
 
-use crate::message_row::table_message;
+use crate::message_row::table_selected;
 use crate::rows::{write_columns, write_incomplete_row};
 use captures::CaptureFault;
+use hart_range::HartRange;
 use listing::Listed;
 use message::{Header, MessageFault, Messages};
 use payload::Mode;
@@ -57,10 +60,45 @@ pub fn write_listing_table<A: Allocator + Copy, S: Allocator, W: Write, V: Watch
         (W.contents sink.old) (W.contents sink.new)) }
     ensures memory { result ≡ Err WriteFault.Memory → sink.new ≡ sink.old }
 {
+    write_harts_table(
+        alloc,
+        program,
+        harts,
+        HartRange::ALL,
+        capture,
+        symbols,
+        sink,
+        watch,
+    )
+}
+
+/// Writes the listing of some harts of a capture as a table of CSV, where `only` says which: the names of the columns, and
+/// a row for each message for which [`list_harts`](listing::list_harts) has a line, with the same effect. Places and
+/// offsets count the messages of all harts. `watch` is told of each message, also of those that are passed over.
+///
+/// It ends where that listing does, and else as [`write_listing_table`] does.
+pub fn write_harts_table<A: Allocator + Copy, S: Allocator, W: Write, V: Watch>(
+    alloc: A,
+    program: &ProgramOver,
+    harts: u16,
+    only: HartRange,
+    capture: &[u8],
+    symbols: Option<&Symbols<S>>,
+    sink: &mut W,
+    watch: &V,
+) -> Result<Listed<A>, WriteFault>
+    ensures listed { IfOk result (λ listed. AppendsListing
+        (IsTableOf (words_of program.now) only harts (option_map (λ file. file.now) symbols.entry) capture.now)
+        listed.closed.items listed.fault (W.contents sink.old) (W.contents sink.new)) }
+    ensures begun { OnErr result (BeginsPart
+        (IsPartOfTableOf (words_of program.now) only harts (option_map (λ file. file.now) symbols.entry) capture.now)
+        (W.contents sink.old) (W.contents sink.new)) }
+    ensures memory { result ≡ Err WriteFault.Memory → sink.new ≡ sink.old }
+{
     let mut messages = Messages::new(capture);
     match messages.header() {
         Ok(header) => table_behind(
-            alloc, program, harts, header, messages, symbols, sink, watch,
+            alloc, program, harts, only, header, messages, symbols, sink, watch,
         ),
         Err(fault) => table_nothing(alloc, harts, fault, sink),
     }
@@ -87,11 +125,12 @@ fn table_nothing<A: Allocator, W: Write>(
     })
 }
 
-/// Writes the table of the messages after a header, or of those of a capture that has none.
+/// Writes the table of the messages of these harts after a header, or of those of a capture that has none.
 fn table_behind<A: Allocator + Copy, S: Allocator, W: Write, V: Watch>(
     alloc: A,
     program: &ProgramOver,
     harts: u16,
+    only: HartRange,
     header: Option<Header>,
     messages: Messages<'_>,
     symbols: Option<&Symbols<S>>,
@@ -99,10 +138,10 @@ fn table_behind<A: Allocator + Copy, S: Allocator, W: Write, V: Watch>(
     watch: &V,
 ) -> Result<Listed<A>, WriteFault>
     requires { first_offset header + length messages < 2 ^ 64 }
-    ensures listed { IfOk result (λ listed. AppendsListing (IsTabledBehind (words_of program.now) harts header
+    ensures listed { IfOk result (λ listed. AppendsListing (IsTabledBehind (words_of program.now) only harts header
         (option_map (λ file. file.now) symbols.entry) messages.entry) listed.closed.items listed.fault
         (W.contents sink.old) (W.contents sink.new)) }
-    ensures begun { OnErr result (BeginsPart (IsPartBehind (words_of program.now) harts header
+    ensures begun { OnErr result (BeginsPart (IsPartBehind (words_of program.now) only harts header
         (option_map (λ file. file.now) symbols.entry) messages.entry) (W.contents sink.old) (W.contents sink.new)) }
     ensures memory { result ≡ Err WriteFault.Memory → sink.new ≡ sink.old }
 {
@@ -110,6 +149,7 @@ fn table_behind<A: Allocator + Copy, S: Allocator, W: Write, V: Watch>(
     let fault = table_started(
         &mut receiver,
         program,
+        only,
         header,
         messages,
         symbols,
@@ -150,10 +190,11 @@ fn first_offset(header: Option<Header>) -> u64
     }
 }
 
-/// Writes the table of the messages after a header with a receiver that received none.
+/// Writes the table of the messages of these harts after a header with a receiver that received none.
 fn table_started<A: Allocator + Copy, S: Allocator, W: Write, V: Watch>(
     receiver: &mut Receiver<A>,
     program: &ProgramOver,
+    only: HartRange,
     header: Option<Header>,
     messages: Messages<'_>,
     symbols: Option<&Symbols<S>>,
@@ -164,12 +205,12 @@ fn table_started<A: Allocator + Copy, S: Allocator, W: Write, V: Watch>(
     requires none { (harts : ℕ) × HasReceived (λ hart. words_of program.now) harts [] receiver.old }
     ensures listed { (harts : ℕ)
         → HasReceived (λ hart. words_of program.now) (harts_by header harts) [] receiver.old
-        → IfOk result (λ stop. AppendsListing (IsTabledBehind (words_of program.now) harts header
+        → IfOk result (λ stop. AppendsListing (IsTabledBehind (words_of program.now) only harts header
         (option_map (λ file. file.now) symbols.entry) messages.entry) receiver.new.closed stop
         (W.contents sink.old) (W.contents sink.new)) }
     ensures begun { (harts : ℕ)
         → HasReceived (λ hart. words_of program.now) (harts_by header harts) [] receiver.old
-        → OnErr result (BeginsPart (IsPartBehind (words_of program.now) harts header
+        → OnErr result (BeginsPart (IsPartBehind (words_of program.now) only harts header
         (option_map (λ file. file.now) symbols.entry) messages.entry) (W.contents sink.old) (W.contents sink.new)) }
     ensures fault { IfErr result (λ fault. fault ≡ WriteFault.Write) }
 {
@@ -177,6 +218,7 @@ fn table_started<A: Allocator + Copy, S: Allocator, W: Write, V: Watch>(
     table_messages(
         receiver,
         program,
+        only,
         announced_by(header),
         first_offset(header),
         messages,
@@ -186,11 +228,12 @@ fn table_started<A: Allocator + Copy, S: Allocator, W: Write, V: Watch>(
     )
 }
 
-/// Writes the rows of messages with a receiver that received none. The first of them has this offset. Returns where that
-/// stops before their end, and why.
+/// Writes the rows of the messages of these harts with a receiver that received none. The first of all messages has this
+/// offset. Returns where that stops before their end, and why.
 fn table_messages<A: Allocator + Copy, S: Allocator, W: Write, V: Watch>(
     receiver: &mut Receiver<A>,
     program: &ProgramOver,
+    only: HartRange,
     announced: Option<Mode>,
     first: u64,
     mut messages: Messages<'_>,
@@ -201,11 +244,11 @@ fn table_messages<A: Allocator + Copy, S: Allocator, W: Write, V: Watch>(
     requires room { first + length messages < 2 ^ 64 }
     requires none { (harts : ℕ) × HasReceived (λ hart. words_of program.now) harts [] receiver.old }
     ensures listed { (harts : ℕ) → HasReceived (λ hart. words_of program.now) harts [] receiver.old
-        → IfOk result (λ stop. AppendsListing (AreMessagesTabled (words_of program.now) harts announced
+        → IfOk result (λ stop. AppendsListing (AreMessagesTabledOf (words_of program.now) only harts announced
         (option_map (λ file. file.now) symbols.entry) first messages.entry) receiver.new.closed stop
         (W.contents sink.old) (W.contents sink.new)) }
     ensures begun { (harts : ℕ) → HasReceived (λ hart. words_of program.now) harts [] receiver.old
-        → OnErr result (BeginsPart (IsPartOfRows (words_of program.now) harts announced
+        → OnErr result (BeginsPart (IsPartOfRows (words_of program.now) only harts announced
         (option_map (λ file. file.now) symbols.entry) first messages.entry)
         (W.contents sink.old) (W.contents sink.new)) }
     ensures fault { IfErr result (λ fault. fault ≡ WriteFault.Write) }
@@ -221,8 +264,8 @@ fn table_messages<A: Allocator + Copy, S: Allocator, W: Write, V: Watch>(
                 return Ok(Some((number, CaptureFault::Message(fault))));
             }
         };
-        match table_message(
-            receiver, program, announced, symbols, number, offset, &message, sink,
+        match table_selected(
+            receiver, program, only, announced, symbols, number, offset, &message, sink,
         )? {
             None => {
                 number += 1;

@@ -3,7 +3,7 @@ use Rattle.std.proofs.Common.{◌≡◌, ◌⊎◌, inl, inr, ◌∙◌, ◌+◌
 use Rattle.std.proofs.Common.{refl, sym, ap, subst, append-nil}
 use Rattle.std.proofs.lemmas.List.{map-append}
 use Rattle.std.proofs.lemmas.List.Sums.{sum_by-cons}
-use Rattle.std.specs.Prelude.{cond, is_some, nat_lt, not}
+use Rattle.std.specs.Prelude.{◌&&◌, cond, is_some, nat_lt, not}
 use Rattle.alike.specs.declared.by.By.{By}
 use Rattle.captures.proofs.HeaderFaults.{has_header, marked_by}
 use Rattle.captures.proofs.WholeCaptures.{HasRead, front_stops, never_both, whole_only}
@@ -11,6 +11,8 @@ use Rattle.captures.specs.NoMessage.{BeginsNoHeader, BeginsNone}
 use Rattle.captures.specs.Whole.{BeginsWith, IsFront, IsWhole}
 use Rattle.captures.specs.declared.capture_reading.ReadFault.TheVariants as read
 use Rattle.captures.specs.steps.Reading.{AreReadUpTo}
+use Rattle.hart_range.specs.Range.{selected, selects}
+use Rattle.hart_range.specs.declared.range.HartRange.{HartRange}
 use Rattle.message.specs.Capture.{capture}
 use Rattle.message.specs.Cut.{HasBadLength, IsCut}
 use Rattle.message.specs.declared.fault.MessageFault.{MessageFault}
@@ -25,23 +27,26 @@ use Rattle.path_commands.specs.declared.by_hart.ByHart.{ByHart}
 use Rattle.path_commands.specs.steps.Matching.{IsByHart, IsKept, strangers_of}
 
 -- Some messages were read of the bytes, and are kept by hart; these bytes are left.
-pub record HasReadByHart (bytes left : List ℕ) (own : ByHart) : Type 0 where
+pub record HasReadByHart (harts : HartRange) (bytes left : List ℕ) (own : ByHart) : Type 0 where
   pub messages : List Message
   pub read : HasRead bytes left messages
-  pub kept : IsByHart messages own
+  pub kept : IsByHart harts messages own
 
 -- One message more is kept.
-pub kept_more : (messages : List Message) (m : Message) (own new : ByHart) → IsByHart messages own
-    → new.harts.items ≡ own.harts.items ++ m.hart ∷ [] → new.payloads.by ≡ own.payloads.by
-    → AreSplit own.payloads.by (length own.payloads.lists) (messages ++ m ∷ []) new.payloads.lists
-    → IsByHart (messages ++ m ∷ []) new
-kept_more messages m own new has pushed by split = record {
-  harts =
-      pushed ∙ ap (λ l. l ++ m.hart ∷ []) has.harts
+pub kept_more : (harts : HartRange) (messages : List Message) (m : Message) (own new : ByHart)
+    → IsByHart harts messages own → new.harts.items ≡ own.harts.items ++ m.hart ∷ []
+    → new.payloads.by ≡ own.payloads.by
+    → AreSplit own.payloads.by (length own.payloads.lists) (selected harts (messages ++ m ∷ [])) new.payloads.lists
+    → IsByHart harts (messages ++ m ∷ []) new
+kept_more harts messages m own new has pushed by split = record {
+  each =
+      pushed ∙ ap (λ l. l ++ m.hart ∷ []) has.each
       ∙ sym (map-append (λ (x : Message). x.hart) messages (m ∷ []));
   split =
-      subst (λ b. AreSplit b (length new.payloads.lists) (messages ++ m ∷ []) new.payloads.lists) (sym by)
-      (subst (λ n. AreSplit own.payloads.by n (messages ++ m ∷ []) new.payloads.lists) (sym split.count) split);
+      subst (λ b. AreSplit b (length new.payloads.lists) (selected harts (messages ++ m ∷ [])) new.payloads.lists)
+      (sym by)
+      (subst (λ n. AreSplit own.payloads.by n (selected harts (messages ++ m ∷ [])) new.payloads.lists)
+      (sym split.count) split);
 }
 
 -- Bytes that begin with no message, by the fault.
@@ -98,21 +103,24 @@ front_of_none bytes header own (Some why) messages (Some stop) start is (inl cut
 front_of_none bytes header own (Some why) messages (Some stop) start is (inr none) = none.no_messages
 
 -- The payloads of SENT are kept.
-pub kept_by : (how by : By) (header : Option Header) (harts : ℕ) (messages front : List Message) (own : ByHart)
-    → by ≡ how → own.payloads.by ≡ by → length own.payloads.lists ≡ harts → harts ≡ harts_of header messages
-    → front ≡ messages → IsByHart front own → IsKept how messages (record { header = header; payloads = own.payloads })
-kept_by how by header harts messages front own by_is own_is count harts_is same has = record {
+pub kept_by : (how by : By) (range : HartRange) (header : Option Header) (harts : ℕ) (messages front : List Message)
+    (own : ByHart) → by ≡ how → own.payloads.by ≡ by → length own.payloads.lists ≡ harts
+    → harts ≡ harts_of header messages → front ≡ messages → IsByHart range front own
+    → IsKept how range messages (record { header = header; payloads = own.payloads })
+kept_by how by range header harts messages front own by_is own_is count harts_is same has = record {
   by = own_is ∙ by_is;
   split =
-      subst (λ n. AreSplit own.payloads.by n messages own.payloads.lists) (count ∙ harts_is)
-      (subst (λ m. AreSplit own.payloads.by (length own.payloads.lists) m own.payloads.lists) same has.split);
+      subst (λ n. AreSplit own.payloads.by n (selected range messages) own.payloads.lists) (count ∙ harts_is)
+      (subst (λ m. AreSplit own.payloads.by (length own.payloads.lists) (selected range m) own.payloads.lists) same
+      has.split);
 }
 
 -- Strangers by their harts.
-pub strangers_are : (harts : ℕ) (messages : List Message)
-    → strangers_of harts (map (λ (m : Message). m.hart) messages) ≡ strangers_among harts messages
-strangers_are harts [] = refl
-strangers_are harts (m ∷ messages) =
-    sum_by-cons (λ (hart : ℕ). cond (not (nat_lt hart harts)) 1 0) m.hart (map (λ (x : Message). x.hart) messages)
-    ∙ ap (λ n. cond (not (nat_lt m.hart harts)) 1 0 + n) (strangers_are harts messages)
-    ∙ sym (sum_by-cons (λ (x : Message). cond (not (nat_lt x.hart harts)) 1 0) m messages)
+pub strangers_are : (harts : HartRange) (count : ℕ) (messages : List Message)
+    → strangers_of harts count (map (λ (m : Message). m.hart) messages) ≡ strangers_among harts count messages
+strangers_are harts count [] = refl
+strangers_are harts count (m ∷ messages) =
+    sum_by-cons (λ (hart : ℕ). cond (selects harts hart && not (nat_lt hart count)) 1 0) m.hart
+    (map (λ (x : Message). x.hart) messages)
+    ∙ ap (λ n. cond (selects harts m.hart && not (nat_lt m.hart count)) 1 0 + n) (strangers_are harts count messages)
+    ∙ sym (sum_by-cons (λ (x : Message). cond (selects harts x.hart && not (nat_lt x.hart count)) 1 0) m messages)

@@ -1,14 +1,18 @@
 -- How RECEIVED reads, from how it begins.
 use Rattle.std.proofs.Common.{◌≡◌, ℕ, Bool, List, [], Option, drop, refl, ◌∙◌}
 use Rattle.alike.specs.declared.by.By.{By}
+use Rattle.hart_range.specs.declared.range.HartRange.{HartRange}
 use Rattle.message.specs.declared.fault.MessageFault.{MessageFault}
 use Rattle.message.specs.declared.header.Header.{Header}
 use Rattle.message.specs.declared.message.Message.{Message}
+use Rattle.resuming.specs.Counted.{messages_in}
 use Rattle.resuming.specs.Passages.{Left, spans_from, spans_left}
 use Rattle.searching.specs.Start.{IsStart, first_place}
+use Rattle.auditing.specs.Known.{known_all}
 use Rattle.auditing.specs.Seen.{sight_of}
 use Rattle.path_commands.specs.AuditText.{span_lines}
 use Rattle.path_commands.specs.Audited.{Came, IsCame}
+use Rattle.path_commands.specs.steps.Noting.{noted_of}
 
 -- RECEIVED of these bytes, which begin with this header or with none.
 abbrev pub came_of : By → List Message → List ℕ → Option Header → Option MessageFault → Came
@@ -30,6 +34,14 @@ module _ (own how : By) (sent : List Message) (bytes : List ℕ) (header : Optio
   spans_are = left_is ∙ (λ i. spans_from (sight_of (by_is i) sent) (from_is i) (drop (from_is i) bytes))
 
   -- The lines are those.
-  pub lines_are : (summary : Bool) → span_lines own summary sent [] (spans_left (sight_of own sent) left)
-      ≡ span_lines how summary sent [] (came_of how sent bytes header fault).spans
-  lines_are summary = λ i. span_lines (by_is i) summary sent [] (spans_are i)
+  pub lines_are : (harts : HartRange) (summary : Bool)
+      → span_lines own harts summary sent [] (spans_left (sight_of own sent) left)
+      ≡ span_lines how harts summary sent [] (came_of how sent bytes header fault).spans
+  lines_are harts summary = λ i. span_lines (by_is i) harts summary sent [] (spans_are i)
+
+  -- What is noted is of those.
+  pub notes_are : (harts : HartRange)
+      → noted_of harts (known_all own sent) (known_all own (messages_in (spans_left (sight_of own sent) left)))
+      ≡ noted_of harts (known_all how sent)
+      (known_all how (messages_in (came_of how sent bytes header fault).spans))
+  notes_are harts = λ i. noted_of harts (known_all (by_is i) sent) (known_all (by_is i) (messages_in (spans_are i)))

@@ -1,11 +1,13 @@
 -- The lines of harts, one after the other.
 use Rattle.std.proofs.Common.{◌≡◌, ℕ, suc, ◌+◌, ◌-◌, ◌<◌, ◌≤◌, Bool, true, false, List, [], ◌∷◌, ◌++◌, Option, refl}
 use Rattle.std.proofs.Common.{ap, subst, ◌∙◌, arith}
-use Rattle.std.specs.Prelude.{◌&&◌}
+use Rattle.std.specs.Prelude.{◌&&◌, min}
 use Rattle.std.specs.Io.KnownBytes.{Appends}
 use Rattle.std.specs.List.{flat_map, list_all, range_with_len}
+use Rattle.hart_range.specs.declared.range.HartRange.{HartRange}
 use Rattle.output.specs.Begun.{AppendsBeginning}
 use Rattle.tables.proofs.Parts.{HasWritten, part_all, part_begun, part_more}
+use Rattle.path_commands.specs.OnlyHarts.{harts_among}
 
 -- The next hart and those behind it.
 pub next_hart : (hart count : ℕ) → hart < count
@@ -49,6 +51,12 @@ module _ (text : ℕ → List ℕ) (whole : List ℕ) (count : ℕ) (old mid : O
   harts_all hart past has =
       part_all whole old mid
       (subst (λ harts. HasWritten whole (flat_map text harts) old mid) (no_hart hart count past) has)
+
+-- The harts of a range that are below a count, by where they begin and end.
+pub among_is : (harts : HartRange) (from past own count : ℕ) → from ≡ harts.first → past ≡ min own (harts.last + 1)
+    → own ≡ count → range_with_len from (past - from) ≡ harts_among harts count
+among_is harts from past own count from_is past_is own_is = λ i.
+    range_with_len (from_is i) ((past_is ∙ ap (λ n. min n (harts.last + 1)) own_is) i - from_is i)
 
 -- Whether the harts so far and the others pass a test, with one hart more.
 pub tested_more : (test : ℕ → Bool) (so_far : Bool) (hart count : ℕ) → hart < count

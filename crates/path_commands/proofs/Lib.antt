@@ -6,6 +6,7 @@ pub mod Formats
 pub mod HartLines
 pub mod MatchedLines
 pub mod MatchedRuns
+pub mod Notes
 pub mod PlainRows
 pub mod Rests
 pub mod SpanLines

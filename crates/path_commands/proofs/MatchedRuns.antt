@@ -2,11 +2,11 @@
 use Rattle.std.proofs.Common.{◌≡◌, ◌⊎◌, inl, inr, ◌∙◌, ℕ, Bool, true, false, List, [], Option, Some, None, Result, Ok, Err}
 use Rattle.std.proofs.Common.{refl, sym, subst, length}
 use Rattle.std.proofs.KnownBytes.{Appends-nil}
-use Rattle.std.specs.Prelude.{⊤, ◌&&◌, ◌==◌, IfErr, IfOk, is_none, is_some, map, not}
-use Rattle.std.specs.Io.KnownBytes.{Appends}
+use Rattle.std.specs.Prelude.{⊤, ◌&&◌, ◌==◌, IfErr, IfOk, is_some, not}
 use Rattle.output.specs.Begun.{AppendsBeginning}
 use Rattle.alignment.specs.Matches.{Flags}
-use Rattle.alike.specs.declared.by.By.{By}
+use Rattle.hart_range.specs.Range.{selected}
+use Rattle.hart_range.specs.declared.range.HartRange.{HartRange}
 use Rattle.message.specs.declared.fault.MessageFault.{MessageFault}
 use Rattle.message.specs.declared.header.Header.{Header}
 use Rattle.message.specs.declared.message.Message.{Message}
@@ -77,31 +77,33 @@ err_in_words P Q leads (Err e) holds = leads e holds
 pub none_begun : (text : List ℕ) (old : Option (List ℕ)) → AppendsBeginning text old old
 none_begun text old = record { text = []; rest = text; parted = refl; appended = Appends-nil old }
 
-module _ (summary : Bool) (header : Option Header) (came : UnnumberedCame) (all : List Flags) (lines : List Line)
-    (strangers : ℕ) (unlike read whole : Bool) (lines_is : lines ≡ lines_of came all)
-    (strangers_is : strangers ≡ strangers_among (length all) came.messages)
+module _ (harts : HartRange) (summary : Bool) (header : Option Header) (came : UnnumberedCame) (all : List Flags)
+    (lines : List Line) (strangers : ℕ) (unlike read whole : Bool) (lines_is : lines ≡ lines_of harts came all)
+    (strangers_is : strangers ≡ strangers_among harts (length all) came.messages)
     (unlike_is : unlike ≡ heads_differ header came.header came.fault)
     (read_is : read ≡ is_read_whole came)
     (is : whole ≡ ((total_of all).whole && (strangers == 0) && not unlike && read)) where
-  pub whole_is : whole ≡ is_whole_unnumbered header came all
+  pub whole_is : whole ≡ is_whole_unnumbered harts header came all
   whole_is = is ∙ (λ i. (total_of all).whole && (strangers_is i == 0) && not (unlike_is i) && read_is i)
 
   -- The text is that of the definition.
   pub text_is : (format : Format)
-      → report_in format summary all lines (length came.messages) strangers unlike whole ≡ audit_in format summary header came all
+      → report_in format harts summary all lines (length came.messages) strangers unlike whole
+      ≡ audit_in format harts summary header came all
   text_is Csv = λ i.
-      aligned_table summary all (lines_is i) (length came.messages) (strangers_is i) (unlike_is i) (whole_is i)
-  text_is Text = λ i. unnumbered_text summary all (lines_is i) (strangers_is i) (unlike_is i) (whole_is i)
-  text_is Other = λ i. unnumbered_text summary all (lines_is i) (strangers_is i) (unlike_is i) (whole_is i)
+      aligned_table harts summary all (lines_is i) (length came.messages) (strangers_is i) (unlike_is i) (whole_is i)
+  text_is Text = λ i. unnumbered_text harts summary all (lines_is i) (strangers_is i) (unlike_is i) (whole_is i)
+  text_is Other = λ i. unnumbered_text harts summary all (lines_is i) (strangers_is i) (unlike_is i) (whole_is i)
 
-module _ (asked : Audit) (sent : Sent) (bytes : List ℕ) (came : UnnumberedCame)
+module _ (asked : Audit) (harts : HartRange) (sent : Sent) (bytes : List ℕ) (came : UnnumberedCame)
     (is_came : IsUnnumberedCame bytes came) (all : List Flags)
-    (aligned : AreAligned (by_packets asked.packets) (harts_of sent.header sent.messages) sent.messages came.messages all)
+    (aligned : AreAligned (by_packets asked.packets) (harts_of sent.header sent.messages) (selected harts sent.messages)
+    (selected harts came.messages) all)
   where
     -- The text in a format, and how the run ends, are what is written in it.
-    writes : (format : Format) → WritesAligned format asked sent bytes (record {
-      text = audit_in format asked.summary sent.header came all;
-      ended = end_of_unnumbered asked.received sent.header came all;
+    writes : (format : Format) → WritesAligned format asked harts sent bytes (record {
+      text = audit_in format harts asked.summary sent.header came all;
+      ended = end_of_unnumbered asked.received harts sent.header came all;
     })
     writes Csv = record { came = came; is_came = is_came; all = all; aligned = aligned; text = refl; ended = refl }
     writes Text = record { came = came; is_came = is_came; all = all; aligned = aligned; text = refl; ended = refl }
@@ -109,19 +111,20 @@ module _ (asked : Audit) (sent : Sent) (bytes : List ℕ) (came : UnnumberedCame
 
     -- What was written, or the failure, is what is printed.
     pub matched_printed : (ended : Result Status Fault) (old new : Option (List ℕ))
-        → EndsUnnumbered asked sent.header came all ended old new
-        → PrintsUnlessDenied (WritesAligned asked.format asked sent bytes) ⊤ ended old new
+        → EndsUnnumbered asked harts sent.header came all ended old new
+        → PrintsUnlessDenied (WritesAligned asked.format asked harts sent bytes) ⊤ ended old new
     matched_printed ended old new (inl memory) =
-        subst (λ e. PrintsUnlessDenied (WritesAligned asked.format asked sent bytes) ⊤ e old new) (sym memory) (inl (inl refl))
+        subst (λ e. PrintsUnlessDenied (WritesAligned asked.format asked harts sent bytes) ⊤ e old new) (sym memory)
+        (inl (inl refl))
     matched_printed ended old new (inr (inl output)) =
-        subst (λ e. PrintsUnlessDenied (WritesAligned asked.format asked sent bytes) ⊤ e old new) (sym output)
+        subst (λ e. PrintsUnlessDenied (WritesAligned asked.format asked harts sent bytes) ⊤ e old new) (sym output)
         (inl (inr (refl, tt)))
     matched_printed ended old new (inr (inr rest)) =
-        prints (WritesAligned asked.format asked sent bytes) ⊤ ended old new (record {
-          text = audit_in asked.format asked.summary sent.header came all;
+        prints (WritesAligned asked.format asked harts sent bytes) ⊤ ended old new (record {
+          text = audit_in asked.format harts asked.summary sent.header came all;
           prints =
-              subst (λ e. WritesAligned asked.format asked sent bytes (record {
-                text = audit_in asked.format asked.summary sent.header came all;
+              subst (λ e. WritesAligned asked.format asked harts sent bytes (record {
+                text = audit_in asked.format harts asked.summary sent.header came all;
                 ended = e;
               })) (sym rest.1) (writes asked.format);
           appended = rest.0;
@@ -129,12 +132,12 @@ module _ (asked : Audit) (sent : Sent) (bytes : List ℕ) (came : UnnumberedCame
 
     -- A beginning of it is a cut.
     pub matched_cut : (old new : Option (List ℕ))
-        → AppendsBeginning (audit_in asked.format asked.summary sent.header came all) old new
-        → IsCutOf (WritesAligned asked.format asked sent bytes) old new
+        → AppendsBeginning (audit_in asked.format harts asked.summary sent.header came all) old new
+        → IsCutOf (WritesAligned asked.format asked harts sent bytes) old new
     matched_cut old new begun = inr (record {
       printed = record {
-        text = audit_in asked.format asked.summary sent.header came all;
-        ended = end_of_unnumbered asked.received sent.header came all;
+        text = audit_in asked.format harts asked.summary sent.header came all;
+        ended = end_of_unnumbered asked.received harts sent.header came all;
       };
       prints = writes asked.format;
       begun = begun;

@@ -1,19 +1,25 @@
 -- The lines of the messages of RECEIVED and of the bytes between them, one after the other.
-use Rattle.std.proofs.Common.{◌≡◌, ℕ, ◌+◌, ◌-◌, ◌^◌, ◌<◌, ◌≤◌, Bool, List, [], ◌∷◌, ◌++◌, Option, length, refl, sym, ap, subst}
+use Rattle.std.proofs.Common.{◌≡◌, ℕ, ◌+◌, ◌^◌, ◌<◌, ◌≤◌, Bool, List, [], ◌∷◌, ◌++◌}
+use Rattle.std.proofs.Common.{Option, length, refl, sym, ap, subst}
 use Rattle.std.proofs.Common.{◌∙◌, arith, append-nil}
-use Rattle.std.proofs.lemmas.List.{append_assoc, length-append, length_push}
+use Rattle.std.proofs.lemmas.List.{append_assoc, length_push}
 use Rattle.std.specs.Io.KnownBytes.{Appends}
 use Rattle.output.specs.Begun.{AppendsBeginning}
 use Rattle.alike.specs.declared.by.By.{By}
 use Rattle.frames.specs.declared.span.Span.{Span}
 use Rattle.frames.specs.declared.span.Span.TheVariants.{Frame, Bytes}
+use Rattle.hart_range.specs.declared.range.HartRange.{HartRange}
 use Rattle.message.specs.declared.message.Message.{Message}
 use Rattle.resuming.specs.Counted.{bytes_in, messages_in, runs_in, span_size}
 use Rattle.auditing.specs.Audits.{Audits}
+use Rattle.auditing.specs.Known.{known_all}
 use Rattle.auditing.specs.Ledger.{Ledger}
 use Rattle.tables.proofs.Parts.{HasWritten, part_all, part_begun, part_more, part_none}
+use Rattle.path_commands.proofs.Notes.{IsNoted, noted_none, noted_span}
 use Rattle.path_commands.specs.AuditText.{span_line, span_lines}
+use Rattle.path_commands.specs.declared.noting.Noted.{Noted}
 use Rattle.path_commands.specs.declared.received.Progress.{Progress}
+use Rattle.path_commands.specs.steps.Noting.{none_noted, noted_more, noted_of}
 use Rattle.path_commands.specs.steps.Reading.{progress_after}
 
 -- How far RECEIVED is read, where so many of its bytes are left.
@@ -60,19 +66,35 @@ progress_more all rest front taken progress left next size (Bytes offset count) 
       most = omega (arith, most, short, sized);
     }
 
+-- What is noted, where so many bytes are left.
+pub noted_on : (how : By) (harts : HartRange) (sent : List Message) (all rest : List Span) (taken : List Message)
+    (progress : Progress) (left next size : ℕ) (span : Span) (noted more : Noted) → size < 2 ^ 64 → 1 ≤ span_size span
+    → span_size span + next ≡ left → IsProgress all (span ∷ rest) [] taken progress left size
+    → IsNoted harts (known_all how sent) (known_all how taken) noted
+    → more ≡ noted_more how harts sent taken noted progress.messages span
+    → IsNoted harts (known_all how sent) (known_all how (taken ++ messages_in (span ∷ []))) more
+noted_on how harts sent all rest taken progress left next size span noted more short some sized is has more_is =
+    let few = is.few in
+    noted_span how harts sent taken noted progress.messages has is.place (omega
+    (arith, few, short, some, sized)) span more
+    more_is
+
 -- Some spans of RECEIVED were read, and their lines are written; these are left.
-pub record HasRead (how : By) (summary : Bool) (sent : List Message) (all rest : List Span) (path : Ledger)
-    (progress : Progress) (left size : ℕ) (old new : Option (List ℕ)) : Type 0 where
+pub record HasRead (how : By) (harts : HartRange) (summary : Bool) (sent : List Message) (all rest : List Span)
+    (path : Ledger) (noted : Noted) (progress : Progress) (left size : ℕ) (old new : Option (List ℕ)) : Type 0 where
   pub taken : List Message
   pub audits : Audits sent taken path
   pub is : IsProgress all rest [] taken progress left size
-  pub written : HasWritten (span_lines how summary sent [] all) (span_lines how summary sent taken rest) old new
+  pub notes : IsNoted harts (known_all how sent) (known_all how taken) noted
+  pub written : HasWritten (span_lines how harts summary sent [] all)
+      (span_lines how harts summary sent taken rest) old new
 
 -- At first none is.
-pub read_none : (how : By) (summary : Bool) (sent : List Message) (all : List Span) (path : Ledger) (progress : Progress)
-    (size : ℕ) (old : Option (List ℕ)) → progress ≡ record { messages = 0; bytes = 0; runs = 0 } → Audits sent [] path
-    → HasRead how summary sent all all path progress size size old old
-read_none how summary sent all path progress size old starts audits = record {
+pub read_none : (how : By) (harts : HartRange) (summary : Bool) (sent : List Message) (all : List Span) (path : Ledger)
+    (noted : Noted) (progress : Progress) (size : ℕ) (old : Option (List ℕ))
+    → progress ≡ record { messages = 0; bytes = 0; runs = 0 } → Audits sent [] path → noted ≡ none_noted
+    → HasRead how harts summary sent all all path noted progress size size old old
+read_none how harts summary sent all path noted progress size old starts audits none = record {
   taken = [];
   audits = audits;
   is = subst (λ p. IsProgress all all [] [] p size size) (sym starts) (record {
@@ -83,42 +105,49 @@ read_none how summary sent all path progress size old starts audits = record {
     few = omega arith;
     most = omega arith;
   });
-  written = part_none (span_lines how summary sent [] all) old;
+  notes = noted_none harts (known_all how sent) noted none;
+  written = part_none (span_lines how harts summary sent [] all) old;
 }
 
-module _ (how : By) (summary : Bool) (sent : List Message) (all rest : List Span) (path : Ledger) (progress : Progress)
-    (left size : ℕ) (old mid : Option (List ℕ)) (span : Span)
-    (has : HasRead how summary sent all (span ∷ rest) path progress left size old mid) where
+module _ (how : By) (harts : HartRange) (summary : Bool) (sent : List Message) (all rest : List Span) (path : Ledger)
+    (noted : Noted) (progress : Progress) (left size : ℕ) (old mid : Option (List ℕ)) (span : Span)
+    (has : HasRead how harts summary sent all (span ∷ rest) path noted progress left size old mid) where
   -- One span more is read.
-  pub read_more : (more : Ledger) (next : ℕ) (new : Option (List ℕ)) → size < 2 ^ 64 → 1 ≤ span_size span
-      → span_size span + next ≡ left
+  pub read_more : (more : Ledger) (notes : Noted) (next : ℕ) (new : Option (List ℕ)) → size < 2 ^ 64
+      → 1 ≤ span_size span → span_size span + next ≡ left
       → ((received : List Message) → Audits sent received path → Audits sent (received ++ messages_in (span ∷ [])) more)
+      → ((received : List Message) → Audits sent received path
+      → notes ≡ noted_more how harts sent received noted progress.messages span)
       → ((received : List Message) → Audits sent received path → progress.messages ≡ length received
-      → Appends mid new (span_line how summary sent received span))
-      → HasRead how summary sent all rest more (progress_after progress span) next size old new
-  read_more more next new short some sized audits text = record {
+      → Appends mid new (span_line how harts summary sent received span))
+      → HasRead how harts summary sent all rest more notes (progress_after progress span) next size old new
+  read_more more notes next new short some sized audits noting text = record {
     taken = has.taken ++ messages_in (span ∷ []);
     audits = audits has.taken has.audits;
     is = progress_more all rest [] has.taken progress left next size span short some sized has.is;
+    notes =
+        noted_on how harts sent all rest has.taken progress left next size span noted notes short some sized has.is
+        has.notes
+        (noting has.taken has.audits);
     written =
-        part_more (span_lines how summary sent [] all) (span_line how summary sent has.taken span)
-        (span_lines how summary sent (has.taken ++ messages_in (span ∷ [])) rest) old mid new has.written
+        part_more (span_lines how harts summary sent [] all) (span_line how harts summary sent has.taken span)
+        (span_lines how harts summary sent (has.taken ++ messages_in (span ∷ [])) rest) old mid new has.written
         (text has.taken has.audits has.is.place);
   }
 
   -- Or a beginning of its line is written.
   pub read_begun : (new : Option (List ℕ))
       → ((received : List Message) → Audits sent received path → progress.messages ≡ length received
-      → AppendsBeginning (span_line how summary sent received span) mid new)
-      → AppendsBeginning (span_lines how summary sent [] all) old new
+      → AppendsBeginning (span_line how harts summary sent received span) mid new)
+      → AppendsBeginning (span_lines how harts summary sent [] all) old new
   read_begun new begun =
-      part_begun (span_lines how summary sent [] all) (span_line how summary sent has.taken span)
-      (span_lines how summary sent (has.taken ++ messages_in (span ∷ [])) rest) old mid new has.written
+      part_begun (span_lines how harts summary sent [] all) (span_line how harts summary sent has.taken span)
+      (span_lines how harts summary sent (has.taken ++ messages_in (span ∷ [])) rest) old mid new has.written
       (begun has.taken has.audits has.is.place)
 
-module _ (how : By) (summary : Bool) (sent : List Message) (all : List Span) (path : Ledger) (progress : Progress)
-    (left size : ℕ) (old new : Option (List ℕ))
-    (has : HasRead how summary sent all [] path progress left size old new) where
+module _ (how : By) (harts : HartRange) (summary : Bool) (sent : List Message) (all : List Span) (path : Ledger)
+    (noted : Noted) (progress : Progress) (left size : ℕ) (old new : Option (List ℕ))
+    (has : HasRead how harts summary sent all [] path noted progress left size old new) where
   -- All are.
   pub read_all : Audits sent (messages_in all) path × (progress.bytes ≡ bytes_in all) × (progress.runs ≡ runs_in all)
       × (length (messages_in all) ≤ size)
@@ -133,5 +162,10 @@ module _ (how : By) (summary : Bool) (sent : List Message) (all : List Span) (pa
         omega (arith, few, long),
       )
 
-  pub read_text : Appends old new (span_lines how summary sent [] all)
-  read_text = part_all (span_lines how summary sent [] all) old new has.written
+  pub read_notes : noted ≡ noted_of harts (known_all how sent) (known_all how (messages_in all))
+  read_notes =
+      has.notes.is
+      ∙ ap (λ l. noted_of harts (known_all how sent) (known_all how l)) (sym (has.is.messages ∙ append-nil has.taken))
+
+  pub read_text : Appends old new (span_lines how harts summary sent [] all)
+  read_text = part_all (span_lines how harts summary sent [] all) old new has.written

@@ -1,9 +1,10 @@
 -- What `audit --format csv` prints, from what it wrote.
-use Rattle.std.proofs.Common.{inl, inr, List, [], Option, Result, refl, sym, subst}
+use Rattle.std.proofs.Common.{inl, inr, List, Option, Result, refl, sym, subst}
 use Rattle.std.proofs.KnownBytes.{Appends-trans}
 use Rattle.std.specs.Io.KnownBytes.{Appends}
 use Rattle.std.specs.Prelude.{⊤, ℕ}
 use Rattle.alike.specs.declared.by.By.{By}
+use Rattle.hart_range.specs.declared.range.HartRange.{HartRange}
 use Rattle.output.specs.Begun.{AppendsBeginning}
 use Rattle.output.proofs.Beginnings.{begun_behind, begun_in_front}
 use Rattle.command_inputs.proofs.Runs.{prints}
@@ -17,49 +18,50 @@ use Rattle.path_commands.specs.Came.{Came, IsCame, is_whole_result}
 use Rattle.path_commands.specs.Sides.{Sent, by_packets, end_of_audit}
 use Rattle.path_commands.specs.steps.Tabling.{EndsTable}
 
-module _ (asked : Audit) (sent : Sent) (bytes : List ℕ) (came : Came)
+module _ (asked : Audit) (harts : HartRange) (sent : Sent) (bytes : List ℕ) (came : Came)
     (is : IsCame (by_packets asked.packets) sent.messages bytes came) where
   abbrev how : By
   how = by_packets asked.packets
 
   abbrev front : List ℕ
-  front = front_rows how asked.summary sent.messages came.spans
+  front = front_rows how harts asked.summary sent.messages came.spans
 
   abbrev behind : List ℕ
-  behind = rows_behind how asked.summary sent came
+  behind = rows_behind how harts asked.summary sent came
 
   -- The text, and how the run ends.
   abbrev shown : Printed
   shown = record {
-    text = audit_table how asked.summary sent came;
-    ended = end_of_audit asked.received came.fault (is_whole_result how sent came);
+    text = audit_table how harts asked.summary sent came;
+    ended = end_of_audit asked.received came.fault (is_whole_result how harts sent came);
   }
 
-  writes : WritesTable asked sent bytes shown
+  writes : WritesTable asked harts sent bytes shown
   writes = record { came = came; is_came = is; text = refl; ended = refl }
 
   -- Both parts of the text were written, or the output failed.
   pub table_printed : (ended : Result Status Fault) (old mid new : Option (List ℕ)) → Appends old mid front
-      → EndsTable how asked.received asked.summary sent came ended mid new
-      → PrintsUnlessDenied (WritesTable asked sent bytes) ⊤ ended old new
+      → EndsTable how harts asked.received asked.summary sent came ended mid new
+      → PrintsUnlessDenied (WritesTable asked harts sent bytes) ⊤ ended old new
   table_printed ended old mid new first (inl output) =
-      subst (λ e. PrintsUnlessDenied (WritesTable asked sent bytes) ⊤ e old new) (sym output) (inl (inr (refl, tt)))
+      subst (λ e. PrintsUnlessDenied (WritesTable asked harts sent bytes) ⊤ e old new) (sym output) (inl (inr
+      (refl, tt)))
   table_printed ended old mid new first (inr rest) =
-      prints (WritesTable asked sent bytes) ⊤ ended old new (record {
-        text = audit_table how asked.summary sent came;
+      prints (WritesTable asked harts sent bytes) ⊤ ended old new (record {
+        text = audit_table how harts asked.summary sent came;
         prints = record { came = came; is_came = is; text = refl; ended = rest.1 };
         appended = Appends-trans old mid new front behind first rest.0;
       })
 
   -- A beginning of the text was written.
-  cut_of : (old new : Option (List ℕ)) → AppendsBeginning (audit_table how asked.summary sent came) old new
-      → IsCutOf (WritesTable asked sent bytes) old new
+  cut_of : (old new : Option (List ℕ)) → AppendsBeginning (audit_table how harts asked.summary sent came) old new
+      → IsCutOf (WritesTable asked harts sent bytes) old new
   cut_of old new begun = inr (record { printed = shown; prints = writes; begun = begun })
 
   pub cut_in_front : (old new : Option (List ℕ)) → AppendsBeginning front old new
-      → IsCutOf (WritesTable asked sent bytes) old new
+      → IsCutOf (WritesTable asked harts sent bytes) old new
   cut_in_front old new begun = cut_of old new (begun_in_front front behind old new begun)
 
   pub cut_in_rest : (old mid new : Option (List ℕ)) → Appends old mid front → AppendsBeginning behind mid new
-      → IsCutOf (WritesTable asked sent bytes) old new
+      → IsCutOf (WritesTable asked harts sent bytes) old new
   cut_in_rest old mid new first begun = cut_of old new (begun_behind front behind old mid new first begun)

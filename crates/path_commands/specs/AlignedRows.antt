@@ -3,6 +3,7 @@ use Rattle.std.specs.Prelude.{ℕ, ◌++◌, Bool, List, [], ◌∷◌, Option, 
 use Rattle.std.specs.Fmt.{decimal}
 use Rattle.std.specs.List.{flat_map}
 use Rattle.alignment.specs.Matches.{Flags}
+use Rattle.hart_range.specs.declared.range.HartRange.{HartRange}
 use Rattle.auditing.specs.HartRows.{longest_of}
 use Rattle.unnumbered.specs.Counted.{counts_of, total_of}
 use Rattle.unnumbered.specs.declared.counting.AlignedTotal.{AlignedTotal}
@@ -12,7 +13,7 @@ use Rattle.unnumbered.specs.declared.line.Line.TheVariants as line
 use Rattle.tables.specs.Fields.{fields_line}
 use Rattle.path_commands.specs.AuditRows.{columns, message_fields, result_fields, run_rows}
 use Rattle.path_commands.specs.AuditText.{unless_summary, verdict_text}
-use Rattle.path_commands.specs.UnnumberedText.{first_place_of, texts_from, unmatched_runs}
+use Rattle.path_commands.specs.UnnumberedText.{first_place_of, of_selected, texts_from, unmatched_runs}
 
 -- The fields of a message of RECEIVED of which something is to be said.
 abbrev pub arrival_fields : Line → List (List ℕ)
@@ -58,16 +59,16 @@ aligned_last total messages first unlike strangers whole =
 abbrev pub single_rows : List Flags → List Line → List ℕ
 single_rows all lines = flat_map arrival_row lines ++ texts_from unmatched_rows 0 all
 
--- The rows of an audit, by the alignments of the harts and what is to be said of the messages of RECEIVED, which are so
--- many. So many strangers came, headers differ or not, and the result is whole or not. A summary has no rows of single
--- messages and of numbers that are lost.
-abbrev pub aligned_rows : Bool → List Flags → List Line → ℕ → ℕ → Bool → Bool → List ℕ
-aligned_rows summary all lines messages strangers unlike whole =
+-- The rows of an audit of these harts, by the alignments of all harts, where no message of another hart is aligned, and
+-- by what is to be said of the messages of RECEIVED, which has so many of all harts. So many strangers came, headers
+-- differ or not, and the result is whole or not. A summary has no rows of single messages and of numbers that are lost.
+abbrev pub aligned_rows : HartRange → Bool → List Flags → List Line → ℕ → ℕ → Bool → Bool → List ℕ
+aligned_rows harts summary all lines messages strangers unlike whole =
     unless_summary summary (single_rows all lines)
-    ++ (texts_from aligned_hart 0 all
+    ++ (texts_from (of_selected harts aligned_hart) 0 all
     ++ aligned_last (total_of all) messages (first_place_of lines) unlike strangers whole)
 
 -- The table of an audit: the names of its columns, and then these rows.
-abbrev pub aligned_table : Bool → List Flags → List Line → ℕ → ℕ → Bool → Bool → List ℕ
-aligned_table summary all lines messages strangers unlike whole =
-    fields_line columns ++ aligned_rows summary all lines messages strangers unlike whole
+abbrev pub aligned_table : HartRange → Bool → List Flags → List Line → ℕ → ℕ → Bool → Bool → List ℕ
+aligned_table harts summary all lines messages strangers unlike whole =
+    fields_line columns ++ aligned_rows harts summary all lines messages strangers unlike whole

@@ -1,10 +1,13 @@
 -- The rows of the table of an audit.
-use Rattle.std.specs.Prelude.{ℕ, ◌||◌, ◌++◌, Bool, true, false, if◌then◌else◌, List, [], ◌∷◌, Option, Some, None, codes, length}
+use Rattle.std.specs.Prelude.{ℕ, ◌||◌, ◌++◌, Bool, true, false, if◌then◌else◌, List, []}
+use Rattle.std.specs.Prelude.{◌∷◌, Option, Some, codes, length}
 use Rattle.std.specs.Fmt.{decimal}
 use Rattle.std.specs.List.{flat_map}
 use Rattle.alike.specs.declared.by.By.{By}
 use Rattle.frames.specs.declared.span.Span.{Span}
 use Rattle.frames.specs.declared.span.Span.TheVariants.{Frame, Bytes}
+use Rattle.hart_range.specs.Range.{selects}
+use Rattle.hart_range.specs.declared.range.HartRange.{HartRange}
 use Rattle.message.specs.declared.message.Message.{Message}
 use Rattle.resuming.specs.Counted.{messages_in}
 use Rattle.auditing.specs.Findings.{Found, finding_of, is_plain}
@@ -17,7 +20,7 @@ use Rattle.auditing.specs.declared.finding.Finding.TheVariants as finding
 use Rattle.auditing.specs.declared.lost.Lost.{Lost}
 use Rattle.auditing.specs.declared.row.HartRow.{HartRow}
 use Rattle.tables.specs.Fields.{bytes_text, fields_line, number_field}
-use Rattle.path_commands.specs.AuditText.{harts_below, sent_bytes, unless_summary, verdict_text}
+use Rattle.path_commands.specs.AuditText.{sent_bytes, unless_summary, verdict_text}
 use Rattle.path_commands.specs.declared.total.Total.{Total}
 
 -- The columns of the table.
@@ -82,21 +85,25 @@ bytes_fields offset count =
     codes "bytes" ∷ [] ∷ decimal offset ∷ [] ∷ [] ∷ [] ∷ [] ∷ decimal count ∷ [] ∷ [] ∷ no_counts
 
 -- The row of a message after these, or of a run of bytes. A message is compared with those that were sent by what their
--- payloads are known by, and its place counts the messages before it.
-abbrev pub span_row : By → Bool → List Message → List Message → Span → List ℕ
-span_row how summary sent before (Frame offset message) =
+-- payloads are known by, and its place counts the messages before it, whatever their harts are. One that is not of the
+-- harts that are asked for has no row.
+abbrev pub span_row : By → HartRange → Bool → List Message → List Message → Span → List ℕ
+span_row how harts summary sent before (Frame offset message) =
+    if selects harts message.hart then
     row_or_none summary sent (length before) (record {
       message = message;
       finding = finding_of (known_all how sent) (known_all how before) (known_one how message);
     })
-span_row how summary sent before (Bytes offset count) =
+    else []
+span_row how harts summary sent before (Bytes offset count) =
     unless_summary summary (fields_line (bytes_fields offset count))
 
 -- The rows of messages and of runs of bytes, after these messages.
-abbrev pub span_rows : By → Bool → List Message → List Message → List Span → List ℕ
-span_rows how summary sent before [] = []
-span_rows how summary sent before (span ∷ more) =
-    span_row how summary sent before span ++ span_rows how summary sent (before ++ messages_in (span ∷ [])) more
+abbrev pub span_rows : By → HartRange → Bool → List Message → List Message → List Span → List ℕ
+span_rows how harts summary sent before [] = []
+span_rows how harts summary sent before (span ∷ more) =
+    span_row how harts summary sent before span
+    ++ span_rows how harts summary sent (before ++ messages_in (span ∷ [])) more
 
 -- The fields of a run of numbers of a hart that were lost: the first of them and the last.
 abbrev pub run_fields : ℕ → Lost → List (List ℕ)
@@ -107,10 +114,9 @@ run_fields hart run =
 abbrev pub run_rows : ℕ → List Lost → List ℕ
 run_rows hart runs = flat_map (λ run. fields_line (run_fields hart run)) runs
 
--- The rows of the runs of all harts.
-abbrev pub all_run_rows : List Message → List Message → ℕ → List ℕ
-all_run_rows sent received harts =
-    flat_map (λ hart. run_rows hart (lost_runs sent received hart)) (harts_below harts)
+-- The rows of the runs of these harts.
+abbrev pub all_run_rows : List Message → List Message → List ℕ → List ℕ
+all_run_rows sent received harts = flat_map (λ hart. run_rows hart (lost_runs sent received hart)) harts
 
 -- The fields of a hart: its counts, the runs of its lost numbers and the longest of them, and the most by which one of
 -- its messages is late.
@@ -121,10 +127,10 @@ hart_fields hart row =
     ∷ decimal row.tally.late ∷ decimal row.tally.changed ∷ decimal row.strange ∷ decimal row.runs ∷ decimal row.longest
     ∷ decimal row.latest ∷ verdict_text row.tally.whole ∷ []
 
--- The rows of all harts.
-abbrev pub hart_rows : List Message → List Message → ℕ → List ℕ
+-- The rows of these harts.
+abbrev pub hart_rows : List Message → List Message → List ℕ → List ℕ
 hart_rows sent received harts =
-    flat_map (λ hart. fields_line (hart_fields hart (row_of sent received hart))) (harts_below harts)
+    flat_map (λ hart. fields_line (hart_fields hart (row_of sent received hart))) harts
 
 -- The fields of all harts together: the sums of their counts.
 abbrev pub all_fields : Total → List (List ℕ)

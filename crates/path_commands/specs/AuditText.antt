@@ -1,11 +1,13 @@
 -- The text of an audit.
-use Rattle.std.specs.Prelude.{ℕ, ◌+◌, ◌/◌, ◌%◌, ◌==◌, ◌||◌, ◌++◌, nat_lt, not, Bool, true, false, if◌then◌else◌, List, [], ◌∷◌}
+use Rattle.std.specs.Prelude.{ℕ, ◌==◌, ◌||◌, ◌++◌, nat_lt, not, Bool, true, false, if◌then◌else◌, List, [], ◌∷◌}
 use Rattle.std.specs.Prelude.{Option, Some, None, codes, length}
-use Rattle.std.specs.Fmt.{decimal, digits}
-use Rattle.std.specs.List.{flat_map, list_all, range_with_len, sum_by}
+use Rattle.std.specs.Fmt.{decimal}
+use Rattle.std.specs.List.{flat_map, list_all, sum_by}
 use Rattle.alike.specs.declared.by.By.{By}
 use Rattle.frames.specs.declared.span.Span.{Span}
 use Rattle.frames.specs.declared.span.Span.TheVariants.{Frame, Bytes}
+use Rattle.hart_range.specs.Range.{selects}
+use Rattle.hart_range.specs.declared.range.HartRange.{HartRange}
 use Rattle.message.specs.declared.header.Header.{Header}
 use Rattle.message.specs.declared.message.Message.{Message}
 use Rattle.receiver.specs.Agreeing.{differ}
@@ -57,20 +59,24 @@ unless_summary true lines = []
 unless_summary false lines = lines
 
 -- The line of a message after these, or of a run of bytes. A message is compared with those that were sent by what their
--- payloads are known by, and its place counts the messages before it.
-abbrev pub span_line : By → Bool → List Message → List Message → Span → List ℕ
-span_line how summary sent before (Frame offset message) =
+-- payloads are known by, and its place counts the messages before it, whatever their harts are. One that is not of the
+-- harts that are asked for has no line.
+abbrev pub span_line : By → HartRange → Bool → List Message → List Message → Span → List ℕ
+span_line how harts summary sent before (Frame offset message) =
+    if selects harts message.hart then
     line_or_none summary sent (length before) (record {
       message = message;
       finding = finding_of (known_all how sent) (known_all how before) (known_one how message);
     })
-span_line how summary sent before (Bytes offset count) = unless_summary summary (bytes_line offset count)
+    else []
+span_line how harts summary sent before (Bytes offset count) = unless_summary summary (bytes_line offset count)
 
 -- The lines of messages and of runs of bytes, after these messages.
-abbrev pub span_lines : By → Bool → List Message → List Message → List Span → List ℕ
-span_lines how summary sent before [] = []
-span_lines how summary sent before (span ∷ more) =
-    span_line how summary sent before span ++ span_lines how summary sent (before ++ messages_in (span ∷ [])) more
+abbrev pub span_lines : By → HartRange → Bool → List Message → List Message → List Span → List ℕ
+span_lines how harts summary sent before [] = []
+span_lines how harts summary sent before (span ∷ more) =
+    span_line how harts summary sent before span
+    ++ span_lines how harts summary sent (before ++ messages_in (span ∷ [])) more
 
 -- The numbers of a run of numbers that were lost.
 abbrev pub numbers_text : Lost → List ℕ
@@ -174,29 +180,24 @@ ending_text harts total strangers bytes runs unlike first whole =
     ++ (strangers_line strangers
     ++ (damage_line bytes runs ++ (headers_line unlike ++ (first_line first ++ result_line whole))))
 
--- The harts of so many, from 0 on.
-abbrev pub harts_below : ℕ → List ℕ
-harts_below count = range_with_len 0 count
+-- The lines of the numbers of these harts that were lost.
+abbrev pub all_lost_lines : List Message → List Message → List ℕ → List ℕ
+all_lost_lines sent received harts = flat_map (λ hart. lost_lines hart (lost_runs sent received hart)) harts
 
--- The lines of the numbers of all harts that were lost.
-abbrev pub all_lost_lines : List Message → List Message → ℕ → List ℕ
-all_lost_lines sent received harts =
-    flat_map (λ hart. lost_lines hart (lost_runs sent received hart)) (harts_below harts)
+-- The lines of these harts.
+abbrev pub row_lines : List Message → List Message → List ℕ → List ℕ
+row_lines sent received harts = flat_map (λ hart. row_text hart (row_of sent received hart)) harts
 
--- The lines of all harts.
-abbrev pub row_lines : List Message → List Message → ℕ → List ℕ
-row_lines sent received harts = flat_map (λ hart. row_text hart (row_of sent received hart)) (harts_below harts)
+-- These harts are all whole.
+abbrev pub are_whole : List Message → List Message → List ℕ → Bool
+are_whole sent received harts = list_all (λ hart. (tally_of sent received hart).whole) harts
 
--- All harts are whole.
-abbrev pub are_whole : List Message → List Message → ℕ → Bool
-are_whole sent received harts = list_all (λ hart. (tally_of sent received hart).whole) (harts_below harts)
+-- What a row counts, over these harts, in sum.
+abbrev pub sum_of : (HartRow → ℕ) → List Message → List Message → List ℕ → ℕ
+sum_of count sent received harts = sum_by (λ hart. count (row_of sent received hart)) harts
 
--- What a row counts, over all harts, in sum.
-abbrev pub sum_of : (HartRow → ℕ) → List Message → List Message → ℕ → ℕ
-sum_of count sent received harts = sum_by (λ hart. count (row_of sent received hart)) (harts_below harts)
-
--- All harts together: the sums of what their rows count, and whether all are whole.
-abbrev pub total_of : List Message → List Message → ℕ → Total
+-- These harts together: the sums of what their rows count, and whether all are whole.
+abbrev pub total_of : List Message → List Message → List ℕ → Total
 total_of sent received harts = record {
   sent = sum_of (λ row. row.tally.sent) sent received harts;
   came = sum_of (λ row. row.tally.came) sent received harts;

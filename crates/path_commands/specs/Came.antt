@@ -2,17 +2,18 @@
 use Rattle.std.specs.Prelude.{◌≡◌, ℕ, ◌==◌, ◌&&◌, not, Bool, is_none, List, Option, drop}
 use Rattle.alike.specs.declared.by.By.{By}
 use Rattle.frames.specs.declared.span.Span.{Span}
+use Rattle.hart_range.specs.declared.range.HartRange.{HartRange}
 use Rattle.message.specs.declared.fault.MessageFault.{MessageFault}
 use Rattle.message.specs.declared.header.Header.{Header}
 use Rattle.message.specs.declared.message.Message.{Message}
 use Rattle.resuming.specs.Counted.{bytes_in, messages_in}
 use Rattle.resuming.specs.Passages.{spans_from}
 use Rattle.searching.specs.Start.{IsStart, first_place}
-use Rattle.auditing.specs.Judged.{strangers_in}
 use Rattle.auditing.specs.Known.{known_all}
 use Rattle.auditing.specs.Seen.{sight_of}
 use Rattle.auditing.specs.Sent.{harts_of}
 use Rattle.path_commands.specs.AuditText.{are_whole}
+use Rattle.path_commands.specs.OnlyHarts.{harts_among, strangers_of}
 use Rattle.path_commands.specs.Sides.{Sent, heads_differ}
 
 -- RECEIVED: its header, if it has a valid one; why it has none, where it begins as a capture of version 2 does; and its
@@ -33,10 +34,12 @@ pub record IsCame (how : By) (sent : List Message) (bytes : List ℕ) (came : Ca
 abbrev pub is_undamaged : Came → Bool
 is_undamaged came = is_none came.fault && (bytes_in came.spans == 0)
 
--- The result is whole: every hart is whole, no stranger came, headers do not differ, and RECEIVED is read without damage.
-abbrev pub is_whole_result : By → Sent → Came → Bool
-is_whole_result how sent came =
+-- The result is whole, of these harts: each of them that SENT has is whole, no stranger of them came, headers do not
+-- differ, and RECEIVED is read without damage.
+abbrev pub is_whole_result : By → HartRange → Sent → Came → Bool
+is_whole_result how harts sent came =
     let known = known_all how sent.messages in
     let received = known_all how (messages_in came.spans) in
-    are_whole known received (harts_of sent.header sent.messages) && (strangers_in known received == 0)
+    are_whole known received (harts_among harts (harts_of sent.header sent.messages))
+    && (strangers_of harts known received == 0)
     && not (heads_differ sent.header came.header came.fault) && is_undamaged came

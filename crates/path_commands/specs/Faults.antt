@@ -2,6 +2,7 @@
 use Rattle.std.specs.Prelude.{ℕ, Result}
 use Rattle.auditing.specs.declared.fault.SentFault.{SentFault}
 use Rattle.auditing.specs.declared.fault.SentFault.TheVariants as sent
+use Rattle.hart_range.specs.declared.range.HartRange.{HartRange}
 use Rattle.message.specs.declared.fault.MessageFault.{MessageFault}
 use Rattle.command_inputs.specs.Faults as inputs
 use Rattle.command_inputs.specs.Faults.{Path}
@@ -13,7 +14,7 @@ use Rattle.command_inputs.specs.declared.fault.Fault.TheVariants as fault
 use Rattle.command_inputs.specs.declared.status.Status.{Status}
 use Rattle.command_inputs.specs.declared.status.Status.TheVariants.{NotWhole, Refused}
 use Rattle.path_commands.specs.declared.reason.PathReason.{PathReason}
-use Rattle.path_commands.specs.declared.reason.PathReason.TheVariants.{Damaged, Sent, Unread}
+use Rattle.path_commands.specs.declared.reason.PathReason.TheVariants.{Damaged, NoHart, Sent, Unread}
 
 -- A fault of `audit`.
 abbrev pub Fault : Type 0
@@ -31,10 +32,11 @@ Meaning = meaning.Meaning PathReason
 abbrev pub Once : {A : Type 0} → (Result A Fault → Type 0) → (A → Type 0) → Type 0
 Once Finds Holds = finding.Once Finds Holds
 
--- The status at a reason of `audit`'s own. SENT is refused; where RECEIVED's header is not valid or it is not read to its
--- end, that capture is not good.
+-- The status at a reason of `audit`'s own. SENT is refused, also where it has none of the harts that are asked for;
+-- where RECEIVED's header is not valid or it is not read to its end, that capture is not good.
 abbrev pub path_reason_status : PathReason → Status
 path_reason_status (Sent path why) = Refused
+path_reason_status (NoHart path harts) = Refused
 path_reason_status (Damaged path) = NotWhole
 path_reason_status (Unread path number why) = NotWhole
 
@@ -50,6 +52,10 @@ final_status ended = inputs.final_status path_reason_status ended
 abbrev pub sent_fault : Path → SentFault → Fault
 sent_fault path sent.Memory = fault.Memory
 sent_fault path why = fault.Own (Sent path why)
+
+-- The fault of SENT where it has none of these harts.
+abbrev pub no_hart_fault : Path → HartRange → Fault
+no_hart_fault path harts = fault.Own (NoHart path harts)
 
 -- The fault of RECEIVED where its header is cut or not valid.
 abbrev pub damaged_fault : Path → Fault

@@ -2,6 +2,7 @@ pub mod Faults
 pub mod FaultText
 pub mod AuditText
 pub mod Sides
+pub mod OnlyHarts
 pub mod Came
 pub mod AuditRows
 pub mod AuditTable

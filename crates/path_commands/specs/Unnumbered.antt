@@ -1,8 +1,10 @@
 -- What `audit --unnumbered` prints of RECEIVED, and how it ends.
 use Rattle.std.specs.Prelude.{ℕ, ◌≡◌, ◌==◌, ◌&&◌, nat_lt, not, Bool, is_none, List, [], Option, Some, None, Result, Err}
 use Rattle.std.specs.Prelude.{length, map}
-use Rattle.std.specs.List.{count_by}
+use Rattle.std.specs.List.{count_by, filter}
 use Rattle.alignment.specs.Matches.{Flags}
+use Rattle.hart_range.specs.Range.{selected, selects}
+use Rattle.hart_range.specs.declared.range.HartRange.{HartRange}
 use Rattle.message.specs.declared.fault.MessageFault.{MessageFault}
 use Rattle.message.specs.declared.header.Header.{Header}
 use Rattle.message.specs.declared.message.Message.{Message}
@@ -18,7 +20,7 @@ use Rattle.command_inputs.specs.Faults.{Path}
 use Rattle.command_inputs.specs.declared.status.Status.{Status}
 use Rattle.path_commands.specs.Faults.{Fault, Printed, unread_fault}
 use Rattle.path_commands.specs.Sides.{Sent, by_packets, end_of_audit, heads_differ}
-use Rattle.path_commands.specs.UnnumberedText.{unnumbered_text}
+use Rattle.path_commands.specs.UnnumberedText.{hart_of, unnumbered_text}
 
 -- RECEIVED, read by the lengths of its messages: its header, if it has a valid one; why it has none, where it begins as a
 -- capture of version 2; its messages up to the first place where there is no message; and why there is none, if reading
@@ -51,31 +53,35 @@ IsCameBy (Some why) bytes came = IsHeadless bytes why came
 abbrev pub IsUnnumberedCame : List ℕ → UnnumberedCame → Type 0
 IsUnnumberedCame bytes came = IsCameBy came.fault bytes came
 
--- How many of these messages are strangers: of no hart of so many.
-abbrev pub strangers_among : ℕ → List Message → ℕ
-strangers_among harts messages = count_by (λ (message : Message). not (nat_lt message.hart harts)) messages
+-- How many of these messages are strangers of these harts: of no hart of so many.
+abbrev pub strangers_among : HartRange → ℕ → List Message → ℕ
+strangers_among harts count messages =
+    count_by (λ (message : Message). selects harts message.hart && not (nat_lt message.hart count)) messages
 
 -- RECEIVED is read to its end: its header is valid, if it begins as a capture of version 2, and messages follow up to its
 -- last byte.
 abbrev pub is_read_whole : UnnumberedCame → Bool
 is_read_whole came = is_none came.fault && is_none came.stop
 
--- The result is whole, by SENT's header and the alignments of the harts: every hart is whole, no stranger came, headers
--- do not differ, and RECEIVED is read to its end.
-abbrev pub is_whole_unnumbered : Option Header → UnnumberedCame → List Flags → Bool
-is_whole_unnumbered header came all =
-    (total_of all).whole && (strangers_among (length all) came.messages == 0)
+-- The result is whole, of these harts, by SENT's header and the alignments: every hart is whole, no stranger of these
+-- came, headers do not differ, and RECEIVED is read to its end.
+abbrev pub is_whole_unnumbered : HartRange → Option Header → UnnumberedCame → List Flags → Bool
+is_whole_unnumbered harts header came all =
+    (total_of all).whole && (strangers_among harts (length all) came.messages == 0)
     && not (heads_differ header came.header came.fault) && is_read_whole came
 
--- What is to be said of the messages of RECEIVED, by the alignments of the harts.
-abbrev pub lines_of : UnnumberedCame → List Flags → List Line
-lines_of came all = arrival_lines all (map (λ (message : Message). message.hart) came.messages)
+-- What is to be said of the messages of these harts in RECEIVED, by the alignments. Their places count the messages of
+-- all harts.
+abbrev pub lines_of : HartRange → UnnumberedCame → List Flags → List Line
+lines_of harts came all =
+    filter (λ one. selects harts (hart_of one))
+    (arrival_lines all (map (λ (message : Message). message.hart) came.messages))
 
--- The text of the audit, by SENT's header and the alignments of the harts.
-abbrev pub unnumbered_audit : Bool → Option Header → UnnumberedCame → List Flags → List ℕ
-unnumbered_audit summary header came all =
-    unnumbered_text summary all (lines_of came all) (strangers_among (length all) came.messages)
-    (heads_differ header came.header came.fault) (is_whole_unnumbered header came all)
+-- The text of the audit of these harts, by SENT's header and the alignments.
+abbrev pub unnumbered_audit : HartRange → Bool → Option Header → UnnumberedCame → List Flags → List ℕ
+unnumbered_audit harts summary header came all =
+    unnumbered_text harts summary all (lines_of harts came all) (strangers_among harts (length all) came.messages)
+    (heads_differ header came.header came.fault) (is_whole_unnumbered harts header came all)
 
 -- The end at the place where there is no message, after so many, if reading ends there; else at RECEIVED's header, where
 -- it is cut or not valid; else by whether the result is whole.
@@ -83,17 +89,19 @@ abbrev pub end_of_reading : Path → Option MessageFault → ℕ → Option Mess
 end_of_reading received None count fault whole = end_of_audit received fault whole
 end_of_reading received (Some why) count fault whole = Err (unread_fault received count why)
 
--- How the audit ends, by SENT's header and the alignments of the harts.
-abbrev pub end_of_unnumbered : Path → Option Header → UnnumberedCame → List Flags → Result Status Fault
-end_of_unnumbered received header came all =
-    end_of_reading received came.stop (length came.messages) came.fault (is_whole_unnumbered header came all)
+-- How the audit of these harts ends, by SENT's header and the alignments.
+abbrev pub end_of_unnumbered : Path → HartRange → Option Header → UnnumberedCame → List Flags → Result Status Fault
+end_of_unnumbered received harts header came all =
+    end_of_reading received came.stop (length came.messages) came.fault (is_whole_unnumbered harts header came all)
 
--- What became of the messages of SENT in these bytes of RECEIVED is written, by the payloads alone: each hart of SENT is
--- aligned, and the text and the end are those of its alignment.
-pub record WritesUnnumbered (asked : Audit) (sent : Sent) (bytes : List ℕ) (printed : Printed) : Type 0 where
+-- What became of the messages of these harts of SENT in these bytes of RECEIVED is written, by the payloads alone: the
+-- messages of these harts are aligned, and the text and the end are those of the alignments. Of another hart none is.
+pub record WritesUnnumbered (asked : Audit) (harts : HartRange) (sent : Sent) (bytes : List ℕ) (printed : Printed)
+    : Type 0 where
   pub came : UnnumberedCame
   pub is_came : IsUnnumberedCame bytes came
   pub all : List Flags
-  pub aligned : AreAligned (by_packets asked.packets) (harts_of sent.header sent.messages) sent.messages came.messages all
-  pub text : printed.text ≡ unnumbered_audit asked.summary sent.header came all
-  pub ended : printed.ended ≡ end_of_unnumbered asked.received sent.header came all
+  pub aligned : AreAligned (by_packets asked.packets) (harts_of sent.header sent.messages)
+      (selected harts sent.messages) (selected harts came.messages) all
+  pub text : printed.text ≡ unnumbered_audit harts asked.summary sent.header came all
+  pub ended : printed.ended ≡ end_of_unnumbered asked.received harts sent.header came all

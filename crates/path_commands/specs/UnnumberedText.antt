@@ -3,6 +3,8 @@ use Rattle.std.specs.Prelude.{ℕ, ◌+◌, ◌++◌, nat_lt, Bool, if◌then◌
 use Rattle.std.specs.Fmt.{decimal}
 use Rattle.std.specs.List.{flat_map}
 use Rattle.alignment.specs.Matches.{Flags}
+use Rattle.hart_range.specs.Range.{selects}
+use Rattle.hart_range.specs.declared.range.HartRange.{HartRange}
 use Rattle.auditing.specs.HartRows.{longest_of}
 use Rattle.auditing.specs.Losing.{runs_of}
 use Rattle.auditing.specs.Unset.{lost_in}
@@ -14,6 +16,7 @@ use Rattle.unnumbered.specs.declared.line.Line.{Line}
 use Rattle.unnumbered.specs.declared.line.Line.TheVariants as line
 use Rattle.path_commands.specs.AuditText.{first_line, headers_line, lost_lines, result_line, runs_line, strangers_line}
 use Rattle.path_commands.specs.AuditText.{unless_summary, verdict_text}
+use Rattle.path_commands.specs.OnlyHarts.{harts_among}
 
 -- The line of a message of RECEIVED: its place, its hart and what is to be said of it.
 abbrev pub arrival_text : Line → List ℕ
@@ -29,6 +32,10 @@ arrival_text (line.Skips place hart number skips) =
 abbrev pub texts_from : (ℕ → Flags → List ℕ) → ℕ → List Flags → List ℕ
 texts_from text hart [] = []
 texts_from text hart (flags ∷ more) = text hart flags ++ texts_from text (hart + 1) more
+
+-- A text of a hart that is one of these. Any other has none.
+abbrev pub of_selected : HartRange → (ℕ → Flags → List ℕ) → ℕ → Flags → List ℕ
+of_selected harts text hart flags = if selects harts hart then text hart flags else []
 
 -- The longest runs of numbers of a hart that are lost: those of SENT that are matched with nothing.
 abbrev pub unmatched_runs : Flags → List Lost
@@ -63,6 +70,12 @@ aligned_all harts total =
     codes "all: " ++ aligned_text total.sent total.came total.lost total.extra total.whole
     else []
 
+-- The hart of the message that a line is of.
+abbrev pub hart_of : Line → ℕ
+hart_of (line.Stranger place hart) = hart
+hart_of (line.Extra place hart) = hart
+hart_of (line.Skips place hart number skips) = hart
+
 -- The place of the message that a line is of.
 abbrev pub place_of : Line → ℕ
 place_of (line.Stranger place hart) = place
@@ -85,11 +98,12 @@ aligned_ending harts total strangers unlike first whole =
 abbrev pub single_lines : List Flags → List Line → List ℕ
 single_lines all lines = flat_map arrival_text lines ++ texts_from unmatched_lines 0 all
 
--- The text of an audit, by the alignments of the harts and what is to be said of the messages of RECEIVED. So many
--- strangers came, headers differ or not, and the result is whole or not. A summary has no lines of single messages and of
--- numbers that are lost.
-abbrev pub unnumbered_text : Bool → List Flags → List Line → ℕ → Bool → Bool → List ℕ
-unnumbered_text summary all lines strangers unlike whole =
+-- The text of an audit of these harts, by the alignments of all harts, where no message of another hart is aligned, and
+-- by what is to be said of the messages of RECEIVED. So many strangers came, headers differ or not, and the result is
+-- whole or not. A summary has no lines of single messages and of numbers that are lost.
+abbrev pub unnumbered_text : HartRange → Bool → List Flags → List Line → ℕ → Bool → Bool → List ℕ
+unnumbered_text harts summary all lines strangers unlike whole =
     unless_summary summary (single_lines all lines)
-    ++ (texts_from aligned_lines 0 all
-    ++ aligned_ending (length all) (total_of all) strangers unlike (first_place_of lines) whole)
+    ++ (texts_from (of_selected harts aligned_lines) 0 all
+    ++ aligned_ending (length (harts_among harts (length all))) (total_of all) strangers unlike (first_place_of lines)
+    whole)

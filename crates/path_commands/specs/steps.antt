@@ -1,5 +1,6 @@
 pub mod Ending
 pub mod Reading
+pub mod Noting
 pub mod Summing
 pub mod Matching
 pub mod Tabling

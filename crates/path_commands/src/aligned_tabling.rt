@@ -8,14 +8,16 @@ ghost use Rattle.path_commands.specs.AlignedRows.{aligned_fields, aligned_hart, 
 ghost use Rattle.path_commands.specs.AlignedRows.{arrival_row, single_rows, unmatched_rows};
 ghost use Rattle.tables.specs.Fields.{fields_line};
 ghost use Rattle.path_commands.specs.AuditText.{unless_summary};
-ghost use Rattle.path_commands.specs.UnnumberedText.{texts_from};
+ghost use Rattle.path_commands.specs.UnnumberedText.{of_selected, texts_from};
 
 use crate::aligned_rows::{AlignedHart, AlignedLast, ArrivalRow};
+use crate::hart_check::is_among;
 use crate::matched_report::{Matched, first_of};
 use crate::table_rows::Columns;
 use crate::tabling::write_runs_of;
 use alignment::Alignment;
 use auditing::{LostRuns, run_lengths};
+use hart_range::HartRange;
 use output::write_text;
 use std::io;
 use std::io::Write;
@@ -29,10 +31,12 @@ pub(crate) fn write_aligned_table<O: Write>(
     out: &mut O,
 ) -> io::Result<()>
     ensures text { OnOk result (Appends (O.contents out.old) (O.contents out.new)
-        (aligned_table summary found.entry.all.now found.entry.lines.now messages found.entry.strangers found.entry.unlike
+        (aligned_table found.entry.harts summary found.entry.all.now found.entry.lines.now messages
+        found.entry.strangers found.entry.unlike
         found.entry.whole)) }
     ensures begun { AppendsBeginning
-        (aligned_table summary found.entry.all.now found.entry.lines.now messages found.entry.strangers found.entry.unlike
+        (aligned_table found.entry.harts summary found.entry.all.now found.entry.lines.now messages
+        found.entry.strangers found.entry.unlike
         found.entry.whole)
         (O.contents out.old) (O.contents out.new) }
 {
@@ -48,15 +52,17 @@ fn write_aligned_rows<O: Write>(
     out: &mut O,
 ) -> io::Result<()>
     ensures text { OnOk result (Appends (O.contents out.old) (O.contents out.new)
-        (aligned_rows summary found.entry.all.now found.entry.lines.now messages found.entry.strangers found.entry.unlike
+        (aligned_rows found.entry.harts summary found.entry.all.now found.entry.lines.now messages
+        found.entry.strangers found.entry.unlike
         found.entry.whole)) }
     ensures begun { AppendsBeginning
-        (aligned_rows summary found.entry.all.now found.entry.lines.now messages found.entry.strangers found.entry.unlike
+        (aligned_rows found.entry.harts summary found.entry.all.now found.entry.lines.now messages
+        found.entry.strangers found.entry.unlike
         found.entry.whole)
         (O.contents out.old) (O.contents out.new) }
 {
     write_single_rows(found.all, found.lines, summary, out)?;
-    write_aligned_harts(found.all, out)?;
+    write_aligned_harts(found.harts, found.all, out)?;
     let last = AlignedLast {
         total: total_of(found.all),
         messages,
@@ -120,16 +126,35 @@ fn write_unmatched_rows<O: Write>(all: &[Alignment], out: &mut O) -> io::Result<
     Ok(())
 }
 
-/// Writes the row of each hart.
-fn write_aligned_harts<O: Write>(all: &[Alignment], out: &mut O) -> io::Result<()>
+/// Writes the row of each of these harts.
+fn write_aligned_harts<O: Write>(harts: HartRange, all: &[Alignment], out: &mut O) -> io::Result<()>
     ensures text { OnOk result (Appends (O.contents out.old) (O.contents out.new)
-        (texts_from aligned_hart 0 all.now)) }
-    ensures begun { AppendsBeginning (texts_from aligned_hart 0 all.now) (O.contents out.old) (O.contents out.new) }
+        (texts_from (of_selected harts aligned_hart) 0 all.now)) }
+    ensures begun { AppendsBeginning (texts_from (of_selected harts aligned_hart) 0 all.now) (O.contents out.old)
+        (O.contents out.new) }
 {
     for hart in 0..all.len() {
-        write_text(out, aligned_hart_of(hart, &all[hart]))?;
+        write_hart_row(harts, hart, &all[hart], out)?;
     }
     Ok(())
+}
+
+/// Writes the row of a hart with this alignment, if it is one of these.
+fn write_hart_row<O: Write>(
+    harts: HartRange,
+    hart: usize,
+    own: &Alignment,
+    out: &mut O,
+) -> io::Result<()>
+    ensures text { OnOk result (Appends (O.contents out.old) (O.contents out.new)
+        (of_selected harts aligned_hart hart own.now)) }
+    ensures begun { AppendsBeginning (of_selected harts aligned_hart hart own.now)
+        (O.contents out.old) (O.contents out.new) }
+{
+    if !is_among(harts, hart) {
+        return Ok(());
+    }
+    write_text(out, aligned_hart_of(hart, own))
 }
 
 /// The row of a hart with this alignment.

@@ -11,15 +11,20 @@ ghost use Rattle.command_inputs.specs.Begun.{IsCutOf};
 ghost use Rattle.command_inputs.specs.Printed.{PrintsUnlessDenied};
 ghost use Rattle.path_commands.specs.Faults.{final_status};
 ghost use Rattle.path_commands.specs.AuditText.{all_lost_lines, row_lines, total_of, unless_summary};
-ghost use Rattle.path_commands.specs.Audited.{AuditsBy, Came, CanAudit, WritesAudit, WritesNumbered, behind_findings};
+ghost use Rattle.path_commands.specs.Audited.{AuditsBy, Came, CanAuditHarts, WritesAudit, WritesNumbered};
+ghost use Rattle.path_commands.specs.Audited.{behind_findings};
+ghost use Rattle.path_commands.specs.OnlyHarts.{harts_among};
 ghost use Rattle.path_commands.specs.Sides.{by_packets};
 ghost use Rattle.path_commands.specs.steps.Ending.{EndsRest};
+ghost use Rattle.path_commands.specs.steps.Noting.{noted_of};
 ghost use Rattle.path_commands.specs.steps.Reading.{HasArrived};
 ghost use Rattle.command_inputs.specs.declared.fault.Fault.TheVariants as Fault;
 
 use crate::ending::Ending;
+use crate::hart_check::{check_hart, count_among, past_among};
 use crate::lines::RowText;
 use crate::lost_lines::write_lost;
+use crate::noting::Noted;
 use crate::reason::{Fault, sent_fault};
 use crate::received::{Arrived, begin_spans, write_spans};
 use crate::sides::{are_unlike, by_packets, ended, is_whole};
@@ -27,6 +32,7 @@ use crate::tabling::write_table;
 use crate::total::Total;
 use auditing::Audit;
 use command_inputs::{Files, MessageProgress, Status, content_of};
+use hart_range::HartRange;
 use output::write_text;
 use resuming::Resuming;
 use searching::{first_place, start_of};
@@ -40,15 +46,17 @@ pub(crate) fn audit_numbered<'a, F: Files, O: Write>(
     alloc: Global,
     files: &mut F,
     asked: &Asked<'a>,
+    harts: HartRange,
     out: &mut O,
 ) -> Result<Status, Fault<'a>>
     ensures refused { final_status result ≡ Status.Refused → out.new ≡ out.old }
     ensures untouched { result ≡ Err Fault.Memory → out.new ≡ out.old }
     ensures printed { PrintsUnlessDenied
-        (AuditsBy (WritesNumbered asked.now.format asked.now) (F.content files.old) asked.now)
-        (CanAudit (F.content files.old) asked.now) result
+        (AuditsBy (WritesNumbered asked.now.format asked.now harts) (F.content files.old) asked.now harts)
+        (CanAuditHarts (F.content files.old) asked.now harts) result
         (O.contents out.old) (O.contents out.new) }
-    ensures cut { IsCutOf (AuditsBy (WritesNumbered asked.now.format asked.now) (F.content files.old) asked.now)
+    ensures cut { IsCutOf (AuditsBy (WritesNumbered asked.now.format asked.now harts)
+        (F.content files.old) asked.now harts)
         (O.contents out.old) (O.contents out.new) }
 {
     let sent = content_of(files, asked.sent)?;
@@ -56,9 +64,10 @@ pub(crate) fn audit_numbered<'a, F: Files, O: Write>(
         Ok(path) => path,
         Err(why) => return Err(sent_fault(asked.sent, why)),
     };
+    check_hart(asked, harts, path.harts())?;
     let received = content_of(files, asked.received)?;
     let progress = MessageProgress::new(&*files, asked.progress);
-    write_numbered(&progress, &mut path, asked, received.as_slice(), out)
+    write_numbered(&progress, &mut path, asked, harts, received.as_slice(), out)
 }
 
 /// Writes what became of the messages of SENT in these bytes of RECEIVED, in the format that is asked for.
@@ -66,23 +75,25 @@ fn write_numbered<'a, F: Files, O: Write>(
     progress: &MessageProgress<'_, F>,
     path: &mut Audit<'_>,
     asked: &Asked<'a>,
+    harts: HartRange,
     bytes: &[u8],
     out: &mut O,
 ) -> Result<Status, Fault<'a>>
     ensures ended { final_status result ≢ Status.Refused }
     ensures memory { result ≢ Err Fault.Memory }
     ensures printed { (sent : List AnyMessage) → IsAudit sent [] path.old → path.old.by ≡ by_packets asked.now.packets
-        → PrintsUnlessDenied (WritesNumbered asked.now.format asked.now
+        → PrintsUnlessDenied (WritesNumbered asked.now.format asked.now harts
         (record { header = path.old.header; messages = sent }) bytes.now) ⊤ result
         (O.contents out.old) (O.contents out.new) }
     ensures cut { (sent : List AnyMessage) → IsAudit sent [] path.old → path.old.by ≡ by_packets asked.now.packets
-        → IsCutOf (WritesNumbered asked.now.format asked.now (record { header = path.old.header; messages = sent }) bytes.now)
+        → IsCutOf (WritesNumbered asked.now.format asked.now harts
+        (record { header = path.old.header; messages = sent }) bytes.now)
         (O.contents out.old) (O.contents out.new) }
 {
     match asked.format {
-        Format::Csv => write_table(progress, path, asked, bytes, out),
-        Format::Text => write_audit(progress, path, asked, bytes, out),
-        Format::Other => write_audit(progress, path, asked, bytes, out),
+        Format::Csv => write_table(progress, path, asked, harts, bytes, out),
+        Format::Text => write_audit(progress, path, asked, harts, bytes, out),
+        Format::Other => write_audit(progress, path, asked, harts, bytes, out),
     }
 }
 
@@ -91,25 +102,30 @@ fn write_audit<'a, F: Files, O: Write>(
     progress: &MessageProgress<'_, F>,
     path: &mut Audit<'_>,
     asked: &Asked<'a>,
+    harts: HartRange,
     bytes: &[u8],
     out: &mut O,
 ) -> Result<Status, Fault<'a>>
     ensures ended { final_status result ≢ Status.Refused }
     ensures memory { result ≢ Err Fault.Memory }
     ensures printed { (sent : List AnyMessage) → IsAudit sent [] path.old → path.old.by ≡ by_packets asked.now.packets
-        → PrintsUnlessDenied (WritesAudit asked.now (record { header = path.old.header; messages = sent }) bytes.now) ⊤ result
+        → PrintsUnlessDenied (WritesAudit asked.now harts
+        (record { header = path.old.header; messages = sent }) bytes.now) ⊤ result
         (O.contents out.old) (O.contents out.new) }
     ensures cut { (sent : List AnyMessage) → IsAudit sent [] path.old → path.old.by ≡ by_packets asked.now.packets
-        → IsCutOf (WritesAudit asked.now (record { header = path.old.header; messages = sent }) bytes.now)
+        → IsCutOf (WritesAudit asked.now harts (record { header = path.old.header; messages = sent }) bytes.now)
         (O.contents out.old) (O.contents out.new) }
 {
     let start = start_of(bytes);
     let from = first_place(start.header);
     begin_spans(progress, path, bytes, from);
+    let mut noted = Noted::NONE;
     let read = write_spans(
         progress,
         path,
+        &mut noted,
         Resuming::new(bytes, from),
+        harts,
         asked.summary,
         out,
     )?;
@@ -119,14 +135,25 @@ fn write_audit<'a, F: Files, O: Write>(
         bytes: read.bytes,
         runs: read.runs,
     };
-    write_rest(path, asked.received, arrived, asked.summary, out)
+    write_rest(
+        path,
+        asked.received,
+        arrived,
+        noted,
+        harts,
+        asked.summary,
+        out,
+    )
 }
 
-/// Writes what follows the lines of the messages, and returns how the run ends. RECEIVED, at this path, was read so.
+/// Writes what follows the lines of the messages, and returns how the run ends. RECEIVED, at this path, was read so,
+/// and this was noted of the messages of these harts.
 fn write_rest<'a, O: Write>(
     path: &Audit<'_>,
     received: &'a str,
     arrived: Arrived,
+    noted: Noted,
+    harts: HartRange,
     summary: bool,
     out: &mut O,
 ) -> Result<Status, Fault<'a>>
@@ -134,26 +161,29 @@ fn write_rest<'a, O: Write>(
     ensures memory { result ≢ Err Fault.Memory }
     ensures written { (sent : List AnyMessage) (came : Came) → IsAudit sent (messages_in came.spans) path.now
         → length (messages_in came.spans) < 2 ^ 64 → HasArrived arrived came
-        → EndsRest path.now.by received.entry summary (record { header = path.now.header; messages = sent }) came result
+        → noted ≡ noted_of harts (known_all path.now.by sent) (known_all path.now.by (messages_in came.spans))
+        → EndsRest path.now.by harts received.entry summary
+        (record { header = path.now.header; messages = sent }) came result
         (O.contents out.old) (O.contents out.new) }
     ensures begun { (sent : List AnyMessage) (came : Came) → IsAudit sent (messages_in came.spans) path.now
         → length (messages_in came.spans) < 2 ^ 64 → HasArrived arrived came
-        → AppendsBeginning (behind_findings path.now.by summary (record { header = path.now.header; messages = sent }) came)
+        → noted ≡ noted_of harts (known_all path.now.by sent) (known_all path.now.by (messages_in came.spans))
+        → AppendsBeginning (behind_findings path.now.by harts summary
+        (record { header = path.now.header; messages = sent }) came)
         (O.contents out.old) (O.contents out.new) }
 {
-    write_runs(path, summary, out)?;
-    let total = write_rows(path, out)?;
-    let count = path.strangers();
+    write_runs(path, harts, summary, out)?;
+    let total = write_rows(path, harts, out)?;
     let unlike = are_unlike(path.header(), arrived.header, arrived.fault);
-    let whole = is_whole(total.whole, count, unlike, arrived.is_undamaged());
+    let whole = is_whole(total.whole, noted.strangers, unlike, arrived.is_undamaged());
     let ending = Ending {
-        harts: path.harts(),
+        harts: count_among(harts, path.harts()),
         total,
-        strangers: count,
+        strangers: noted.strangers,
         bytes: arrived.bytes,
         runs: arrived.runs,
         unlike,
-        first: path.first(),
+        first: noted.first,
         whole,
     };
     write_text(out, ending)?;
@@ -161,56 +191,63 @@ fn write_rest<'a, O: Write>(
     ended(received, arrived.fault, whole)
 }
 
-/// Writes the lines of the numbers of each hart that were lost, but none in a summary.
-fn write_runs<O: Write>(path: &Audit<'_>, summary: bool, out: &mut O) -> io::Result<()>
+/// Writes the lines of the numbers of each of these harts that were lost, but none in a summary.
+fn write_runs<O: Write>(
+    path: &Audit<'_>,
+    harts: HartRange,
+    summary: bool,
+    out: &mut O,
+) -> io::Result<()>
     ensures text { (sent received : List AnyMessage) → IsAudit sent received path.now
         → OnOk result (Appends (O.contents out.old) (O.contents out.new)
         (unless_summary summary (all_lost_lines (known_all path.now.by sent) (known_all path.now.by received)
-        (length path.now.harts)))) }
+        (harts_among harts (length path.now.harts))))) }
     ensures begun { (sent received : List AnyMessage) → IsAudit sent received path.now
         → AppendsBeginning (unless_summary summary (all_lost_lines (known_all path.now.by sent) (known_all path.now.by received)
-        (length path.now.harts)))
+        (harts_among harts (length path.now.harts))))
         (O.contents out.old) (O.contents out.new) }
 {
     if summary {
         return Ok(());
     }
-    write_losses(path, out)
+    write_losses(path, harts, out)
 }
 
-/// Writes the lines of the numbers of each hart that were lost.
-fn write_losses<O: Write>(path: &Audit<'_>, out: &mut O) -> io::Result<()>
+/// Writes the lines of the numbers of each of these harts that were lost.
+fn write_losses<O: Write>(path: &Audit<'_>, harts: HartRange, out: &mut O) -> io::Result<()>
     ensures text { (sent received : List AnyMessage) → IsAudit sent received path.now
         → OnOk result (Appends (O.contents out.old) (O.contents out.new)
         (all_lost_lines (known_all path.now.by sent) (known_all path.now.by received)
-        (length path.now.harts))) }
+        (harts_among harts (length path.now.harts)))) }
     ensures begun { (sent received : List AnyMessage) → IsAudit sent received path.now
         → AppendsBeginning (all_lost_lines (known_all path.now.by sent) (known_all path.now.by received)
-        (length path.now.harts))
+        (harts_among harts (length path.now.harts)))
         (O.contents out.old) (O.contents out.new) }
 {
-    for hart in 0..path.harts() {
+    let past = past_among(harts, path.harts());
+    for hart in usize::from(harts.first)..past {
         write_lost(path.lost(hart), hart, out)?;
     }
     Ok(())
 }
 
-/// Writes the lines of each hart, and returns what is found of all together.
-fn write_rows<O: Write>(path: &Audit<'_>, out: &mut O) -> io::Result<Total>
+/// Writes the lines of each of these harts, and returns what is found of all together.
+fn write_rows<O: Write>(path: &Audit<'_>, harts: HartRange, out: &mut O) -> io::Result<Total>
     ensures total { (sent received : List AnyMessage) → IsAudit sent received path.now → length received < 2 ^ 64
         → IfOk result (λ total. total ≡ total_of (known_all path.now.by sent) (known_all path.now.by received)
-        (length path.now.harts)) }
+        (harts_among harts (length path.now.harts))) }
     ensures text { (sent received : List AnyMessage) → IsAudit sent received path.now → length received < 2 ^ 64
         → OnOk result (Appends (O.contents out.old) (O.contents out.new)
         (row_lines (known_all path.now.by sent) (known_all path.now.by received)
-        (length path.now.harts))) }
+        (harts_among harts (length path.now.harts)))) }
     ensures begun { (sent received : List AnyMessage) → IsAudit sent received path.now → length received < 2 ^ 64
         → AppendsBeginning (row_lines (known_all path.now.by sent) (known_all path.now.by received)
-        (length path.now.harts))
+        (harts_among harts (length path.now.harts)))
         (O.contents out.old) (O.contents out.new) }
 {
     let mut total = Total::new();
-    for hart in 0..path.harts() {
+    let past = past_among(harts, path.harts());
+    for hart in usize::from(harts.first)..past {
         let row = path.row(hart);
         total = total.add(row);
         let text = RowText { hart, row };

@@ -17,6 +17,7 @@ use crate::sides::by_packets;
 use alike::By;
 use auditing::Audit;
 use command_inputs::{Files, content_of};
+use hart_range::HartRange;
 use message::{Header, MessageFault};
 use searching::start_of;
 use std::alloc::{AllocError, Global};
@@ -28,7 +29,7 @@ use unnumbered::SentPayloads;
 pub(crate) struct KeptSent {
     /// Its header, if it has one.
     pub(crate) header: Option<Header>,
-    /// The payloads of each of its harts.
+    /// The payloads of each of its harts that are asked for.
     pub(crate) payloads: SentPayloads,
 }
 
@@ -54,30 +55,36 @@ impl Received {
     }
 }
 
-/// Reads SENT and checks it, and keeps the payloads of its harts.
+/// Reads SENT and checks it, and keeps the payloads of these harts.
 pub(crate) fn read_sent<'a, F: Files>(
     alloc: Global,
     files: &mut F,
     asked: &Asked<'a>,
+    harts: HartRange,
 ) -> Result<KeptSent, Fault<'a>>
     ensures held { IfOk result (λ own. (bytes : List ℕ)
         × IsRead {W = AnyReason} (F.content files.old) asked.now.sent (Ok bytes)
-        × KeepsSent (by_packets asked.now.packets) bytes own) }
+        × KeepsSent (by_packets asked.now.packets) harts bytes own) }
     ensures lacked { IfErr result (λ why. (why ≡ Fault.Memory)
         ⊎ After (IsRead (F.content files.old) asked.now.sent) (IsFoundSent asked.now.sent) (Err why)) }
     ensures kept { F.content files.new ≡ F.content files.old }
 {
     let bytes = content_of(files, asked.sent)?;
-    keep_sent(alloc, asked, bytes.as_slice())
+    keep_sent(alloc, asked, harts, bytes.as_slice())
 }
 
-/// Checks SENT, which has these bytes, and keeps the payloads of its harts.
-fn keep_sent<'a>(alloc: Global, asked: &Asked<'a>, bytes: &[u8]) -> Result<KeptSent, Fault<'a>>
-    ensures held { IfOk result (KeepsSent (by_packets asked.now.packets) bytes.now) }
+/// Checks SENT, which has these bytes, and keeps the payloads of these harts.
+fn keep_sent<'a>(
+    alloc: Global,
+    asked: &Asked<'a>,
+    harts: HartRange,
+    bytes: &[u8],
+) -> Result<KeptSent, Fault<'a>>
+    ensures held { IfOk result (KeepsSent (by_packets asked.now.packets) harts bytes.now) }
     ensures lacked { IfErr result (λ why. (why ≡ Fault.Memory) ⊎ IsFoundSent asked.now.sent bytes.now (Err why)) }
 {
     let front = check_sent(alloc, asked.sent, bytes)?;
-    let whole = read_by_hart(alloc, front.1, by_packets(asked.packets), bytes)?;
+    let whole = read_by_hart(alloc, harts, front.1, by_packets(asked.packets), bytes)?;
     Ok(KeptSent {
         header: front.0,
         payloads: whole.lists.payloads,
@@ -100,21 +107,22 @@ fn check_sent<'a>(
     }
 }
 
-/// Reads RECEIVED, which has these bytes, by the lengths of its messages. The payloads of so many harts are kept, as they
-/// are compared by these.
+/// Reads RECEIVED, which has these bytes, by the lengths of its messages. The payloads of these harts, of so many, are
+/// kept, as they are compared by these.
 pub(crate) fn read_received(
     alloc: Global,
-    harts: usize,
+    harts: HartRange,
+    count: usize,
     by: By,
     bytes: &[u8],
 ) -> Result<Received, AllocError>
     ensures came { IfOk result (λ came. (messages : List AnyMessage)
-        × IsUnnumberedCame bytes.now (came_with came messages) × IsByHart messages came.lists) }
+        × IsUnnumberedCame bytes.now (came_with came messages) × IsByHart harts messages came.lists) }
     ensures by { IfOk result (λ came. came.lists.payloads.by ≡ by) }
-    ensures harts { IfOk result (λ came. length came.lists.payloads.lists ≡ harts) }
+    ensures count { IfOk result (λ came. length came.lists.payloads.lists ≡ count) }
 {
     let fault = start_of(bytes).fault;
-    let front = read_by_hart(alloc, harts, by, bytes)?;
+    let front = read_by_hart(alloc, harts, count, by, bytes)?;
     if fault.is_some() {
         return Ok(Received {
             header: None,

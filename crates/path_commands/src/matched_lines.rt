@@ -2,7 +2,8 @@
 
 ghost use Rattle.std.specs.Prelude.{◌≡◌, Some};
 ghost use Rattle.path_commands.specs.AuditText.{runs_line};
-ghost use Rattle.path_commands.specs.UnnumberedText.{aligned_all, aligned_row, aligned_text, arrival_text, place_of};
+ghost use Rattle.path_commands.specs.UnnumberedText.{aligned_all, aligned_row, aligned_text, arrival_text};
+ghost use Rattle.path_commands.specs.UnnumberedText.{hart_of, place_of};
 
 use crate::ending::verdict_text;
 use std::fmt;
@@ -42,6 +43,15 @@ pub(crate) fn place_of(line: Line) -> u64
         Line::Stranger { place, .. } | Line::Extra { place, .. } | Line::Skips { place, .. } => {
             place
         }
+    }
+}
+
+/// The hart of the message that a line is of.
+pub(crate) fn hart_of(line: Line) -> u16
+    ensures { result ≡ hart_of line }
+{
+    match line {
+        Line::Stranger { hart, .. } | Line::Extra { hart, .. } | Line::Skips { hart, .. } => hart,
     }
 }
 

@@ -6,15 +6,17 @@ ghost use Rattle.std.specs.List.{flat_map};
 ghost use Rattle.output.specs.Begun.{AppendsBeginning};
 ghost use Rattle.path_commands.specs.AuditText.{runs_line, unless_summary};
 ghost use Rattle.path_commands.specs.UnnumberedText.{aligned_ending, aligned_lines, aligned_row, arrival_text};
-ghost use Rattle.path_commands.specs.UnnumberedText.{first_place_of, single_lines, texts_from, unmatched_lines};
-ghost use Rattle.path_commands.specs.UnnumberedText.{unnumbered_text};
+ghost use Rattle.path_commands.specs.UnnumberedText.{first_place_of, of_selected, single_lines, texts_from};
+ghost use Rattle.path_commands.specs.UnnumberedText.{unmatched_lines, unnumbered_text};
 
 use crate::ending::{Closing, StrangersLine};
+use crate::hart_check::{count_among, is_among};
 use crate::lines::RunsLine;
 use crate::lost_lines::write_lost;
 use crate::matched_lines::{AlignedAll, AlignedRow, ArrivalText, place_of};
 use alignment::Alignment;
 use auditing::{LostRuns, run_lengths};
+use hart_range::HartRange;
 use output::write_text;
 use std::io::Write;
 use std::{fmt, io};
@@ -23,6 +25,8 @@ use unnumbered::{Line, counts_of, total_of};
 /// What is found of the messages of RECEIVED.
 #[derive(Clone, Copy)]
 pub(crate) struct Matched<'m> {
+    /// The harts that are asked for.
+    pub(crate) harts: HartRange,
     /// The alignments of the harts of SENT.
     pub(crate) all: &'m [Alignment],
     /// What is to be said of the messages of RECEIVED.
@@ -42,18 +46,20 @@ pub(crate) fn write_report<O: Write>(
     out: &mut O,
 ) -> io::Result<()>
     ensures text { OnOk result (Appends (O.contents out.old) (O.contents out.new)
-        (unnumbered_text summary found.entry.all.now found.entry.lines.now found.entry.strangers found.entry.unlike
+        (unnumbered_text found.entry.harts summary found.entry.all.now found.entry.lines.now found.entry.strangers
+        found.entry.unlike
         found.entry.whole)) }
     ensures begun { AppendsBeginning
-        (unnumbered_text summary found.entry.all.now found.entry.lines.now found.entry.strangers found.entry.unlike
+        (unnumbered_text found.entry.harts summary found.entry.all.now found.entry.lines.now found.entry.strangers
+        found.entry.unlike
         found.entry.whole)
         (O.contents out.old) (O.contents out.new) }
 {
     write_singles(found.all, found.lines, summary, out)?;
-    write_aligned(found.all, out)?;
+    write_aligned(found.harts, found.all, out)?;
     let ending = AlignedEnding {
         all: AlignedAll {
-            harts: found.all.len(),
+            harts: count_among(found.harts, found.all.len()),
             total: total_of(found.all),
         },
         strangers: found.strangers,
@@ -150,16 +156,35 @@ fn write_unmatched<O: Write>(all: &[Alignment], out: &mut O) -> io::Result<()>
     Ok(())
 }
 
-/// Writes the lines of each hart.
-fn write_aligned<O: Write>(all: &[Alignment], out: &mut O) -> io::Result<()>
+/// Writes the lines of each of these harts.
+fn write_aligned<O: Write>(harts: HartRange, all: &[Alignment], out: &mut O) -> io::Result<()>
     ensures text { OnOk result (Appends (O.contents out.old) (O.contents out.new)
-        (texts_from aligned_lines 0 all.now)) }
-    ensures begun { AppendsBeginning (texts_from aligned_lines 0 all.now) (O.contents out.old) (O.contents out.new) }
+        (texts_from (of_selected harts aligned_lines) 0 all.now)) }
+    ensures begun { AppendsBeginning (texts_from (of_selected harts aligned_lines) 0 all.now) (O.contents out.old)
+        (O.contents out.new) }
 {
     for hart in 0..all.len() {
-        write_text(out, aligned_text_of(hart, &all[hart]))?;
+        write_hart(harts, hart, &all[hart], out)?;
     }
     Ok(())
+}
+
+/// Writes the lines of a hart with this alignment, if it is one of these.
+fn write_hart<O: Write>(
+    harts: HartRange,
+    hart: usize,
+    own: &Alignment,
+    out: &mut O,
+) -> io::Result<()>
+    ensures text { OnOk result (Appends (O.contents out.old) (O.contents out.new)
+        (of_selected harts aligned_lines hart own.now)) }
+    ensures begun { AppendsBeginning (of_selected harts aligned_lines hart own.now)
+        (O.contents out.old) (O.contents out.new) }
+{
+    if !is_among(harts, hart) {
+        return Ok(());
+    }
+    write_text(out, aligned_text_of(hart, own))
 }
 
 /// The lines of a hart.

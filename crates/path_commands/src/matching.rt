@@ -4,32 +4,39 @@ ghost use Rattle.std.specs.Prelude.{⊤, ◌≡◌, ◌≢◌, ℕ, Err, IfOk, L
 ghost use Rattle.std.specs.Io.KnownBytes.{Appends};
 ghost use Rattle.message.specs.declared.message.Message.{Message as AnyMessage};
 ghost use Rattle.output.specs.Begun.{AppendsBeginning};
+ghost use Rattle.std.specs.List.{filter};
+ghost use Rattle.hart_range.specs.Range.{selects};
 ghost use Rattle.unnumbered.specs.Aligned.{AreAligned};
+ghost use Rattle.unnumbered.specs.Arrivals.{arrival_lines};
 ghost use Rattle.unnumbered.specs.Split.{AreSplit};
 ghost use Rattle.command_inputs.specs.Begun.{IsCutOf};
 ghost use Rattle.command_inputs.specs.Printed.{PrintsUnlessDenied};
-ghost use Rattle.path_commands.specs.Audited.{AuditsBy, CanAudit, WritesAligned};
+ghost use Rattle.path_commands.specs.Audited.{AuditsBy, CanAuditHarts, WritesAligned};
 ghost use Rattle.path_commands.specs.Faults.{final_status};
 ghost use Rattle.path_commands.specs.Sides.{by_packets};
 ghost use Rattle.path_commands.specs.Unnumbered.{end_of_reading};
+ghost use Rattle.path_commands.specs.UnnumberedText.{hart_of};
 ghost use Rattle.path_commands.specs.steps.Matching.{EndsUnnumbered, IsByHart, IsKept, audit_in, came_with, report_in};
 ghost use Rattle.path_commands.specs.steps.Matching.{strangers_of};
 ghost use Rattle.command_inputs.specs.declared.fault.Fault.TheVariants as Fault;
 
 use crate::aligned_tabling::write_aligned_table;
 use crate::by_hart::ByHart;
+use crate::hart_check::check_hart;
 use crate::keeping::{KeptSent, Received, read_received, read_sent};
+use crate::matched_lines::hart_of;
 use crate::matched_report::{Matched, write_report};
 use crate::reason::{Fault, unread_fault};
 use crate::sides::{are_unlike, by_packets, ended, is_whole};
 use alignment::Alignment;
 use command_inputs::{Files, MessageProgress, Status, content_of};
+use hart_range::HartRange;
 use message::{Header, MessageFault};
 use std::alloc::{AllocError, Global};
 use std::io;
 use std::io::Write;
 use subcommands::{Audit as Asked, Format};
-use unnumbered::{lines_by_hart, total_of};
+use unnumbered::{Line, lines_by_hart, total_of};
 use watching::Watch;
 
 /// As [`crate::audit`], by the payloads of the messages alone.
@@ -37,21 +44,32 @@ pub(crate) fn audit_unnumbered<'a, F: Files, O: Write>(
     alloc: Global,
     files: &mut F,
     asked: &Asked<'a>,
+    harts: HartRange,
     out: &mut O,
 ) -> Result<Status, Fault<'a>>
     ensures refused { final_status result ≡ Status.Refused → out.new ≡ out.old }
     ensures untouched { result ≡ Err Fault.Memory → out.new ≡ out.old }
     ensures printed { PrintsUnlessDenied
-        (AuditsBy (WritesAligned asked.now.format asked.now) (F.content files.old) asked.now)
-        (CanAudit (F.content files.old) asked.now) result
+        (AuditsBy (WritesAligned asked.now.format asked.now harts) (F.content files.old) asked.now harts)
+        (CanAuditHarts (F.content files.old) asked.now harts) result
         (O.contents out.old) (O.contents out.new) }
-    ensures cut { IsCutOf (AuditsBy (WritesAligned asked.now.format asked.now) (F.content files.old) asked.now)
+    ensures cut { IsCutOf (AuditsBy (WritesAligned asked.now.format asked.now harts)
+        (F.content files.old) asked.now harts)
         (O.contents out.old) (O.contents out.new) }
 {
-    let sent = read_sent(alloc, files, asked)?;
+    let sent = read_sent(alloc, files, asked, harts)?;
+    check_hart(asked, harts, sent.payloads.harts())?;
     let received = content_of(files, asked.received)?;
     let progress = MessageProgress::new(&*files, asked.progress);
-    write_matched(alloc, &progress, &sent, asked, received.as_slice(), out)
+    write_matched(
+        alloc,
+        &progress,
+        &sent,
+        asked,
+        harts,
+        received.as_slice(),
+        out,
+    )
 }
 
 /// Writes what became of the messages of SENT in these bytes of RECEIVED.
@@ -60,25 +78,28 @@ fn write_matched<'a, F: Files, O: Write>(
     progress: &MessageProgress<'_, F>,
     sent: &KeptSent,
     asked: &Asked<'a>,
+    harts: HartRange,
     bytes: &[u8],
     out: &mut O,
 ) -> Result<Status, Fault<'a>>
     ensures ended { final_status result ≢ Status.Refused }
     ensures untouched { result ≡ Err Fault.Memory → out.new ≡ out.old }
-    ensures printed { (messages : List AnyMessage) → IsKept (by_packets asked.now.packets) messages sent.now
+    ensures printed { (messages : List AnyMessage) → IsKept (by_packets asked.now.packets) harts messages sent.now
         → PrintsUnlessDenied
-        (WritesAligned asked.now.format asked.now (record { header = sent.now.header; messages = messages }) bytes.now) ⊤
+        (WritesAligned asked.now.format asked.now harts
+        (record { header = sent.now.header; messages = messages }) bytes.now) ⊤
         result
         (O.contents out.old) (O.contents out.new) }
-    ensures cut { (messages : List AnyMessage) → IsKept (by_packets asked.now.packets) messages sent.now
+    ensures cut { (messages : List AnyMessage) → IsKept (by_packets asked.now.packets) harts messages sent.now
         → IsCutOf
-        (WritesAligned asked.now.format asked.now (record { header = sent.now.header; messages = messages }) bytes.now)
+        (WritesAligned asked.now.format asked.now harts
+        (record { header = sent.now.header; messages = messages }) bytes.now)
         (O.contents out.old) (O.contents out.new) }
 {
-    let harts = sent.payloads.harts();
-    let came = read_received(alloc, harts, by_packets(asked.packets), bytes)?;
-    let all = align_shown(alloc, progress, sent, &came.lists)?;
-    write_found(alloc, sent.header, asked, &came, all.as_slice(), out)
+    let count = sent.payloads.harts();
+    let came = read_received(alloc, harts, count, by_packets(asked.packets), bytes)?;
+    let all = align_shown(alloc, progress, sent, harts, &came.lists)?;
+    write_found(alloc, sent.header, asked, harts, &came, all.as_slice(), out)
 }
 
 /// Aligns these messages of RECEIVED with those of SENT. Meanwhile it shows how far that is, where that is asked for.
@@ -86,55 +107,59 @@ fn align_shown<F: Files>(
     alloc: Global,
     progress: &MessageProgress<'_, F>,
     sent: &KeptSent,
+    harts: HartRange,
     came: &ByHart,
 ) -> Result<Vec<Alignment>, AllocError>
-    requires harts { length came.now.payloads.lists ≡ length sent.now.payloads.lists }
-    ensures { (harts : ℕ) (messages received : List AnyMessage)
-        → AreSplit sent.now.payloads.by harts messages sent.now.payloads.lists
-        → AreSplit sent.now.payloads.by harts received came.now.payloads.lists
-        → IfOk result (λ all. AreAligned sent.now.payloads.by harts messages received all.items) }
+    requires count { length came.now.payloads.lists ≡ length sent.now.payloads.lists }
+    ensures { (count : ℕ) (messages received : List AnyMessage)
+        → AreSplit sent.now.payloads.by count messages sent.now.payloads.lists
+        → AreSplit sent.now.payloads.by count received came.now.payloads.lists
+        → IfOk result (λ all. AreAligned sent.now.payloads.by count messages received all.items) }
 {
-    progress.begin(came.harts.len() as u64);
+    progress.begin(selected_among(harts, came.harts.as_slice()));
     let all = sent.payloads.align_lists(alloc, progress, &came.payloads);
     if let Ok(all) = &all {
-        progress.note(strangers_among(all.len(), came.harts.as_slice()) as usize);
+        progress.note(strangers_among(harts, all.len(), came.harts.as_slice()) as usize);
     }
     progress.end();
     all
 }
 
-/// Writes what became of messages, by the header of SENT, what was read of RECEIVED, and the alignments of the harts.
+/// Writes what became of messages of these harts, by the header of SENT, what was read of RECEIVED, and the alignments
+/// of the harts.
 fn write_found<'a, O: Write>(
     alloc: Global,
     header: Option<Header>,
     asked: &Asked<'a>,
+    harts: HartRange,
     came: &Received,
     all: &[Alignment],
     out: &mut O,
 ) -> Result<Status, Fault<'a>>
     ensures ended { final_status result ≢ Status.Refused }
     ensures untouched { result ≡ Err Fault.Memory → out.new ≡ out.old }
-    ensures written { (messages : List AnyMessage) → IsByHart messages came.now.lists
-        → EndsUnnumbered asked.now header (came_with came.now messages) all.now result
+    ensures written { (messages : List AnyMessage) → IsByHart harts messages came.now.lists
+        → EndsUnnumbered asked.now harts header (came_with came.now messages) all.now result
         (O.contents out.old) (O.contents out.new) }
-    ensures begun { (messages : List AnyMessage) → IsByHart messages came.now.lists
+    ensures begun { (messages : List AnyMessage) → IsByHart harts messages came.now.lists
         → AppendsBeginning
-        (audit_in asked.now.format asked.now.summary header (came_with came.now messages) all.now)
+        (audit_in asked.now.format harts asked.now.summary header (came_with came.now messages) all.now)
         (O.contents out.old) (O.contents out.new) }
 {
-    let harts = came.lists.harts.as_slice();
-    let lines = lines_by_hart(alloc, all, harts)?;
-    let strangers = strangers_among(all.len(), harts);
+    let own = came.lists.harts.as_slice();
+    let lines = lines_among(alloc, harts, all, own)?;
+    let strangers = strangers_among(harts, all.len(), own);
     let unlike = are_unlike(header, came.header, came.fault);
     let whole = is_whole(total_of(all).whole, strangers, unlike, came.is_read_whole());
     let found = Matched {
+        harts,
         all,
         lines: lines.as_slice(),
         strangers,
         unlike,
         whole,
     };
-    let count = harts.len() as u64;
+    let count = own.len() as u64;
     write_report_in(asked.format, found, count, asked.summary, out)?;
     ended_reading(asked.received, came.stop, count, came.fault, whole)
 }
@@ -148,10 +173,12 @@ fn write_report_in<O: Write>(
     out: &mut O,
 ) -> io::Result<()>
     ensures text { OnOk result (Appends (O.contents out.old) (O.contents out.new)
-        (report_in format summary found.entry.all.now found.entry.lines.now messages found.entry.strangers
+        (report_in format found.entry.harts summary found.entry.all.now found.entry.lines.now messages
+        found.entry.strangers
         found.entry.unlike found.entry.whole)) }
     ensures begun { AppendsBeginning
-        (report_in format summary found.entry.all.now found.entry.lines.now messages found.entry.strangers
+        (report_in format found.entry.harts summary found.entry.all.now found.entry.lines.now messages
+        found.entry.strangers
         found.entry.unlike found.entry.whole)
         (O.contents out.old) (O.contents out.new) }
 {
@@ -161,12 +188,39 @@ fn write_report_in<O: Write>(
     }
 }
 
-/// How many messages of these harts are strangers: of no hart of so many.
-fn strangers_among(harts: usize, own: &[u16]) -> u64
-    ensures { result ≡ strangers_of harts own.now }
+/// What is to be said of messages of these harts, one after the other, where it is of the harts of the range.
+fn lines_among(
+    alloc: Global,
+    harts: HartRange,
+    all: &[Alignment],
+    own: &[u16],
+) -> Result<Vec<Line>, AllocError>
+    ensures { IfOk result (λ lines.
+        lines.items ≡ filter (λ one. selects harts (hart_of one)) (arrival_lines all.now own.now)) }
+{
+    let mut lines = lines_by_hart(alloc, all, own)?;
+    keep_selected(&mut lines, harts);
+    Ok(lines)
+}
+
+/// Leaves out the lines of messages that are not of these harts.
+fn keep_selected(lines: &mut Vec<Line>, harts: HartRange)
+    ensures { lines.new.items ≡ filter (λ one. selects harts (hart_of one)) lines.old.items }
+{
+    lines.retain(move |line| harts.selects(hart_of(*line)));
+}
+
+/// How many messages, which are of these harts, are of the harts of the range.
+fn selected_among(harts: HartRange, own: &[u16]) -> u64 {
+    own.iter().filter(|hart| harts.selects(**hart)).count() as u64
+}
+
+/// How many messages, which are of these harts, are strangers of the range: of no hart of so many.
+fn strangers_among(harts: HartRange, count: usize, own: &[u16]) -> u64
+    ensures { result ≡ strangers_of harts count own.now }
 {
     own.iter()
-        .filter(|hart| !(usize::from(**hart) < harts))
+        .filter(|hart| harts.selects(**hart) && !(usize::from(**hart) < count))
         .count() as u64
 }
 

@@ -6,6 +6,7 @@ ghost use Rattle.path_commands.specs.Faults.{path_reason_status, damaged_fault, 
 
 use auditing::SentFault;
 use command_inputs::{Reason, Status};
+use hart_range::HartRange;
 use message::MessageFault;
 use std::fmt;
 
@@ -22,6 +23,8 @@ pub enum PathReason<'a> {
     Unread(&'a str, u64, MessageFault),
     /// The capture at this path does not hold, complete and in order, what was sent.
     Sent(&'a str, SentFault),
+    /// SENT, at this path, has none of these harts.
+    NoHart(&'a str, HartRange),
 }
 
 impl fmt::Display for PathReason<'_> {
@@ -34,6 +37,7 @@ impl fmt::Display for PathReason<'_> {
                 write!(f, "{path}: message {number}: {why}")
             }
             PathReason::Sent(path, why) => write!(f, "{path}: {why}"),
+            PathReason::NoHart(path, harts) => write!(f, "{path}: no hart of {harts}"),
         }
     }
 }
@@ -46,7 +50,7 @@ impl Reason for PathReason<'_> {
     fn status(&self) -> Status {
         match self {
             PathReason::Damaged(_) | PathReason::Unread(..) => Status::NotWhole,
-            PathReason::Sent(..) => Status::Refused,
+            PathReason::Sent(..) | PathReason::NoHart(..) => Status::Refused,
         }
     }
 

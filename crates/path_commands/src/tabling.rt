@@ -14,11 +14,15 @@ ghost use Rattle.path_commands.specs.AuditTable.{WritesTable, rows_behind};
 ghost use Rattle.path_commands.specs.AuditText.{total_of, unless_summary};
 ghost use Rattle.path_commands.specs.Came.{Came};
 ghost use Rattle.path_commands.specs.Faults.{final_status};
+ghost use Rattle.path_commands.specs.OnlyHarts.{harts_among};
 ghost use Rattle.path_commands.specs.Sides.{by_packets};
+ghost use Rattle.path_commands.specs.steps.Noting.{noted_of};
 ghost use Rattle.path_commands.specs.steps.Reading.{HasArrived};
 ghost use Rattle.path_commands.specs.steps.Tabling.{EndsTable};
 ghost use Rattle.command_inputs.specs.declared.fault.Fault.TheVariants as Fault;
 
+use crate::hart_check::past_among;
+use crate::noting::Noted;
 use crate::reason::Fault;
 use crate::received::{Arrived, begin_spans};
 use crate::sides::{are_unlike, ended, is_whole};
@@ -27,6 +31,7 @@ use crate::table_spans::write_front;
 use crate::total::Total;
 use auditing::{Audit, LostRuns};
 use command_inputs::{Files, MessageProgress, Status};
+use hart_range::HartRange;
 use output::write_text;
 use resuming::Resuming;
 use searching::{first_place, start_of};
@@ -39,25 +44,30 @@ pub(crate) fn write_table<'a, F: Files, O: Write>(
     progress: &MessageProgress<'_, F>,
     path: &mut Audit<'_>,
     asked: &Asked<'a>,
+    harts: HartRange,
     bytes: &[u8],
     out: &mut O,
 ) -> Result<Status, Fault<'a>>
     ensures ended { final_status result ≢ Status.Refused }
     ensures memory { result ≢ Err Fault.Memory }
     ensures printed { (sent : List AnyMessage) → IsAudit sent [] path.old → path.old.by ≡ by_packets asked.now.packets
-        → PrintsUnlessDenied (WritesTable asked.now (record { header = path.old.header; messages = sent }) bytes.now) ⊤ result
+        → PrintsUnlessDenied (WritesTable asked.now harts
+        (record { header = path.old.header; messages = sent }) bytes.now) ⊤ result
         (O.contents out.old) (O.contents out.new) }
     ensures cut { (sent : List AnyMessage) → IsAudit sent [] path.old → path.old.by ≡ by_packets asked.now.packets
-        → IsCutOf (WritesTable asked.now (record { header = path.old.header; messages = sent }) bytes.now)
+        → IsCutOf (WritesTable asked.now harts (record { header = path.old.header; messages = sent }) bytes.now)
         (O.contents out.old) (O.contents out.new) }
 {
     let start = start_of(bytes);
     let from = first_place(start.header);
     begin_spans(progress, path, bytes, from);
+    let mut noted = Noted::NONE;
     let read = write_front(
         progress,
         path,
+        &mut noted,
         Resuming::new(bytes, from),
+        harts,
         asked.summary,
         out,
     )?;
@@ -71,19 +81,23 @@ pub(crate) fn write_table<'a, F: Files, O: Write>(
         path,
         asked.received,
         arrived,
+        noted,
         read.messages,
+        harts,
         asked.summary,
         out,
     )
 }
 
 /// Writes the rows after those of the messages, and returns how the run ends. RECEIVED, at this path, was read so, and
-/// has so many messages.
+/// has so many messages. This was noted of those of these harts.
 fn write_behind<'a, O: Write>(
     path: &Audit<'_>,
     received: &'a str,
     arrived: Arrived,
+    noted: Noted,
     messages: u64,
+    harts: HartRange,
     summary: bool,
     out: &mut O,
 ) -> Result<Status, Fault<'a>>
@@ -91,25 +105,28 @@ fn write_behind<'a, O: Write>(
     ensures memory { result ≢ Err Fault.Memory }
     ensures written { (sent : List AnyMessage) (came : Came) → IsAudit sent (messages_in came.spans) path.now
         → messages ≡ length (messages_in came.spans) → length (messages_in came.spans) < 2 ^ 64 → HasArrived arrived came
-        → EndsTable path.now.by received.entry summary (record { header = path.now.header; messages = sent }) came result
+        → noted ≡ noted_of harts (known_all path.now.by sent) (known_all path.now.by (messages_in came.spans))
+        → EndsTable path.now.by harts received.entry summary
+        (record { header = path.now.header; messages = sent }) came result
         (O.contents out.old) (O.contents out.new) }
     ensures begun { (sent : List AnyMessage) (came : Came) → IsAudit sent (messages_in came.spans) path.now
         → messages ≡ length (messages_in came.spans) → length (messages_in came.spans) < 2 ^ 64 → HasArrived arrived came
-        → AppendsBeginning (rows_behind path.now.by summary (record { header = path.now.header; messages = sent }) came)
+        → noted ≡ noted_of harts (known_all path.now.by sent) (known_all path.now.by (messages_in came.spans))
+        → AppendsBeginning (rows_behind path.now.by harts summary
+        (record { header = path.now.header; messages = sent }) came)
         (O.contents out.old) (O.contents out.new) }
 {
-    write_run_rows(path, summary, out)?;
-    let total = write_hart_rows(path, out)?;
-    let count = path.strangers();
+    write_run_rows(path, harts, summary, out)?;
+    let total = write_hart_rows(path, harts, out)?;
     let unlike = are_unlike(path.header(), arrived.header, arrived.fault);
-    let whole = is_whole(total.whole, count, unlike, arrived.is_undamaged());
+    let whole = is_whole(total.whole, noted.strangers, unlike, arrived.is_undamaged());
     let last = LastRows {
         total,
         messages,
-        first: path.first(),
+        first: noted.first,
         unlike,
         bytes: arrived.bytes,
-        strangers: count,
+        strangers: noted.strangers,
         runs: arrived.runs,
         whole,
     };
@@ -118,35 +135,41 @@ fn write_behind<'a, O: Write>(
     ended(received, arrived.fault, whole)
 }
 
-/// Writes the rows of the numbers of each hart that were lost, but none in a summary.
-fn write_run_rows<O: Write>(path: &Audit<'_>, summary: bool, out: &mut O) -> io::Result<()>
+/// Writes the rows of the numbers of each of these harts that were lost, but none in a summary.
+fn write_run_rows<O: Write>(
+    path: &Audit<'_>,
+    harts: HartRange,
+    summary: bool,
+    out: &mut O,
+) -> io::Result<()>
     ensures text { (sent received : List AnyMessage) → IsAudit sent received path.now
         → OnOk result (Appends (O.contents out.old) (O.contents out.new)
         (unless_summary summary (all_run_rows (known_all path.now.by sent) (known_all path.now.by received)
-        (length path.now.harts)))) }
+        (harts_among harts (length path.now.harts))))) }
     ensures begun { (sent received : List AnyMessage) → IsAudit sent received path.now
         → AppendsBeginning (unless_summary summary (all_run_rows (known_all path.now.by sent) (known_all path.now.by received)
-        (length path.now.harts)))
+        (harts_among harts (length path.now.harts))))
         (O.contents out.old) (O.contents out.new) }
 {
     if summary {
         return Ok(());
     }
-    write_all_runs(path, out)
+    write_all_runs(path, harts, out)
 }
 
-/// Writes the rows of the numbers of each hart that were lost.
-fn write_all_runs<O: Write>(path: &Audit<'_>, out: &mut O) -> io::Result<()>
+/// Writes the rows of the numbers of each of these harts that were lost.
+fn write_all_runs<O: Write>(path: &Audit<'_>, harts: HartRange, out: &mut O) -> io::Result<()>
     ensures text { (sent received : List AnyMessage) → IsAudit sent received path.now
         → OnOk result (Appends (O.contents out.old) (O.contents out.new)
         (all_run_rows (known_all path.now.by sent) (known_all path.now.by received)
-        (length path.now.harts))) }
+        (harts_among harts (length path.now.harts)))) }
     ensures begun { (sent received : List AnyMessage) → IsAudit sent received path.now
         → AppendsBeginning (all_run_rows (known_all path.now.by sent) (known_all path.now.by received)
-        (length path.now.harts))
+        (harts_among harts (length path.now.harts)))
         (O.contents out.old) (O.contents out.new) }
 {
-    for hart in 0..path.harts() {
+    let past = past_among(harts, path.harts());
+    for hart in usize::from(harts.first)..past {
         write_runs_of(path.lost(hart), hart, out)?;
     }
     Ok(())
@@ -169,22 +192,23 @@ pub(crate) fn write_runs_of<O: Write>(
     Ok(())
 }
 
-/// Writes the row of each hart, and returns what is found of all together.
-fn write_hart_rows<O: Write>(path: &Audit<'_>, out: &mut O) -> io::Result<Total>
+/// Writes the row of each of these harts, and returns what is found of all together.
+fn write_hart_rows<O: Write>(path: &Audit<'_>, harts: HartRange, out: &mut O) -> io::Result<Total>
     ensures total { (sent received : List AnyMessage) → IsAudit sent received path.now → length received < 2 ^ 64
         → IfOk result (λ total. total ≡ total_of (known_all path.now.by sent) (known_all path.now.by received)
-        (length path.now.harts)) }
+        (harts_among harts (length path.now.harts))) }
     ensures text { (sent received : List AnyMessage) → IsAudit sent received path.now → length received < 2 ^ 64
         → OnOk result (Appends (O.contents out.old) (O.contents out.new)
         (hart_rows (known_all path.now.by sent) (known_all path.now.by received)
-        (length path.now.harts))) }
+        (harts_among harts (length path.now.harts)))) }
     ensures begun { (sent received : List AnyMessage) → IsAudit sent received path.now → length received < 2 ^ 64
         → AppendsBeginning (hart_rows (known_all path.now.by sent) (known_all path.now.by received)
-        (length path.now.harts))
+        (harts_among harts (length path.now.harts)))
         (O.contents out.old) (O.contents out.new) }
 {
     let mut total = Total::new();
-    for hart in 0..path.harts() {
+    let past = past_among(harts, path.harts());
+    for hart in usize::from(harts.first)..past {
         let row = path.row(hart);
         total = total.add(row);
         let text = HartFields { hart, row };

@@ -1,4 +1,5 @@
 pub mod Words
 pub mod Lines
+pub mod HartLines
 pub mod Effects
 pub mod ListedAlike

@@ -1,7 +1,10 @@
 //! Facts that follow from the definitions of the lines.
 
 ghost use Rattle.salvaged_lines.specs.Effects.{TakenHaveTheirEffect};
+ghost use Rattle.salvaged_lines.specs.HartLines.{AllHartsAreTreated};
 ghost use Rattle.salvaged_lines.specs.ListedAlike.{AcceptedAreTaken, CapturesAreListedAlike, LogsAreTaken};
+
+use searching::all_harts_choose_every_span;
 
 /// The word for a message that adds events is the text that a listing has for that effect.
 pub fn taken_messages_have_their_effect()
@@ -28,3 +31,11 @@ pub fn undamaged_captures_are_listed_alike()
 pub fn messages_of_logs_are_taken()
     ensures { LogsAreTaken }
 {}
+
+/// The text of all harts of a capture is that of all its frames: where no range is asked for, nothing is passed over.
+pub fn all_harts_are_treated()
+    ensures { AllHartsAreTreated }
+{
+    // From this call the proof learns that all spans are those of all harts.
+    all_harts_choose_every_span();
+}

@@ -1,21 +1,24 @@
 //! The lines of a damaged capture.
 
-ghost use Rattle.std.specs.Prelude.{◌≡◌, IfErr, IfOk, OnOk, drop, option_map};
+ghost use Rattle.std.specs.Prelude.{◌≡◌, [], IfErr, IfOk, OnOk, drop, if◌then◌else◌, option_map};
 ghost use Rattle.std.specs.Io.KnownBytes.{Appends};
 ghost use Rattle.output.specs.Begun.{AppendsBeginning};
+ghost use Rattle.salvaged_lines.specs.HartLines.{is_shown, shown, treated_text_of};
 ghost use Rattle.salvaged_lines.specs.Lines.{after_span, run_line, treated_line, treated_span, treated_spans};
 ghost use Rattle.salvaged_lines.specs.Lines.{treated_text};
 
+use crate::shown::is_shown;
 use crate::words::{late_text, write_word};
 use captures::Offset;
 use frames::{Span, Spans};
+use hart_range::HartRange;
 use listing::MessageText;
 use message::{Header, Message};
 use output::write_text;
 use payload::{Mode, unpack};
 use retire::WriteFault;
 use salvaging::Treated;
-use searching::{mode_of, write_start};
+use searching::{mode_of, spans_of, write_start};
 use std::alloc::Allocator;
 use std::io::Write;
 use symbols::Symbols;
@@ -94,26 +97,76 @@ fn write_span<S: Allocator, W: Write>(
     }
 }
 
-/// Writes the lines of spans, with the treatments of their messages.
+/// Writes the line of a span that is shown, as [`write_span`] does. Any other is passed over.
+fn write_shown<S: Allocator, W: Write>(
+    symbols: Option<&Symbols<S>>,
+    mode: Mode,
+    only: Option<HartRange>,
+    span: &Span,
+    treated: &[Treated],
+    place: usize,
+    sink: &mut W,
+) -> Result<usize, WriteFault>
+    ensures text { OnOk result (Appends (W.contents sink.old) (W.contents sink.new)
+        (if is_shown only span.now
+        then treated_span (option_map (λ file. file.now) symbols.entry) mode span.now (drop place treated.now)
+        else [])) }
+    ensures begun { AppendsBeginning
+        (if is_shown only span.now
+        then treated_span (option_map (λ file. file.now) symbols.entry) mode span.now (drop place treated.now)
+        else []) (W.contents sink.old) (W.contents sink.new) }
+    ensures place { IfOk result (λ next. drop next treated.now
+        ≡ (if is_shown only span.now then after_span span.now (drop place treated.now) else drop place treated.now)) }
+    ensures fault { IfErr result (λ fault. fault ≡ WriteFault.Write) }
+{
+    if is_shown(only, span) {
+        write_span(symbols, mode, span, treated, place, sink)
+    } else {
+        Ok(place)
+    }
+}
+
+/// Writes the lines of the spans that are shown, with the treatments of their messages.
 fn write_spans<S: Allocator, W: Write>(
     symbols: Option<&Symbols<S>>,
     mode: Mode,
+    only: Option<HartRange>,
     spans: Spans<'_>,
     treated: &[Treated],
     sink: &mut W,
 ) -> Result<(), WriteFault>
     ensures text { OnOk result (Appends (W.contents sink.old) (W.contents sink.new)
-        (treated_spans (option_map (λ file. file.now) symbols.entry) mode spans.entry treated.now)) }
+        (treated_spans (option_map (λ file. file.now) symbols.entry) mode (shown only spans.entry) treated.now)) }
     ensures begun { AppendsBeginning
-        (treated_spans (option_map (λ file. file.now) symbols.entry) mode spans.entry treated.now)
+        (treated_spans (option_map (λ file. file.now) symbols.entry) mode (shown only spans.entry) treated.now)
         (W.contents sink.old) (W.contents sink.new) }
     ensures fault { IfErr result (λ fault. fault ≡ WriteFault.Write) }
 {
     let mut place = 0;
     for span in spans {
-        place = write_span(symbols, mode, &span, treated, place, sink)?;
+        place = write_shown(symbols, mode, only, &span, treated, place, sink)?;
     }
     Ok(())
+}
+
+/// Writes the line of a header, if there is one, and the lines of the spans that are shown.
+fn write_lines<S: Allocator, W: Write>(
+    symbols: Option<&Symbols<S>>,
+    header: Option<Header>,
+    only: Option<HartRange>,
+    spans: Spans<'_>,
+    treated: &[Treated],
+    sink: &mut W,
+) -> Result<(), WriteFault>
+    ensures text { OnOk result (Appends (W.contents sink.old) (W.contents sink.new)
+        (treated_text (option_map (λ file. file.now) symbols.entry) header (shown only spans.entry) treated.now)) }
+    ensures begun { AppendsBeginning
+        (treated_text (option_map (λ file. file.now) symbols.entry) header (shown only spans.entry) treated.now)
+        (W.contents sink.old) (W.contents sink.new) }
+    ensures fault { IfErr result (λ fault. fault ≡ WriteFault.Write) }
+{
+    write_start(header, sink)?;
+    write_spans(symbols, mode_of(header), only, spans, treated, sink)
 }
 
 /// Writes what is done with each message of a capture that may be damaged: the line of its header, as
@@ -144,6 +197,39 @@ pub fn write_treated<S: Allocator, W: Write>(
         (W.contents sink.old) (W.contents sink.new) }
     ensures fault { IfErr result (λ fault. fault ≡ WriteFault.Write) }
 {
-    write_start(header, sink)?;
-    write_spans(symbols, mode_of(header), spans, treated, sink)
+    write_lines(symbols, header, None, spans, treated, sink)
+}
+
+/// Writes what is done with each message of some harts of a capture that may be damaged, where `only` says which: the line
+/// of its header, if there is one; and in order a line for each frame of these harts among its bytes, and for each run of
+/// bytes that belong to no frame. Frames of other harts are passed over. The lines are those of [`write_treated`].
+///
+/// The frames are those that [`spans_of`] finds behind this header, or from the first byte on where there is none. The
+/// treatments are those of the frames of these harts alone, in their order. A frame for which none is left has no line.
+///
+/// The only fault is [`WriteFault::Write`], where the writer failed: what was written then is a prefix of the text. The
+/// writer is not flushed. No memory is taken.
+pub fn write_treated_harts<S: Allocator, W: Write>(
+    symbols: Option<&Symbols<S>>,
+    header: Option<Header>,
+    only: HartRange,
+    bytes: &[u8],
+    treated: &[Treated],
+    sink: &mut W,
+) -> Result<(), WriteFault>
+    ensures text { OnOk result (Appends (W.contents sink.old) (W.contents sink.new)
+        (treated_text_of only (option_map (λ file. file.now) symbols.entry) header bytes.now treated.now)) }
+    ensures begun { AppendsBeginning
+        (treated_text_of only (option_map (λ file. file.now) symbols.entry) header bytes.now treated.now)
+        (W.contents sink.old) (W.contents sink.new) }
+    ensures fault { IfErr result (λ fault. fault ≡ WriteFault.Write) }
+{
+    write_lines(
+        symbols,
+        header,
+        Some(only),
+        spans_of(bytes, header),
+        treated,
+        sink,
+    )
 }

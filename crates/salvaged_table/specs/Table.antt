@@ -37,7 +37,13 @@ run_row (Bytes offset count) = fields_line (bytes_fields offset count)
 abbrev pub rest_rows : List Span → ℕ → List ℕ
 rest_rows spans strangers = flat_map run_row spans ++ strangers_row strangers
 
--- The names of the columns, the rows of each hart, those of bytes that belong to no frame, and that of the strangers.
+-- The names of the columns, the rows of harts, from this number on, those of bytes that belong to no frame, and that of
+-- the strangers.
+abbrev pub salvaged_table_from : Option Header → List Span → (ℕ → List ℕ) → ℕ → List (SalvagedHart Global) → ℕ
+    → List ℕ
+salvaged_table_from header spans offsets first harts strangers =
+    fields_line columns ++ (harts_rows header offsets first harts ++ rest_rows spans strangers)
+
+-- The same of all harts, from hart 0 on.
 abbrev pub salvaged_table : Option Header → List Span → (ℕ → List ℕ) → List (SalvagedHart Global) → ℕ → List ℕ
-salvaged_table header spans offsets harts strangers =
-    fields_line columns ++ (harts_rows header offsets 0 harts ++ rest_rows spans strangers)
+salvaged_table header spans offsets harts strangers = salvaged_table_from header spans offsets 0 harts strangers

@@ -8,6 +8,7 @@ ghost use Rattle.salvaging.specs.PartsIn.{part_of, parts_in};
 ghost use Rattle.salvaged_table.specs.Offsets.{own_offsets};
 ghost use Rattle.salvaged_table.specs.Rows.{counted_row, left_row, mode_row, strangers_row};
 ghost use Rattle.salvaged_table.specs.Table.{hart_rows, harts_rows, own_rows, rest_rows, run_row, salvaged_table};
+ghost use Rattle.salvaged_table.specs.Table.{salvaged_table_from};
 
 use crate::offsets::{offset_at, offsets_of};
 use crate::rows::{
@@ -27,8 +28,8 @@ use std::io::Write;
 ///
 /// A hart has a row of its own; one where it is read in another mode than the header says; one for each part of what is
 /// left of its log; and one for its copies and one for its late messages, where there are any. The columns are listed in
-/// `docs/FORMATS.md`. `offsets` are those of each hart's messages, by its number. No memory is taken, and the writer is
-/// not flushed.
+/// `docs/FORMATS.md`. `offsets` are those of each hart's messages, by its number, and `harts` are from hart 0 on. No
+/// memory is taken, and the writer is not flushed.
 pub fn write_salvaged_table<W: Write>(
     header: Option<Header>,
     spans: Spans<'_>,
@@ -42,24 +43,47 @@ pub fn write_salvaged_table<W: Write>(
     ensures begun { AppendsBeginning (salvaged_table header spans.entry (own_offsets offsets.now) harts.now strangers)
         (W.contents sink.old) (W.contents sink.new) }
 {
+    write_salvaged_harts(header, spans, offsets, 0, harts, strangers, sink)
+}
+
+/// Writes the table of some harts of a damaged capture, as [`write_salvaged_table`] writes that of all: the rows of these
+/// harts, of which the first has the number `first`, and each other the next. `offsets` are those of each hart of the
+/// capture, from hart 0 on.
+pub fn write_salvaged_harts<W: Write>(
+    header: Option<Header>,
+    spans: Spans<'_>,
+    offsets: &[Vec<usize>],
+    first: u16,
+    harts: &[SalvagedHart],
+    strangers: usize,
+    sink: &mut W,
+) -> io::Result<()>
+    ensures text { OnOk result (Appends (W.contents sink.old) (W.contents sink.new)
+        (salvaged_table_from header spans.entry (own_offsets offsets.now) first harts.now strangers)) }
+    ensures begun { AppendsBeginning
+        (salvaged_table_from header spans.entry (own_offsets offsets.now) first harts.now strangers)
+        (W.contents sink.old) (W.contents sink.new) }
+{
     write_text(sink, Columns)?;
-    write_harts(header, offsets, harts, sink)?;
+    write_harts(header, offsets, first, harts, sink)?;
     write_rest(spans, strangers, sink)
 }
 
-/// Writes the rows of each hart.
+/// Writes the rows of harts, from this number on.
 fn write_harts<W: Write>(
     header: Option<Header>,
     offsets: &[Vec<usize>],
+    first: u16,
     harts: &[SalvagedHart],
     sink: &mut W,
 ) -> io::Result<()>
     ensures text { OnOk result (Appends (W.contents sink.old) (W.contents sink.new)
-        (harts_rows header (own_offsets offsets.now) 0 harts.now)) }
-    ensures begun { AppendsBeginning (harts_rows header (own_offsets offsets.now) 0 harts.now)
+        (harts_rows header (own_offsets offsets.now) first harts.now)) }
+    ensures begun { AppendsBeginning (harts_rows header (own_offsets offsets.now) first harts.now)
         (W.contents sink.old) (W.contents sink.new) }
 {
-    for (hart, own) in harts.iter().enumerate() {
+    for (place, own) in harts.iter().enumerate() {
+        let hart = usize::from(first) + place;
         write_hart(header, hart, offsets_of(offsets, hart), own, sink)?;
     }
     Ok(())

@@ -66,8 +66,8 @@ pub struct Dump<'a> {
     pub capture: &'a str,
 }
 
-/// `decode --base B [--also B2=FILE]... [--harts N] [--lossy] [--progress] IMAGE CAPTURE`: the logs that the messages
-/// of a capture describe.
+/// `decode --base B [--also B2=FILE]... [--harts N] [--only A-B] [--lossy] [--progress] IMAGE CAPTURE`: the logs that the
+/// messages of a capture describe.
 #[derive(Debug, Drop)]
 pub struct Decode<'a> {
     /// The address of the image's first byte, not yet read as a number.
@@ -76,6 +76,8 @@ pub struct Decode<'a> {
     pub also: Vec<&'a str>,
     /// The count of harts of a capture with no header, 1 to 1024.
     pub harts: u16,
+    /// The harts whose messages are wanted, not yet read as `A-B` or `A`, where not all are.
+    pub only: Option<&'a str>,
     /// Whether messages of the capture may be lost.
     pub lossy: bool,
     /// Whether a terminal is shown how far the capture is worked through.
@@ -143,14 +145,16 @@ pub enum Format {
     Other,
 }
 
-/// `audit [--packets] [--unnumbered] [--summary] [--format FORMAT] [--progress] SENT RECEIVED`: what became of the messages
-/// of one capture, by another capture of what arrived.
+/// `audit [--packets] [--unnumbered] [--only A-B] [--summary] [--format FORMAT] [--progress] SENT RECEIVED`: what became
+/// of the messages of one capture, by another capture of what arrived.
 #[derive(Debug, Drop)]
 pub struct Audit<'a> {
     /// Whether a message is compared by the packet that its payload unpacks to, and not by its bytes.
     pub packets: bool,
     /// Whether the numbers of what arrived are not looked at.
     pub unnumbered: bool,
+    /// The harts whose messages are wanted, not yet read as `A-B` or `A`, where not all are.
+    pub only: Option<&'a str>,
     /// Whether the lines of single messages, of bytes that are no message and of lost numbers are left out.
     pub summary: bool,
     /// Whether lines of text or a table are wanted.
@@ -185,8 +189,8 @@ pub struct Measure<'a> {
     pub logs: Vec<&'a str>,
 }
 
-/// `list --base B [--also B2=FILE]... [--harts N] [--symbols FILE] [--salvage] [--format FORMAT] [--progress] IMAGE
-/// CAPTURE`: what each message of a capture says and settles.
+/// `list --base B [--also B2=FILE]... [--harts N] [--only A-B] [--symbols FILE] [--salvage] [--format FORMAT] [--progress]
+/// IMAGE CAPTURE`: what each message of a capture says and settles.
 #[derive(Debug, Drop)]
 pub struct Listing<'a> {
     /// The address of the image's first byte, not yet read as a number.
@@ -195,6 +199,8 @@ pub struct Listing<'a> {
     pub also: Vec<&'a str>,
     /// The count of harts of a capture with no header, 1 to 1024, where it is given.
     pub harts: Option<u16>,
+    /// The harts whose messages are wanted, not yet read as `A-B` or `A`, where not all are.
+    pub only: Option<&'a str>,
     /// The path of the program's symbols, where they are given.
     pub symbols: Option<&'a str>,
     /// Whether every message that is found is wanted, and what `salvage` does with it.
@@ -209,8 +215,8 @@ pub struct Listing<'a> {
     pub capture: &'a str,
 }
 
-/// `salvage --base B [--also B2=FILE]... [--harts N] [--summary] [--format FORMAT] [--progress] IMAGE CAPTURE`: what is
-/// left of the log of each hart after any damage to a capture.
+/// `salvage --base B [--also B2=FILE]... [--harts N] [--only A-B] [--summary] [--format FORMAT] [--progress] IMAGE
+/// CAPTURE`: what is left of the log of each hart after any damage to a capture.
 #[derive(Debug, Drop)]
 pub struct Salvage<'a> {
     /// The address of the image's first byte, not yet read as a number.
@@ -219,6 +225,8 @@ pub struct Salvage<'a> {
     pub also: Vec<&'a str>,
     /// The count of harts of a capture with no valid header, 1 to 1024, where it is given.
     pub harts: Option<u16>,
+    /// The harts whose messages are wanted, not yet read as `A-B` or `A`, where not all are.
+    pub only: Option<&'a str>,
     /// Whether the texts of the logs are left out.
     pub summary: bool,
     /// Whether lines of text or a table are wanted.
@@ -247,8 +255,8 @@ pub struct Capture<'a> {
     pub lines: &'a str,
 }
 
-/// `compare --base B [--also B2=FILE]... [--harts N] [--long] [--progress] IMAGE CAPTURE LOG...`: whether a capture
-/// describes just these logs.
+/// `compare --base B [--also B2=FILE]... [--harts N] [--only A-B] [--long] [--progress] IMAGE CAPTURE LOG...`: whether a
+/// capture describes just these logs.
 #[derive(Debug, Drop)]
 pub struct Compare<'a> {
     /// The address of the image's first byte, not yet read as a number.
@@ -257,6 +265,8 @@ pub struct Compare<'a> {
     pub also: Vec<&'a str>,
     /// The count of harts of a capture with no header, 1 to 1024.
     pub harts: u16,
+    /// The harts whose messages are wanted, not yet read as `A-B` or `A`, where not all are.
+    pub only: Option<&'a str>,
     /// Whether a log may have up to 4,294,967,295 rows. Where this is false, it may have up to 16,777,216.
     pub long: bool,
     /// Whether a terminal is shown how far the capture is worked through and the logs are read.

@@ -9,15 +9,15 @@ use Rattle.subcommands.specs.declared.words.Asked.TheVariants.{Measure, Replay, 
 use Rattle.log_commands.specs.Benching.{BenchesLogs}
 use Rattle.commands.specs.CarriedOut.{IsCarriedOut}
 use Rattle.log_commands.specs.Checking.{WritesLines}
-use Rattle.capture_commands.specs.Decoded.{WritesLogs}
+use Rattle.capture_commands.specs.Decoded.{DecodesHarts, WritesLogsOf}
 use Rattle.capture_commands.specs.Dumping.{DumpsHarts, WritesDumpOf}
-use Rattle.capture_commands.specs.Listed.{WritesListed}
-use Rattle.capture_commands.specs.Salvaging.{WritesSalvaged}
+use Rattle.capture_commands.specs.Listed.{ListsHarts, WritesListed}
+use Rattle.capture_commands.specs.Salvaging.{SalvagesOf}
 use Rattle.capture_commands.specs.Symbols.{AreSymbols}
 use Rattle.capture_commands.specs.declared.reason.CaptureReason.TheVariants as capture
 use Rattle.log_commands.specs.declared.reason.LogReason.TheVariants as log
 use Rattle.path_commands.specs.declared.reason.PathReason.TheVariants as audit
-use Rattle.compare_commands.specs.Comparing.{ComparesCapture}
+use Rattle.compare_commands.specs.Comparing.{ComparesHarts}
 use Rattle.line_commands.specs.Capturing.{AreSettings, WritesCapture}
 use Rattle.commands.specs.Faults.{Fault, Printed, command_reason_status, final_status, status_of}
 use Rattle.commands.specs.Joined.{joined_end, joined_printed}
@@ -36,7 +36,8 @@ use Rattle.log_commands.specs.Measuring.{WritesTable}
 use Rattle.log_commands.specs.Most.{most_of}
 use Rattle.retire.specs.Log.{most_rows}
 use Rattle.log_commands.specs.Replaying.{ReplaysLogs}
-use Rattle.path_commands.specs.Audited.{AuditsBy, Writes}
+use Rattle.path_commands.specs.Audited.{AuditsHarts, Writes}
+use Rattle.path_commands.specs.OnlyHarts.{HasHart}
 use Rattle.path_commands.specs.Sides.{IsFoundSent}
 use Rattle.command_inputs.specs.Status.{code_of}
 use Rattle.command_inputs.specs.declared.fault.Fault.{Fault as AnyFault}
@@ -161,12 +162,13 @@ not_ended (Dump asked) status old new done =
 not_ended (Decode asked) status old new done =
     let own = done.prints.own in
     let ends = ends_so Capture done.text status own done.prints.is in
-    not_first (IsBase asked.base.now asked.also.items) (λ base. First
-    (IsProgramAt none base asked.image asked.also.items) (λ program.
-    First (IsRead none asked.capture) (WritesLogs asked.lossy asked.harts program))) own status ends
-    (λ base is prints. not_first (IsProgramAt none base asked.image asked.also.items) (λ program.
-    First (IsRead none asked.capture) (WritesLogs asked.lossy asked.harts program)) own status ends
-    (λ program made logs. no_program base asked.image asked.also.items program made) prints) done.prints.prints
+    not_first (IsBase asked.base.now asked.also.items) (λ base.
+    First (IsOnly asked.only) (DecodesHarts none asked base)) own status ends
+    (λ base is prints. not_first (IsOnly asked.only) (DecodesHarts none asked base) own status ends
+    (λ range found logs. not_first (IsProgramAt none base asked.image asked.also.items) (λ program.
+    First (IsRead none asked.capture) (WritesLogsOf asked.lossy asked.harts range program)) own status ends
+    (λ program made written. no_program base asked.image asked.also.items program made) logs) prints)
+    done.prints.prints
 not_ended (Replay asked) status old new done =
     let own = done.prints.own in
     let ends = ends_so Log done.text status own done.prints.is in
@@ -186,11 +188,12 @@ not_ended (Bench asked) status old new done =
 not_ended (Audit asked) status old new done =
     let own = done.prints.own in
     let ends = ends_so Path done.text status own done.prints.is in
-    not_first (IsFormat asked.format) (λ _. AuditsBy (Writes asked.format asked.unnumbered asked) none asked) own status
-    ends
-    (λ _ is prints. not_first (IsRead none asked.sent) (λ bytes. First (IsFoundSent asked.sent bytes) (λ sent.
-    First (IsRead none asked.received) (Writes asked.format asked.unnumbered asked sent))) own status ends
-    (λ bytes read written. no_bytes asked.sent bytes read) prints) done.prints.prints
+    not_first (IsFormat asked.format) (λ _. First (IsOnly asked.only) (AuditsHarts none asked)) own status ends
+    (λ _ is prints. not_first (IsOnly asked.only) (AuditsHarts none asked) own status ends
+    (λ harts only prints. not_first (IsRead none asked.sent) (λ bytes. First (IsFoundSent asked.sent bytes) (λ sent.
+    First (HasHart asked.sent asked.only harts sent) (λ _. First (IsRead none asked.received)
+    (Writes asked.format asked.unnumbered asked harts sent)))) own status ends
+    (λ bytes read written. no_bytes asked.sent bytes read) prints) prints) done.prints.prints
 not_ended (Measure asked) status old new done =
     let own = done.prints.own in
     let ends = ends_so Log done.text status own done.prints.is in
@@ -203,23 +206,27 @@ not_ended (Measure asked) status old new done =
 not_ended (Listing asked) status old new done =
     let own = done.prints.own in
     let ends = ends_so Capture done.text status own done.prints.is in
-    not_first (IsAskedBase asked.format asked.base.now asked.also.items) (λ base. First
-    (IsProgramAt none base asked.image asked.also.items) (λ program.
+    not_first (IsAskedBase asked.format asked.base.now asked.also.items) (λ base.
+    First (IsOnly asked.only) (ListsHarts none asked base)) own status ends
+    (λ base is prints. not_first (IsOnly asked.only) (ListsHarts none asked base) own status ends
+    (λ only found lists. not_first (IsProgramAt none base asked.image asked.also.items) (λ program.
     First (AreSymbols none asked.symbols) (λ symbols. First (IsRead none asked.capture)
-    (WritesListed asked.format asked.salvage asked.harts program symbols)))) own status ends
-    (λ base is prints. not_first (IsProgramAt none base asked.image asked.also.items) (λ program.
-    First (AreSymbols none asked.symbols) (λ symbols. First (IsRead none asked.capture)
-    (WritesListed asked.format asked.salvage asked.harts program symbols))) own status ends
-    (λ program made listing. no_program base asked.image asked.also.items program made) prints) done.prints.prints
+    (WritesListed asked.format asked.salvage only asked.harts program symbols))) own status ends
+    (λ program made listing. no_program base asked.image asked.also.items program made) lists) prints)
+    done.prints.prints
 not_ended (Salvage asked) status old new done =
     let own = done.prints.own in
     let ends = ends_so Capture done.text status own done.prints.is in
-    not_first (IsAskedBase asked.format asked.base.now asked.also.items)
-    (λ base. First (IsProgramAt none base asked.image asked.also.items) (λ program.
-    First (IsRead none asked.capture) (WritesSalvaged asked.format asked.harts asked.summary program))) own status ends
-    (λ base is prints. not_first (IsProgramAt none base asked.image asked.also.items) (λ program.
-    First (IsRead none asked.capture) (WritesSalvaged asked.format asked.harts asked.summary program)) own status ends
-    (λ program made left. no_program base asked.image asked.also.items program made) prints) done.prints.prints
+    not_first (IsAskedBase asked.format asked.base.now asked.also.items) (λ base.
+    First (IsOnly asked.only) (λ only. First (IsProgramAt none base asked.image asked.also.items) (λ program.
+    First (IsRead none asked.capture) (SalvagesOf only asked.format asked.harts asked.summary program)))) own status ends
+    (λ base is prints. not_first (IsOnly asked.only) (λ only.
+    First (IsProgramAt none base asked.image asked.also.items) (λ program.
+    First (IsRead none asked.capture) (SalvagesOf only asked.format asked.harts asked.summary program))) own status ends
+    (λ only found left. not_first (IsProgramAt none base asked.image asked.also.items) (λ program.
+    First (IsRead none asked.capture) (SalvagesOf only asked.format asked.harts asked.summary program)) own status ends
+    (λ program made salvaged. no_program base asked.image asked.also.items program made) left) prints)
+    done.prints.prints
 not_ended (asked_for.Capture asked) status old new done =
     let own = done.prints.own in
     let ends = ends_so Line done.text status own done.prints.is in
@@ -230,12 +237,16 @@ not_ended (asked_for.Capture asked) status old new done =
 not_ended (asked_for.Compare asked) status old new done =
     let own = done.prints.own in
     let ends = ends_so Capture done.text status own done.prints.is in
-    not_first (IsBase asked.base.now asked.also.items) (λ base. First
-    (IsProgramAt none base asked.image asked.also.items) (λ program.
-    First (IsRead none asked.capture) (ComparesCapture none asked program))) own status ends
-    (λ base is prints. not_first (IsProgramAt none base asked.image asked.also.items) (λ program.
-    First (IsRead none asked.capture) (ComparesCapture none asked program)) own status ends
-    (λ program made lines. no_program base asked.image asked.also.items program made) prints) done.prints.prints
+    not_first (IsBase asked.base.now asked.also.items) (λ base.
+    First (IsOnly asked.only) (λ range. First (IsProgramAt none base asked.image asked.also.items) (λ program.
+    First (IsRead none asked.capture) (ComparesHarts none asked range program)))) own status ends
+    (λ base is prints. not_first (IsOnly asked.only) (λ range.
+    First (IsProgramAt none base asked.image asked.also.items) (λ program.
+    First (IsRead none asked.capture) (ComparesHarts none asked range program))) own status ends
+    (λ range found lines. not_first (IsProgramAt none base asked.image asked.also.items) (λ program.
+    First (IsRead none asked.capture) (ComparesHarts none asked range program)) own status ends
+    (λ program made compared. no_program base asked.image asked.also.items program made) lines) prints)
+    done.prints.prints
 
 -- No reason ends with status 0.
 reason_faulty : (why : CommandReason) → code_of (command_reason_status why) ≢ 0
@@ -254,6 +265,7 @@ reason_faulty (Capture (capture.NoHart harts)) = λ is. omega arith
 reason_faulty (Path (audit.Damaged path)) = λ is. omega arith
 reason_faulty (Path (audit.Unread path number why)) = λ is. omega arith
 reason_faulty (Path (audit.Sent sent why)) = λ is. omega arith
+reason_faulty (Path (audit.NoHart sent harts)) = λ is. omega arith
 reason_faulty (Line why) = λ is. omega arith
 
 -- No fault ends with status 0.

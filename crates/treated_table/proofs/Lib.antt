@@ -1,4 +1,6 @@
 pub mod TreatedRow
 pub mod SpanRows
+pub mod ShownSpans
+pub mod SpanCounts
 pub mod ReadRows
 pub mod TakenFields

@@ -1,5 +1,5 @@
 -- The rows of the table are read back: but for names of symbols and reasons no field calls for quotes.
-use Rattle.std.proofs.Common.{◌≡◌, List, [], ◌∷◌, Result, refl}
+use Rattle.std.proofs.Common.{◌≡◌, [], ◌∷◌, Result, refl}
 use Rattle.std.specs.Prelude.{Bool, map}
 use Rattle.payload.specs.Reading.{reading}
 use Rattle.payload.specs.declared.fault.PackFault.{PackFault}

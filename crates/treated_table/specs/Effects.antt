@@ -1,5 +1,5 @@
 -- What a message adds is tabled as a listing without damage tables it.
-use Rattle.std.specs.Prelude.{ℕ, ◌≡◌, Bool, List, [], ◌∷◌, Option, Result, codes, length}
+use Rattle.std.specs.Prelude.{ℕ, ◌≡◌, Bool, List, [], ◌∷◌, Result, codes, length}
 use Rattle.std.specs.Fmt.{decimal}
 use Rattle.retire.specs.declared.event.Event.{Event}
 use Rattle.payload.specs.declared.fault.PackFault.{PackFault}

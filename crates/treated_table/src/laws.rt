@@ -1,7 +1,10 @@
 //! Facts that follow from the definitions of rows.
 
 ghost use Rattle.treated_table.specs.Effects.{TakenHaveTheirEffect};
+ghost use Rattle.treated_table.specs.HartTable.{AllHartsAreTabled};
 ghost use Rattle.treated_table.specs.ReadBack.{AreRowsReadBack};
+
+use searching::all_harts_choose_every_span;
 
 /// The table is read back: at each of its rows `csv` reads just the fields of the row, with the names of symbols whatever
 /// bytes they have, and goes on after it.
@@ -13,3 +16,11 @@ pub fn rows_are_read_back()
 pub fn taken_messages_have_their_fields()
     ensures { TakenHaveTheirEffect }
 {}
+
+/// The table of all harts of a capture is that of all its frames: where no range is asked for, nothing is passed over.
+pub fn all_harts_are_tabled()
+    ensures { AllHartsAreTabled }
+{
+    // From this call the proof learns that all spans are those of all harts.
+    all_harts_choose_every_span();
+}

@@ -13,13 +13,14 @@ use Rattle.capture_commands.specs.Faults.{Printed}
 use Rattle.capture_commands.specs.declared.reason.CaptureReason.{CaptureReason}
 use Rattle.compare_commands.specs.Comparison.{comparison_end, end_of_stop}
 
--- The logs at these paths are legal, as many as there are harts, and these are the lines of the harts.
-pub record AreLinesOfLogs (rows : ℕ) (content : Content) (program : Image) (paths : List Path) (gots : List Got)
-    (lines : List ComparedHart) : Type 0 where
+-- The logs at these paths are legal, as many as there are harts, and these are the lines of the harts. The first hart
+-- has this number.
+pub record AreLinesOfLogs (rows : ℕ) (content : Content) (program : Image) (paths : List Path) (hart : ℕ)
+    (gots : List Got) (lines : List ComparedHart) : Type 0 where
   pub logs : List ProgramLog
   pub legal : AreLegalLogsUpTo {W = CaptureReason} rows content program paths (Ok logs)
   pub many : length logs ≡ length gots
-  pub each : lines ≡ lines_of 0 gots logs
+  pub each : lines ≡ lines_of hart gots logs
 
 -- The report of these lines is written, where decoding stops there, and the run ends as that says.
 abbrev pub WritesLines : Option (ℕ × CaptureFault) → List ComparedHart → Printed → Type 0

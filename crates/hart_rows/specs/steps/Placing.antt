@@ -1,6 +1,8 @@
 -- Where the messages of bytes begin.
-use Rattle.std.specs.Prelude.{ℕ, ◌≡◌, ◌≤◌, ◌++◌, All, List, [], ◌∷◌, Ok, Some, drop, length, slice_get}
+use Rattle.std.specs.Prelude.{ℕ, ◌≡◌, ◌≤◌, ◌++◌, true, All, List, [], ◌∷◌, Ok, Some, drop, length, slice_get}
 use Rattle.std.specs.declared.vec.Vec.{Vec}
+use Rattle.hart_range.specs.Range.{selects}
+use Rattle.hart_range.specs.declared.range.HartRange.{HartRange}
 use Rattle.payload.specs.Reading.{reading}
 use Rattle.payload.specs.declared.packet.Packet.{Packet}
 use Rattle.message.specs.Capture.{capture, message_bytes}
@@ -27,11 +29,15 @@ AreAt bytes [] [] = Unit {0}
 AreAt bytes (place ∷ places) (message ∷ messages) = IsAt bytes place message × AreAt bytes places messages
 AreAt bytes places messages = ⊥
 
--- The bytes begin with so many messages, whose payloads are packets.
-pub record AreFirst (bytes : List ℕ) (count : ℕ) (messages : List Message) : Type 0 where
+-- If the message is of one of these harts, its payload is a packet.
+abbrev pub IsReadOf : HartRange → Message → Type 0
+IsReadOf range message = selects range message.hart ≡ true → IsRead message
+
+-- The bytes begin with so many messages. The payloads of those of these harts are packets.
+pub record AreFirst (range : HartRange) (bytes : List ℕ) (count : ℕ) (messages : List Message) : Type 0 where
   pub rest : List ℕ
   pub ranges : All IsMessage messages
-  pub read : All IsRead messages
+  pub read : All (IsReadOf range) messages
   pub whole : bytes ≡ capture messages ++ rest
   pub counted : count ≡ length messages
 

@@ -1,5 +1,5 @@
 -- What the first pass has of each hart.
-use Rattle.std.specs.Prelude.{ℕ, ◌≡◌, List, length}
+use Rattle.std.specs.Prelude.{◌≡◌, List, length}
 use Rattle.retire.specs.declared.event.Event.{Event}
 use Rattle.receiver.specs.Received.{Received}
 use Rattle.hart_rows.specs.declared.tracking.Tracker.{Tracker}

@@ -1,6 +1,8 @@
 -- What one message of a capture is listed as.
 use Rattle.std.specs.Prelude.{ℕ, ◌≡◌, ◌++◌, if◌then◌else◌, Bool, true, false, List, [], ◌∷◌, Option, Some, None}
 use Rattle.std.specs.Prelude.{Result}
+use Rattle.hart_range.specs.Range.{selects}
+use Rattle.hart_range.specs.declared.range.HartRange.{HartRange}
 use Rattle.retire.specs.declared.event.Event.{Event}
 use Rattle.rvclass.specs.Words.{Words}
 use Rattle.payload.specs.declared.fault.PackFault.{PackFault}
@@ -61,3 +63,14 @@ IsJudged words harts announced symbols offset messages message received None lin
     IsTaken words harts announced symbols offset messages message received line
 IsJudged words harts announced symbols offset messages message received (Some why) line =
     IsRefused words harts announced offset messages message received why line
+
+-- A message of these harts was judged after others and has its line. Any other is passed over: nothing is received, and
+-- there is no line.
+pub data IsJudgedOf (words : Words) (only : HartRange) (harts : ℕ) (announced : Option Mode)
+    (symbols : Option (List ℕ)) (offset : ℕ) (messages : List Message) (message : Message) (received : Received)
+    (why : Option ReceiveFault) (line : List ℕ) : Type 0 where
+  Judged : selects only message.hart ≡ true
+      → IsJudged words harts announced symbols offset messages message received why line
+      → IsJudgedOf words only harts announced symbols offset messages message received why line
+  Passed : selects only message.hart ≡ false → HasReceived (λ hart. words) harts messages received → why ≡ None
+      → line ≡ [] → IsJudgedOf words only harts announced symbols offset messages message received why line

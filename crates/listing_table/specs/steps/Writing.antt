@@ -1,9 +1,12 @@
 -- What a message is tabled as.
-use Rattle.std.specs.Prelude.{ℕ, ◌≡◌, Bool, if◌then◌else◌, List, [], ◌∷◌, Option, Some, None}
+use Rattle.std.specs.Prelude.{ℕ, ◌≡◌, Bool, true, false, if◌then◌else◌, List, [], ◌∷◌, Option, Some, None}
 use Rattle.std.specs.Fmt.{decimal}
+use Rattle.hart_range.specs.Range.{selects}
+use Rattle.hart_range.specs.declared.range.HartRange.{HartRange}
 use Rattle.rvclass.specs.Words.{Words}
 use Rattle.payload.specs.declared.mode.Mode.{Mode}
 use Rattle.message.specs.declared.message.Message.{Message}
+use Rattle.receiver.specs.Holds.{HasReceived}
 use Rattle.receiver.specs.Received.{Received}
 use Rattle.receiver.specs.declared.fault.ReceiveFault.{ReceiveFault}
 use Rattle.listing.specs.Listing.{naming_mode}
@@ -45,3 +48,14 @@ IsJudgedRow words harts announced symbols at offset messages message received No
     IsTakenRow words harts announced symbols at offset messages message received row
 IsJudgedRow words harts announced symbols at offset messages message received (Some why) row =
     IsRefusedSo words harts announced at offset messages message received why row
+
+-- A message of these harts was judged after others and has its row. Any other is passed over: nothing is received, and
+-- there is no row.
+pub data IsJudgedRowOf (words : Words) (only : HartRange) (harts : ℕ) (announced : Option Mode)
+    (symbols : Option (List ℕ)) (at offset : ℕ) (messages : List Message) (message : Message) (received : Received)
+    (why : Option ReceiveFault) (row : List ℕ) : Type 0 where
+  Judged : selects only message.hart ≡ true
+      → IsJudgedRow words harts announced symbols at offset messages message received why row
+      → IsJudgedRowOf words only harts announced symbols at offset messages message received why row
+  Passed : selects only message.hart ≡ false → HasReceived (λ hart. words) harts messages received → why ≡ None
+      → row ≡ [] → IsJudgedRowOf words only harts announced symbols at offset messages message received why row

@@ -2,6 +2,7 @@
 use Rattle.std.specs.Prelude.{ℕ, ◌≡◌, ◌⊎◌, Bool, List, Option, Result, Err}
 use Rattle.std.specs.Io.KnownBytes.{Appends}
 use Rattle.alike.specs.declared.by.By.{By}
+use Rattle.hart_range.specs.declared.range.HartRange.{HartRange}
 use Rattle.command_inputs.specs.Faults.{Path}
 use Rattle.path_commands.specs.Faults.{Fault}
 use Rattle.command_inputs.specs.declared.fault.Fault.TheVariants as fault
@@ -10,8 +11,9 @@ use Rattle.path_commands.specs.Audited.{Came, behind_findings, is_whole_result}
 use Rattle.path_commands.specs.Sides.{Sent, end_of_audit}
 
 -- What follows the lines of the messages is written, and the run ends as it should; or the output failed.
-abbrev pub EndsRest : By → Path → Bool → Sent → Came → Result Status Fault → Option (List ℕ) → Option (List ℕ) → Type 0
-EndsRest how received summary sent came ended old new =
+abbrev pub EndsRest : By → HartRange → Path → Bool → Sent → Came → Result Status Fault → Option (List ℕ)
+    → Option (List ℕ) → Type 0
+EndsRest how harts received summary sent came ended old new =
     (ended ≡ Err fault.Output)
-    ⊎ (Appends old new (behind_findings how summary sent came)
-    × (ended ≡ end_of_audit received came.fault (is_whole_result how sent came)))
+    ⊎ (Appends old new (behind_findings how harts summary sent came)
+    × (ended ≡ end_of_audit received came.fault (is_whole_result how harts sent came)))

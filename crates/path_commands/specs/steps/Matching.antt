@@ -1,9 +1,11 @@
 -- How messages that carry no numbers are read and written.
-use Rattle.std.specs.Prelude.{ℕ, ◌≡◌, ◌⊎◌, Bool, List, Option, Result, Err, length, map, nat_lt, not}
+use Rattle.std.specs.Prelude.{ℕ, ◌≡◌, ◌⊎◌, ◌&&◌, Bool, List, Option, Result, Err, length, map, nat_lt, not}
 use Rattle.std.specs.List.{count_by}
 use Rattle.std.specs.Io.KnownBytes.{Appends}
 use Rattle.alike.specs.declared.by.By.{By}
 use Rattle.alignment.specs.Matches.{Flags}
+use Rattle.hart_range.specs.Range.{selected, selects}
+use Rattle.hart_range.specs.declared.range.HartRange.{HartRange}
 use Rattle.message.specs.declared.header.Header.{Header}
 use Rattle.message.specs.declared.message.Message.{Message}
 use Rattle.subcommands.specs.declared.words.Audit.{Audit}
@@ -23,47 +25,47 @@ use Rattle.path_commands.specs.declared.by_hart.ByHart.{ByHart}
 use Rattle.path_commands.specs.declared.keeping.KeptSent.{KeptSent}
 use Rattle.path_commands.specs.declared.keeping.Received.{Received}
 
--- What is kept of the messages of SENT: the payloads of each of its harts, as they are compared.
-pub record IsKept (how : By) (messages : List Message) (own : KeptSent) : Type 0 where
+-- What is kept of the messages of SENT: the payloads of each of these harts, as they are compared.
+pub record IsKept (how : By) (harts : HartRange) (messages : List Message) (own : KeptSent) : Type 0 where
   pub by : own.payloads.by ≡ how
-  pub split : AreSplit own.payloads.by (harts_of own.header messages) messages own.payloads.lists
+  pub split : AreSplit own.payloads.by (harts_of own.header messages) (selected harts messages) own.payloads.lists
 
 -- SENT has these bytes, and this is kept of it.
-pub record KeepsSent (how : By) (bytes : List ℕ) (own : KeptSent) : Type 0 where
+pub record KeepsSent (how : By) (harts : HartRange) (bytes : List ℕ) (own : KeptSent) : Type 0 where
   pub messages : List Message
   pub sent : IsSent bytes own.header messages
-  pub kept : IsKept how messages own
+  pub kept : IsKept how harts messages own
 
--- What is kept of messages by hart: the hart of each, and of each hart what its payloads are known by.
-pub record IsByHart (messages : List Message) (own : ByHart) : Type 0 where
-  pub harts : own.harts.items ≡ map (λ (message : Message). message.hart) messages
-  pub split : AreSplit own.payloads.by (length own.payloads.lists) messages own.payloads.lists
+-- What is kept of messages by hart: the hart of each, and of each of these harts what its payloads are known by.
+pub record IsByHart (harts : HartRange) (messages : List Message) (own : ByHart) : Type 0 where
+  pub each : own.harts.items ≡ map (λ (message : Message). message.hart) messages
+  pub split : AreSplit own.payloads.by (length own.payloads.lists) (selected harts messages) own.payloads.lists
 
 -- RECEIVED, as it was read, with these messages.
 abbrev pub came_with : Received → List Message → UnnumberedCame
 came_with own messages = record { header = own.header; fault = own.fault; messages = messages; stop = own.stop }
 
--- How many messages of these harts are of no hart of so many.
-abbrev pub strangers_of : ℕ → List ℕ → ℕ
-strangers_of harts own = count_by (λ hart. not (nat_lt hart harts)) own
+-- How many messages, which are of these harts, are of a hart of the range and of none of so many.
+abbrev pub strangers_of : HartRange → ℕ → List ℕ → ℕ
+strangers_of harts count own = count_by (λ hart. selects harts hart && not (nat_lt hart count)) own
 
 -- The report of an audit in this format, by the alignments of the harts and what is to be said of so many messages.
-abbrev pub report_in : Format → Bool → List Flags → List Line → ℕ → ℕ → Bool → Bool → List ℕ
-report_in Csv summary all lines messages strangers unlike whole =
-    aligned_table summary all lines messages strangers unlike whole
-report_in _ summary all lines messages strangers unlike whole =
-    unnumbered_text summary all lines strangers unlike whole
+abbrev pub report_in : Format → HartRange → Bool → List Flags → List Line → ℕ → ℕ → Bool → Bool → List ℕ
+report_in Csv harts summary all lines messages strangers unlike whole =
+    aligned_table harts summary all lines messages strangers unlike whole
+report_in _ harts summary all lines messages strangers unlike whole =
+    unnumbered_text harts summary all lines strangers unlike whole
 
 -- What is written of RECEIVED in this format, by SENT's header and the alignments of the harts.
-abbrev pub audit_in : Format → Bool → Option Header → UnnumberedCame → List Flags → List ℕ
-audit_in Csv summary header came all = aligned_audit summary header came all
-audit_in _ summary header came all = unnumbered_audit summary header came all
+abbrev pub audit_in : Format → HartRange → Bool → Option Header → UnnumberedCame → List Flags → List ℕ
+audit_in Csv harts summary header came all = aligned_audit harts summary header came all
+audit_in _ harts summary header came all = unnumbered_audit harts summary header came all
 
 -- Allocation or the output failed; or all is written, and the run ends as it should.
-abbrev pub EndsUnnumbered : Audit → Option Header → UnnumberedCame → List Flags → Result Status Fault
+abbrev pub EndsUnnumbered : Audit → HartRange → Option Header → UnnumberedCame → List Flags → Result Status Fault
     → Option (List ℕ) → Option (List ℕ) → Type 0
-EndsUnnumbered asked header came all ended old new =
+EndsUnnumbered asked harts header came all ended old new =
     (ended ≡ Err fault.Memory)
     ⊎ ((ended ≡ Err fault.Output)
-    ⊎ (Appends old new (audit_in asked.format asked.summary header came all)
-    × (ended ≡ end_of_unnumbered asked.received header came all)))
+    ⊎ (Appends old new (audit_in asked.format harts asked.summary header came all)
+    × (ended ≡ end_of_unnumbered asked.received harts header came all)))

@@ -296,6 +296,31 @@ $ tracebench decode --base 80000000 one.bin log.capture
 ! tracebench: message 3: not decoded: OffProgram
 ? 1
 
+# A synchronisation at the second of two words that are no branches: it says that a branch there is taken, or names a
+# privilege to which the first does not lead.
+file two.bin
+|= 13000000 13000000
+file log.capture
+|~ 0 0 1f
+|~ 0 1 7300000020
+|~ 0 2 6301000020
+$ tracebench decode --base 80000000 two.bin log.capture
+> hart 0
+> addr,itype,priv,cause,tval
+> 80000000,0,3,,
+! tracebench: message 2: not decoded: Branches
+? 1
+file log.capture
+|~ 0 0 1f
+|~ 0 1 7300000020
+|~ 0 2 3301000020
+$ tracebench decode --base 80000000 two.bin log.capture
+> hart 0
+> addr,itype,priv,cause,tval
+> 80000000,0,3,,
+! tracebench: message 2: not decoded: WrongPrivilege
+? 1
+
 # A payload's length that is not 1 to 18.
 file log.capture
 |~ 0 0 1f

@@ -8,41 +8,41 @@ pub(crate) const TEXT: &str = r#"
 % tracebench dump run.capture --progress --search
 > Dump(Dump { search: true, only: None, progress: true, capture: "run.capture" })
 % tracebench decode --base 0 --progress image.bin run.capture
-> Decode(Decode { base: "0", also: [], harts: 1, lossy: false, progress: true, image: "image.bin", capture: "run.capture" })
+> Decode(Decode { base: "0", also: [], harts: 1, only: None, lossy: false, progress: true, image: "image.bin", capture: "run.capture" })
 % tracebench list --base 0 image.bin --progress run.capture
-> Listing(Listing { base: "0", also: [], harts: None, symbols: None, salvage: false, format: Text, progress: true, image: "image.bin", capture: "run.capture" })
+> Listing(Listing { base: "0", also: [], harts: None, only: None, symbols: None, salvage: false, format: Text, progress: true, image: "image.bin", capture: "run.capture" })
 % tracebench list --base 0 --salvage image.bin run.capture
-> Listing(Listing { base: "0", also: [], harts: None, symbols: None, salvage: true, format: Text, progress: false, image: "image.bin", capture: "run.capture" })
+> Listing(Listing { base: "0", also: [], harts: None, only: None, symbols: None, salvage: true, format: Text, progress: false, image: "image.bin", capture: "run.capture" })
 % tracebench list image.bin run.capture --harts 2 --salvage --base 0 --symbols nm.txt
-> Listing(Listing { base: "0", also: [], harts: Some(2), symbols: Some("nm.txt"), salvage: true, format: Text, progress: false, image: "image.bin", capture: "run.capture" })
+> Listing(Listing { base: "0", also: [], harts: Some(2), only: None, symbols: Some("nm.txt"), salvage: true, format: Text, progress: false, image: "image.bin", capture: "run.capture" })
 % tracebench salvage --base 0 image.bin run.capture --progress
-> Salvage(Salvage { base: "0", also: [], harts: None, summary: false, format: Text, progress: true, image: "image.bin", capture: "run.capture" })
+> Salvage(Salvage { base: "0", also: [], harts: None, only: None, summary: false, format: Text, progress: true, image: "image.bin", capture: "run.capture" })
 % tracebench audit --progress sent.capture received.capture
-> Audit(Audit { packets: false, unnumbered: false, summary: false, format: Text, progress: true, sent: "sent.capture", received: "received.capture" })
+> Audit(Audit { packets: false, unnumbered: false, only: None, summary: false, format: Text, progress: true, sent: "sent.capture", received: "received.capture" })
 
 # Numbers that came are not looked at.
 % tracebench audit --unnumbered sent.capture received.capture
-> Audit(Audit { packets: false, unnumbered: true, summary: false, format: Text, progress: false, sent: "sent.capture", received: "received.capture" })
+> Audit(Audit { packets: false, unnumbered: true, only: None, summary: false, format: Text, progress: false, sent: "sent.capture", received: "received.capture" })
 % tracebench audit --unnumbered --packets sent.capture --summary received.capture
-> Audit(Audit { packets: true, unnumbered: true, summary: true, format: Text, progress: false, sent: "sent.capture", received: "received.capture" })
+> Audit(Audit { packets: true, unnumbered: true, only: None, summary: true, format: Text, progress: false, sent: "sent.capture", received: "received.capture" })
 
 # A table is asked for, or lines of text. Whether the format is one of both is not yet known.
 % tracebench audit --format csv sent.capture received.capture
-> Audit(Audit { packets: false, unnumbered: false, summary: false, format: Csv, progress: false, sent: "sent.capture", received: "received.capture" })
+> Audit(Audit { packets: false, unnumbered: false, only: None, summary: false, format: Csv, progress: false, sent: "sent.capture", received: "received.capture" })
 % tracebench audit sent.capture received.capture --summary --format=text --unnumbered
-> Audit(Audit { packets: false, unnumbered: true, summary: true, format: Text, progress: false, sent: "sent.capture", received: "received.capture" })
+> Audit(Audit { packets: false, unnumbered: true, only: None, summary: true, format: Text, progress: false, sent: "sent.capture", received: "received.capture" })
 % tracebench audit --format CSV sent.capture received.capture
-> Audit(Audit { packets: false, unnumbered: false, summary: false, format: Other, progress: false, sent: "sent.capture", received: "received.capture" })
+> Audit(Audit { packets: false, unnumbered: false, only: None, summary: false, format: Other, progress: false, sent: "sent.capture", received: "received.capture" })
 % tracebench salvage --base 0 image.bin run.capture --format=xml
-> Salvage(Salvage { base: "0", also: [], harts: None, summary: false, format: Other, progress: false, image: "image.bin", capture: "run.capture" })
+> Salvage(Salvage { base: "0", also: [], harts: None, only: None, summary: false, format: Other, progress: false, image: "image.bin", capture: "run.capture" })
 % tracebench list --base 0 --format csv image.bin run.capture
-> Listing(Listing { base: "0", also: [], harts: None, symbols: None, salvage: false, format: Csv, progress: false, image: "image.bin", capture: "run.capture" })
+> Listing(Listing { base: "0", also: [], harts: None, only: None, symbols: None, salvage: false, format: Csv, progress: false, image: "image.bin", capture: "run.capture" })
 % tracebench list image.bin --salvage run.capture --symbols nm.txt --base 0 --format=csv
-> Listing(Listing { base: "0", also: [], harts: None, symbols: Some("nm.txt"), salvage: true, format: Csv, progress: false, image: "image.bin", capture: "run.capture" })
+> Listing(Listing { base: "0", also: [], harts: None, only: None, symbols: Some("nm.txt"), salvage: true, format: Csv, progress: false, image: "image.bin", capture: "run.capture" })
 % tracebench list --base 0 --format text image.bin run.capture --progress
-> Listing(Listing { base: "0", also: [], harts: None, symbols: None, salvage: false, format: Text, progress: true, image: "image.bin", capture: "run.capture" })
+> Listing(Listing { base: "0", also: [], harts: None, only: None, symbols: None, salvage: false, format: Text, progress: true, image: "image.bin", capture: "run.capture" })
 % tracebench list --base 0 --format= image.bin run.capture
-> Listing(Listing { base: "0", also: [], harts: None, symbols: None, salvage: false, format: Other, progress: false, image: "image.bin", capture: "run.capture" })
+> Listing(Listing { base: "0", also: [], harts: None, only: None, symbols: None, salvage: false, format: Other, progress: false, image: "image.bin", capture: "run.capture" })
 % tracebench audit sent.capture received.capture --format
 ! error: a value is required for '--format <FORMAT>' but none was supplied
 !

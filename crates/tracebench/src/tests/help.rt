@@ -132,6 +132,7 @@ $ tracebench decode -h
 !       --base <B>        Address of the image's first byte, in hexadecimal
 !       --also <B2=FILE>  Further piece of the image, any number of times: address in hexadecimal, =, file
 !       --harts <N>       How many harts a capture of version 1 may have, 1 to 1024 [default: 1]
+!       --only <A-B>      Look at harts A to B alone, or at hart A, 0 to 1023; without it, at all
 !       --lossy           Go on where messages are missing, and print how many are
 !       --progress        Show how far the capture is worked through, where standard error is a terminal
 !   -h, --help            Print help
@@ -196,6 +197,7 @@ $ tracebench audit --help
 ! Options:
 !       --packets          Compare messages by the packets that they unpack to, not by their bytes
 !       --unnumbered       Do not look at the numbers of RECEIVED: align what came with what was sent
+!       --only <A-B>       Look at harts A to B alone, or at hart A, 0 to 1023; without it, at all
 !       --summary          Leave out the lines of single messages, of bytes and of lost numbers
 !       --format <FORMAT>  What is printed: text, or csv, a table [default: text]
 !       --progress         Show how far the capture is worked through, where standard error is a terminal
@@ -238,6 +240,7 @@ $ tracebench list --help
 !       --base <B>         Address of the image's first byte, in hexadecimal
 !       --also <B2=FILE>   Further piece of the image, any number of times: address in hexadecimal, =, file
 !       --harts <N>        How many harts a capture of version 1 may have, 1 to 1024; without it, 1, with --salvage those of its messages
+!       --only <A-B>       Look at harts A to B alone, or at hart A, 0 to 1023; without it, at all
 !       --symbols <FILE>   File of the program's symbols, as `nm` prints them
 !       --salvage          List every message that is found, and what `salvage` does with it
 !       --format <FORMAT>  What is printed: text, or csv, a table [default: text]
@@ -260,6 +263,7 @@ $ tracebench salvage --help
 !       --base <B>         Address of the image's first byte, in hexadecimal
 !       --also <B2=FILE>   Further piece of the image, any number of times: address in hexadecimal, =, file
 !       --harts <N>        How many harts a capture with no valid header has, 1 to 1024; without it, those of its messages
+!       --only <A-B>       Look at harts A to B alone, or at hart A, 0 to 1023; without it, at all
 !       --summary          Leave out the texts of the logs
 !       --format <FORMAT>  What is printed: text, or csv, a table [default: text]
 !       --progress         Show how far the capture is worked through, where standard error is a terminal
@@ -300,6 +304,7 @@ $ tracebench compare --help
 !       --base <B>        Address of the image's first byte, in hexadecimal
 !       --also <B2=FILE>  Further piece of the image, any number of times: address in hexadecimal, =, file
 !       --harts <N>       How many harts a capture of version 1 may have, 1 to 1024 [default: 1]
+!       --only <A-B>      Look at harts A to B alone, or at hart A, 0 to 1023; without it, at all
 !       --long            Take logs of up to 4294967295 rows, not 16777216
 !       --progress        Show how far the logs are read, where standard error is a terminal
 !   -h, --help            Print help

@@ -150,11 +150,11 @@ pub(crate) const TEXT: &str = r#"
 
 # `decode`: its count of harts, and lost messages.
 % tracebench decode --base 80000000 image.bin run.capture
-> Decode(Decode { base: "80000000", also: [], harts: 1, lossy: false, progress: false, image: "image.bin", capture: "run.capture" })
+> Decode(Decode { base: "80000000", also: [], harts: 1, only: None, lossy: false, progress: false, image: "image.bin", capture: "run.capture" })
 % tracebench decode image.bin --harts 1 run.capture --base 0
-> Decode(Decode { base: "0", also: [], harts: 1, lossy: false, progress: false, image: "image.bin", capture: "run.capture" })
+> Decode(Decode { base: "0", also: [], harts: 1, only: None, lossy: false, progress: false, image: "image.bin", capture: "run.capture" })
 % tracebench decode --lossy --base 0 image.bin run.capture
-> Decode(Decode { base: "0", also: [], harts: 1, lossy: true, progress: false, image: "image.bin", capture: "run.capture" })
+> Decode(Decode { base: "0", also: [], harts: 1, only: None, lossy: true, progress: false, image: "image.bin", capture: "run.capture" })
 % tracebench decode --base 0 --lossy --lossy image.bin run.capture
 ! error: the argument '--lossy' cannot be used multiple times
 !
@@ -162,7 +162,7 @@ pub(crate) const TEXT: &str = r#"
 !
 ! For more information, try '--help'.
 % tracebench decode --base 0 --harts=1024 image.bin run.capture
-> Decode(Decode { base: "0", also: [], harts: 1024, lossy: false, progress: false, image: "image.bin", capture: "run.capture" })
+> Decode(Decode { base: "0", also: [], harts: 1024, only: None, lossy: false, progress: false, image: "image.bin", capture: "run.capture" })
 % tracebench decode --base 0 --harts 0 image.bin run.capture
 ! error: invalid value '0' for '--harts <N>': 0 is not in 1..=1024
 !
@@ -255,13 +255,13 @@ pub(crate) const TEXT: &str = r#"
 
 # `audit`: its packets and its summary.
 % tracebench audit sent.capture received.capture
-> Audit(Audit { packets: false, unnumbered: false, summary: false, format: Text, progress: false, sent: "sent.capture", received: "received.capture" })
+> Audit(Audit { packets: false, unnumbered: false, only: None, summary: false, format: Text, progress: false, sent: "sent.capture", received: "received.capture" })
 % tracebench audit sent.capture --summary received.capture
-> Audit(Audit { packets: false, unnumbered: false, summary: true, format: Text, progress: false, sent: "sent.capture", received: "received.capture" })
+> Audit(Audit { packets: false, unnumbered: false, only: None, summary: true, format: Text, progress: false, sent: "sent.capture", received: "received.capture" })
 % tracebench audit --packets sent.capture received.capture
-> Audit(Audit { packets: true, unnumbered: false, summary: false, format: Text, progress: false, sent: "sent.capture", received: "received.capture" })
+> Audit(Audit { packets: true, unnumbered: false, only: None, summary: false, format: Text, progress: false, sent: "sent.capture", received: "received.capture" })
 % tracebench audit sent.capture received.capture --summary --packets
-> Audit(Audit { packets: true, unnumbered: false, summary: true, format: Text, progress: false, sent: "sent.capture", received: "received.capture" })
+> Audit(Audit { packets: true, unnumbered: false, only: None, summary: true, format: Text, progress: false, sent: "sent.capture", received: "received.capture" })
 % tracebench audit --summary sent.capture received.capture --summary
 ! error: the argument '--summary' cannot be used multiple times
 !
@@ -329,9 +329,9 @@ pub(crate) const TEXT: &str = r#"
 
 # `list`: its count of harts and its symbols.
 % tracebench list --base 80000000 image.bin run.capture
-> Listing(Listing { base: "80000000", also: [], harts: None, symbols: None, salvage: false, format: Text, progress: false, image: "image.bin", capture: "run.capture" })
+> Listing(Listing { base: "80000000", also: [], harts: None, only: None, symbols: None, salvage: false, format: Text, progress: false, image: "image.bin", capture: "run.capture" })
 % tracebench list --symbols nm.txt --harts 1024 --base 0 image.bin run.capture
-> Listing(Listing { base: "0", also: [], harts: Some(1024), symbols: Some("nm.txt"), salvage: false, format: Text, progress: false, image: "image.bin", capture: "run.capture" })
+> Listing(Listing { base: "0", also: [], harts: Some(1024), only: None, symbols: Some("nm.txt"), salvage: false, format: Text, progress: false, image: "image.bin", capture: "run.capture" })
 % tracebench list --base 0 --harts 0 image.bin run.capture
 ! error: invalid value '0' for '--harts <N>': 0 is not in 1..=1024
 !
@@ -350,11 +350,11 @@ pub(crate) const TEXT: &str = r#"
 
 # `salvage`: its count of harts, its summary, and what it does not take.
 % tracebench salvage --base 80000000 image.bin run.capture
-> Salvage(Salvage { base: "80000000", also: [], harts: None, summary: false, format: Text, progress: false, image: "image.bin", capture: "run.capture" })
+> Salvage(Salvage { base: "80000000", also: [], harts: None, only: None, summary: false, format: Text, progress: false, image: "image.bin", capture: "run.capture" })
 % tracebench salvage --harts 1024 --base 0 image.bin run.capture
-> Salvage(Salvage { base: "0", also: [], harts: Some(1024), summary: false, format: Text, progress: false, image: "image.bin", capture: "run.capture" })
+> Salvage(Salvage { base: "0", also: [], harts: Some(1024), only: None, summary: false, format: Text, progress: false, image: "image.bin", capture: "run.capture" })
 % tracebench salvage --base 0 image.bin --summary run.capture
-> Salvage(Salvage { base: "0", also: [], harts: None, summary: true, format: Text, progress: false, image: "image.bin", capture: "run.capture" })
+> Salvage(Salvage { base: "0", also: [], harts: None, only: None, summary: true, format: Text, progress: false, image: "image.bin", capture: "run.capture" })
 % tracebench salvage --base 0 --harts 1025 image.bin run.capture
 ! error: invalid value '1025' for '--harts <N>': 1025 is not in 1..=1024
 !

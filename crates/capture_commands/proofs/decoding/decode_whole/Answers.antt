@@ -2,7 +2,7 @@
 use Rattle.std.proofs.Common.{◌≡◌, ◌∙◌, Err, ap, arith, inl, inr, refl, subst, sym}
 use Rattle.std.proofs.lemmas.Grind.{common_steps}
 use Rattle.std.specs.Prelude.{⊤}
-use Rattle.hart_rows.specs.HartsText.{harts_text}
+use Rattle.hart_rows.specs.HartsText.{harts_text_of}
 use Rattle.output.proofs.Beginnings.{begun_kept, whole_begun}
 use Rattle.command_inputs.proofs.Runs.{appends-keeps, prints}
 use Rattle.command_inputs.specs.Begun.{IsCutOf}
@@ -12,7 +12,7 @@ use Rattle.command_inputs.specs.declared.fault.Fault.TheVariants as fault
 use Rattle.capture_commands.proofs.DecodedRuns.{decodes}
 use Rattle.capture_commands.proofs.WrittenOutcomes.{harts_cut, never_memory, write_denied, write_memory}
 use Rattle.capture_commands.specs.Decoded.{WritesDecoded}
-use Rattle.capture_commands.specs.Decoding.{end_of_capture}
+use Rattle.capture_commands.specs.Decoding.{end_of_capture_of}
 use Rattle.capture_commands.proofs.decoding.decode_whole.Goals.{After-flush}
 use Rattle.capture_commands.proofs.decoding.decode_whole.Goals as goal
 
@@ -21,37 +21,37 @@ returns-in_err-decoded-clause-untouched g c = λ memory.
     let why = c.in_err-decoded.field-0.0 in
     let failed : c.from_residual.result ≡ Err (write_fault why) = grind (arith, common_steps) in
     let refused = write_memory why (cc (sym failed ∙ memory)) in
-    c.write_decoded.ensures.untouched (c.in_err-decoded.was ∙ ap Err refused)
+    c.write_decoded_of.ensures.untouched (c.in_err-decoded.was ∙ ap Err refused)
 
 pub returns-in_err-decoded-clause-printed : goal.returns-in_err-decoded-clause-printed
 returns-in_err-decoded-clause-printed g c =
     let why = c.in_err-decoded.field-0.0 in
     let failed : c.from_residual.result ≡ Err (write_fault why) = grind (arith, common_steps) in
-    subst (λ ended. PrintsUnlessDenied (WritesDecoded c.args.harts c.args.program.now c.args.bytes.now) ⊤ ended
-    (g.O.Write.contents c.args.out.now) (g.O.Write.contents c.write_decoded.new.out)) (sym failed) (inl (write_denied why))
+    subst (λ ended. PrintsUnlessDenied (WritesDecoded c.args.harts c.args.range c.args.program.now c.args.bytes.now) ⊤ ended
+    (g.O.Write.contents c.args.out.now) (g.O.Write.contents c.write_decoded_of.new.out)) (sym failed) (inl (write_denied why))
 
 pub returns-in_err-decoded-clause-cut : goal.returns-in_err-decoded-clause-cut
 returns-in_err-decoded-clause-cut g c =
-    harts_cut c.args.harts c.args.program.now c.args.bytes.now (g.O.Write.contents c.args.out.now)
-    (g.O.Write.contents c.write_decoded.new.out) c.write_decoded.ensures.begun
+    harts_cut c.args.harts c.args.range c.args.program.now c.args.bytes.now (g.O.Write.contents c.args.out.now)
+    (g.O.Write.contents c.write_decoded_of.new.out) c.write_decoded_of.ensures.begun
 
 module _ (g : _) (c : After-flush g) where
   -- The logs were written that the capture decodes to.
-  whole : IsCutOf (WritesDecoded c.args.harts c.args.program.now c.args.bytes.now) (g.O.Write.contents c.args.out.now)
+  whole : IsCutOf (WritesDecoded c.args.harts c.args.range c.args.program.now c.args.bytes.now) (g.O.Write.contents c.args.out.now)
       (g.O.Write.contents c.flush.new.self)
   whole =
       let all = c.in_ok-decoded.ensures.written in
       let old = g.O.Write.contents c.args.out.now in
-      let mid = g.O.Write.contents c.write_decoded.new.out in
+      let mid = g.O.Write.contents c.write_decoded_of.new.out in
       inr (record {
         printed = record {
-          text = harts_text 0 all.lists;
-          ended = end_of_capture c.in_ok-decoded.decoded.fault c.in_ok-decoded.decoded.closed.items;
+          text = harts_text_of c.args.range 0 all.lists;
+          ended = end_of_capture_of c.args.range c.in_ok-decoded.decoded.fault c.in_ok-decoded.decoded.closed.items;
         };
-        prints = decodes c.args.harts c.args.program.now c.args.bytes.now all.lists c.in_ok-decoded.decoded.closed.items
+        prints = decodes c.args.harts c.args.range c.args.program.now c.args.bytes.now all.lists c.in_ok-decoded.decoded.closed.items
             c.in_ok-decoded.decoded.fault all.decoded;
-        begun = begun_kept (harts_text 0 all.lists) old mid (g.O.Write.contents c.flush.new.self)
-            (whole_begun (harts_text 0 all.lists) old mid all.appended) c.flush.ensures.bytes;
+        begun = begun_kept (harts_text_of c.args.range 0 all.lists) old mid (g.O.Write.contents c.flush.new.self)
+            (whole_begun (harts_text_of c.args.range 0 all.lists) old mid all.appended) c.flush.ensures.bytes;
       })
 
 pub returns-in_err-flush-clause-cut : goal.returns-in_err-flush-clause-cut
@@ -63,29 +63,29 @@ returns-clause-cut g c = whole g (goal.at.returns-clause-cut g c).After-flush
 pub returns-in_err-flush-clause-printed : goal.returns-in_err-flush-clause-printed
 returns-in_err-flush-clause-printed g c =
     let failed : c.from_residual-in_err-flush.result ≡ Err fault.Output = grind (arith, common_steps) in
-    subst (λ ended. PrintsUnlessDenied (WritesDecoded c.args.harts c.args.program.now c.args.bytes.now) ⊤ ended
+    subst (λ ended. PrintsUnlessDenied (WritesDecoded c.args.harts c.args.range c.args.program.now c.args.bytes.now) ⊤ ended
     (g.O.Write.contents c.args.out.now) (g.O.Write.contents c.flush.new.self)) (sym failed) (inl (inr (refl, tt)))
 
 pub returns-clause-printed : goal.returns-clause-printed
 returns-clause-printed g c =
     let all = c.in_ok-decoded.ensures.written in
     let old = g.O.Write.contents c.args.out.now in
-    let mid = g.O.Write.contents c.write_decoded.new.out in
+    let mid = g.O.Write.contents c.write_decoded_of.new.out in
     let new = g.O.Write.contents c.flush.new.self in
-    let run = WritesDecoded c.args.harts c.args.program.now c.args.bytes.now in
+    let run = WritesDecoded c.args.harts c.args.range c.args.program.now c.args.bytes.now in
     let closed = c.in_ok-decoded.decoded.closed.items in
     let stop = c.in_ok-decoded.decoded.fault in
-    let ended = c.ended.ensures.value ∙ ap (end_of_capture stop) c.as_slice.ensures.value in
-    prints run ⊤ c.ended.result old new (record {
-      text = harts_text 0 all.lists;
-      prints = subst (λ end. run (record { text = harts_text 0 all.lists; ended = end })) (sym ended)
-          (decodes c.args.harts c.args.program.now c.args.bytes.now all.lists closed stop all.decoded);
-      appended = appends-keeps old mid new (harts_text 0 all.lists) all.appended c.flush.ensures.bytes;
+    let ended = c.ended_of.ensures.value ∙ ap (end_of_capture_of c.args.range stop) c.as_slice.ensures.value in
+    prints run ⊤ c.ended_of.result old new (record {
+      text = harts_text_of c.args.range 0 all.lists;
+      prints = subst (λ end. run (record { text = harts_text_of c.args.range 0 all.lists; ended = end })) (sym ended)
+          (decodes c.args.harts c.args.range c.args.program.now c.args.bytes.now all.lists closed stop all.decoded);
+      appended = appends-keeps old mid new (harts_text_of c.args.range 0 all.lists) all.appended c.flush.ensures.bytes;
     })
 
 pub returns-clause-untouched : goal.returns-clause-untouched
 returns-clause-untouched g c = λ memory.
     let closed = c.in_ok-decoded.decoded.closed.items in
     let stop = c.in_ok-decoded.decoded.fault in
-    let ended = c.ended.ensures.value ∙ ap (end_of_capture stop) c.as_slice.ensures.value in
-    absurd (never_memory stop closed c.in_ok-decoded.ensures.never_memory (sym ended ∙ memory))
+    let ended = c.ended_of.ensures.value ∙ ap (end_of_capture_of c.args.range stop) c.as_slice.ensures.value in
+    absurd (never_memory c.args.range stop closed c.in_ok-decoded.ensures.never_memory (sym ended ∙ memory))

@@ -1,8 +1,18 @@
 -- What was collected is what is found: the steps are handed on, in order, which no tactic does.
-use Rattle.std.proofs.Common.{ap, subst, Ok, Err}
-use Rattle.losses.specs.Collects.{GivesFault, GivesPieces}
-use Rattle.capture_commands.specs.Faults.{Fault}
-use Rattle.capture_commands.specs.Pieces.{mode_of_header}
+use Rattle.std.proofs.Common.{◌≡◌, ◌⊎◌, ap, inl, inr, refl, ℕ, List, Option, Ok, Err}
+use Rattle.captures.specs.Whole.{IsWhole}
+use Rattle.command_inputs.specs.declared.fault.Fault.TheVariants as fault
+use Rattle.hart_range.specs.Range.{selected}
+use Rattle.hart_range.specs.declared.range.HartRange.{HartRange}
+use Rattle.losses.specs.Collects.{GivesFault}
+use Rattle.losses.specs.declared.fault.LossyFault.{LossyFault}
+use Rattle.losses.specs.declared.fault.LossyFault.TheVariants as lossy
+use Rattle.message.specs.declared.header.Header.{Header}
+use Rattle.message.specs.declared.message.Message.{Message}
+use Rattle.rvclass.specs.Image.{Image}
+use Rattle.capture_commands.specs.Faults.{Fault, lossy_fault}
+use Rattle.capture_commands.specs.Pieces.{ArePiecesOf, harts_counted, mode_of_header}
+use Rattle.capture_commands.specs.Placed.{placed_fault}
 use Rattle.capture_commands.proofs.lossy_decoding.collect.Goals as goal
 
 pub returns-in-Err-clause-fault : goal.returns-in-Err-clause-fault
@@ -12,51 +22,34 @@ returns-in-Err-clause-fault g c = record {
   collected = ap (λ (why : Fault). Err why) c.reading_fault.ensures.value;
 }
 
-pub returns-in-Ok-collect_watched-clause-found : goal.returns-in-Ok-collect_watched-clause-found
-returns-in-Ok-collect_watched-clause-found g c =
-    let program = c.args.program.now in
-    let header = c.in-Ok.whole.header in
-    let messages = c.in-Ok.whole.messages.items in
-    let pieces = c.in-Ok-collect_watched.pieces.items in
-    let known = c.in-Ok-collect_watched.ensures in
-    let harts = c.harts_counted.result in
-    let mode = c.mode_of_header.result in
-    let gives : GivesPieces program harts mode c.as_slice.result.now pieces = record {
-      count = known.count;
-      taken = known.accepted;
-      described = known.described;
-      parts = λ period own logs are count. known.parts period own logs are count;
-    } in
-    record {
-      whole = Ok (header, messages);
-      read = c.in-Ok.ensures.read;
-      collected =
-          subst (λ harts. GivesPieces program harts (mode_of_header header) messages pieces) c.harts_counted.ensures
-          (subst (λ mode. GivesPieces program harts mode messages pieces) c.mode_of_header.ensures
-          (subst (λ all. GivesPieces program harts mode all pieces) c.as_slice.ensures.value gives));
-    }
+pub returns-in-Ok-collect_own-clause-found : goal.returns-in-Ok-collect_own-clause-found
+returns-in-Ok-collect_own-clause-found g c = record {
+  whole = Ok (c.in-Ok.whole.header, c.in-Ok.whole.messages.items);
+  read = c.in-Ok.ensures.read;
+  collected = c.in-Ok-collect_own.ensures.found;
+}
 
-pub returns-clause-fault : goal.returns-clause-fault
-returns-clause-fault g c =
-    let program = c.args.program.now in
+-- The fault names the place of a message among all, or an allocation failed.
+faulted : (harts : ℕ) (only : HartRange) (program : Image) (bytes : List ℕ) (header : Option Header)
+    (messages : List Message) (own : LossyFault) (why : Fault) → IsWhole bytes header messages
+    → GivesFault program (harts_counted harts header) (mode_of_header header) (selected only messages) own
+    → (why ≡ fault.Memory) ⊎ (why ≡ lossy_fault (placed_fault only messages own))
+    → ArePiecesOf harts only program bytes (Err why)
+faulted harts only program bytes header messages own why whole gives (inl memory) = record {
+  whole = Ok (header, messages);
+  read = whole;
+  collected = (lossy.Memory, memory, record { stops = tt; memory = λ period own logs are count. refl });
+}
+faulted harts only program bytes header messages own why whole gives (inr placed) = record {
+  whole = Ok (header, messages);
+  read = whole;
+  collected = (own, placed, gives);
+}
+
+pub returns-in-Err-collect_own-clause-fault : goal.returns-in-Err-collect_own-clause-fault
+returns-in-Err-collect_own-clause-fault g c =
     let header = c.in-Ok.whole.header in
     let messages = c.in-Ok.whole.messages.items in
-    let fault = c.in-Err-collect_watched.fault in
-    let known = c.in-Err-collect_watched.ensures in
-    let harts = c.harts_counted.result in
-    let mode = c.mode_of_header.result in
-    let gives : GivesFault program harts mode c.as_slice.result.now fault = record {
-      stops = known.stops;
-      memory = λ period own logs are count. known.memory period own logs are count;
-    } in
-    record {
-      whole = Ok (header, messages);
-      read = c.in-Ok.ensures.read;
-      collected = (
-        fault,
-        c.lossy_fault.ensures.value,
-        subst (λ harts. GivesFault program harts (mode_of_header header) messages fault) c.harts_counted.ensures
-            (subst (λ mode. GivesFault program harts mode messages fault) c.mode_of_header.ensures
-            (subst (λ all. GivesFault program harts mode all fault) c.as_slice.ensures.value gives)),
-      );
-    }
+    faulted c.args.harts c.args.only c.args.program.now c.args.bytes.now header messages c.in-Err-collect_own.fault
+    c.fault_among.result c.in-Ok.ensures.read c.in-Err-collect_own.ensures.fault
+    (c.fault_among.ensures.value header messages c.in-Ok.ensures.read)

@@ -5,6 +5,6 @@ use Rattle.hart_rows.specs.EachHart.{each_hart}
 use Rattle.capture_commands.specs.Pieces.{parts_of, parts_text}
 use Rattle.capture_commands.proofs.lossy_decoding.write_pieces.Given as goal
 
-abbrev pub invariant-loop-hart : goal.invariant-loop-hart
-invariant-loop-hart g l = Appends (g.O.Write.contents l.fn.out) (g.O.Write.contents l.out)
-    (each_hart parts_text 0 (parts_of (take l.hart-counter l.harts)))
+abbrev pub invariant-loop-place : goal.invariant-loop-place
+invariant-loop-place g l = Appends (g.O.Write.contents l.fn.out) (g.O.Write.contents l.out)
+    (each_hart parts_text l.first (parts_of (take l.place l.harts)))

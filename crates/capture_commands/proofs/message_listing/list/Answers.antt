@@ -1,23 +1,16 @@
 -- The prover tries no chain of steps by itself: what each step found is handed to it, in order.
-use Rattle.std.proofs.Common.{Err, List, Ok, Option, arith, inr, refl, subst, sym, ℕ, ◌≡◌, ◌∙◌, ◌⊎◌}
+use Rattle.std.proofs.Common.{Err, Ok, arith, inr, refl, ◌≡◌, ◌∙◌}
 use Rattle.std.proofs.lemmas.Grind.{common_steps}
-use Rattle.std.specs.Borrow.{Bor}
-use Rattle.std.specs.Prelude.{option_map}
-use Rattle.subcommands.specs.declared.words.Listing.{Listing}
-use Rattle.command_inputs.specs.Begun.{IsCutOf}
-use Rattle.command_inputs.specs.Found.{IsAskedBase, IsProgramAt, IsRead}
+use Rattle.command_inputs.specs.Found.{IsAskedBase}
 use Rattle.command_inputs.specs.FurtherPieces.{base_number}
-use Rattle.files.specs.Known.{Content}
-use Rattle.command_inputs.proofs.Formats.{found_ends}
-use Rattle.command_inputs.specs.Order.{format_or_base_fault}
-use Rattle.command_inputs.specs.Printed.{PrintsUnlessDenied}
-use Rattle.capture_commands.specs.Symbols.{AreSymbols}
-use Rattle.command_inputs.specs.declared.fault.Fault.TheVariants as fault
-use Rattle.command_inputs.proofs.Runs.{ends_silently}
-use Rattle.capture_commands.specs.Listed.{CanList, Lists, ListsInPart, ListsUpToMemory}
-use Rattle.capture_commands.specs.declared.reason.CaptureReason.{CaptureReason}
-use Rattle.capture_commands.proofs.ListedRuns.{list_begun, list_cut, list_printed}
-use Rattle.capture_commands.proofs.message_listing.list.Goals.{After-write_listed}
+use Rattle.command_inputs.specs.OnlyHarts.{IsOnly, asked_harts}
+use Rattle.command_inputs.specs.Order.{format_base_or_only_fault}
+use Rattle.command_inputs.proofs.Beginnings.{cut_leads}
+use Rattle.command_inputs.proofs.Formats.{found_ends, none_ends}
+use Rattle.command_inputs.proofs.Runs.{ends_silently, leads_on}
+use Rattle.capture_commands.specs.Listed.{CanList, CanListHarts, Lists, ListsHarts, ListsHartsInPart, ListsInPart}
+use Rattle.capture_commands.proofs.ListedRuns.{memory_leads}
+use Rattle.capture_commands.proofs.OnlyOrders.{format_base_first, only_next}
 use Rattle.capture_commands.proofs.message_listing.list.Goals as goal
 
 pub returns-in_err-base-clause-early : goal.returns-in_err-base-clause-early
@@ -25,8 +18,9 @@ returns-in_err-base-clause-early g c =
     let why = c.in_err-base.field-0.0 in
     let is : c.from_residual.result ≡ Err why = grind (arith, common_steps) in
     let asked = c.args.asked.now in
-    found_ends (format_or_base_fault asked.format (base_number asked.base.now asked.also.items)) why
-    c.from_residual.result c.in_err-base.ensures.none is
+    let number = base_number asked.base.now asked.also.items in
+    found_ends (format_base_or_only_fault asked.format number (asked_harts asked.only)) why c.from_residual.result
+    (format_base_first asked.format number (asked_harts asked.only) why c.in_err-base.ensures.none) is
 
 pub returns-in_err-base-clause-printed : goal.returns-in_err-base-clause-printed
 returns-in_err-base-clause-printed g c =
@@ -39,115 +33,65 @@ returns-in_err-base-clause-printed g c =
     c.from_residual.result (g.O.Write.contents c.args.out.now) is (inr c.in_err-base.ensures.found)
     (λ none. (Err why, none, refl))
 
-pub returns-in_err-program-clause-printed : goal.returns-in_err-program-clause-printed
-returns-in_err-program-clause-printed g c =
+pub returns-in_err-only-clause-early : goal.returns-in_err-only-clause-early
+returns-in_err-only-clause-early g c =
+    let why = c.in_err-only.field-0.0 in
+    let is : c.from_residual-in_err-only.result ≡ Err why = grind (arith, common_steps) in
+    let asked = c.args.asked.now in
+    let number = base_number asked.base.now asked.also.items in
+    let next = only_next asked.format number (asked_harts asked.only) c.in_ok-base.ensures.number in
+    found_ends (format_base_or_only_fault asked.format number (asked_harts asked.only)) why
+    c.from_residual-in_err-only.result (next ∙ c.in_err-only.ensures.none) is
+
+pub returns-in_err-only-clause-printed : goal.returns-in_err-only-clause-printed
+returns-in_err-only-clause-printed g c =
     let asked = c.args.asked.now in
     let content = g.F.Files.content c.args.files.now in
     let base = c.in_ok-base.base in
-    let why = c.in_err-program.field-0.0 in
-    let is : c.from_residual-in_err-program.result ≡ Err why = grind (arith, common_steps) in
-    ends_silently (Lists content asked) (CanList content asked)
-    (IsProgramAt content base asked.image asked.also.items (Err why)) why
-    c.from_residual-in_err-program.result (g.O.Write.contents c.args.out.now) is c.in_err-program.ensures.fault
+    let why = c.in_err-only.field-0.0 in
+    let is : c.from_residual-in_err-only.result ≡ Err why = grind (arith, common_steps) in
+    ends_silently (Lists content asked) (CanList content asked) (IsOnly asked.only (Err why)) why
+    c.from_residual-in_err-only.result (g.O.Write.contents c.args.out.now) is (inr c.in_err-only.ensures.found)
     (λ none. (Ok base, c.in_ok-base.ensures.found, (Err why, none, refl)))
 
-pub returns-in_err-symbols-clause-printed : goal.returns-in_err-symbols-clause-printed
-returns-in_err-symbols-clause-printed g c =
+pub returns-clause-early : goal.returns-clause-early
+returns-clause-early g c =
     let asked = c.args.asked.now in
-    let content = g.F.Files.content c.args.files.now in
-    let base = c.in_ok-base.base in
-    let program = c.in_ok-program.program in
-    let why = c.in_err-symbols.field-0.0 in
-    let is : c.from_residual-in_err-symbols.result ≡ Err why = grind (arith, common_steps) in
-    let lacked = subst (λ known. (why ≡ fault.Memory) ⊎ AreSymbols known asked.symbols (Err why))
-    c.in_ok-program.ensures.kept c.in_err-symbols.ensures.fault in
-    ends_silently (Lists content asked) (CanList content asked) (AreSymbols content asked.symbols (Err why)) why
-    c.from_residual-in_err-symbols.result (g.O.Write.contents c.args.out.now) is lacked
-    (λ none. (
-      Ok base,
-      c.in_ok-base.ensures.found,
-      (Ok program, c.in_ok-program.ensures.program, (Err why, none, refl)),
-    ))
-
-pub returns-in_err-bytes-clause-printed : goal.returns-in_err-bytes-clause-printed
-returns-in_err-bytes-clause-printed g c =
-    let asked = c.args.asked.now in
-    let content = g.F.Files.content c.args.files.now in
-    let base = c.in_ok-base.base in
-    let program = c.in_ok-program.program in
-    let symbols = c.in_ok-symbols.symbols in
-    let why = c.in_err-bytes.field-0.0 in
-    let is : c.from_residual-in_err-bytes.result ≡ Err why = grind (arith, common_steps) in
-    let kept = c.in_ok-symbols.ensures.kept ∙ c.in_ok-program.ensures.kept in
-    let lacked = subst (λ known. (why ≡ fault.Memory) ⊎ IsRead known asked.capture (Err why)) kept
-    c.in_err-bytes.ensures.lacked in
-    let named = subst (λ known. AreSymbols known asked.symbols (Ok symbols)) c.in_ok-program.ensures.kept
-    c.in_ok-symbols.ensures.symbols in
-    ends_silently (Lists content asked) (CanList content asked) (IsRead content asked.capture (Err why)) why
-    c.from_residual-in_err-bytes.result (g.O.Write.contents c.args.out.now) is lacked
-    (λ none. (
-      Ok base,
-      c.in_ok-base.ensures.found,
-      (
-        Ok program,
-        c.in_ok-program.ensures.program,
-        (Ok symbols, named, (Err why, none, refl)),
-      ),
-    ))
-
-module _ (g : _) (c : After-write_listed g) where
-  abbrev content : Content
-  content = g.F.Files.content c.args.files.now
-
-  abbrev asked : Listing
-  asked = c.args.asked.now
-
-  abbrev symbols : Option (List ℕ)
-  symbols = option_map (λ (file : Bor (List ℕ)). file.now) c.as_ref.result
-
-  abbrev old : Option (List ℕ)
-  old = g.O.Write.contents c.args.out.now
-
-  abbrev new : Option (List ℕ)
-  new = g.O.Write.contents c.write_listed.new.out
-
-  -- The symbols that were found are those that are handed on.
-  named : AreSymbols content asked.symbols (Ok symbols)
-  named =
-      subst (λ symbols. AreSymbols content asked.symbols (Ok symbols)) (sym c.as_ref.ensures.value)
-      (subst (λ known. AreSymbols known asked.symbols (Ok c.in_ok-symbols.symbols)) c.in_ok-program.ensures.kept
-      c.in_ok-symbols.ensures.symbols)
-
-  -- The file that was read is the capture.
-  read : IsRead {W = CaptureReason} content asked.capture (Ok c.as_slice.result.now)
-  read =
-      subst (λ bytes. IsRead {W = CaptureReason} content asked.capture (Ok bytes)) (sym c.as_slice.ensures.value)
-      (subst (λ known. IsRead {W = CaptureReason} known asked.capture (Ok c.in_ok-bytes.bytes.items))
-      (c.in_ok-symbols.ensures.kept ∙ c.in_ok-program.ensures.kept) c.in_ok-bytes.ensures.held)
-
-  printed : PrintsUnlessDenied (Lists content asked) (CanList content asked) c.write_listed.result old new
-  printed =
-      list_printed content asked c.in_ok-base.base c.in_ok-program.program symbols c.as_slice.result.now
-      c.in_ok-base.ensures.found c.in_ok-program.ensures.program named read c.write_listed.result old new
-      c.write_listed.ensures.printed
-
-  begun : c.write_listed.result ≡ Err fault.Memory → ListsUpToMemory (Lists content asked) old new
-  begun memory =
-      list_begun content asked c.in_ok-base.base c.in_ok-program.program symbols c.as_slice.result.now
-      c.in_ok-base.ensures.found c.in_ok-program.ensures.program named read old new
-      (c.write_listed.ensures.begun memory)
-
-  cut : IsCutOf (ListsInPart content asked) old new
-  cut =
-      list_cut content asked c.in_ok-base.base c.in_ok-program.program symbols c.as_slice.result.now
-      c.in_ok-base.ensures.found c.in_ok-program.ensures.program named read old new
-      c.write_listed.ensures.cut
+    let number = base_number asked.base.now asked.also.items in
+    let next = only_next asked.format number (asked_harts asked.only) c.in_ok-base.ensures.number in
+    none_ends (format_base_or_only_fault asked.format number (asked_harts asked.only)) c.list_harts.result
+    (next ∙ c.in_ok-only.ensures.some)
 
 pub returns-clause-printed : goal.returns-clause-printed
-returns-clause-printed g c = printed g (goal.at.returns-clause-printed g c).After-write_listed
+returns-clause-printed g c =
+    let asked = c.args.asked.now in
+    let content = g.F.Files.content c.args.files.now in
+    let base = c.in_ok-base.base in
+    let only = c.in_ok-only.only in
+    leads_on (ListsHarts content asked base only) (Lists content asked) (CanListHarts content asked base only)
+    (CanList content asked) c.list_harts.result (g.O.Write.contents c.args.out.now)
+    (g.O.Write.contents c.list_harts.new.out)
+    (λ printed is. (Ok base, c.in_ok-base.ensures.found, (Ok only, c.in_ok-only.ensures.found, is)))
+    (λ can. (base, c.in_ok-base.ensures.found, (only, c.in_ok-only.ensures.found, can)))
+    c.list_harts.ensures.printed
 
 pub returns-clause-begun : goal.returns-clause-begun
-returns-clause-begun g c = begun g (goal.at.returns-clause-begun g c).After-write_listed
+returns-clause-begun g c = λ memory.
+    let asked = c.args.asked.now in
+    let content = g.F.Files.content c.args.files.now in
+    let base = c.in_ok-base.base in
+    let only = c.in_ok-only.only in
+    memory_leads (ListsHarts content asked base only) (Lists content asked)
+    (λ printed is. (Ok base, c.in_ok-base.ensures.found, (Ok only, c.in_ok-only.ensures.found, is)))
+    (g.O.Write.contents c.args.out.now) (g.O.Write.contents c.list_harts.new.out) (c.list_harts.ensures.begun memory)
 
 pub returns-clause-cut : goal.returns-clause-cut
-returns-clause-cut g c = cut g (goal.at.returns-clause-cut g c).After-write_listed
+returns-clause-cut g c =
+    let asked = c.args.asked.now in
+    let content = g.F.Files.content c.args.files.now in
+    let base = c.in_ok-base.base in
+    let only = c.in_ok-only.only in
+    cut_leads (ListsHartsInPart content asked base only) (ListsInPart content asked)
+    (g.O.Write.contents c.args.out.now) (g.O.Write.contents c.list_harts.new.out)
+    (λ printed is. (base, c.in_ok-base.ensures.found, (only, c.in_ok-only.ensures.found, is)))
+    c.list_harts.ensures.cut

@@ -6,10 +6,10 @@ use Rattle.salvaged_table.specs.Offsets.{own_offsets}
 use Rattle.capture_commands.specs.SalvagedText.{hart_text}
 use Rattle.capture_commands.proofs.salvaged_writing.write_harts.Given as goal
 
-abbrev pub invariant-loop-hart : goal.invariant-loop-hart
-invariant-loop-hart g l = record {
+abbrev pub invariant-loop-place : goal.invariant-loop-place
+invariant-loop-place g l = record {
   text : Appends (g.O.Write.contents l.fn.out) (g.O.Write.contents l.out)
-      (numbered_harts (λ hart. hart_text l.summary l.header (own_offsets l.offsets hart)) 0
-      (take l.hart-counter l.harts));
+      (numbered_harts (λ hart. hart_text l.summary l.header (own_offsets l.offsets hart)) l.first
+      (take l.place l.harts));
   room : 65536 ≤ vec_capacity l.room;
 }

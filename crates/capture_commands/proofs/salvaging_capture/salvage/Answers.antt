@@ -1,17 +1,18 @@
 -- The prover tries no chain of steps by itself: what each step found is handed to it, in order.
-use Rattle.std.proofs.Common.{Err, Ok, ap, arith, inr, refl, subst, sym, ◌≡◌, ◌∙◌, ◌⊎◌}
+use Rattle.std.proofs.Common.{Err, Ok, arith, inr, refl, subst, ◌≡◌, ◌∙◌, ◌⊎◌}
 use Rattle.std.proofs.lemmas.Grind.{common_steps}
-use Rattle.std.specs.Prelude.{⊤, IfSome}
 use Rattle.command_inputs.specs.Begun.{IsCutOf}
 use Rattle.command_inputs.specs.Found.{IsAskedBase, IsProgramAt, IsRead}
-use Rattle.command_inputs.specs.Order.{format_or_base_fault}
+use Rattle.command_inputs.specs.OnlyHarts.{IsOnly, asked_harts}
+use Rattle.command_inputs.specs.Order.{format_base_or_only_fault}
 use Rattle.command_inputs.specs.Printed.{PrintsUnlessDenied}
 use Rattle.command_inputs.specs.declared.fault.Fault.TheVariants as fault
-use Rattle.command_inputs.proofs.Formats.{found_ends}
+use Rattle.command_inputs.proofs.Formats.{found_ends, none_ends}
 use Rattle.command_inputs.specs.FurtherPieces.{base_number}
 use Rattle.command_inputs.proofs.Runs.{ends_silently}
-use Rattle.capture_commands.specs.Salvaging.{CanSalvage, Salvages, WritesSalvaged}
+use Rattle.capture_commands.specs.Salvaging.{CanSalvage, CanSalvageOf, Salvages, SalvagesOf}
 use Rattle.capture_commands.specs.declared.reason.CaptureReason.{CaptureReason}
+use Rattle.capture_commands.proofs.OnlyOrders.{format_base_first, only_next}
 use Rattle.capture_commands.proofs.SalvageRuns.{capture_cut, capture_printed}
 use Rattle.capture_commands.proofs.salvaging_capture.salvage.Goals as goal
 
@@ -20,8 +21,9 @@ returns-in_err-base-clause-early g c =
     let why = c.in_err-base.field-0.0 in
     let is : c.from_residual.result ≡ Err why = grind (arith, common_steps) in
     let asked = c.args.asked.now in
-    found_ends (format_or_base_fault asked.format (base_number asked.base.now asked.also.items)) why
-    c.from_residual.result c.in_err-base.ensures.none is
+    let number = base_number asked.base.now asked.also.items in
+    found_ends (format_base_or_only_fault asked.format number (asked_harts asked.only)) why c.from_residual.result
+    (format_base_first asked.format number (asked_harts asked.only) why c.in_err-base.ensures.none) is
 
 pub returns-in_err-base-clause-printed : goal.returns-in_err-base-clause-printed
 returns-in_err-base-clause-printed g c =
@@ -34,22 +36,66 @@ returns-in_err-base-clause-printed g c =
     c.from_residual.result (g.O.Write.contents c.args.out.now) is (inr c.in_err-base.ensures.found)
     (λ none. (Err why, none, refl))
 
+pub returns-in_err-only-clause-early : goal.returns-in_err-only-clause-early
+returns-in_err-only-clause-early g c =
+    let why = c.in_err-only.field-0.0 in
+    let is : c.from_residual-in_err-only.result ≡ Err why = grind (arith, common_steps) in
+    let asked = c.args.asked.now in
+    let number = base_number asked.base.now asked.also.items in
+    let next = only_next asked.format number (asked_harts asked.only) c.in_ok-base.ensures.number in
+    found_ends (format_base_or_only_fault asked.format number (asked_harts asked.only)) why
+    c.from_residual-in_err-only.result (next ∙ c.in_err-only.ensures.none) is
+
+pub returns-in_err-only-clause-printed : goal.returns-in_err-only-clause-printed
+returns-in_err-only-clause-printed g c =
+    let asked = c.args.asked.now in
+    let content = g.F.Files.content c.args.files.now in
+    let base = c.in_ok-base.base in
+    let why = c.in_err-only.field-0.0 in
+    let is : c.from_residual-in_err-only.result ≡ Err why = grind (arith, common_steps) in
+    ends_silently (Salvages content asked) (CanSalvage content asked) (IsOnly asked.only (Err why)) why
+    c.from_residual-in_err-only.result (g.O.Write.contents c.args.out.now) is (inr c.in_err-only.ensures.found)
+    (λ none. (Ok base, c.in_ok-base.ensures.found, (Err why, none, refl)))
+
+pub returns-in_err-program-clause-early : goal.returns-in_err-program-clause-early
+returns-in_err-program-clause-early g c =
+    let asked = c.args.asked.now in
+    let number = base_number asked.base.now asked.also.items in
+    let next = only_next asked.format number (asked_harts asked.only) c.in_ok-base.ensures.number in
+    none_ends (format_base_or_only_fault asked.format number (asked_harts asked.only))
+    c.from_residual-in_err-program.result (next ∙ c.in_ok-only.ensures.some)
+
 pub returns-in_err-program-clause-printed : goal.returns-in_err-program-clause-printed
 returns-in_err-program-clause-printed g c =
     let asked = c.args.asked.now in
     let content = g.F.Files.content c.args.files.now in
     let base = c.in_ok-base.base in
+    let only = c.in_ok-only.only in
     let why = c.in_err-program.field-0.0 in
     let is : c.from_residual-in_err-program.result ≡ Err why = grind (arith, common_steps) in
     ends_silently (Salvages content asked) (CanSalvage content asked)
-    (IsProgramAt content base asked.image asked.also.items (Err why)) why c.from_residual-in_err-program.result (g.O.Write.contents c.args.out.now) is c.in_err-program.ensures.fault
-    (λ none. (Ok base, c.in_ok-base.ensures.found, (Err why, none, refl)))
+    (IsProgramAt content base asked.image asked.also.items (Err why)) why c.from_residual-in_err-program.result
+    (g.O.Write.contents c.args.out.now) is c.in_err-program.ensures.fault
+    (λ none. (
+      Ok base,
+      c.in_ok-base.ensures.found,
+      (Ok only, c.in_ok-only.ensures.found, (Err why, none, refl)),
+    ))
+
+pub returns-in_err-bytes-clause-early : goal.returns-in_err-bytes-clause-early
+returns-in_err-bytes-clause-early g c =
+    let asked = c.args.asked.now in
+    let number = base_number asked.base.now asked.also.items in
+    let next = only_next asked.format number (asked_harts asked.only) c.in_ok-base.ensures.number in
+    none_ends (format_base_or_only_fault asked.format number (asked_harts asked.only))
+    c.from_residual-in_err-bytes.result (next ∙ c.in_ok-only.ensures.some)
 
 pub returns-in_err-bytes-clause-printed : goal.returns-in_err-bytes-clause-printed
 returns-in_err-bytes-clause-printed g c =
     let asked = c.args.asked.now in
     let content = g.F.Files.content c.args.files.now in
     let base = c.in_ok-base.base in
+    let only = c.in_ok-only.only in
     let program = c.in_ok-program.program in
     let why = c.in_err-bytes.field-0.0 in
     let is : c.from_residual-in_err-bytes.result ≡ Err why = grind (arith, common_steps) in
@@ -60,35 +106,50 @@ returns-in_err-bytes-clause-printed g c =
     (λ none. (
       Ok base,
       c.in_ok-base.ensures.found,
-      (Ok program, c.in_ok-program.ensures.program, (Err why, none, refl)),
+      (
+        Ok only,
+        c.in_ok-only.ensures.found,
+        (Ok program, c.in_ok-program.ensures.program, (Err why, none, refl)),
+      ),
     ))
+
+pub returns-clause-early : goal.returns-clause-early
+returns-clause-early g c =
+    let asked = c.args.asked.now in
+    let number = base_number asked.base.now asked.also.items in
+    let next = only_next asked.format number (asked_harts asked.only) c.in_ok-base.ensures.number in
+    none_ends (format_base_or_only_fault asked.format number (asked_harts asked.only)) c.salvage_capture.result
+    (next ∙ c.in_ok-only.ensures.some)
 
 pub returns-clause-printed : goal.returns-clause-printed
 returns-clause-printed g c =
     let asked = c.args.asked.now in
     let content = g.F.Files.content c.args.files.now in
+    let only = c.in_ok-only.only in
     let program = c.in_ok-program.program in
     let old = g.O.Write.contents c.args.out.now in
     let new = g.O.Write.contents c.salvage_capture.new.out in
     let read = subst (λ known. IsRead {W = CaptureReason} known asked.capture (Ok c.in_ok-bytes.bytes.items))
     c.in_ok-program.ensures.kept
     c.in_ok-bytes.ensures.held in
-    capture_printed content asked c.in_ok-base.base program c.in_ok-bytes.bytes.items c.in_ok-base.ensures.found
-    c.in_ok-program.ensures.program read c.salvage_capture.result old new
-    (subst (λ bytes. PrintsUnlessDenied (WritesSalvaged asked.format asked.harts asked.summary program bytes) ⊤
-    c.salvage_capture.result old new) c.as_slice.ensures.value c.salvage_capture.ensures.printed)
+    capture_printed content asked c.in_ok-base.base only program c.in_ok-bytes.bytes.items c.in_ok-base.ensures.found
+    c.in_ok-only.ensures.found c.in_ok-program.ensures.program read c.salvage_capture.result old new
+    (subst (λ bytes. PrintsUnlessDenied (SalvagesOf only asked.format asked.harts asked.summary program bytes)
+    (CanSalvageOf only asked.harts bytes) c.salvage_capture.result old new) c.as_slice.ensures.value
+    c.salvage_capture.ensures.printed)
 
 pub returns-clause-cut : goal.returns-clause-cut
 returns-clause-cut g c =
     let asked = c.args.asked.now in
     let content = g.F.Files.content c.args.files.now in
+    let only = c.in_ok-only.only in
     let program = c.in_ok-program.program in
     let old = g.O.Write.contents c.args.out.now in
     let new = g.O.Write.contents c.salvage_capture.new.out in
     let read = subst (λ known. IsRead {W = CaptureReason} known asked.capture (Ok c.in_ok-bytes.bytes.items))
     c.in_ok-program.ensures.kept
     c.in_ok-bytes.ensures.held in
-    capture_cut content asked c.in_ok-base.base program c.in_ok-bytes.bytes.items c.in_ok-base.ensures.found
-    c.in_ok-program.ensures.program read old new
-    (subst (λ bytes. IsCutOf (WritesSalvaged asked.format asked.harts asked.summary program bytes) old new)
+    capture_cut content asked c.in_ok-base.base only program c.in_ok-bytes.bytes.items c.in_ok-base.ensures.found
+    c.in_ok-only.ensures.found c.in_ok-program.ensures.program read old new
+    (subst (λ bytes. IsCutOf (SalvagesOf only asked.format asked.harts asked.summary program bytes) old new)
     c.as_slice.ensures.value c.salvage_capture.ensures.cut)

@@ -7,6 +7,7 @@ use Rattle.output.proofs.Beginnings.{begun_behind, begun_in_front}
 use Rattle.searching.specs.Start.{spans_of}
 use Rattle.hart_rows.specs.EachHart.{numbered_harts}
 use Rattle.salvaged_table.specs.Offsets.{own_offsets}
+use Rattle.capture_commands.specs.HartItems.{items_of}
 use Rattle.capture_commands.specs.SalvagedText.{hart_text, rest_text}
 use Rattle.capture_commands.specs.steps.Reading.{found_harts}
 use Rattle.capture_commands.proofs.TextsBehind.{ok_behind}
@@ -18,27 +19,36 @@ module _ (g : _) (c : After-write_harts g) where
   harts_begun : AppendsBeginning (found_harts c.args.summary c.args.found.now) (g.O.Write.contents c.args.out.now)
       (g.O.Write.contents c.write_harts.new.out)
   harts_begun =
-      subst (λ harts. AppendsBeginning
-      (numbered_harts (λ hart. hart_text c.args.summary c.args.found.now.header
-      (own_offsets c.args.found.now.frames.offsets.items hart)) 0 harts) (g.O.Write.contents c.args.out.now)
+      let found = c.args.found.now in
+      subst (λ all. AppendsBeginning
+      (numbered_harts (λ hart. hart_text c.args.summary found.header (own_offsets found.frames.offsets.items hart))
+      found.only.first (items_of found.only all)) (g.O.Write.contents c.args.out.now)
       (g.O.Write.contents c.write_harts.new.out)) c.as_slice-2.ensures.value
+      (subst (λ harts. AppendsBeginning
+      (numbered_harts (λ hart. hart_text c.args.summary found.header (own_offsets found.frames.offsets.items hart))
+      found.only.first harts) (g.O.Write.contents c.args.out.now)
+      (g.O.Write.contents c.write_harts.new.out)) c.items_of.ensures
       (subst (λ lists. AppendsBeginning
-      (numbered_harts (λ hart. hart_text c.args.summary c.args.found.now.header (own_offsets lists hart)) 0
-      c.as_slice-2.result.now) (g.O.Write.contents c.args.out.now) (g.O.Write.contents c.write_harts.new.out))
-      c.as_slice.ensures.value c.write_harts.ensures.begun)
+      (numbered_harts (λ hart. hart_text c.args.summary found.header (own_offsets lists hart)) found.only.first
+      c.items_of.result.now) (g.O.Write.contents c.args.out.now) (g.O.Write.contents c.write_harts.new.out))
+      c.as_slice.ensures.value c.write_harts.ensures.begun))
 
   -- They were written, where all went well.
   harts_written : OnOk c.write_harts.result (Appends (g.O.Write.contents c.args.out.now)
       (g.O.Write.contents c.write_harts.new.out) (found_harts c.args.summary c.args.found.now))
   harts_written =
-      subst (λ harts. OnOk c.write_harts.result (Appends (g.O.Write.contents c.args.out.now)
-      (g.O.Write.contents c.write_harts.new.out)
-      (numbered_harts (λ hart. hart_text c.args.summary c.args.found.now.header
-      (own_offsets c.args.found.now.frames.offsets.items hart)) 0 harts))) c.as_slice-2.ensures.value
-      (subst (λ lists. OnOk c.write_harts.result (Appends (g.O.Write.contents c.args.out.now)
-      (g.O.Write.contents c.write_harts.new.out)
-      (numbered_harts (λ hart. hart_text c.args.summary c.args.found.now.header (own_offsets lists hart)) 0
-      c.as_slice-2.result.now))) c.as_slice.ensures.value c.write_harts.ensures.text)
+      let found = c.args.found.now in
+      let old = g.O.Write.contents c.args.out.now in
+      let new = g.O.Write.contents c.write_harts.new.out in
+      subst (λ all. OnOk c.write_harts.result (Appends old new
+      (numbered_harts (λ hart. hart_text c.args.summary found.header (own_offsets found.frames.offsets.items hart))
+      found.only.first (items_of found.only all)))) c.as_slice-2.ensures.value
+      (subst (λ harts. OnOk c.write_harts.result (Appends old new
+      (numbered_harts (λ hart. hart_text c.args.summary found.header (own_offsets found.frames.offsets.items hart))
+      found.only.first harts))) c.items_of.ensures
+      (subst (λ lists. OnOk c.write_harts.result (Appends old new
+      (numbered_harts (λ hart. hart_text c.args.summary found.header (own_offsets lists hart)) found.only.first
+      c.items_of.result.now))) c.as_slice.ensures.value c.write_harts.ensures.text))
 
 pub returns-in_err-write_harts-clause-begun : goal.returns-in_err-write_harts-clause-begun
 returns-in_err-write_harts-clause-begun g c =

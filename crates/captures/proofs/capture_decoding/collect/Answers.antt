@@ -1,9 +1,17 @@
 -- How far a capture was received: by lemmas on captures, which no tactic finds.
-use Rattle.std.proofs.Common.{refl, arith}
+use Rattle.std.proofs.Common.{arith}
 use Rattle.rvclass.specs.Fetch.{words_of}
 use Rattle.captures.proofs.FoundInFront.{in_front}
-use Rattle.captures.proofs.Reaching.{reaches_more, collected_at}
+use Rattle.captures.proofs.ReachingHarts.{collected_at, reaches_more, reaches_none}
 use Rattle.captures.proofs.capture_decoding.collect.Goals as goal
+
+pub loop-message-init : goal.loop-message-init
+loop-message-init g c = (
+  λ harts has.
+      reaches_none c.args.range (words_of c.args.program.now) harts c.args.announced c.args.messages
+      c.args.receiver.now has,
+  omega arith,
+)
 
 pub loop-message-preserved : goal.loop-message-preserved
 loop-message-preserved g c =
@@ -14,22 +22,24 @@ loop-message-preserved g c =
     said.shorter in
     let shorter = front.shorter in (
       λ harts has.
-          reaches_more (words_of c.args.program.now) harts c.args.announced c.args.messages left next
-          c.loop-message.number c.loop-message.receiver c.receive.new.self c.in-Ok-Some.message
+          reaches_more c.args.range (words_of c.args.program.now) harts c.args.announced c.args.messages left next
+          c.loop-message.number c.loop-message.receiver c.receive_selected.new.receiver c.in-Ok-Some.message
           (c.loop-message.invariant.0 harts has) front.is_message front.here c.in-Ok.ensures.agrees
-          (λ messages. c.in-Ok.ensures.received (λ hart. words_of c.args.program.now) harts messages refl),
+          (λ messages. c.in-Ok.ensures.received harts messages),
       omega (arith, c.loop-message.invariant.1, shorter),
     )
 
-pub returns-in-Err-receive : goal.returns-in-Err-receive
-returns-in-Err-receive g c = λ harts has.
+pub returns-in-Err-receive_selected : goal.returns-in-Err-receive_selected
+returns-in-Err-receive_selected g c = λ harts has.
     let words = words_of c.args.program.now in
     let said = c.in-Ok-Some.ensures in
     let front = in_front c.loop-message.messages c.next.new.self _ c.in-Ok-Some.message c.in-Ok-Some.field-0-is
     said.ranges said.message said.shorter in
-    collected_at words harts c.args.announced c.args.messages c.loop-message.messages c.next.new.self
-    c.loop-message.number c.loop-message.receiver c.receive.new.self c.in-Ok-Some.message c.in-Err-receive.fault
+    collected_at c.args.range words harts c.args.announced c.args.messages c.loop-message.messages c.next.new.self
+    c.loop-message.number c.loop-message.receiver c.receive_selected.new.receiver c.in-Ok-Some.message
+    c.in-Err-receive_selected.fault
     c.from.result (c.loop-message.invariant.0 harts has) front.is_message front.here
-    (λ messages. c.in-Err-receive.ensures.held (λ hart. words) harts messages)
-    (λ messages. c.in-Err-receive.ensures.not_received (λ hart. words) harts messages refl)
+    c.in-Err-receive_selected.ensures.own
+    (λ messages. c.in-Err-receive_selected.ensures.held harts messages)
+    (λ messages. c.in-Err-receive_selected.ensures.not_received harts messages)
     c.from.ensures

@@ -9,6 +9,7 @@ returns c = (
   c.in_ok-texts.ensures,
   c.given_harts.ensures,
   c.given_text.ensures,
+  c.given_text-2.ensures,
   c.flag.ensures,
   c.format.ensures,
   c.flag-2.ensures,

@@ -2,13 +2,13 @@
 use Rattle.std.proofs.Common.{codes, [], ◌∷◌}
 use Rattle.clap.specs.Words.{new_app}
 use Rattle.arguments.specs.Rules.{also_rule, base_rule, capture_rule, harts_rule, image_rule, logs_rule, long_rule}
-use Rattle.arguments.specs.Rules.{progress_rule}
+use Rattle.arguments.specs.Rules.{only_rule, progress_rule}
 use Rattle.cli.proofs.GrammarLemmas.{with_these}
 use Rattle.cli.proofs.grammar.compare.Goals as goal
 
 pub returns : goal.returns
 returns c =
-    with_these c.subcommand.result (new_app (codes "compare")) (base_rule ∷ also_rule ∷ harts_rule ∷ long_rule ∷
+    with_these c.subcommand.result (new_app (codes "compare")) (base_rule ∷ also_rule ∷ harts_rule ∷ only_rule ∷ long_rule ∷
     progress_rule ∷ image_rule ∷ capture_rule ∷ logs_rule ∷ []) _ c.in_ok-args.args.items c.in_ok-args.ensures.items
     c.subcommand.ensures (
       c.base.ensures,
@@ -17,12 +17,18 @@ returns c =
         (
           c.harts.ensures,
           (
-            c.long.ensures,
+            c.only.ensures,
             (
-              c.progress.ensures,
+              c.long.ensures,
               (
-                c.image.ensures,
-                (c.capture.ensures, (c.logs.ensures, tt)),
+                c.progress.ensures,
+                (
+                  c.image.ensures,
+                  (
+                    c.capture.ensures,
+                    (c.logs.ensures, tt),
+                  ),
+                ),
               ),
             ),
           ),

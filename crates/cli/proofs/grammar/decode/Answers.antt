@@ -1,14 +1,15 @@
 -- A command's grammar is too large to be searched in: the rules of its arguments are handed over.
 use Rattle.std.proofs.Common.{codes, [], ◌∷◌}
 use Rattle.clap.specs.Words.{new_app}
-use Rattle.arguments.specs.Rules.{also_rule, base_rule, capture_rule, harts_rule, image_rule, lossy_rule, progress_rule}
+use Rattle.arguments.specs.Rules.{also_rule, base_rule, capture_rule, harts_rule, image_rule, lossy_rule, only_rule}
+use Rattle.arguments.specs.Rules.{progress_rule}
 use Rattle.cli.proofs.GrammarLemmas.{with_these}
 use Rattle.cli.proofs.grammar.decode.Goals as goal
 
 pub returns : goal.returns
 returns c =
-    with_these c.subcommand.result (new_app (codes "decode")) (base_rule ∷ also_rule ∷ harts_rule ∷ lossy_rule ∷
-    progress_rule ∷ image_rule ∷ capture_rule ∷ []) _ c.in_ok-args.args.items c.in_ok-args.ensures.items
+    with_these c.subcommand.result (new_app (codes "decode")) (base_rule ∷ also_rule ∷ harts_rule ∷ only_rule ∷
+    lossy_rule ∷ progress_rule ∷ image_rule ∷ capture_rule ∷ []) _ c.in_ok-args.args.items c.in_ok-args.ensures.items
     c.subcommand.ensures (
       c.base.ensures,
       (
@@ -16,12 +17,15 @@ returns c =
         (
           c.harts.ensures,
           (
-            c.lossy.ensures,
+            c.only.ensures,
             (
-              c.capture_progress.ensures,
+              c.lossy.ensures,
               (
-                c.image.ensures,
-                (c.capture.ensures, tt),
+                c.capture_progress.ensures,
+                (
+                  c.image.ensures,
+                  (c.capture.ensures, tt),
+                ),
               ),
             ),
           ),

@@ -2,14 +2,14 @@
 use Rattle.std.proofs.Common.{codes, [], ◌∷◌}
 use Rattle.clap.specs.Words.{new_app}
 use Rattle.arguments.specs.Rules.{also_rule, base_rule, capture_rule, format_rule, given_harts_rule, image_rule}
-use Rattle.arguments.specs.Rules.{progress_rule, salvage_rule, symbols_rule}
+use Rattle.arguments.specs.Rules.{only_rule, progress_rule, salvage_rule, symbols_rule}
 use Rattle.cli.proofs.GrammarLemmas.{with_these}
 use Rattle.cli.proofs.grammar.list.Goals as goal
 
 pub returns : goal.returns
 returns c =
-    with_these c.subcommand.result (new_app (codes "list")) (base_rule ∷ also_rule ∷ given_harts_rule ∷ symbols_rule ∷
-    salvage_rule ∷ format_rule ∷ progress_rule ∷ image_rule ∷ capture_rule ∷ []) _ c.in_ok-args.args.items
+    with_these c.subcommand.result (new_app (codes "list")) (base_rule ∷ also_rule ∷ given_harts_rule ∷ only_rule ∷
+    symbols_rule ∷ salvage_rule ∷ format_rule ∷ progress_rule ∷ image_rule ∷ capture_rule ∷ []) _ c.in_ok-args.args.items
     c.in_ok-args.ensures.items
     c.subcommand.ensures (
       c.base.ensures,
@@ -18,16 +18,19 @@ returns c =
         (
           c.listed_harts.ensures,
           (
-            c.symbols.ensures,
+            c.only.ensures,
             (
-              c.salvaged.ensures,
+              c.symbols.ensures,
               (
-                c.format.ensures,
+                c.salvaged.ensures,
                 (
-                  c.capture_progress.ensures,
+                  c.format.ensures,
                   (
-                    c.image.ensures,
-                    (c.capture.ensures, tt),
+                    c.capture_progress.ensures,
+                    (
+                      c.image.ensures,
+                      (c.capture.ensures, tt),
+                    ),
                   ),
                 ),
               ),

@@ -3,18 +3,21 @@ use Rattle.std.proofs.Common.{Err, List, Ok, Option, ap, arith, inr, refl, subst
 use Rattle.std.proofs.lemmas.Grind.{common_steps}
 use Rattle.std.specs.Prelude.{IfSome}
 use Rattle.files.specs.Known.{Content}
+use Rattle.hart_range.specs.declared.range.HartRange.{HartRange}
 use Rattle.rvclass.specs.Image.{Image}
 use Rattle.subcommands.specs.declared.words.Compare.{Compare}
 use Rattle.command_inputs.specs.Begun.{IsCutOf}
 use Rattle.command_inputs.specs.Found.{IsBase, IsProgramAt, IsRead}
-use Rattle.command_inputs.specs.Order.{base_fault}
+use Rattle.command_inputs.specs.FurtherPieces.{base_number}
+use Rattle.command_inputs.specs.OnlyHarts.{IsOnly, asked_harts}
+use Rattle.command_inputs.specs.Order.{base_or_only_fault}
 use Rattle.command_inputs.specs.Printed.{PrintsUnlessDenied}
 use Rattle.command_inputs.specs.declared.fault.Fault.TheVariants as fault
 use Rattle.command_inputs.proofs.Runs.{ends_silently}
 use Rattle.capture_commands.specs.declared.reason.CaptureReason.{CaptureReason}
-use Rattle.compare_commands.specs.Comparing.{CanCompare, CanCompareCapture, Compares, ComparesCapture}
-use Rattle.compare_commands.proofs.ComparedRuns.{capture_cut, capture_printed}
-use Rattle.compare_commands.proofs.against_logs.compare.Goals.{After-compare_capture}
+use Rattle.compare_commands.specs.Comparing.{CanCompare, CanCompareHarts, Compares, ComparesHarts}
+use Rattle.compare_commands.proofs.ComparedRuns.{early_none, early_only, harts_cut, harts_printed}
+use Rattle.compare_commands.proofs.against_logs.compare.Goals.{After-compare_harts}
 use Rattle.compare_commands.proofs.against_logs.compare.Goals as goal
 
 pub returns-in_err-base-clause-early : goal.returns-in_err-base-clause-early
@@ -22,8 +25,8 @@ returns-in_err-base-clause-early g c =
     let why = c.in_err-base.field-0.0 in
     let is : c.from_residual.result ≡ Err why = grind (arith, common_steps) in
     let none = c.in_err-base.ensures.none in
-    subst (λ number. IfSome (base_fault number) (λ fault. c.from_residual.result ≡ Err fault)) (sym none.1)
-    (is ∙ ap Err none.0)
+    subst (λ number. IfSome (base_or_only_fault number (asked_harts c.args.asked.now.only))
+    (λ fault. c.from_residual.result ≡ Err fault)) (sym none.1) (is ∙ ap Err none.0)
 
 pub returns-in_err-base-clause-printed : goal.returns-in_err-base-clause-printed
 returns-in_err-base-clause-printed g c =
@@ -34,6 +37,42 @@ returns-in_err-base-clause-printed g c =
     ends_silently (Compares content asked) (CanCompare content asked)
     (IsBase asked.base.now asked.also.items (Err why)) why
     c.from_residual.result (g.O.Write.contents c.args.out.now) is (inr c.in_err-base.ensures.found) (λ none. (Err why, none, refl))
+
+pub returns-in_err-range-clause-early : goal.returns-in_err-range-clause-early
+returns-in_err-range-clause-early g c =
+    let asked = c.args.asked.now in
+    let why = c.in_err-range.field-0.0 in
+    let is : c.from_residual-in_err-range.result ≡ Err why = grind (arith, common_steps) in
+    early_only (base_number asked.base.now asked.also.items) c.in_ok-base.base (asked_harts asked.only)
+    c.from_residual-in_err-range.result c.in_ok-base.ensures.number why c.in_err-range.ensures.none is
+
+pub returns-in_err-range-clause-printed : goal.returns-in_err-range-clause-printed
+returns-in_err-range-clause-printed g c =
+    let asked = c.args.asked.now in
+    let content = g.F.Files.content c.args.files.now in
+    let why = c.in_err-range.field-0.0 in
+    let is : c.from_residual-in_err-range.result ≡ Err why = grind (arith, common_steps) in
+    ends_silently (Compares content asked) (CanCompare content asked) (IsOnly asked.only (Err why)) why
+    c.from_residual-in_err-range.result (g.O.Write.contents c.args.out.now) is (inr c.in_err-range.ensures.found)
+    (λ none. (Ok c.in_ok-base.base, c.in_ok-base.ensures.found, (Err why, none, refl)))
+
+pub returns-in_err-program-clause-early : goal.returns-in_err-program-clause-early
+returns-in_err-program-clause-early g c =
+    let asked = c.args.asked.now in
+    early_none (base_number asked.base.now asked.also.items) c.in_ok-base.base (asked_harts asked.only)
+    c.from_residual-in_err-program.result c.in_ok-base.ensures.number c.in_ok-range.ensures.some
+
+pub returns-in_err-bytes-clause-early : goal.returns-in_err-bytes-clause-early
+returns-in_err-bytes-clause-early g c =
+    let asked = c.args.asked.now in
+    early_none (base_number asked.base.now asked.also.items) c.in_ok-base.base (asked_harts asked.only)
+    c.from_residual-in_err-bytes.result c.in_ok-base.ensures.number c.in_ok-range.ensures.some
+
+pub returns-clause-early : goal.returns-clause-early
+returns-clause-early g c =
+    let asked = c.args.asked.now in
+    early_none (base_number asked.base.now asked.also.items) c.in_ok-base.base (asked_harts asked.only)
+    c.compare_harts.result c.in_ok-base.ensures.number c.in_ok-range.ensures.some
 
 pub returns-in_err-program-clause-printed : goal.returns-in_err-program-clause-printed
 returns-in_err-program-clause-printed g c =
@@ -46,7 +85,11 @@ returns-in_err-program-clause-printed g c =
     (IsProgramAt content base asked.image asked.also.items (Err why)) why
     c.from_residual-in_err-program.result
     (g.O.Write.contents c.args.out.now) is c.in_err-program.ensures.fault
-    (λ none. (Ok base, c.in_ok-base.ensures.found, (Err why, none, refl)))
+    (λ none. (
+      Ok base,
+      c.in_ok-base.ensures.found,
+      (Ok c.in_ok-range.range, c.in_ok-range.ensures.found, (Err why, none, refl)),
+    ))
 
 pub returns-in_err-bytes-clause-printed : goal.returns-in_err-bytes-clause-printed
 returns-in_err-bytes-clause-printed g c =
@@ -65,13 +108,17 @@ returns-in_err-bytes-clause-printed g c =
       Ok base,
       c.in_ok-base.ensures.found,
       (
-        Ok program,
-        c.in_ok-program.ensures.program,
-        (Err why, none, refl),
+        Ok c.in_ok-range.range,
+        c.in_ok-range.ensures.found,
+        (
+          Ok program,
+          c.in_ok-program.ensures.program,
+          (Err why, none, refl),
+        ),
       ),
     ))
 
-module _ (g : _) (c : After-compare_capture g) where
+module _ (g : _) (c : After-compare_harts g) where
   abbrev content : Content
   content = g.F.Files.content c.args.files.now
 
@@ -81,6 +128,9 @@ module _ (g : _) (c : After-compare_capture g) where
   abbrev bytes : List ℕ
   bytes = c.in_ok-bytes.bytes.items
 
+  abbrev range : HartRange
+  range = c.in_ok-range.range
+
   abbrev program : Image
   program = c.in_ok-program.program
 
@@ -88,7 +138,7 @@ module _ (g : _) (c : After-compare_capture g) where
   old = g.O.Write.contents c.args.out.now
 
   abbrev new : Option (List ℕ)
-  new = g.O.Write.contents c.compare_capture.new.out
+  new = g.O.Write.contents c.compare_harts.new.out
 
   -- The file that was read is the capture.
   read : IsRead {W = CaptureReason} content asked.capture (Ok bytes)
@@ -100,26 +150,28 @@ module _ (g : _) (c : After-compare_capture g) where
   same : g.F.Files.content c.content_of.new.files ≡ content
   same = c.in_ok-bytes.ensures.kept ∙ c.in_ok-program.ensures.kept
 
-  printed : PrintsUnlessDenied (Compares content asked) (CanCompare content asked) c.compare_capture.result old new
+  printed : PrintsUnlessDenied (Compares content asked) (CanCompare content asked) c.compare_harts.result old new
   printed =
-      capture_printed content asked c.in_ok-base.base program bytes c.in_ok-base.ensures.found
-      c.in_ok-program.ensures.program read c.compare_capture.result old new
-      (subst (λ known. PrintsUnlessDenied (ComparesCapture known asked program bytes)
-      (CanCompareCapture known asked program bytes) c.compare_capture.result old new) same
-      (subst (λ bytes. PrintsUnlessDenied (ComparesCapture (g.F.Files.content c.content_of.new.files) asked program bytes)
-      (CanCompareCapture (g.F.Files.content c.content_of.new.files) asked program bytes) c.compare_capture.result old new)
-      c.as_slice-capture.ensures.value c.compare_capture.ensures.printed))
+      harts_printed content asked c.in_ok-base.base range program bytes c.in_ok-base.ensures.found
+      c.in_ok-range.ensures.found
+      c.in_ok-program.ensures.program read c.compare_harts.result old new
+      (subst (λ known. PrintsUnlessDenied (ComparesHarts known asked range program bytes)
+      (CanCompareHarts known asked range program bytes) c.compare_harts.result old new) same
+      (subst (λ bytes. PrintsUnlessDenied (ComparesHarts (g.F.Files.content c.content_of.new.files) asked range program bytes)
+      (CanCompareHarts (g.F.Files.content c.content_of.new.files) asked range program bytes) c.compare_harts.result old new)
+      c.as_slice-capture.ensures.value c.compare_harts.ensures.printed))
 
   cut : IsCutOf (Compares content asked) old new
   cut =
-      capture_cut content asked c.in_ok-base.base program bytes c.in_ok-base.ensures.found
+      harts_cut content asked c.in_ok-base.base range program bytes c.in_ok-base.ensures.found
+      c.in_ok-range.ensures.found
       c.in_ok-program.ensures.program read old new
-      (subst (λ known. IsCutOf (ComparesCapture known asked program bytes) old new) same
-      (subst (λ bytes. IsCutOf (ComparesCapture (g.F.Files.content c.content_of.new.files) asked program bytes) old new)
-      c.as_slice-capture.ensures.value c.compare_capture.ensures.cut))
+      (subst (λ known. IsCutOf (ComparesHarts known asked range program bytes) old new) same
+      (subst (λ bytes. IsCutOf (ComparesHarts (g.F.Files.content c.content_of.new.files) asked range program bytes) old new)
+      c.as_slice-capture.ensures.value c.compare_harts.ensures.cut))
 
 pub returns-clause-printed : goal.returns-clause-printed
-returns-clause-printed g c = printed g (goal.at.returns-clause-printed g c).After-compare_capture
+returns-clause-printed g c = printed g (goal.at.returns-clause-printed g c).After-compare_harts
 
 pub returns-clause-cut : goal.returns-clause-cut
-returns-clause-cut g c = cut g (goal.at.returns-clause-cut g c).After-compare_capture
+returns-clause-cut g c = cut g (goal.at.returns-clause-cut g c).After-compare_harts

@@ -1,10 +1,13 @@
 -- The prover tries no chain of steps by itself: what each step found is handed to it, in order.
 use Rattle.std.proofs.Common.{◌≡◌, ◌∙◌, ◌⊎◌, Err, List, ap, arith, inl, length, subst, sym}
 use Rattle.std.proofs.lemmas.Grind.{common_steps}
+use Rattle.std.proofs.lemmas.Result.{err_from_is_err_and}
+use Rattle.std.specs.Prelude.{◌+◌, ◌-◌, min}
 use Rattle.bench.specs.Got.{Got}
 use Rattle.command_inputs.proofs.Runs.{ends_silently}
 use Rattle.command_inputs.specs.FoundLogs.{AreLegalLogsUpTo}
 use Rattle.command_inputs.specs.declared.fault.Fault.TheVariants as fault
+use Rattle.comparing.proofs.SomeHarts.{of_length}
 use Rattle.files.specs.Known.{Content}
 use Rattle.compare_commands.specs.Comparing.{CanCompareCapture, ComparesCapture}
 use Rattle.subcommands.specs.declared.words.Compare.{Compare}
@@ -21,8 +24,8 @@ returns-in_err-decoded-clause-printed g c =
     let asked = c.args.asked.now in
     let why = c.in_err-decoded.field-0.0 in
     let is : c.from_residual.result ≡ Err why = grind (arith, common_steps) in
-    ends_silently (ComparesCapture content asked c.args.program.now c.args.capture.now)
-    (CanCompareCapture content asked c.args.program.now c.args.capture.now) ⊥ why c.from_residual.result
+    ends_silently (ComparesCapture content asked c.args.range c.args.program.now c.args.capture.now)
+    (CanCompareCapture content asked c.args.range c.args.program.now c.args.capture.now) ⊥ why c.from_residual.result
     (g.O.Write.contents c.args.out.now) is (inl c.in_err-decoded.ensures.fault) (λ none. absurd none)
 
 module _ (g : _) (c : After-check_count g) where
@@ -33,14 +36,17 @@ module _ (g : _) (c : After-check_count g) where
   asked = c.args.asked.now
 
   abbrev gots : List Got
-  gots = gots_in c.in_ok-decoded.decoded
+  gots = gots_in c.args.range c.in_ok-decoded.decoded
 
   -- What the count of logs is compared with, and what it is found to be.
   counted : c.check_count.result ≡ count_at (length gots) asked.logs.items
   counted =
       c.check_count.ensures
       ∙ ap (λ harts. count_at harts c.as_slice-paths.result.now)
-      (c.len.ensures ∙ c.in_ok-decoded.decoded.lists.ok.0 ∙ sym c.in_ok-decoded.ensures.many)
+      (c.harts_below.ensures.count
+      ∙ ap (λ many. min (c.args.range.last + 1 - c.args.range.first) (many - c.args.range.first))
+      (c.len.ensures ∙ c.in_ok-decoded.decoded.lists.ok.0)
+      ∙ sym (of_length c.args.range c.in_ok-decoded.decoded.lists.items) ∙ sym c.in_ok-decoded.ensures.many)
       ∙ ap (count_at (length gots)) c.as_slice-paths.ensures.value
 
 pub returns-in_err-check_count-clause-printed : goal.returns-in_err-check_count-clause-printed
@@ -48,8 +54,10 @@ returns-in_err-check_count-clause-printed g c =
     let at = (goal.at.returns-in_err-check_count-clause-printed g c).After-check_count in
     let decoded = c.in_ok-decoded.decoded in
     let why = c.in_err-check_count.field-0.0 in
-    let is : c.from_residual-in_err-check_count.result ≡ Err why = grind (arith, common_steps) in
-    count_ends (content g at) (asked g at) c.args.program.now c.args.capture.now (gots g at) decoded.stop
+    let made = err_from_is_err_and c.from_residual-in_err-check_count.result
+    c.from_residual-in_err-check_count.ensures.1 in
+    let is : c.from_residual-in_err-check_count.result ≡ Err why = made.1 ∙ ap Err made.2 in
+    count_ends (content g at) (asked g at) c.args.range c.args.program.now c.args.capture.now (gots g at) decoded.stop
     c.in_ok-decoded.ensures.got c.in_ok-decoded.ensures.no_memory why c.from_residual-in_err-check_count.result (g.O.Write.contents c.args.out.now) is
     (sym c.in_err-check_count.was ∙ counted g at)
 
@@ -64,8 +72,9 @@ returns-in_err-lines-clause-printed g c =
     let at = (goal.at.returns-in_err-lines-clause-printed g c).After-check_count in
     let decoded = c.in_ok-decoded.decoded in
     let why = c.in_err-lines.field-0.0 in
-    let is : c.from_residual-in_err-lines.result ≡ Err why = grind (arith, common_steps) in
-    logs_end (content g at) (asked g at) c.args.program.now c.args.capture.now (gots g at) decoded.stop
+    let made = err_from_is_err_and c.from_residual-in_err-lines.result c.from_residual-in_err-lines.ensures.1 in
+    let is : c.from_residual-in_err-lines.result ≡ Err why = made.1 ∙ ap Err made.2 in
+    logs_end (content g at) (asked g at) c.args.range c.args.program.now c.args.capture.now (gots g at) decoded.stop
     c.in_ok-decoded.ensures.got c.in_ok-decoded.ensures.no_memory tt (sym c.in_ok-check_count.was ∙ counted g at) why
     c.from_residual-in_err-lines.result (g.O.Write.contents c.args.out.now) is
     (subst (λ paths. (why ≡ fault.Memory) ⊎ AreLegalLogsUpTo (rows_of c.args.asked.now.long) (content g at)
@@ -80,13 +89,13 @@ returns-clause-untouched g c = λ memory.
 
 module _ (g : _) (c : After-write_report g) where
   lines_are : AreLinesOfLogs (rows_of c.args.asked.now.long) (g.F.Files.content c.args.files.now) c.args.program.now
-      c.args.asked.now.logs.items (gots_in c.in_ok-decoded.decoded) c.as_slice.result.now
+      c.args.asked.now.logs.items c.args.range.first (gots_in c.args.range c.in_ok-decoded.decoded) c.as_slice.result.now
   lines_are =
       subst (λ lines. AreLinesOfLogs (rows_of c.args.asked.now.long) (g.F.Files.content c.args.files.now)
-      c.args.program.now c.args.asked.now.logs.items (gots_in c.in_ok-decoded.decoded) lines)
+      c.args.program.now c.args.asked.now.logs.items c.args.range.first (gots_in c.args.range c.in_ok-decoded.decoded) lines)
       (sym c.as_slice.ensures.value)
       (subst (λ paths. AreLinesOfLogs (rows_of c.args.asked.now.long) (g.F.Files.content c.args.files.now)
-      c.args.program.now paths (gots_in c.in_ok-decoded.decoded) c.in_ok-lines.lines.items)
+      c.args.program.now paths c.args.range.first (gots_in c.args.range c.in_ok-decoded.decoded) c.in_ok-lines.lines.items)
       c.as_slice-paths.ensures.value c.in_ok-lines.ensures.lines)
 
 pub returns-clause-printed : goal.returns-clause-printed
@@ -94,7 +103,7 @@ returns-clause-printed g c =
     let before = (goal.at.returns-clause-printed g c).After-check_count in
     let at = (goal.at.returns-clause-printed g c).After-write_report in
     let decoded = c.in_ok-decoded.decoded in
-    report_printed (content g before) (asked g before) c.args.program.now c.args.capture.now (gots g before)
+    report_printed (content g before) (asked g before) c.args.range c.args.program.now c.args.capture.now (gots g before)
     decoded.stop c.in_ok-decoded.ensures.got c.in_ok-decoded.ensures.no_memory tt (sym c.in_ok-check_count.was ∙ counted g before)
     c.as_slice.result.now (lines_are g at) c.write_report.result (g.O.Write.contents c.args.out.now)
     (g.O.Write.contents c.write_report.new.out) c.write_report.ensures.printed
@@ -104,7 +113,7 @@ returns-clause-cut g c =
     let before = (goal.at.returns-clause-cut g c).After-check_count in
     let at = (goal.at.returns-clause-cut g c).After-write_report in
     let decoded = c.in_ok-decoded.decoded in
-    report_cut (content g before) (asked g before) c.args.program.now c.args.capture.now (gots g before)
+    report_cut (content g before) (asked g before) c.args.range c.args.program.now c.args.capture.now (gots g before)
     decoded.stop c.in_ok-decoded.ensures.got c.in_ok-decoded.ensures.no_memory tt (sym c.in_ok-check_count.was ∙ counted g before)
     c.as_slice.result.now (lines_are g at) (g.O.Write.contents c.args.out.now)
     (g.O.Write.contents c.write_report.new.out) c.write_report.ensures.begun

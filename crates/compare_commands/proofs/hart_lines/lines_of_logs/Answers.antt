@@ -6,7 +6,7 @@ use Rattle.capture_commands.specs.Faults.{Fault}
 use Rattle.command_inputs.specs.Faults.{stop_fault}
 use Rattle.command_inputs.specs.FoundLogs.{AreLegalLogsUpTo}
 use Rattle.command_inputs.specs.declared.fault.Fault.TheVariants as fault
-use Rattle.comparing.specs.Compared.{gots_by}
+use Rattle.comparing.specs.Compared.{gots_by, of_harts}
 use Rattle.log_streams.specs.Made.{AreMade}
 use Rattle.receiver.specs.Received.{events_in}
 use Rattle.compare_commands.specs.Comparison.{rows_of}
@@ -31,17 +31,22 @@ returns-in-Ok-clause-lines g c =
     let flags : length closed ≡ length lists =
     ap length c.as_slice-closed.ensures.value ∙ c.requires.flags
     ∙ sym (ap (λ lists. length (events_in lists)) c.as_slice-lists.ensures.value) in
-    let same : gots_by (count_in counts) 0 lists closed ≡ gots_in decoded =
-    ap (λ lists. gots_by (count_in counts) 0 (events_in lists) closed) c.as_slice-lists.ensures.value
+    let range = c.args.range in
+    let same : of_harts range (gots_by (count_in counts) 0 lists closed) ≡ gots_in range decoded =
+    ap (of_harts range) (ap (λ lists. gots_by (count_in counts) 0 (events_in lists) closed) c.as_slice-lists.ensures.value
     ∙ ap (gots_by (count_in counts) 0 (events_in decoded.lists.items)) c.as_slice-closed.ensures.value
     ∙ ap (λ counts. gots_by (count_in counts) 0 (events_in decoded.lists.items) decoded.closed.items)
-    c.as_slice-counts.ensures.value in
-    let are = lines_made rows content program counts lists closed flags paths made c.in-Ok.field-0
-    (c.requires.many ∙ sym (ap length same))
-    (subst (AreMade (OfEvents program counts lists closed) (λ events row line. ⊥) content program rows paths made) is
-    c.made_of_logs-made.ensures.made) in
-    subst (λ gots. AreLinesOfLogs (rows_of c.args.long) content program paths gots made) same
-    (subst (λ rows. AreLinesOfLogs rows content program paths (gots_by (count_in counts) 0 lists closed) made)
+    c.as_slice-counts.ensures.value) in
+    let are = lines_made rows content program range c.requires.few counts lists closed flags
+    paths made c.in-Ok.field-0 (c.requires.many ∙ sym (ap length same))
+    (subst
+    (λ first. AreMade (OfEvents program counts lists closed first) (λ events row line. ⊥) content program rows paths made
+    (Ok c.in-Ok.field-0)) c.from.ensures
+    (subst (AreMade (OfEvents program counts lists closed c.from.result) (λ events row line. ⊥) content program rows paths
+    made) is c.made_of_logs-made.ensures.made)) in
+    subst (λ gots. AreLinesOfLogs (rows_of c.args.long) content program paths range.first gots made) same
+    (subst (λ rows. AreLinesOfLogs rows content program paths range.first
+    (of_harts range (gots_by (count_in counts) 0 lists closed)) made)
     c.rows_of-rows.ensures are)
 
 pub returns-in-Err-clause-fault : goal.returns-in-Err-clause-fault
@@ -60,7 +65,7 @@ returns-in-Err-clause-fault g c =
     subst (λ why. (why ≡ fault.Memory) ⊎ AreLegalLogsUpTo (rows_of c.args.long) content program paths (Err why))
     (sym c.of_stop.ensures)
     (subst (λ rows. (why ≡ fault.Memory) ⊎ AreLegalLogsUpTo rows content program paths (Err why)) c.rows_of-rows.ensures
-    (first_refused rows (OfEvents program counts lists closed) (λ events row line. ⊥)
+    (first_refused rows (OfEvents program counts lists closed c.from.result) (λ events row line. ⊥)
     (λ events row line none. none) content program paths made end
-    (subst (AreMade (OfEvents program counts lists closed) (λ events row line. ⊥) content program rows paths made) is
-    c.made_of_logs-made.ensures.made)))
+    (subst (AreMade (OfEvents program counts lists closed c.from.result) (λ events row line. ⊥) content program rows
+    paths made) is c.made_of_logs-made.ensures.made)))

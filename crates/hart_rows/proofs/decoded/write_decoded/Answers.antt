@@ -1,108 +1,45 @@
--- What is written behind a header or without one: by lemmas on captures, which no tactic finds.
-use Rattle.std.proofs.Common.{◌≡◌, ◌++◌, ◌∙◌, List, ℕ, None, Some, Ok, Err, ap, drop, length, refl, subst, sym, take, ◌-◌}
-use Rattle.std.specs.Prelude.{IfSome}
-use Rattle.std.proofs.lemmas.List.{drop_at, take_rest}
+-- What is written of all harts: by the lemmas on a range of all, which no tactic finds.
+use Rattle.std.proofs.Common.{arith, ◌≤◌, ◌^◌}
 use Rattle.std.proofs.lemmas.Result.{IfOk-weaker}
+use Rattle.hart_range.specs.Range.{every_hart}
+use Rattle.retire.specs.LogText.{log_text}
 use Rattle.rvclass.specs.Fetch.{words_of}
-use Rattle.message.specs.Header.{HasBadHeader, IsCutHeader, IsHeader, IsMarked, header_bytes}
-use Rattle.message.specs.declared.header.Header.{Header}
-use Rattle.captures.proofs.HeaderFaults.{no_header}
-use Rattle.captures.specs.Decoded.{AreMessagesDecoded, IsDecoded, NoHeader, Version1, Version2}
-use Rattle.captures.specs.NoMessage.{BeginsNoHeader}
-use Rattle.hart_rows.proofs.WrittenLemmas.{begins_weaker, writes_weaker}
-use Rattle.hart_rows.specs.steps.Nothing.{IsNothing}
-use Rattle.hart_rows.proofs.decoded.write_decoded.Goals.{After-header}
+use Rattle.captures.specs.Decoded.{IsDecoded}
+use Rattle.hart_rows.proofs.AllHarts.{all_decoded, all_texts, few_lists}
+use Rattle.hart_rows.proofs.WrittenLemmas.{begins_as, writes_as}
+use Rattle.hart_rows.specs.HartsText.{harts_text, harts_text_of}
+use Rattle.captures.specs.OfHarts.{IsDecodedOf}
 use Rattle.hart_rows.proofs.decoded.write_decoded.Goals as goal
 
--- Bytes behind a header.
-abbrev body : List ℕ → List ℕ
-body bytes = take (length bytes - 16) (drop 16 bytes)
-
-behind : (bytes rest : List ℕ) (header : Header) → bytes ≡ header_bytes header ++ rest → rest ≡ body bytes
-behind bytes rest header is =
-    sym (take_rest bytes 16 ∙ ap (drop 16) is ∙ drop_at (header_bytes header) rest 16 refl)
-
-pub returns-in-Ok-Some-clause-written : goal.returns-in-Ok-Some-clause-written
-returns-in-Ok-Some-clause-written g c =
+pub returns-clause-written : goal.returns-clause-written
+returns-clause-written g c =
     let words = words_of c.args.program.now in
-    let header = c.in-Ok-Some.header in
-    let found : IsHeader header × (c.new-messages.result ≡ header_bytes header ++ c.header.new.self)
-    = subst (λ o. IfSome o (λ (h : Header). IsHeader h × (c.new-messages.result ≡ header_bytes h ++ c.header.new.self)))
-    c.in-Ok-Some.field-0-is c.in-Ok-Some.ensures.header in
-    let here : c.args.bytes.now ≡ header_bytes header ++ c.header.new.self = sym c.new-messages.ensures ∙ found.1 in
-    IfOk-weaker c.write_messages.result _ _
-    (λ decoded. writes_weaker (AreMessagesDecoded words header.harts (Some header.mode) (body c.args.bytes.now))
-    (IsDecoded words c.args.harts c.args.bytes.now) _ _ _ _ _
-    (λ lists are.
-    Version2 header (body c.args.bytes.now) found.0
-    (here ∙ ap (λ rest. header_bytes header ++ rest) (behind c.args.bytes.now c.header.new.self header here)) are))
-    c.write_messages.ensures.written
+    let harts = c.args.harts in
+    let bytes = c.args.bytes.now in
+    let few : harts ≤ 2 ^ 16 = omega arith in
+    IfOk-weaker c.write_decoded_of.result _ _
+    (λ decoded. writes_as (harts_text_of every_hart 0) (harts_text 0) (IsDecodedOf every_hart words harts bytes)
+    (IsDecoded words harts bytes) _ _ _ _ _
+    (λ lists are. (
+      all_decoded words harts bytes lists _ _ are,
+      all_texts (λ number. log_text) 0 lists (omega (arith, few_lists words harts bytes lists _ _ few are)),
+    )))
+    c.write_decoded_of.ensures.written
 
-pub returns-in-Ok-Some-clause-begun : goal.returns-in-Ok-Some-clause-begun
-returns-in-Ok-Some-clause-begun g c =
+pub returns-clause-begun : goal.returns-clause-begun
+returns-clause-begun g c =
     let words = words_of c.args.program.now in
-    let header = c.in-Ok-Some.header in
-    let found : IsHeader header × (c.new-messages.result ≡ header_bytes header ++ c.header.new.self)
-    = subst (λ o. IfSome o (λ (h : Header). IsHeader h × (c.new-messages.result ≡ header_bytes h ++ c.header.new.self)))
-    c.in-Ok-Some.field-0-is c.in-Ok-Some.ensures.header in
-    let here : c.args.bytes.now ≡ header_bytes header ++ c.header.new.self = sym c.new-messages.ensures ∙ found.1 in
-    begins_weaker (AreMessagesDecoded words header.harts (Some header.mode) (body c.args.bytes.now))
-    (IsDecoded words c.args.harts c.args.bytes.now) _ _
+    let harts = c.args.harts in
+    let bytes = c.args.bytes.now in
+    let few : harts ≤ 2 ^ 16 = omega arith in
+    begins_as (harts_text_of every_hart 0) (harts_text 0) (IsDecodedOf every_hart words harts bytes)
+    (IsDecoded words harts bytes) _ _
     (λ lists closed stop are. (
       stop,
-      Version2 header (body c.args.bytes.now) found.0
-          (here ∙ ap (λ rest. header_bytes header ++ rest) (behind c.args.bytes.now c.header.new.self header here)) are,
+      (
+        all_decoded words harts bytes lists closed stop are,
+        all_texts (λ number. log_text) 0 lists
+            (omega (arith, few_lists words harts bytes lists closed stop few are)),
+      ),
     ))
-    c.write_messages.ensures.begun
-
-module _ (g : _) (c : After-header g) where
-  -- Without a header the bytes do not begin with the mark.
-  unmarked : c.header.result ≡ Ok None → ¬ IsMarked c.args.bytes.now
-  unmarked none marked = c.header.ensures.none.0 none (subst IsMarked (sym c.new-messages.ensures) marked)
-
-pub returns-in-Ok-None-clause-written : goal.returns-in-Ok-None-clause-written
-returns-in-Ok-None-clause-written g c =
-    let words = words_of c.args.program.now in
-    let after = (goal.at.returns-in-Ok-None-clause-written g c).After-header in
-    let none = c.in-Ok-None.is ∙ ap (λ h. Ok h) c.in-Ok-None.field-0-is in
-    IfOk-weaker c.write_messages-in-Ok-None.result _ _
-    (λ decoded. writes_weaker (AreMessagesDecoded words c.args.harts None c.args.bytes.now)
-    (IsDecoded words c.args.harts c.args.bytes.now) _ _ _ _ _
-    (λ lists are. Version1 (unmarked g after none) are)) c.write_messages-in-Ok-None.ensures.written
-
-pub returns-in-Ok-None-clause-begun : goal.returns-in-Ok-None-clause-begun
-returns-in-Ok-None-clause-begun g c =
-    let words = words_of c.args.program.now in
-    let after = (goal.at.returns-in-Ok-None-clause-begun g c).After-header in
-    let none = c.in-Ok-None.is ∙ ap (λ h. Ok h) c.in-Ok-None.field-0-is in
-    begins_weaker (AreMessagesDecoded words c.args.harts None c.args.bytes.now)
-    (IsDecoded words c.args.harts c.args.bytes.now) _ _
-    (λ lists closed stop are. (stop, Version1 (unmarked g after none) are))
-    c.write_messages-in-Ok-None.ensures.begun
-
-pub returns-in-Err-clause-written : goal.returns-in-Err-clause-written
-returns-in-Err-clause-written g c =
-    let words = words_of c.args.program.now in
-    let bytes = c.new-messages.ensures in
-    let ensured = c.in-Err.ensures in
-    let none : BeginsNoHeader c.args.bytes.now c.in-Err.fault =
-    no_header c.args.bytes.now c.in-Err.fault ensured.fault
-    (λ is. subst IsCutHeader bytes (ensured.short.0 (ap (λ f. Err f) is)))
-    (λ is. subst HasBadHeader bytes (ensured.bad_header.0 (ap (λ f. Err f) is))) in
-    IfOk-weaker c.write_nothing.result _ _
-    (λ decoded. writes_weaker (IsNothing c.args.harts c.in-Err.fault) (IsDecoded words c.args.harts c.args.bytes.now)
-    _ _ _ _ _ (λ lists are. NoHeader c.in-Err.fault none are.stop_is are.lists_are are.closed_are))
-    c.write_nothing.ensures.written
-
-pub returns-in-Err-clause-begun : goal.returns-in-Err-clause-begun
-returns-in-Err-clause-begun g c =
-    let words = words_of c.args.program.now in
-    let bytes = c.new-messages.ensures in
-    let ensured = c.in-Err.ensures in
-    let none : BeginsNoHeader c.args.bytes.now c.in-Err.fault =
-    no_header c.args.bytes.now c.in-Err.fault ensured.fault
-    (λ is. subst IsCutHeader bytes (ensured.short.0 (ap (λ f. Err f) is)))
-    (λ is. subst HasBadHeader bytes (ensured.bad_header.0 (ap (λ f. Err f) is))) in
-    begins_weaker (IsNothing c.args.harts c.in-Err.fault) (IsDecoded words c.args.harts c.args.bytes.now) _ _
-    (λ lists closed stop are. (stop, NoHeader c.in-Err.fault none are.stop_is are.lists_are are.closed_are))
-    c.write_nothing.ensures.begun
+    c.write_decoded_of.ensures.begun

@@ -1,9 +1,9 @@
 -- What is written is what the survey found: by lemmas, which no tactic finds.
 use Rattle.std.proofs.Common.{inr, subst, sym}
 use Rattle.rvclass.specs.Fetch.{words_of}
-use Rattle.captures.specs.Decoded.{AreMessagesDecoded}
 use Rattle.hart_rows.proofs.WrittenLemmas.{placed_logs, written_begins}
-use Rattle.hart_rows.specs.Written.{WritesHarts}
+use Rattle.hart_rows.specs.HartsText.{harts_text_of}
+use Rattle.captures.specs.OfHarts.{AreHartsDecoded}
 use Rattle.hart_rows.specs.steps.Rows.{ArePlacedLogs}
 use Rattle.hart_rows.proofs.decoded.write_messages.Goals.{After-as_slice}
 use Rattle.hart_rows.proofs.decoded.write_messages.Goals as goal
@@ -14,7 +14,7 @@ module _ (g : _) (c : After-as_slice g) where
   placed =
       subst (λ places. ArePlacedLogs (words_of c.args.program.now) c.args.bytes.now places c.in_ok-survey.ensures.lists)
       (sym c.as_slice.ensures.value)
-      (placed_logs (words_of c.args.program.now) c.args.harts c.args.announced c.args.bytes.now c.in_ok-survey.survey
+      (placed_logs c.args.range (words_of c.args.program.now) c.args.harts c.args.announced c.args.bytes.now c.in_ok-survey.survey
       c.in_ok-survey.ensures)
 
 pub write_harts-requires-clause-placed : goal.write_harts-requires-clause-placed
@@ -41,6 +41,7 @@ returns-clause-written g c = record {
 
 pub returns-clause-begun : goal.returns-clause-begun
 returns-clause-begun g c =
-    written_begins (AreMessagesDecoded (words_of c.args.program.now) c.args.harts c.args.announced c.args.bytes.now)
+    written_begins (harts_text_of c.args.range 0)
+    (AreHartsDecoded c.args.range (words_of c.args.program.now) c.args.harts c.args.announced c.args.bytes.now)
     c.in_ok-survey.survey.closed.items c.in_ok-survey.survey.fault (g.O.Write.contents c.args.out.now)
     (g.O.Write.contents c.write_harts.new.out) (returns-clause-written g c)

@@ -1,5 +1,5 @@
 -- What is written, held and left is carried by hand.
-use Rattle.std.proofs.Common.{◌≡◌, ◌≤◌, ◌++◌, ◌∙◌, ◌-◌, ◌==◌, true, [], List, arith, ap, le_trans, length, sym, subst, take, drop}
+use Rattle.std.proofs.Common.{◌≡◌, ◌++◌, ◌∙◌, ◌-◌, ◌==◌, true, List, ap, le_trans, length, sym, subst, take}
 use Rattle.std.proofs.Common.{take-append-drop, vec_capacity, vec_len}
 use Rattle.output.specs.Begun.{AppendsBeginning}
 use Rattle.retire.specs.declared.event.Event.{Event}

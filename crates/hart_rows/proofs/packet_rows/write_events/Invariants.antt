@@ -1,7 +1,6 @@
 -- The rows of the events that were handed out before the piece are written or held.
-use Rattle.std.proofs.Common.{◌≡◌, ◌≤◌, ◌++◌, List, length}
+use Rattle.std.proofs.Common.{◌≡◌, ◌≤◌, ◌++◌, length}
 use Rattle.std.specs.Vec.{vec_capacity}
-use Rattle.retire.specs.declared.event.Event.{Event}
 use Rattle.hart_rows.proofs.SplitLemmas.{HandsOut}
 use Rattle.hart_rows.proofs.packet_rows.write_events.Given as goal
 

@@ -1,5 +1,5 @@
 -- The packet is one that can be decoded, and its events are those of the piece and those that are left.
-use Rattle.std.proofs.Common.{◌≡◌, ◌++◌, [], ap, sym}
+use Rattle.std.proofs.Common.{◌++◌, ap, sym}
 use Rattle.hart_rows.proofs.packet_rows.write_packet.Goals as goal
 
 pub unreachable-requires : goal.unreachable-requires

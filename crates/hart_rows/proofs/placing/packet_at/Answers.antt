@@ -1,5 +1,5 @@
 -- The message is the one that is read: by what is said of bytes that begin with a message, which no tactic uses.
-use Rattle.std.proofs.Common.{◌≡◌, ◌++◌, ◌∙◌, Ok, sym, subst}
+use Rattle.std.proofs.Common.{◌≡◌, ◌∙◌, Ok, sym, subst}
 use Rattle.std.proofs.lemmas.List.{take_rest}
 use Rattle.payload.specs.Reading.{reading}
 use Rattle.message.specs.declared.message.Message.{Message}

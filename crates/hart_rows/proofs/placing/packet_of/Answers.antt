@@ -1,5 +1,5 @@
 -- What the payload unpacks to is one value.
-use Rattle.std.proofs.Common.{◌≡◌, ◌∙◌, Ok, Some, ap, sym}
+use Rattle.std.proofs.Common.{◌≡◌, ◌∙◌, Some, ap, sym}
 use Rattle.payload.specs.Reading.{reading}
 use Rattle.hart_rows.proofs.placing.packet_of.Goals as goal
 

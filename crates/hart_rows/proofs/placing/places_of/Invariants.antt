@@ -10,6 +10,6 @@ invariant-loop g l = record {
   harts : length l.places.items ≡ length l.counts;
   within : l.place ≤ length l.bytes;
   left : drop l.place l.bytes ≡ l.messages;
-  placed : (messages : List Message) → AreFirst l.bytes l.count messages
-      → Places l.bytes l.places.items l.messages l.counter messages;
+  placed : (messages : List Message) → AreFirst l.range l.bytes l.count messages
+      → Places l.range l.bytes l.places.items l.messages l.counter messages;
 }

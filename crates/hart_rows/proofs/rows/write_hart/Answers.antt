@@ -1,5 +1,5 @@
 -- The line, the header and the rows are joined by hand.
-use Rattle.std.proofs.Common.{◌++◌, arith, subst, sym}
+use Rattle.std.proofs.Common.{◌++◌, arith, subst}
 use Rattle.std.proofs.KnownBytes.{Appends-trans}
 use Rattle.std.proofs.lemmas.Grind.{common_steps}
 use Rattle.std.proofs.lemmas.Result.{on_ok_weaker}

@@ -1,6 +1,5 @@
 -- One packet more at a time: by lemmas on packets and rows, which no tactic finds.
-use Rattle.std.proofs.Common.{◌≡◌, ◌≤◌, ◌+◌, ◌∙◌, arith, le_refl, le_trans, refl, subst, sym, OnOk, List}
-use Rattle.retire.specs.declared.event.Event.{Event}
+use Rattle.std.proofs.Common.{◌+◌, ◌∙◌, arith, le_refl, le_trans, refl, subst, OnOk}
 use Rattle.rvclass.specs.Fetch.{words_of}
 use Rattle.hart_rows.proofs.RowLemmas.{Reached, can_follow, is_found, never_none, next_begun, reached_all, reached_begun}
 use Rattle.hart_rows.proofs.RowLemmas.{reached_more, reached_none}

@@ -2,8 +2,8 @@
 use Rattle.std.proofs.Common.{ℕ, ◌≡◌, ◌+◌, ◌≤◌, List, [], length}
 use Rattle.retire.specs.declared.event.Event.{Event}
 use Rattle.rvclass.specs.Fetch.{words_of}
-use Rattle.captures.proofs.Reaching.{Reaches}
 use Rattle.receiver.specs.Holds.{HasReceived}
+use Rattle.hart_rows.proofs.SurveyLemmas.{ReachesOf}
 use Rattle.hart_rows.specs.steps.Tracking.{IsTracker, received_of}
 use Rattle.hart_rows.proofs.surveying.receive_all.Given as goal
 
@@ -11,8 +11,8 @@ abbrev pub invariant-loop-message : goal.invariant-loop-message
 invariant-loop-message g l = record {
   reaches : (harts : ℕ) (lists : List (List Event))
       → HasReceived (λ hart. words_of l.program) harts [] (received_of l.fn.tracker lists)
-      → (more : List (List Event)) × Reaches (words_of l.program) harts l.announced l.fn.messages l.messages
-      l.received (received_of l.tracker more);
+      → (more : List (List Event)) × ReachesOf l.range (words_of l.program) harts l.announced l.fn.messages
+      l.messages l.received (received_of l.tracker more);
   counted : l.received + length l.messages ≤ length l.fn.messages;
   tracker : IsTracker l.tracker;
   harts : length l.tracker.demux ≡ length l.fn.tracker.demux;

@@ -8,7 +8,7 @@ use Rattle.listing.proofs.capture_listing.list_messages.Given as goal
 abbrev pub invariant-loop-message : goal.invariant-loop-message
 invariant-loop-message g l =
     ((harts : ℕ) → HasReceived (λ hart. words_of l.program) harts [] l.fn.receiver
-    → HasListed (words_of l.program) harts l.announced (option_map (λ file. file.now) l.symbols) l.first
+    → HasListed (words_of l.program) l.only harts l.announced (option_map (λ file. file.now) l.symbols) l.first
     l.fn.messages l.messages l.number l.offset l.receiver (g.W.Write.contents l.initial.sink)
     (g.W.Write.contents l.sink))
     × ((l.offset + length l.messages ≡ l.first + length l.fn.messages)

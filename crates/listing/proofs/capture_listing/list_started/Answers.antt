@@ -5,7 +5,8 @@ use Rattle.std.proofs.lemmas.Result.{IfOk-weaker, on_err_weaker}
 use Rattle.rvclass.specs.Fetch.{words_of}
 use Rattle.listing.proofs.Parts.{messages_begun, messages_listed, start_begun}
 use Rattle.listing.specs.Begun.{BeginsPart}
-use Rattle.listing.specs.Listing.{AppendsListing, AreMessagesListed}
+use Rattle.listing.specs.Listing.{AppendsListing}
+use Rattle.listing.specs.ListingOf.{AreMessagesListedOf}
 use Rattle.listing.specs.steps.Part.{IsPartOfMessages}
 use Rattle.listing.specs.steps.Started.{first_offset, harts_by}
 use Rattle.listing.proofs.capture_listing.list_started.Goals as goal
@@ -26,11 +27,11 @@ returns-clause-listed g c = λ harts has.
     let header = c.args.header in
     let count = harts_by header harts in
     IfOk-weaker c.list_messages.result _ _
-    (λ stop all. messages_listed words harts symbols c.args.messages header old mid new closed stop
+    (λ stop all. messages_listed words c.args.only harts symbols c.args.messages header old mid new closed stop
     c.in_ok-write_start.ensures.text all)
-    (subst (λ announced. IfOk c.list_messages.result (λ stop. AppendsListing (AreMessagesListed words count announced
+    (subst (λ announced. IfOk c.list_messages.result (λ stop. AppendsListing (AreMessagesListedOf words c.args.only count announced
     symbols (first_offset header) c.args.messages) closed stop mid new)) c.announced_by.ensures
-    (subst (λ first. IfOk c.list_messages.result (λ stop. AppendsListing (AreMessagesListed words count
+    (subst (λ first. IfOk c.list_messages.result (λ stop. AppendsListing (AreMessagesListedOf words c.args.only count
     c.announced_by.result symbols first c.args.messages) closed stop mid new)) c.first_offset.ensures
     (c.list_messages.ensures.listed count has)))
 
@@ -44,16 +45,16 @@ returns-clause-begun g c = λ harts has.
     let header = c.args.header in
     let count = harts_by header harts in
     on_err_weaker c.list_messages.result
-    (messages_begun words harts symbols c.args.messages header old mid new c.in_ok-write_start.ensures.text)
-    (subst (λ announced. OnErr c.list_messages.result (BeginsPart (IsPartOfMessages words count announced symbols
+    (messages_begun words c.args.only harts symbols c.args.messages header old mid new c.in_ok-write_start.ensures.text)
+    (subst (λ announced. OnErr c.list_messages.result (BeginsPart (IsPartOfMessages words c.args.only count announced symbols
     (first_offset header) c.args.messages) mid new)) c.announced_by.ensures
-    (subst (λ first. OnErr c.list_messages.result (BeginsPart (IsPartOfMessages words count c.announced_by.result
+    (subst (λ first. OnErr c.list_messages.result (BeginsPart (IsPartOfMessages words c.args.only count c.announced_by.result
     symbols first c.args.messages) mid new)) c.first_offset.ensures
     (c.list_messages.ensures.begun count has)))
 
 pub returns-in_err-write_start-clause-begun : goal.returns-in_err-write_start-clause-begun
 returns-in_err-write_start-clause-begun g c = λ harts has.
     on_any c.from_residual.result
-    (start_begun (words_of c.args.program.now) harts (option_map (λ file. file.now) c.args.symbols) c.args.messages
+    (start_begun (words_of c.args.program.now) c.args.only harts (option_map (λ file. file.now) c.args.symbols) c.args.messages
     c.args.header (g.W.Write.contents c.args.sink.now) (g.W.Write.contents c.write_start.new.sink)
     c.write_start.ensures.begun)

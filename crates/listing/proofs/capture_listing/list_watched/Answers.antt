@@ -1,68 +1,21 @@
--- What is listed behind a header or without one: by lemmas on captures, which no tactic finds.
-use Rattle.std.proofs.Common.{Ok, Err, option_map, ap, subst, sym}
+-- The listing of all harts is that of the capture: by lemmas on listings, which no tactic finds.
+use Rattle.std.proofs.Common.{option_map}
 use Rattle.std.proofs.lemmas.Result.{IfOk-weaker, on_err_weaker}
 use Rattle.rvclass.specs.Fetch.{words_of}
-use Rattle.message.specs.Header.{HasBadHeader, IsCutHeader}
-use Rattle.captures.proofs.HeaderFaults.{no_header}
-use Rattle.captures.proofs.WholeCaptures.{begins_with}
-use Rattle.captures.specs.NoMessage.{BeginsNoHeader}
-use Rattle.captures.specs.Whole.{BeginsWith}
-use Rattle.listing.proofs.Parts.{capture_begun, capture_listed, nothing_begun, nothing_listed, on_err_given}
-use Rattle.listing.specs.Listing.{AppendsListing, IsListing}
-use Rattle.listing.proofs.capture_listing.list_watched.Goals.{In-Err, In-Ok}
+use Rattle.listing.proofs.AllHarts.{appended_whole, begun_whole}
 use Rattle.listing.proofs.capture_listing.list_watched.Goals as goal
 
--- What stands in front of the messages.
-begins : (g : _) (c : In-Ok g) → BeginsWith c.in-Ok.header c.args.capture.now c.header.new.self
-begins g c =
-    let ensured = c.in-Ok.ensures in
-    subst (λ bytes. BeginsWith c.in-Ok.header bytes c.header.new.self) c.new-messages.ensures
-    (begins_with c.new-messages.result c.header.new.self c.in-Ok.header ensured.header
-    (λ is. ensured.none.0 (ap (λ h. Ok h) is)) (λ is. ensured.stays (ap (λ h. Ok h) is)))
+pub returns-clause-listed : goal.returns-clause-listed
+returns-clause-listed g c =
+    IfOk-weaker c.list_harts.result _ _
+    (λ listed. appended_whole (words_of c.args.program.now) c.args.harts (option_map (λ file. file.now) c.args.symbols)
+    c.args.capture.now (g.W.Write.contents c.args.sink.now) (g.W.Write.contents c.list_harts.new.sink)
+    listed.closed.items listed.fault)
+    c.list_harts.ensures.listed
 
--- Why no header stands there.
-begins_none : (g : _) (c : In-Err g) → BeginsNoHeader c.args.capture.now c.in-Err.fault
-begins_none g c =
-    let bytes = c.new-messages.ensures in
-    let ensured = c.in-Err.ensures in
-    no_header c.args.capture.now c.in-Err.fault ensured.fault
-    (λ is. subst IsCutHeader bytes (ensured.short.0 (ap (λ f. Err f) is)))
-    (λ is. subst HasBadHeader bytes (ensured.bad_header.0 (ap (λ f. Err f) is)))
-
-pub returns-in-Ok-clause-listed : goal.returns-in-Ok-clause-listed
-returns-in-Ok-clause-listed g c =
-    IfOk-weaker c.list_behind.result _ _
-    (λ listed. capture_listed (words_of c.args.program.now) c.args.harts (option_map (λ file. file.now) c.args.symbols)
-    c.args.capture.now c.header.new.self c.in-Ok.header
-    (begins g (goal.at.returns-in-Ok-clause-listed g c).In-Ok) (g.W.Write.contents c.args.sink.now)
-    (g.W.Write.contents c.list_behind.new.sink) listed.closed.items listed.fault)
-    c.list_behind.ensures.listed
-
-pub returns-in-Ok-clause-begun : goal.returns-in-Ok-clause-begun
-returns-in-Ok-clause-begun g c =
-    on_err_weaker c.list_behind.result
-    (capture_begun (words_of c.args.program.now) c.args.harts (option_map (λ file. file.now) c.args.symbols)
-    c.args.capture.now c.header.new.self c.in-Ok.header
-    (begins g (goal.at.returns-in-Ok-clause-begun g c).In-Ok) (g.W.Write.contents c.args.sink.now)
-    (g.W.Write.contents c.list_behind.new.sink))
-    c.list_behind.ensures.begun
-
-pub returns-in-Err-clause-listed : goal.returns-in-Err-clause-listed
-returns-in-Err-clause-listed g c =
-    let words = words_of c.args.program.now in
-    let symbols = option_map (λ file. file.now) c.args.symbols in
-    let old = g.W.Write.contents c.args.sink.now in
-    let none = begins_none g (goal.at.returns-in-Err-clause-listed g c).In-Err in
-    IfOk-weaker c.list_nothing.result _ _
-    (λ listed found.
-    subst (λ stop. AppendsListing (IsListing words c.args.harts symbols c.args.capture.now) listed.closed.items stop old
-    old) (sym found.1)
-    (nothing_listed words c.args.harts symbols c.args.capture.now c.in-Err.fault listed.closed.items old none found.0))
-    c.list_nothing.ensures.found
-
-pub returns-in-Err-clause-begun : goal.returns-in-Err-clause-begun
-returns-in-Err-clause-begun g c =
-    on_err_given c.list_nothing.result
-    (nothing_begun (words_of c.args.program.now) c.args.harts (option_map (λ file. file.now) c.args.symbols)
-    c.args.capture.now c.in-Err.fault (g.W.Write.contents c.args.sink.now)
-    (begins_none g (goal.at.returns-in-Err-clause-begun g c).In-Err))
+pub returns-clause-begun : goal.returns-clause-begun
+returns-clause-begun g c =
+    on_err_weaker c.list_harts.result
+    (begun_whole (words_of c.args.program.now) c.args.harts (option_map (λ file. file.now) c.args.symbols)
+    c.args.capture.now (g.W.Write.contents c.args.sink.now) (g.W.Write.contents c.list_harts.new.sink))
+    c.list_harts.ensures.begun

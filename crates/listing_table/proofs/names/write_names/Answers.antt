@@ -1,5 +1,5 @@
 -- The prover does not part the names at the write that failed: their parts are put together by hand.
-use Rattle.std.proofs.Common.{List, Option, option_map, ℕ, refl}
+use Rattle.std.proofs.Common.{option_map, refl}
 use Rattle.output.proofs.Beginnings.{whole_begun}
 use Rattle.symbols.specs.Naming.{naming}
 use Rattle.listing_table.proofs.NamesWritten.{comma_begun, end_begun, first_begun, names_written, second_begun}

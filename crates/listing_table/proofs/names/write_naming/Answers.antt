@@ -1,7 +1,6 @@
 -- The prover does not part the text at the write that failed.
-use Rattle.std.proofs.Common.{codes, option_map, ◌++◌}
-use Rattle.output.proofs.Beginnings.{begun_behind, begun_in_front, whole_begun}
-use Rattle.symbols.specs.Naming.{naming}
+use Rattle.std.proofs.Common.{codes, ◌++◌}
+use Rattle.output.proofs.Beginnings.{begun_behind, begun_in_front}
 use Rattle.tables.specs.Quoted.{quoted_field}
 use Rattle.retire.specs.LogText.{hex}
 use Rattle.listing_table.proofs.names.write_naming.Goals as goal

@@ -11,7 +11,7 @@ use Rattle.listing_table.proofs.tabling.table_behind.Goals as goal
 pub returns-in_err-receiver-clause-begun : goal.returns-in_err-receiver-clause-begun
 returns-in_err-receiver-clause-begun g c =
     let made = err_from_is_err_and c.from_residual.result c.from_residual.ensures.1 in
-    rw made.1 (start_kept (words_of c.args.program.now) c.args.harts (option_map (λ file. file.now) c.args.symbols)
+    rw made.1 (start_kept (words_of c.args.program.now) c.args.only c.args.harts (option_map (λ file. file.now) c.args.symbols)
     c.args.messages c.args.header (g.W.Write.contents c.args.sink.now))
 
 pub table_started-requires-clause-none : goal.table_started-requires-clause-none
@@ -31,7 +31,7 @@ returns-clause-listed g c =
     let words = words_of c.args.program.now in
     let has = subst (λ count. HasReceived (λ hart. words) count [] c.in_ok-receiver.receiver) c.harts_by.ensures
     (c.in_ok-receiver.ensures (λ hart. words)) in
-    subst (λ closed. AppendsListing (IsTabledBehind words c.args.harts c.args.header
+    subst (λ closed. AppendsListing (IsTabledBehind words c.args.only c.args.harts c.args.header
     (option_map (λ file. file.now) c.args.symbols) c.args.messages) closed c.in_ok-fault.fault
     (g.W.Write.contents c.args.sink.now) (g.W.Write.contents c.table_started.new.sink))
     (sym c.into_parts-closed.ensures.closed) (c.in_ok-fault.ensures.listed c.args.harts has)

@@ -6,7 +6,7 @@ use Rattle.rvclass.specs.Fetch.{words_of}
 use Rattle.listing_table.proofs.Behind.{rows_begun, rows_written, columns_begun}
 use Rattle.listing.specs.Begun.{BeginsPart}
 use Rattle.listing.specs.Listing.{AppendsListing}
-use Rattle.listing_table.specs.Table.{AreMessagesTabled}
+use Rattle.listing_table.specs.TableOf.{AreMessagesTabledOf}
 use Rattle.listing_table.specs.steps.Parts.{IsPartOfRows}
 use Rattle.listing.specs.steps.Started.{first_offset, harts_by}
 use Rattle.listing_table.proofs.tabling.table_started.Goals as goal
@@ -27,11 +27,11 @@ returns-clause-listed g c = λ harts has.
     let header = c.args.header in
     let count = harts_by header harts in
     IfOk-weaker c.table_messages.result _ _
-    (λ stop all. rows_written words harts symbols c.args.messages header old mid new closed stop
+    (λ stop all. rows_written words c.args.only harts symbols c.args.messages header old mid new closed stop
     c.in_ok-write_columns.ensures.text all)
-    (subst (λ announced. IfOk c.table_messages.result (λ stop. AppendsListing (AreMessagesTabled words count announced
+    (subst (λ announced. IfOk c.table_messages.result (λ stop. AppendsListing (AreMessagesTabledOf words c.args.only count announced
     symbols (first_offset header) c.args.messages) closed stop mid new)) c.announced_by.ensures
-    (subst (λ first. IfOk c.table_messages.result (λ stop. AppendsListing (AreMessagesTabled words count
+    (subst (λ first. IfOk c.table_messages.result (λ stop. AppendsListing (AreMessagesTabledOf words c.args.only count
     c.announced_by.result symbols first c.args.messages) closed stop mid new)) c.first_offset.ensures
     (c.table_messages.ensures.listed count has)))
 
@@ -45,16 +45,16 @@ returns-clause-begun g c = λ harts has.
     let header = c.args.header in
     let count = harts_by header harts in
     on_err_weaker c.table_messages.result
-    (rows_begun words harts symbols c.args.messages header old mid new c.in_ok-write_columns.ensures.text)
-    (subst (λ announced. OnErr c.table_messages.result (BeginsPart (IsPartOfRows words count announced symbols
+    (rows_begun words c.args.only harts symbols c.args.messages header old mid new c.in_ok-write_columns.ensures.text)
+    (subst (λ announced. OnErr c.table_messages.result (BeginsPart (IsPartOfRows words c.args.only count announced symbols
     (first_offset header) c.args.messages) mid new)) c.announced_by.ensures
-    (subst (λ first. OnErr c.table_messages.result (BeginsPart (IsPartOfRows words count c.announced_by.result
+    (subst (λ first. OnErr c.table_messages.result (BeginsPart (IsPartOfRows words c.args.only count c.announced_by.result
     symbols first c.args.messages) mid new)) c.first_offset.ensures
     (c.table_messages.ensures.begun count has)))
 
 pub returns-in_err-write_columns-clause-begun : goal.returns-in_err-write_columns-clause-begun
 returns-in_err-write_columns-clause-begun g c = λ harts has.
     on_any c.from_residual.result
-    (columns_begun (words_of c.args.program.now) harts (option_map (λ file. file.now) c.args.symbols) c.args.messages
+    (columns_begun (words_of c.args.program.now) c.args.only harts (option_map (λ file. file.now) c.args.symbols) c.args.messages
     c.args.header (g.W.Write.contents c.args.sink.now) (g.W.Write.contents c.write_columns.new.sink)
     c.write_columns.ensures.begun)

@@ -2,10 +2,11 @@
 use Rattle.std.proofs.Common.{drop}
 use Rattle.tables.proofs.Parts.{HasWritten}
 use Rattle.path_commands.specs.AlignedRows.{aligned_hart}
-use Rattle.path_commands.specs.UnnumberedText.{texts_from}
+use Rattle.path_commands.specs.UnnumberedText.{of_selected, texts_from}
 use Rattle.path_commands.proofs.aligned_tabling.write_aligned_harts.Given as goal
 
 abbrev pub invariant-loop-hart : goal.invariant-loop-hart
 invariant-loop-hart g l =
-    HasWritten (texts_from aligned_hart 0 l.all) (texts_from aligned_hart l.hart (drop l.hart l.all))
+    HasWritten (texts_from (of_selected l.harts aligned_hart) 0 l.all) (texts_from
+    (of_selected l.harts aligned_hart) l.hart (drop l.hart l.all))
     (g.O.Write.contents l.fn.out) (g.O.Write.contents l.out)

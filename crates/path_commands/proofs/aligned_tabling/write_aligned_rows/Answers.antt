@@ -1,5 +1,5 @@
 -- The parts of the table are written one after the other: by lemmas on parts of a text, which no tactic finds.
-use Rattle.std.proofs.Common.{◌≡◌, ◌++◌, List, Option, ℕ, length, subst}
+use Rattle.std.proofs.Common.{◌≡◌, ◌++◌, List, Option, ℕ, subst}
 use Rattle.std.proofs.KnownBytes.{Appends-trans}
 use Rattle.std.specs.Io.KnownBytes.{Appends}
 use Rattle.output.specs.Begun.{AppendsBeginning}
@@ -8,7 +8,7 @@ use Rattle.unnumbered.specs.Counted.{total_of}
 use Rattle.command_inputs.proofs.Runs.{appends-keeps}
 use Rattle.path_commands.specs.AlignedRows.{aligned_hart, aligned_last, aligned_rows, single_rows}
 use Rattle.path_commands.specs.AuditText.{unless_summary}
-use Rattle.path_commands.specs.UnnumberedText.{first_place_of, texts_from}
+use Rattle.path_commands.specs.UnnumberedText.{first_place_of, of_selected, texts_from}
 use Rattle.path_commands.proofs.aligned_tabling.write_aligned_rows.Goals.{After-write_text}
 use Rattle.path_commands.proofs.aligned_tabling.write_aligned_rows.Goals as goal
 
@@ -17,7 +17,7 @@ returns-in_err-write_single_rows-clause-begun g c =
     let all = c.args.found.all.now in
     let lines = c.args.found.lines.now in
     begun_in_front (unless_summary c.args.summary (single_rows all lines))
-    (texts_from aligned_hart 0 all
+    (texts_from (of_selected c.args.found.harts aligned_hart) 0 all
     ++ aligned_last (total_of all) c.args.messages (first_place_of lines) c.args.found.unlike c.args.found.strangers
     c.args.found.whole)
     (g.O.Write.contents c.args.out.now) (g.O.Write.contents c.write_single_rows.new.out) c.write_single_rows.ensures.begun
@@ -26,7 +26,8 @@ pub returns-in_err-write_aligned_harts-clause-begun : goal.returns-in_err-write_
 returns-in_err-write_aligned_harts-clause-begun g c =
     let all = c.args.found.all.now in
     let lines = c.args.found.lines.now in
-    begun_between (unless_summary c.args.summary (single_rows all lines)) (texts_from aligned_hart 0 all)
+    begun_between (unless_summary c.args.summary (single_rows all lines)) (texts_from
+    (of_selected c.args.found.harts aligned_hart) 0 all)
     (aligned_last (total_of all) c.args.messages (first_place_of lines) c.args.found.unlike c.args.found.strangers
     c.args.found.whole)
     (g.O.Write.contents c.args.out.now) (g.O.Write.contents c.write_single_rows.new.out)
@@ -50,14 +51,15 @@ module _ (g : _) (c : After-write_text g) where
 
   abbrev text : List ℕ
   text =
-      aligned_rows c.args.summary c.args.found.all.now c.args.found.lines.now c.args.messages c.args.found.strangers
+      aligned_rows c.args.found.harts c.args.summary c.args.found.all.now c.args.found.lines.now c.args.messages
+      c.args.found.strangers
       c.args.found.unlike c.args.found.whole
 
   abbrev singles : List ℕ
   singles = unless_summary c.args.summary (single_rows c.args.found.all.now c.args.found.lines.now)
 
   abbrev rows : List ℕ
-  rows = texts_from aligned_hart 0 c.args.found.all.now
+  rows = texts_from (of_selected c.args.found.harts aligned_hart) 0 c.args.found.all.now
 
   ending_begun : (new : Option (List ℕ))
       → AppendsBeginning shown (g.O.Write.contents c.write_aligned_harts.new.out) new

@@ -12,7 +12,7 @@ use Rattle.path_commands.proofs.aligned_tabling.write_aligned_table.Goals as goa
 -- The rows of what was found.
 abbrev rows : Bool → Matched → ℕ → List ℕ
 rows summary found messages =
-    aligned_rows summary found.all.now found.lines.now messages found.strangers found.unlike found.whole
+    aligned_rows found.harts summary found.all.now found.lines.now messages found.strangers found.unlike found.whole
 
 pub returns-in_err-write_text-clause-begun : goal.returns-in_err-write_text-clause-begun
 returns-in_err-write_text-clause-begun g c =

@@ -1,5 +1,5 @@
 -- The rows are written one after the other: by lemmas on parts of a text, which no tactic finds.
-use Rattle.std.proofs.Common.{◌≡◌, ◌<◌, ◌≤◌, arith, length}
+use Rattle.std.proofs.Common.{◌<◌, ◌≤◌, arith, length}
 use Rattle.std.specs.List.{flat_map}
 use Rattle.output.proofs.Beginnings.{whole_begun}
 use Rattle.tables.proofs.Items.{item_begun, item_more, items_all}

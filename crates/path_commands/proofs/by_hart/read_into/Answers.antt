@@ -1,9 +1,9 @@
 -- One message more is read and kept: by lemmas on captures and lists, which no tactic finds.
-use Rattle.std.proofs.Common.{◌≡◌, ◌++◌, ◌∷◌, ◌∙◌, [], Err, Ok, None, ap, refl, arith, length}
+use Rattle.std.proofs.Common.{◌≡◌, ◌++◌, ◌∷◌, ◌∙◌, [], refl, arith, length}
 use Rattle.std.proofs.lemmas.Grind.{common_steps}
 use Rattle.captures.proofs.FoundInFront.{in_front}
 use Rattle.captures.proofs.WholeCaptures.{read_next}
-use Rattle.path_commands.proofs.ByHartLemmas.{kept_more, read_to_end, read_to_fault}
+use Rattle.path_commands.proofs.ByHartLemmas.{kept_more}
 use Rattle.path_commands.proofs.by_hart.read_into.Goals as goal
 
 pub loop-message-init : goal.loop-message-init
@@ -23,14 +23,16 @@ loop-message-preserved c =
     let front = in_front c.loop-message.left next _ message c.in-Ok-Some.field-0-is said.ranges said.message
     said.shorter in
     let pushed : c.push.new.self.items ≡ lists.harts.items ++ message.hart ∷ [] = grind (arith, common_steps) in
-    let split = c.in_ok-add-in-Ok-Some.ensures.split (length lists.payloads.lists) has.messages has.kept.split in (
+    let split = c.in_ok-add_selected-in-Ok-Some.ensures.split
+    (length lists.payloads.lists) has.messages has.kept.split in (
       record {
         messages = has.messages ++ message ∷ [];
         read = read_next c.args.left c.loop-message.left next has.messages message has.read front.is_message front.here;
         kept =
-            kept_more has.messages message lists (record { harts = c.push.new.self; payloads = c.add.new.self }) has.kept
-            pushed c.add.ensures.by split;
+            kept_more c.args.harts has.messages message lists
+            (record { harts = c.push.new.self; payloads = c.add_selected.new.payloads }) has.kept
+            pushed c.add_selected.ensures.by split;
       },
-      c.add.ensures.by ∙ c.loop-message.invariant.1,
+      c.add_selected.ensures.by ∙ c.loop-message.invariant.1,
       split.count ∙ c.loop-message.invariant.2,
     )

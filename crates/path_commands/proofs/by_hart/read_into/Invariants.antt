@@ -5,7 +5,7 @@ use Rattle.path_commands.proofs.by_hart.read_into.Given as goal
 
 abbrev pub invariant-loop-message : goal.invariant-loop-message
 invariant-loop-message l =
-    HasReadByHart l.fn.left l.left l.lists
+    HasReadByHart l.harts l.fn.left l.left l.lists
     × (l.lists.payloads.by ≡ l.fn.lists.payloads.by)
     × (length l.lists.payloads.lists ≡ length l.fn.lists.payloads.lists)
 

@@ -1,19 +1,21 @@
 -- RECEIVED is read by its header, and then span by span: by lemmas on what was found.
-use Rattle.std.proofs.Common.{◌≡◌, ◌∙◌, ◌<◌, ◌≤◌, ◌^◌, List, [], length, refl, ap, arith, subst}
+use Rattle.std.proofs.Common.{◌≡◌, ◌∙◌, ◌<◌, ◌≤◌, ◌^◌, List, [], length, refl, ap, arith, subst, sym}
 use Rattle.std.specs.Io.KnownBytes.{Appends}
 use Rattle.output.specs.Begun.{AppendsBeginning}
 use Rattle.message.specs.declared.message.Message.{Message}
 use Rattle.resuming.specs.Counted.{bytes_in, messages_in, runs_in}
 use Rattle.resuming.specs.Passages.{spans_left}
 use Rattle.auditing.specs.Audits.{Audits}
+use Rattle.auditing.specs.Known.{known_all}
 use Rattle.auditing.specs.Seen.{sight_of}
 use Rattle.path_commands.specs.AuditText.{span_lines}
 use Rattle.path_commands.specs.Audited.{Came, behind_findings}
 use Rattle.path_commands.specs.Sides.{by_packets}
 use Rattle.path_commands.specs.steps.Ending.{EndsRest}
+use Rattle.path_commands.specs.steps.Noting.{noted_of}
 use Rattle.path_commands.specs.steps.Reading.{HasArrived}
 use Rattle.path_commands.proofs.AuditRuns.{audit_printed, cut_in_lines, cut_in_rest}
-use Rattle.path_commands.proofs.Came.{came_of, is_came_of, lines_are, spans_are}
+use Rattle.path_commands.proofs.Came.{came_of, is_came_of, lines_are, notes_are, spans_are}
 use Rattle.path_commands.proofs.comparing.write_audit.Goals.{After-write_rest}
 use Rattle.path_commands.proofs.comparing.write_audit.Goals as goal
 
@@ -63,23 +65,35 @@ module _ (g : _) (c : After-write_rest g) (sent : List Message) (audits : Audits
   }
 
   text : Appends (g.O.Write.contents c.args.out.now) (g.O.Write.contents c.write_spans.new.out)
-      (span_lines (by_packets c.args.asked.now.packets) c.args.asked.now.summary sent [] its.spans)
+      (span_lines (by_packets c.args.asked.now.packets) c.args.harts c.args.asked.now.summary sent [] its.spans)
   text =
       subst (Appends (g.O.Write.contents c.args.out.now) (g.O.Write.contents c.write_spans.new.out))
       (lines_are c.args.path.now.by (by_packets c.args.asked.now.packets) sent c.args.bytes.now
       c.start_of-start.result.header c.start_of-start.result.fault c.new.result c.first_place-from.result by_is
-      c.first_place-from.ensures (c.new.ensures.spans (sight_of c.args.path.now.by sent)) c.args.asked.now.summary)
+      c.first_place-from.ensures (c.new.ensures.spans
+      (sight_of c.args.path.now.by sent)) c.args.harts c.args.asked.now.summary)
       (c.in_ok-read.ensures.text sent audits short)
 
   how_is : c.write_spans.new.path.by ≡ by_packets c.args.asked.now.packets
   how_is = c.write_spans.ensures.by ∙ by_is
+
+  -- What was noted is of RECEIVED's messages.
+  noting : c.write_spans.new.noted ≡ noted_of c.args.harts (known_all c.write_spans.new.path.by sent)
+      (known_all c.write_spans.new.path.by (messages_in its.spans))
+  noting =
+      c.in_ok-read.ensures.noted sent audits short
+      ∙ notes_are c.args.path.now.by (by_packets c.args.asked.now.packets) sent c.args.bytes.now
+      c.start_of-start.result.header c.start_of-start.result.fault c.new.result c.first_place-from.result by_is
+      c.first_place-from.ensures (c.new.ensures.spans (sight_of c.args.path.now.by sent)) c.args.harts
+      ∙ (λ i. noted_of c.args.harts (known_all (sym how_is i) sent) (known_all (sym how_is i) (messages_in its.spans)))
 
 pub returns-in_err-read-clause-cut : goal.returns-in_err-read-clause-cut
 returns-in_err-read-clause-cut g c = λ sent audits by_is.
     let how = by_packets c.args.asked.now.packets in
     let few = c.new.ensures.few in
     let short : length c.new.result.bytes < 2 ^ 64 = omega (arith, few) in
-    cut_in_lines c.args.asked.now (record { header = c.args.path.now.header; messages = sent }) c.args.bytes.now
+    cut_in_lines c.args.asked.now c.args.harts
+    (record { header = c.args.path.now.header; messages = sent }) c.args.bytes.now
     (came_of how sent c.args.bytes.now c.start_of-start.result.header c.start_of-start.result.fault)
     (is_came_of how sent c.args.bytes.now c.start_of-start.result.header c.start_of-start.result.fault
     c.start_of-start.ensures) (g.O.Write.contents c.args.out.now) (g.O.Write.contents c.write_spans.new.out)
@@ -87,7 +101,7 @@ returns-in_err-read-clause-cut g c = λ sent audits by_is.
     (λ text. AppendsBeginning text (g.O.Write.contents c.args.out.now) (g.O.Write.contents c.write_spans.new.out))
     (lines_are c.args.path.now.by how sent c.args.bytes.now c.start_of-start.result.header c.start_of-start.result.fault
     c.new.result c.first_place-from.result by_is c.first_place-from.ensures
-    (c.new.ensures.spans (sight_of c.args.path.now.by sent)) c.args.asked.now.summary)
+    (c.new.ensures.spans (sight_of c.args.path.now.by sent)) c.args.harts c.args.asked.now.summary)
     (c.write_spans.ensures.begun sent audits short))
 
 pub returns-clause-printed : goal.returns-clause-printed
@@ -98,18 +112,19 @@ returns-clause-printed g c = λ sent audits by_is.
     let asked = c.args.asked.now in
     let how = by_packets asked.packets in
     let came = came_of how sent c.args.bytes.now c.start_of-start.result.header c.start_of-start.result.fault in
-    audit_printed asked (record { header = c.args.path.now.header; messages = sent }) c.args.bytes.now came
+    audit_printed asked c.args.harts (record { header = c.args.path.now.header; messages = sent }) c.args.bytes.now came
     (is_came_of how sent c.args.bytes.now c.start_of-start.result.header c.start_of-start.result.fault
     c.start_of-start.ensures) c.write_rest.result
     (g.O.Write.contents c.args.out.now) mid new (text g at sent audits by_is)
     (subst
-    (λ header. EndsRest how asked.received asked.summary (record { header = header; messages = sent }) came
+    (λ header. EndsRest how c.args.harts asked.received asked.summary (record { header = header; messages = sent }) came
     c.write_rest.result mid new) c.write_spans.ensures.header
     (subst
-    (λ h. EndsRest h asked.received asked.summary (record { header = c.write_spans.new.path.header; messages = sent })
+    (λ h. EndsRest h c.args.harts asked.received asked.summary
+    (record { header = c.write_spans.new.path.header; messages = sent })
     came c.write_rest.result mid new) (how_is g at sent audits by_is)
     (c.write_rest.ensures.written sent came (its_audits g at sent audits by_is) (few g at sent audits by_is)
-    (has g at sent audits by_is))))
+    (has g at sent audits by_is) (noting g at sent audits by_is))))
 
 pub returns-clause-cut : goal.returns-clause-cut
 returns-clause-cut g c = λ sent audits by_is.
@@ -119,15 +134,16 @@ returns-clause-cut g c = λ sent audits by_is.
     let asked = c.args.asked.now in
     let how = by_packets asked.packets in
     let came = came_of how sent c.args.bytes.now c.start_of-start.result.header c.start_of-start.result.fault in
-    cut_in_rest asked (record { header = c.args.path.now.header; messages = sent }) c.args.bytes.now came
+    cut_in_rest asked c.args.harts (record { header = c.args.path.now.header; messages = sent }) c.args.bytes.now came
     (is_came_of how sent c.args.bytes.now c.start_of-start.result.header c.start_of-start.result.fault
     c.start_of-start.ensures)
     (g.O.Write.contents c.args.out.now) mid new (text g at sent audits by_is)
     (subst
-    (λ header. AppendsBeginning (behind_findings how asked.summary (record { header = header; messages = sent }) came)
+    (λ header. AppendsBeginning (behind_findings how c.args.harts asked.summary
+    (record { header = header; messages = sent }) came)
     mid new) c.write_spans.ensures.header
     (subst
-    (λ h. AppendsBeginning (behind_findings h asked.summary
+    (λ h. AppendsBeginning (behind_findings h c.args.harts asked.summary
     (record { header = c.write_spans.new.path.header; messages = sent }) came) mid new) (how_is g at sent audits by_is)
     (c.write_rest.ensures.begun sent came (its_audits g at sent audits by_is) (few g at sent audits by_is)
-    (has g at sent audits by_is))))
+    (has g at sent audits by_is) (noting g at sent audits by_is))))

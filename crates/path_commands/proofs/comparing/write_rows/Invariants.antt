@@ -6,6 +6,7 @@ use Rattle.auditing.specs.Known.{known_all}
 use Rattle.auditing.specs.Audits.{Audits}
 use Rattle.auditing.specs.HartRows.{row_of}
 use Rattle.tables.proofs.Parts.{HasWritten}
+use Rattle.path_commands.specs.OnlyHarts.{harts_among}
 use Rattle.path_commands.proofs.Sums.{IsTotal}
 use Rattle.path_commands.specs.AuditText.{row_lines, row_text}
 use Rattle.path_commands.proofs.comparing.write_rows.Given as goal
@@ -13,8 +14,9 @@ use Rattle.path_commands.proofs.comparing.write_rows.Given as goal
 abbrev pub invariant-loop-hart : goal.invariant-loop-hart
 invariant-loop-hart g l =
     (own came : List Message) → Audits own came l.path → length came < 2 ^ 64
-    → HasWritten (row_lines (known_all l.path.by own) (known_all l.path.by came) (length l.path.harts))
+    → HasWritten (row_lines (known_all l.path.by own) (known_all l.path.by came) (harts_among l.fn.harts
+    (length l.path.harts)))
     (flat_map (λ hart. row_text hart (row_of (known_all l.path.by own) (known_all l.path.by came) hart))
-    (range_with_len l.hart (length l.path.harts - l.hart)))
+    (range_with_len l.hart (l.past - l.hart)))
     (g.O.Write.contents l.fn.out) (g.O.Write.contents l.out)
-    × IsTotal (known_all l.path.by own) (known_all l.path.by came) l.total l.hart (length l.path.harts)
+    × IsTotal (known_all l.path.by own) (known_all l.path.by came) l.total l.fn.harts.first l.hart l.past

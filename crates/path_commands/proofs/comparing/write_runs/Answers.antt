@@ -5,13 +5,15 @@ use Rattle.std.specs.Io.KnownBytes.{Appends}
 use Rattle.output.specs.Begun.{AppendsBeginning}
 use Rattle.auditing.specs.Known.{known_all}
 use Rattle.path_commands.specs.AuditText.{all_lost_lines, unless_summary}
+use Rattle.path_commands.specs.OnlyHarts.{harts_among}
 use Rattle.path_commands.proofs.comparing.write_runs.Goals as goal
 
 pub returns-clause-text : goal.returns-clause-text
 returns-clause-text g c = λ sent received audits.
     let how = c.args.path.now.by in
     let lines =
-    all_lost_lines (known_all how sent) (known_all how received) (length c.args.path.now.harts) in
+    all_lost_lines (known_all how sent) (known_all how received) (harts_among c.args.harts
+    (length c.args.path.now.harts)) in
     subst
     (λ summary. OnOk c.write_losses.result (Appends (g.O.Write.contents c.args.out.now)
     (g.O.Write.contents c.write_losses.new.out) (unless_summary summary lines))) (sym c.if-summary.false)
@@ -21,7 +23,8 @@ pub returns-clause-begun : goal.returns-clause-begun
 returns-clause-begun g c = λ sent received audits.
     let how = c.args.path.now.by in
     let lines =
-    all_lost_lines (known_all how sent) (known_all how received) (length c.args.path.now.harts) in
+    all_lost_lines (known_all how sent) (known_all how received) (harts_among c.args.harts
+    (length c.args.path.now.harts)) in
     subst
     (λ summary. AppendsBeginning (unless_summary summary lines) (g.O.Write.contents c.args.out.now)
     (g.O.Write.contents c.write_losses.new.out)) (sym c.if-summary.false) (c.write_losses.ensures.begun sent received audits)

@@ -13,8 +13,9 @@ returns-clause-held c =
       messages = held.0;
       sent = held.1;
       kept =
-          kept_by (by_packets c.args.asked.now.packets) c.by_packets.result front.0 front.1 held.0 read.front.0 whole.lists
-          c.by_packets.ensures read.by read.harts held.2
+          kept_by (by_packets c.args.asked.now.packets) c.by_packets.result c.args.harts front.0 front.1 held.0
+          read.front.0 whole.lists
+          c.by_packets.ensures read.by read.count held.2
           (same_front c.args.bytes.now front.0 whole.header held.0 read.front.0 whole.stop held.1.whole read.front.1)
           read.front.2;
     }

@@ -27,12 +27,13 @@ returns-clause-held g c =
     let content = g.F.Files.content c.args.files.now in
     let asked = c.args.asked.now in
     let how = by_packets asked.packets in
-    ok_in_words (KeepsSent how c.as_slice.result.now)
-    (λ own. (bytes : List ℕ) × IsRead {W = PathReason} content asked.sent (Ok bytes) × KeepsSent how bytes own)
+    ok_in_words (KeepsSent how c.args.harts c.as_slice.result.now)
+    (λ own. (bytes : List ℕ) × IsRead {W = PathReason} content asked.sent
+    (Ok bytes) × KeepsSent how c.args.harts bytes own)
     (λ own keeps. (
       c.in_ok-bytes.bytes.items,
       c.in_ok-bytes.ensures.held,
-      subst (λ bytes. KeepsSent how bytes own) c.as_slice.ensures.value keeps,
+      subst (λ bytes. KeepsSent how c.args.harts bytes own) c.as_slice.ensures.value keeps,
     ))
     c.keep_sent.result c.keep_sent.ensures.held
 

@@ -1,22 +1,24 @@
 -- The spans are read one after the other: by lemmas on parts of a text, which no tactic finds.
-use Rattle.std.proofs.Common.{◌≡◌, ◌<◌, ◌^◌, ◌∙◌, ◌++◌, List, [], ◌∷◌, length, refl, sym, ap, subst, arith}
+use Rattle.std.proofs.Common.{◌≡◌, ◌∙◌, [], length, refl, sym, ap, subst}
 use Rattle.std.specs.Io.KnownBytes.{Appends}
 use Rattle.output.specs.Begun.{AppendsBeginning}
 use Rattle.output.proofs.Beginnings.{whole_begun}
-use Rattle.message.specs.declared.message.Message.{Message}
 use Rattle.resuming.specs.Borrowed.{span_of}
-use Rattle.resuming.specs.Passages.{Left, spans_from, spans_left}
+use Rattle.resuming.specs.Passages.{spans_from, spans_left}
 use Rattle.auditing.proofs.Sights.{sight_kept}
 use Rattle.auditing.specs.Seen.{sight_of}
-use Rattle.path_commands.proofs.SpanLines.{HasRead, read_all, read_begun, read_more, read_none, read_text}
+use Rattle.path_commands.proofs.SpanLines.{HasRead, read_all, read_begun, read_more, read_none, read_notes, read_text}
 use Rattle.path_commands.specs.AuditText.{span_line, span_lines}
+use Rattle.path_commands.specs.steps.Noting.{noted_more}
 use Rattle.path_commands.proofs.received.take_spans.Goals as goal
 
 pub loop-passage-init : goal.loop-passage-init
 loop-passage-init g c = (
   λ sent audits short.
-      read_none c.args.path.now.by c.args.summary sent (spans_left (sight_of c.args.path.now.by sent) c.args.spans)
-      c.args.path.now _ (length c.args.spans.bytes) (g.O.Write.contents c.args.out.now) refl audits,
+      read_none c.args.path.now.by c.args.harts c.args.summary sent (spans_left
+      (sight_of c.args.path.now.by sent) c.args.spans)
+      c.args.path.now c.args.noted.now _ (length c.args.spans.bytes) (g.O.Write.contents c.args.out.now) refl audits
+      c.requires.fresh,
   refl,
   refl,
 )
@@ -39,16 +41,24 @@ loop-passage-preserved g c =
           let step = c.in-Some.ensures.spans sees
           (λ message. sight_kept sent has.taken path message has.audits ∙ ap (λ h. sight_of h sent message) by_is) in
           subst
-          (λ progress. HasRead how c.args.summary sent all (spans_left sees next) c.write_passage.new.path progress
+          (λ progress. HasRead how c.args.harts c.args.summary sent all (spans_left sees next) c.write_passage.new.path
+          c.write_passage.new.noted progress
           (length next.bytes) (length c.args.spans.bytes) old new) (sym c.after-progress.ensures)
-          (read_more how c.args.summary sent all (spans_left sees next) path c.loop-passage.progress (length left.bytes)
+          (read_more how c.args.harts c.args.summary sent all
+          (spans_left sees next) path c.loop-passage.noted c.loop-passage.progress (length left.bytes)
           (length c.args.spans.bytes) old mid span
           (subst
-          (λ rest. HasRead how c.args.summary sent all rest path c.loop-passage.progress (length left.bytes)
-          (length c.args.spans.bytes) old mid) step has) c.write_passage.new.path (length next.bytes) new short
+          (λ rest. HasRead how c.args.harts c.args.summary sent all rest path c.loop-passage.noted
+          c.loop-passage.progress (length left.bytes)
+          (length c.args.spans.bytes) old mid) step has) c.write_passage.new.path c.write_passage.new.noted
+          (length next.bytes) new short
           c.in-Some.ensures.sizes.0 c.in-Some.ensures.sizes.1 (c.write_passage.ensures.audits sent)
+          (λ received is.
+          subst (λ h. c.write_passage.new.noted ≡ noted_more h c.args.harts sent received c.loop-passage.noted
+          c.loop-passage.progress.messages span) by_is
+          (c.in_ok-write_passage.ensures.noted sent received is))
           (λ received is place.
-          subst (λ h. Appends mid new (span_line h c.args.summary sent received span)) by_is
+          subst (λ h. Appends mid new (span_line h c.args.harts c.args.summary sent received span)) by_is
           (c.in_ok-write_passage.ensures.text sent received is place))),
       c.write_passage.ensures.by ∙ by_is,
       c.write_passage.ensures.header ∙ c.loop-passage.invariant.2,
@@ -70,13 +80,15 @@ returns-in_err-write_passage-clause-begun g c = λ sent audits short.
     let has = c.loop-passage.invariant.0 sent audits short in
     let step = c.in-Some.ensures.spans sees
     (λ message. sight_kept sent has.taken path message has.audits ∙ ap (λ h. sight_of h sent message) by_is) in
-    read_begun how c.args.summary sent all (spans_left sees next) path c.loop-passage.progress (length left.bytes)
+    read_begun how c.args.harts c.args.summary sent all
+    (spans_left sees next) path c.loop-passage.noted c.loop-passage.progress (length left.bytes)
     (length c.args.spans.bytes) old mid span
     (subst
-    (λ rest. HasRead how c.args.summary sent all rest path c.loop-passage.progress (length left.bytes)
+    (λ rest. HasRead how c.args.harts c.args.summary sent all rest path c.loop-passage.noted c.loop-passage.progress
+    (length left.bytes)
     (length c.args.spans.bytes) old mid) step has) new
     (λ received is place.
-    subst (λ h. AppendsBeginning (span_line h c.args.summary sent received span) mid new) by_is
+    subst (λ h. AppendsBeginning (span_line h c.args.harts c.args.summary sent received span) mid new) by_is
     (c.write_passage.ensures.begun sent received is place))
 
 pub returns-in_err-write_passage-clause-by : goal.returns-in_err-write_passage-clause-by
@@ -92,11 +104,30 @@ returns-clause-audits g c = λ sent audits short.
     let left = c.loop-passage.left in
     let has = c.loop-passage.invariant.0 sent audits short in
     let none = ap (spans_from sees left.offset) (c.in_default.ensures.end refl) in
-    read_all how c.args.summary sent (spans_left sees c.args.spans) c.loop-passage.path c.loop-passage.progress
+    read_all how c.args.harts c.args.summary sent
+    (spans_left sees c.args.spans) c.loop-passage.path c.loop-passage.noted c.loop-passage.progress
     (length left.bytes) (length c.args.spans.bytes) (g.O.Write.contents c.args.out.now)
     (g.O.Write.contents c.loop-passage.out)
     (subst
-    (λ rest. HasRead how c.args.summary sent (spans_left sees c.args.spans) rest c.loop-passage.path c.loop-passage.progress
+    (λ rest. HasRead how c.args.harts c.args.summary sent
+    (spans_left sees c.args.spans) rest c.loop-passage.path c.loop-passage.noted c.loop-passage.progress
+    (length left.bytes) (length c.args.spans.bytes) (g.O.Write.contents c.args.out.now)
+    (g.O.Write.contents c.loop-passage.out)) none has)
+
+pub returns-clause-noted : goal.returns-clause-noted
+returns-clause-noted g c = λ sent audits short.
+    let how = c.args.path.now.by in
+    let sees = sight_of how sent in
+    let left = c.loop-passage.left in
+    let has = c.loop-passage.invariant.0 sent audits short in
+    let none = ap (spans_from sees left.offset) (c.in_default.ensures.end refl) in
+    read_notes how c.args.harts c.args.summary sent
+    (spans_left sees c.args.spans) c.loop-passage.path c.loop-passage.noted c.loop-passage.progress
+    (length left.bytes) (length c.args.spans.bytes) (g.O.Write.contents c.args.out.now)
+    (g.O.Write.contents c.loop-passage.out)
+    (subst
+    (λ rest. HasRead how c.args.harts c.args.summary sent
+    (spans_left sees c.args.spans) rest c.loop-passage.path c.loop-passage.noted c.loop-passage.progress
     (length left.bytes) (length c.args.spans.bytes) (g.O.Write.contents c.args.out.now)
     (g.O.Write.contents c.loop-passage.out)) none has)
 
@@ -107,16 +138,19 @@ returns-clause-text g c = λ sent audits short.
     let left = c.loop-passage.left in
     let has = c.loop-passage.invariant.0 sent audits short in
     let none = ap (spans_from sees left.offset) (c.in_default.ensures.end refl) in
-    read_text how c.args.summary sent (spans_left sees c.args.spans) c.loop-passage.path c.loop-passage.progress
+    read_text how c.args.harts c.args.summary sent
+    (spans_left sees c.args.spans) c.loop-passage.path c.loop-passage.noted c.loop-passage.progress
     (length left.bytes) (length c.args.spans.bytes) (g.O.Write.contents c.args.out.now)
     (g.O.Write.contents c.loop-passage.out)
     (subst
-    (λ rest. HasRead how c.args.summary sent (spans_left sees c.args.spans) rest c.loop-passage.path c.loop-passage.progress
+    (λ rest. HasRead how c.args.harts c.args.summary sent
+    (spans_left sees c.args.spans) rest c.loop-passage.path c.loop-passage.noted c.loop-passage.progress
     (length left.bytes) (length c.args.spans.bytes) (g.O.Write.contents c.args.out.now)
     (g.O.Write.contents c.loop-passage.out)) none has)
 
 pub returns-clause-begun : goal.returns-clause-begun
 returns-clause-begun g c = λ sent audits short.
     whole_begun
-    (span_lines c.args.path.now.by c.args.summary sent [] (spans_left (sight_of c.args.path.now.by sent) c.args.spans))
+    (span_lines c.args.path.now.by c.args.harts c.args.summary sent [] (spans_left
+    (sight_of c.args.path.now.by sent) c.args.spans))
     (g.O.Write.contents c.args.out.now) (g.O.Write.contents c.loop-passage.out) (returns-clause-text g c sent audits short)

@@ -1,31 +1,33 @@
 -- The spans are read one after the other: by lemmas on parts of a text, which no tactic finds.
-use Rattle.std.proofs.Common.{◌≡◌, ◌<◌, ◌^◌, ◌∙◌, ◌++◌, List, [], ◌∷◌, length, refl, sym, ap, subst, arith}
+use Rattle.std.proofs.Common.{◌≡◌, ◌∙◌, [], length, refl, sym, ap, subst}
 use Rattle.std.specs.Io.KnownBytes.{Appends}
 use Rattle.output.specs.Begun.{AppendsBeginning}
 use Rattle.output.proofs.Beginnings.{begun_in_front, whole_begun}
-use Rattle.message.specs.declared.message.Message.{Message}
 use Rattle.resuming.specs.Borrowed.{span_of}
-use Rattle.resuming.specs.Passages.{Left, spans_from, spans_left}
+use Rattle.resuming.specs.Passages.{spans_from, spans_left}
 use Rattle.auditing.proofs.Sights.{sight_kept}
 use Rattle.auditing.specs.Seen.{sight_of}
-use Rattle.path_commands.proofs.TableSpans.{HasTaken, take_all, take_begun, take_more, take_none, take_text}
+use Rattle.path_commands.proofs.TableSpans.{HasTaken, take_all, take_begun, take_more, take_none, take_notes, take_text}
 use Rattle.tables.specs.Fields.{fields_line}
 use Rattle.path_commands.specs.AuditRows.{columns, span_row, span_rows}
 use Rattle.path_commands.specs.AuditTable.{front_rows}
+use Rattle.path_commands.specs.steps.Noting.{noted_more}
 use Rattle.path_commands.proofs.table_spans.take_rows.Goals as goal
 
 pub returns-in_err-write_text-clause-begun : goal.returns-in_err-write_text-clause-begun
 returns-in_err-write_text-clause-begun g c = λ sent audits short.
     begun_in_front (fields_line columns)
-    (span_rows c.args.path.now.by c.args.summary sent [] (spans_left (sight_of c.args.path.now.by sent) c.args.spans))
+    (span_rows c.args.path.now.by c.args.harts c.args.summary sent [] (spans_left
+    (sight_of c.args.path.now.by sent) c.args.spans))
     (g.O.Write.contents c.args.out.now) (g.O.Write.contents c.write_text.new.out) c.write_text.ensures.begun
 
 pub loop-passage-init : goal.loop-passage-init
 loop-passage-init g c = (
   λ sent audits short.
-      take_none c.args.path.now.by c.args.summary sent (spans_left (sight_of c.args.path.now.by sent) c.args.spans)
-      c.args.path.now _ (length c.args.spans.bytes) (g.O.Write.contents c.args.out.now)
-      (g.O.Write.contents c.write_text.new.out) refl audits c.in_ok-write_text.ensures.whole,
+      take_none c.args.path.now.by c.args.harts c.args.summary sent (spans_left
+      (sight_of c.args.path.now.by sent) c.args.spans)
+      c.args.path.now c.args.noted.now _ (length c.args.spans.bytes) (g.O.Write.contents c.args.out.now)
+      (g.O.Write.contents c.write_text.new.out) refl audits c.requires.fresh c.in_ok-write_text.ensures.whole,
   refl,
   refl,
 )
@@ -48,16 +50,25 @@ loop-passage-preserved g c =
           let step = c.in-Some.ensures.spans sees
           (λ message. sight_kept sent has.taken path message has.audits ∙ ap (λ h. sight_of h sent message) by_is) in
           subst
-          (λ progress. HasTaken how c.args.summary sent all (spans_left sees next) c.write_passage_row.new.path progress
+          (λ progress. HasTaken how c.args.harts c.args.summary sent all
+          (spans_left sees next) c.write_passage_row.new.path
+          c.write_passage_row.new.noted progress
           (length next.bytes) (length c.args.spans.bytes) old new) (sym c.after-progress.ensures)
-          (take_more how c.args.summary sent all (spans_left sees next) path c.loop-passage.progress (length left.bytes)
+          (take_more how c.args.harts c.args.summary sent all
+          (spans_left sees next) path c.loop-passage.noted c.loop-passage.progress (length left.bytes)
           (length c.args.spans.bytes) old mid span
           (subst
-          (λ rest. HasTaken how c.args.summary sent all rest path c.loop-passage.progress (length left.bytes)
-          (length c.args.spans.bytes) old mid) step has) c.write_passage_row.new.path (length next.bytes) new short
+          (λ rest. HasTaken how c.args.harts c.args.summary sent all rest path c.loop-passage.noted
+          c.loop-passage.progress (length left.bytes)
+          (length c.args.spans.bytes) old mid) step has) c.write_passage_row.new.path c.write_passage_row.new.noted
+          (length next.bytes) new short
           c.in-Some.ensures.sizes.0 c.in-Some.ensures.sizes.1 (c.write_passage_row.ensures.audits sent)
+          (λ received is.
+          subst (λ h. c.write_passage_row.new.noted ≡ noted_more h c.args.harts sent received c.loop-passage.noted
+          c.loop-passage.progress.messages span) by_is
+          (c.in_ok-write_passage_row.ensures.noted sent received is))
           (λ received is place.
-          subst (λ h. Appends mid new (span_row h c.args.summary sent received span)) by_is
+          subst (λ h. Appends mid new (span_row h c.args.harts c.args.summary sent received span)) by_is
           (c.in_ok-write_passage_row.ensures.text sent received is place))),
       c.write_passage_row.ensures.by ∙ by_is,
       c.write_passage_row.ensures.header ∙ c.loop-passage.invariant.2,
@@ -79,13 +90,15 @@ returns-in_err-write_passage_row-clause-begun g c = λ sent audits short.
     let has = c.loop-passage.invariant.0 sent audits short in
     let step = c.in-Some.ensures.spans sees
     (λ message. sight_kept sent has.taken path message has.audits ∙ ap (λ h. sight_of h sent message) by_is) in
-    take_begun how c.args.summary sent all (spans_left sees next) path c.loop-passage.progress (length left.bytes)
+    take_begun how c.args.harts c.args.summary sent all
+    (spans_left sees next) path c.loop-passage.noted c.loop-passage.progress (length left.bytes)
     (length c.args.spans.bytes) old mid span
     (subst
-    (λ rest. HasTaken how c.args.summary sent all rest path c.loop-passage.progress (length left.bytes)
+    (λ rest. HasTaken how c.args.harts c.args.summary sent all rest path c.loop-passage.noted c.loop-passage.progress
+    (length left.bytes)
     (length c.args.spans.bytes) old mid) step has) new
     (λ received is place.
-    subst (λ h. AppendsBeginning (span_row h c.args.summary sent received span) mid new) by_is
+    subst (λ h. AppendsBeginning (span_row h c.args.harts c.args.summary sent received span) mid new) by_is
     (c.write_passage_row.ensures.begun sent received is place))
 
 pub returns-in_err-write_passage_row-clause-by : goal.returns-in_err-write_passage_row-clause-by
@@ -101,11 +114,30 @@ returns-clause-audits g c = λ sent audits short.
     let left = c.loop-passage.left in
     let has = c.loop-passage.invariant.0 sent audits short in
     let none = ap (spans_from sees left.offset) (c.in_default.ensures.end refl) in
-    take_all how c.args.summary sent (spans_left sees c.args.spans) c.loop-passage.path c.loop-passage.progress
+    take_all how c.args.harts c.args.summary sent
+    (spans_left sees c.args.spans) c.loop-passage.path c.loop-passage.noted c.loop-passage.progress
     (length left.bytes) (length c.args.spans.bytes) (g.O.Write.contents c.args.out.now)
     (g.O.Write.contents c.loop-passage.out)
     (subst
-    (λ rest. HasTaken how c.args.summary sent (spans_left sees c.args.spans) rest c.loop-passage.path c.loop-passage.progress
+    (λ rest. HasTaken how c.args.harts c.args.summary sent
+    (spans_left sees c.args.spans) rest c.loop-passage.path c.loop-passage.noted c.loop-passage.progress
+    (length left.bytes) (length c.args.spans.bytes) (g.O.Write.contents c.args.out.now)
+    (g.O.Write.contents c.loop-passage.out)) none has)
+
+pub returns-clause-noted : goal.returns-clause-noted
+returns-clause-noted g c = λ sent audits short.
+    let how = c.args.path.now.by in
+    let sees = sight_of how sent in
+    let left = c.loop-passage.left in
+    let has = c.loop-passage.invariant.0 sent audits short in
+    let none = ap (spans_from sees left.offset) (c.in_default.ensures.end refl) in
+    take_notes how c.args.harts c.args.summary sent
+    (spans_left sees c.args.spans) c.loop-passage.path c.loop-passage.noted c.loop-passage.progress
+    (length left.bytes) (length c.args.spans.bytes) (g.O.Write.contents c.args.out.now)
+    (g.O.Write.contents c.loop-passage.out)
+    (subst
+    (λ rest. HasTaken how c.args.harts c.args.summary sent
+    (spans_left sees c.args.spans) rest c.loop-passage.path c.loop-passage.noted c.loop-passage.progress
     (length left.bytes) (length c.args.spans.bytes) (g.O.Write.contents c.args.out.now)
     (g.O.Write.contents c.loop-passage.out)) none has)
 
@@ -116,16 +148,19 @@ returns-clause-text g c = λ sent audits short.
     let left = c.loop-passage.left in
     let has = c.loop-passage.invariant.0 sent audits short in
     let none = ap (spans_from sees left.offset) (c.in_default.ensures.end refl) in
-    take_text how c.args.summary sent (spans_left sees c.args.spans) c.loop-passage.path c.loop-passage.progress
+    take_text how c.args.harts c.args.summary sent
+    (spans_left sees c.args.spans) c.loop-passage.path c.loop-passage.noted c.loop-passage.progress
     (length left.bytes) (length c.args.spans.bytes) (g.O.Write.contents c.args.out.now)
     (g.O.Write.contents c.loop-passage.out)
     (subst
-    (λ rest. HasTaken how c.args.summary sent (spans_left sees c.args.spans) rest c.loop-passage.path c.loop-passage.progress
+    (λ rest. HasTaken how c.args.harts c.args.summary sent
+    (spans_left sees c.args.spans) rest c.loop-passage.path c.loop-passage.noted c.loop-passage.progress
     (length left.bytes) (length c.args.spans.bytes) (g.O.Write.contents c.args.out.now)
     (g.O.Write.contents c.loop-passage.out)) none has)
 
 pub returns-clause-begun : goal.returns-clause-begun
 returns-clause-begun g c = λ sent audits short.
     whole_begun
-    (front_rows c.args.path.now.by c.args.summary sent (spans_left (sight_of c.args.path.now.by sent) c.args.spans))
+    (front_rows c.args.path.now.by c.args.harts c.args.summary sent (spans_left
+    (sight_of c.args.path.now.by sent) c.args.spans))
     (g.O.Write.contents c.args.out.now) (g.O.Write.contents c.loop-passage.out) (returns-clause-text g c sent audits short)

@@ -10,8 +10,9 @@ use Rattle.path_commands.proofs.table_spans.take_rows.Given as goal
 abbrev pub invariant-loop-passage : goal.invariant-loop-passage
 invariant-loop-passage g l =
     ((sent : List Message) → Audits sent [] l.fn.path → length l.fn.spans.bytes < 2 ^ 64
-    → HasTaken l.fn.path.by l.summary sent (spans_left (sight_of l.fn.path.by sent) l.fn.spans)
-    (spans_left (sight_of l.fn.path.by sent) l.left) l.path l.progress (length l.left.bytes) (length l.fn.spans.bytes)
+    → HasTaken l.fn.path.by l.harts l.summary sent (spans_left (sight_of l.fn.path.by sent) l.fn.spans)
+    (spans_left (sight_of l.fn.path.by sent) l.left) l.path l.noted l.progress (length l.left.bytes)
+    (length l.fn.spans.bytes)
     (g.O.Write.contents l.fn.out) (g.O.Write.contents l.out))
     × (l.path.by ≡ l.fn.path.by)
     × (l.path.header ≡ l.fn.path.header)

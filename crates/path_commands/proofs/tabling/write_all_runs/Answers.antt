@@ -1,12 +1,13 @@
 -- The rows are written one after the other: by lemmas on parts of a text, which no tactic finds.
-use Rattle.std.proofs.Common.{◌≡◌, ◌-◌, ◌<◌, ◌≤◌, length, subst, arith}
+use Rattle.std.proofs.Common.{◌<◌, ◌≤◌, length, subst, sym, arith}
 use Rattle.std.specs.Io.KnownBytes.{Appends}
-use Rattle.std.specs.List.{flat_map, range_with_len}
+use Rattle.std.specs.List.{flat_map}
 use Rattle.output.specs.Begun.{AppendsBeginning}
 use Rattle.output.proofs.Beginnings.{whole_begun}
 use Rattle.auditing.specs.Known.{known_all}
 use Rattle.auditing.specs.Losing.{lost_runs}
-use Rattle.path_commands.proofs.HartLines.{hart_begun, hart_more, harts_all}
+use Rattle.path_commands.specs.OnlyHarts.{harts_among}
+use Rattle.path_commands.proofs.HartLines.{among_is, hart_begun, hart_more, harts_all}
 use Rattle.tables.proofs.Parts.{HasWritten, part_none}
 use Rattle.path_commands.specs.AuditRows.{all_run_rows, run_rows}
 use Rattle.path_commands.proofs.tabling.write_all_runs.Goals as goal
@@ -16,20 +17,24 @@ loop-hart-init g c = λ own came audits.
     let sent = known_all c.args.path.now.by own in
     let received = known_all c.args.path.now.by came in
     let count = length c.args.path.now.harts in
-    let whole = all_run_rows sent received count in
+    let whole = all_run_rows sent received (harts_among c.args.harts count) in
     let out = g.O.Write.contents c.args.out.now in
-    let all : count ≡ count - 0 = omega arith in
-    subst (λ n. HasWritten whole (flat_map (λ hart. run_rows hart (lost_runs sent received hart)) (range_with_len 0
-    n))
-    out out) all (part_none whole out)
+    let is =
+    among_is c.args.harts c.from-hart.result c.past_among-past.result c.harts.result count c.from-hart.ensures
+    c.past_among-past.ensures.past
+    c.harts.ensures in
+    subst (λ harts. HasWritten whole (flat_map (λ hart. run_rows hart (lost_runs sent received hart)) harts)
+    out out) (sym is) (part_none whole out)
 
 pub loop-hart-preserved : goal.loop-hart-preserved
 loop-hart-preserved g c = λ own came audits.
     let sent = known_all c.args.path.now.by own in
     let received = known_all c.args.path.now.by came in
     let count = length c.args.path.now.harts in
-    let within : c.loop-hart.hart < count = omega arith in
-    hart_more (λ hart. run_rows hart (lost_runs sent received hart)) (all_run_rows sent received count) count
+    let past = c.past_among-past.result in
+    let within : c.loop-hart.hart < past = omega arith in
+    hart_more (λ hart. run_rows hart (lost_runs sent received hart)) (all_run_rows sent received
+    (harts_among c.args.harts count)) past
     (g.O.Write.contents c.args.out.now) (g.O.Write.contents c.loop-hart.out) c.loop-hart.hart
     (g.O.Write.contents c.write_runs_of.new.out) within (c.loop-hart.invariant own came audits)
     (subst (λ runs. Appends (g.O.Write.contents c.loop-hart.out) (g.O.Write.contents c.write_runs_of.new.out)
@@ -40,8 +45,10 @@ returns-in_err-write_runs_of-clause-begun g c = λ own came audits.
     let sent = known_all c.args.path.now.by own in
     let received = known_all c.args.path.now.by came in
     let count = length c.args.path.now.harts in
-    let within : c.loop-hart.hart < count = omega arith in
-    hart_begun (λ hart. run_rows hart (lost_runs sent received hart)) (all_run_rows sent received count) count
+    let past = c.past_among-past.result in
+    let within : c.loop-hart.hart < past = omega arith in
+    hart_begun (λ hart. run_rows hart (lost_runs sent received hart)) (all_run_rows sent received
+    (harts_among c.args.harts count)) past
     (g.O.Write.contents c.args.out.now) (g.O.Write.contents c.loop-hart.out) c.loop-hart.hart
     (g.O.Write.contents c.write_runs_of.new.out) within (c.loop-hart.invariant own came audits)
     (subst (λ runs. AppendsBeginning (run_rows c.loop-hart.hart runs) (g.O.Write.contents c.loop-hart.out)
@@ -52,14 +59,17 @@ returns-clause-text g c = λ own came audits.
     let sent = known_all c.args.path.now.by own in
     let received = known_all c.args.path.now.by came in
     let count = length c.args.path.now.harts in
-    let past : count ≤ c.loop-hart.hart = omega arith in
-    harts_all (λ hart. run_rows hart (lost_runs sent received hart)) (all_run_rows sent received count) count
-    (g.O.Write.contents c.args.out.now) (g.O.Write.contents c.loop-hart.out) c.loop-hart.hart past
+    let past = c.past_among-past.result in
+    let over : past ≤ c.loop-hart.hart = omega arith in
+    harts_all (λ hart. run_rows hart (lost_runs sent received hart)) (all_run_rows sent received
+    (harts_among c.args.harts count)) past
+    (g.O.Write.contents c.args.out.now) (g.O.Write.contents c.loop-hart.out) c.loop-hart.hart over
     (c.loop-hart.invariant own came audits)
 
 pub returns-clause-begun : goal.returns-clause-begun
 returns-clause-begun g c = λ own came audits.
     let sent = known_all c.args.path.now.by own in
     let received = known_all c.args.path.now.by came in
-    whole_begun (all_run_rows sent received (length c.args.path.now.harts)) (g.O.Write.contents c.args.out.now)
+    whole_begun (all_run_rows sent received (harts_among c.args.harts (length c.args.path.now.harts)))
+    (g.O.Write.contents c.args.out.now)
     (g.O.Write.contents c.loop-hart.out) (returns-clause-text g c own came audits)

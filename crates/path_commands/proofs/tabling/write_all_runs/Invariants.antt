@@ -7,12 +7,14 @@ use Rattle.auditing.specs.Audits.{Audits}
 use Rattle.auditing.specs.Losing.{lost_runs}
 use Rattle.tables.proofs.Parts.{HasWritten}
 use Rattle.path_commands.specs.AuditRows.{all_run_rows, run_rows}
+use Rattle.path_commands.specs.OnlyHarts.{harts_among}
 use Rattle.path_commands.proofs.tabling.write_all_runs.Given as goal
 
 abbrev pub invariant-loop-hart : goal.invariant-loop-hart
 invariant-loop-hart g l =
     (own came : List Message) → Audits own came l.path
-    → HasWritten (all_run_rows (known_all l.path.by own) (known_all l.path.by came) (length l.path.harts))
+    → HasWritten (all_run_rows (known_all l.path.by own) (known_all l.path.by came) (harts_among l.fn.harts
+    (length l.path.harts)))
     (flat_map (λ hart. run_rows hart (lost_runs (known_all l.path.by own) (known_all l.path.by came) hart))
-    (range_with_len l.hart (length l.path.harts - l.hart)))
+    (range_with_len l.hart (l.past - l.hart)))
     (g.O.Write.contents l.fn.out) (g.O.Write.contents l.out)

@@ -1,6 +1,5 @@
 -- The parts of the table are written one after the other: by lemmas on parts, which no tactic finds.
-use Rattle.std.proofs.Common.{◌≡◌, ◌<◌, ◌^◌, ℕ, List, Option, ap, inr, length, subst, ◌∙◌}
-use Rattle.std.specs.Prelude.{◌&&◌, ◌==◌, is_none, not}
+use Rattle.std.proofs.Common.{◌≡◌, ◌<◌, ◌^◌, ℕ, List, Option, ap, inr, length, ◌∙◌}
 use Rattle.std.specs.Io.KnownBytes.{Appends}
 use Rattle.output.specs.Begun.{AppendsBeginning}
 use Rattle.output.proofs.Beginnings.{begun_kept}
@@ -8,29 +7,32 @@ use Rattle.alike.specs.declared.by.By.{By}
 use Rattle.message.specs.declared.message.Message.{Message}
 use Rattle.resuming.specs.Counted.{messages_in}
 use Rattle.auditing.specs.Audits.{Audits}
-use Rattle.auditing.specs.Findings.{first_found}
-use Rattle.auditing.specs.Judged.{strangers_in}
 use Rattle.auditing.specs.Known.{known_all}
 use Rattle.command_inputs.proofs.Runs.{appends-keeps}
 use Rattle.path_commands.specs.AuditRows.{last_rows}
 use Rattle.path_commands.specs.AuditTable.{rows_behind}
 use Rattle.path_commands.specs.AuditText.{total_of}
 use Rattle.path_commands.specs.Came.{Came, is_whole_result}
+use Rattle.path_commands.specs.OnlyHarts.{first_of, harts_among, strangers_of}
 use Rattle.path_commands.specs.Sides.{Sent, end_of_audit, heads_differ}
+use Rattle.path_commands.specs.declared.noting.Noted.{Noted}
+use Rattle.path_commands.specs.steps.Noting.{noted_of}
 use Rattle.path_commands.specs.steps.Reading.{HasArrived}
 use Rattle.path_commands.proofs.TableRests.{all_written, begun_ending, begun_lost, begun_rows, whole_is}
 use Rattle.path_commands.proofs.tabling.write_behind.Goals.{After-write_text}
 use Rattle.path_commands.proofs.tabling.write_behind.Goals as goal
 
 pub returns-in_err-write_run_rows-clause-begun : goal.returns-in_err-write_run_rows-clause-begun
-returns-in_err-write_run_rows-clause-begun g c = λ sent came audits counted few has.
-    begun_lost c.args.path.now.by c.args.summary (record { header = c.args.path.now.header; messages = sent }) came
+returns-in_err-write_run_rows-clause-begun g c = λ sent came audits counted few has notes.
+    begun_lost c.args.path.now.by c.args.harts c.args.summary
+    (record { header = c.args.path.now.header; messages = sent }) came
     (length c.args.path.now.harts) audits.count (g.O.Write.contents c.args.out.now)
     (g.O.Write.contents c.write_run_rows.new.out) (c.write_run_rows.ensures.begun sent (messages_in came.spans) audits)
 
 pub returns-in_err-total-clause-begun : goal.returns-in_err-total-clause-begun
-returns-in_err-total-clause-begun g c = λ sent came audits counted few has.
-    begun_rows c.args.path.now.by c.args.summary (record { header = c.args.path.now.header; messages = sent }) came
+returns-in_err-total-clause-begun g c = λ sent came audits counted few has notes.
+    begun_rows c.args.path.now.by c.args.harts c.args.summary
+    (record { header = c.args.path.now.header; messages = sent }) came
     (length c.args.path.now.harts) audits.count (g.O.Write.contents c.args.out.now)
     (g.O.Write.contents c.write_run_rows.new.out) (g.O.Write.contents c.write_hart_rows.new.out)
     (c.in_ok-write_run_rows.ensures.text sent (messages_in came.spans) audits)
@@ -38,7 +40,9 @@ returns-in_err-total-clause-begun g c = λ sent came audits counted few has.
 
 module _ (g : _) (c : After-write_text g) (sent : List Message) (came : Came)
     (audits : Audits sent (messages_in came.spans) c.args.path.now) (counted : c.args.messages ≡ length (messages_in came.spans)) (few : length (messages_in came.spans) < 2 ^ 64)
-    (has : HasArrived c.args.arrived came) where
+    (has : HasArrived c.args.arrived came)
+    (notes : c.args.noted ≡ noted_of c.args.harts (known_all c.args.path.now.by sent)
+    (known_all c.args.path.now.by (messages_in came.spans))) where
   -- What is behind the lines of the harts is by what was counted.
   abbrev both : Sent
   both = record { header = c.args.path.now.header; messages = sent }
@@ -64,86 +68,91 @@ module _ (g : _) (c : After-write_text g) (sent : List Message) (came : Came)
   abbrev count : ℕ
   count = length c.args.path.now.harts
 
-  all_is : c.in_ok-total.total ≡ total_of own received count
+  all_is : c.in_ok-total.total ≡ total_of own received (harts_among c.args.harts count)
   all_is = c.in_ok-total.ensures.total sent (messages_in came.spans) audits few
 
-  strangers_is : c.strangers-count.result ≡ strangers_in own received
-  strangers_is = c.strangers-count.ensures sent (messages_in came.spans) audits few
+  strangers_is : c.args.noted.strangers ≡ strangers_of c.args.harts own received
+  strangers_is = ap (λ (n : Noted). n.strangers) notes
 
   unlike_is : c.are_unlike-unlike.result ≡ heads_differ c.args.path.now.header c.args.arrived.header c.args.arrived.fault
   unlike_is =
       c.are_unlike-unlike.ensures
       ∙ ap (λ own. heads_differ own c.args.arrived.header c.args.arrived.fault) c.header.ensures
 
-  first_is : c.first.result ≡ first_found own received
-  first_is = c.first.ensures sent (messages_in came.spans) audits few
+  first_is : c.args.noted.first ≡ first_of c.args.harts own received
+  first_is = ap (λ (n : Noted). n.first) notes
 
   abbrev written : List ℕ
   written =
-      last_rows c.in_ok-total.total c.args.messages c.first.result c.are_unlike-unlike.result c.args.arrived.bytes
-      c.strangers-count.result c.args.arrived.runs c.is_whole-whole.result
+      last_rows c.in_ok-total.total c.args.messages c.args.noted.first c.are_unlike-unlike.result c.args.arrived.bytes
+      c.args.noted.strangers c.args.arrived.runs c.is_whole-whole.result
 
   ending_begun : (new : Option (List ℕ)) → AppendsBeginning written second new
-      → AppendsBeginning (rows_behind how c.args.summary both came) begins new
+      → AppendsBeginning (rows_behind how c.args.harts c.args.summary both came) begins new
   ending_begun new begun =
-      begun_ending how c.args.summary both came count audits.count c.args.arrived has c.in_ok-total.total
-      c.are_unlike-unlike.result c.is_undamaged.result c.is_whole-whole.result c.strangers-count.result c.args.messages c.first.result
+      begun_ending how c.args.harts c.args.summary both came count audits.count c.args.arrived has c.in_ok-total.total
+      c.are_unlike-unlike.result c.is_undamaged.result c.is_whole-whole.result c.args.noted.strangers c.args.messages
+      c.args.noted.first
       counted all_is strangers_is unlike_is c.is_undamaged.ensures first_is c.is_whole-whole.ensures begins first second new
       (c.in_ok-write_run_rows.ensures.text sent (messages_in came.spans) audits)
       (c.in_ok-total.ensures.text sent (messages_in came.spans) audits few)
       begun
 
   ending_all : (new : Option (List ℕ)) → Appends second new written
-      → Appends begins new (rows_behind how c.args.summary both came)
+      → Appends begins new (rows_behind how c.args.harts c.args.summary both came)
   ending_all new text =
-      all_written how c.args.summary both came count audits.count c.args.arrived has c.in_ok-total.total
-      c.are_unlike-unlike.result c.is_undamaged.result c.is_whole-whole.result c.strangers-count.result c.args.messages c.first.result
+      all_written how c.args.harts c.args.summary both came count audits.count c.args.arrived has c.in_ok-total.total
+      c.are_unlike-unlike.result c.is_undamaged.result c.is_whole-whole.result c.args.noted.strangers c.args.messages
+      c.args.noted.first
       counted all_is strangers_is unlike_is c.is_undamaged.ensures first_is c.is_whole-whole.ensures begins first second new
       (c.in_ok-write_run_rows.ensures.text sent (messages_in came.spans) audits)
       (c.in_ok-total.ensures.text sent (messages_in came.spans) audits few)
       text
 
-  whole : c.is_whole-whole.result ≡ is_whole_result how both came
+  whole : c.is_whole-whole.result ≡ is_whole_result how c.args.harts both came
   whole =
-      whole_is how c.args.summary both came count audits.count c.args.arrived has c.in_ok-total.total
-      c.are_unlike-unlike.result c.is_undamaged.result c.is_whole-whole.result c.strangers-count.result c.args.messages c.first.result
+      whole_is how c.args.harts c.args.summary both came count audits.count c.args.arrived has c.in_ok-total.total
+      c.are_unlike-unlike.result c.is_undamaged.result c.is_whole-whole.result c.args.noted.strangers c.args.messages
+      c.args.noted.first
       counted all_is strangers_is unlike_is c.is_undamaged.ensures first_is c.is_whole-whole.ensures
 
 pub returns-in_err-write_text-clause-begun : goal.returns-in_err-write_text-clause-begun
-returns-in_err-write_text-clause-begun g c = λ sent came audits counted few has.
-    ending_begun g (goal.at.returns-in_err-write_text-clause-begun g c).After-write_text sent came audits counted few has
+returns-in_err-write_text-clause-begun g c = λ sent came audits counted few has notes.
+    ending_begun g (goal.at.returns-in_err-write_text-clause-begun g c).After-write_text sent came audits counted few
+    has notes
     (g.O.Write.contents c.write_text.new.out) c.write_text.ensures.begun
 
 pub returns-in_err-flush-clause-begun : goal.returns-in_err-flush-clause-begun
-returns-in_err-flush-clause-begun g c = λ sent came audits counted few has.
+returns-in_err-flush-clause-begun g c = λ sent came audits counted few has notes.
     let mid = g.O.Write.contents c.write_text.new.out in
     let new = g.O.Write.contents c.flush.new.self in
     let at = (goal.at.returns-in_err-flush-clause-begun g c).After-write_text in
-    let text = rows_behind c.args.path.now.by c.args.summary
+    let text = rows_behind c.args.path.now.by c.args.harts c.args.summary
     (record { header = c.args.path.now.header; messages = sent }) came in
     begun_kept text (g.O.Write.contents c.args.out.now) mid new
-    (ending_begun g at sent came audits counted few has mid c.write_text.ensures.begun) c.flush.ensures.bytes
+    (ending_begun g at sent came audits counted few has notes mid c.write_text.ensures.begun) c.flush.ensures.bytes
 
 pub returns-clause-begun : goal.returns-clause-begun
-returns-clause-begun g c = λ sent came audits counted few has.
+returns-clause-begun g c = λ sent came audits counted few has notes.
     let mid = g.O.Write.contents c.write_text.new.out in
     let new = g.O.Write.contents c.flush.new.self in
     let at = (goal.at.returns-clause-begun g c).After-write_text in
-    let text = rows_behind c.args.path.now.by c.args.summary
+    let text = rows_behind c.args.path.now.by c.args.harts c.args.summary
     (record { header = c.args.path.now.header; messages = sent }) came in
     begun_kept text (g.O.Write.contents c.args.out.now) mid new
-    (ending_begun g at sent came audits counted few has mid c.write_text.ensures.begun) c.flush.ensures.bytes
+    (ending_begun g at sent came audits counted few has notes mid c.write_text.ensures.begun) c.flush.ensures.bytes
 
 pub returns-clause-written : goal.returns-clause-written
-returns-clause-written g c = λ sent came audits counted few has.
+returns-clause-written g c = λ sent came audits counted few has notes.
     let mid = g.O.Write.contents c.write_text.new.out in
     let new = g.O.Write.contents c.flush.new.self in
     let at = (goal.at.returns-clause-written g c).After-write_text in
-    let text = rows_behind c.args.path.now.by c.args.summary
+    let text = rows_behind c.args.path.now.by c.args.harts c.args.summary
     (record { header = c.args.path.now.header; messages = sent }) came in
     inr (
       appends-keeps (g.O.Write.contents c.args.out.now) mid new text
-          (ending_all g at sent came audits counted few has mid c.in_ok-write_text.ensures.whole) c.flush.ensures.bytes,
+          (ending_all g at sent came audits counted few has notes mid c.in_ok-write_text.ensures.whole)
+          c.flush.ensures.bytes,
       c.ended.ensures.value
-          ∙ (λ i. end_of_audit c.args.received (has.fault i) (whole g at sent came audits counted few has i)),
+          ∙ (λ i. end_of_audit c.args.received (has.fault i) (whole g at sent came audits counted few has notes i)),
     )

@@ -1,17 +1,19 @@
 -- The rows are written one after the other: by lemmas on parts of a text, which no tactic finds.
-use Rattle.std.proofs.Common.{◌≡◌, ◌+◌, ◌-◌, ◌^◌, ◌<◌, ◌≤◌, ◌∙◌, length, ap, subst, sym, arith}
+use Rattle.std.proofs.Common.{◌+◌, ◌^◌, ◌<◌, ◌≤◌, ◌∙◌, length, ap, refl, subst, sym, arith}
 use Rattle.std.specs.Io.KnownBytes.{Appends}
-use Rattle.std.specs.List.{flat_map, range_with_len}
+use Rattle.std.specs.List.{flat_map}
 use Rattle.output.specs.Begun.{AppendsBeginning}
 use Rattle.output.proofs.Beginnings.{whole_begun}
 use Rattle.auditing.specs.Known.{known_all}
 use Rattle.auditing.specs.HartRows.{row_of}
-use Rattle.path_commands.proofs.HartLines.{hart_begun, hart_more, harts_all}
+use Rattle.path_commands.specs.OnlyHarts.{harts_among}
+use Rattle.path_commands.proofs.HartLines.{among_is, hart_begun, hart_more, harts_all}
 use Rattle.tables.proofs.Parts.{HasWritten, part_none}
 use Rattle.path_commands.proofs.Sums.{AreFew, IsTotal, few_by, total_all, total_more, total_none}
 use Rattle.tables.specs.Fields.{fields_line}
 use Rattle.path_commands.specs.AuditRows.{hart_fields, hart_rows}
-use Rattle.path_commands.specs.steps.Summing.{added}
+use Rattle.path_commands.specs.AuditText.{total_of}
+use Rattle.path_commands.specs.steps.Summing.{added, none_added}
 use Rattle.path_commands.proofs.tabling.write_hart_rows.Goals as goal
 
 pub loop-hart-init : goal.loop-hart-init
@@ -19,12 +21,19 @@ loop-hart-init g c = λ own came audits few.
     let sent = known_all c.args.path.now.by own in
     let received = known_all c.args.path.now.by came in
     let count = length c.args.path.now.harts in
-    let whole = hart_rows sent received count in
+    let whole = hart_rows sent received (harts_among c.args.harts count) in
     let out = g.O.Write.contents c.args.out.now in
-    let all : count ≡ count - 0 = omega arith in (
-      subst (λ n. HasWritten whole (flat_map (λ hart. fields_line (hart_fields hart (row_of sent received hart))) (range_with_len 0 n))
-          out out) all (part_none whole out),
-      subst (λ total. IsTotal sent received total 0 count) (sym c.new-total.ensures) (total_none sent received count),
+    let past = c.past_among-past.result in
+    let is =
+    among_is c.args.harts c.from-hart.result c.past_among-past.result c.harts.result count c.from-hart.ensures
+    c.past_among-past.ensures.past
+    c.harts.ensures in (
+      subst (λ harts. HasWritten whole (flat_map (λ hart. fields_line (hart_fields hart
+          (row_of sent received hart))) harts)
+          out out) (sym is) (part_none whole out),
+      subst (λ total. IsTotal sent received total c.args.harts.first c.from-hart.result past) (sym c.new-total.ensures)
+          (subst (λ hart. IsTotal sent received none_added c.args.harts.first hart past) (sym c.from-hart.ensures)
+          (total_none sent received c.args.harts.first past)),
     )
 
 pub loop-hart-preserved : goal.loop-hart-preserved
@@ -34,8 +43,9 @@ loop-hart-preserved g c = λ own came audits few.
     let count = length c.args.path.now.harts in
     let hart = c.loop-hart.hart in
     let row = c.row-row.result in
-    let within : hart < count = omega arith in
-    let most : count < 2 ^ 64 = omega arith in
+    let past = c.past_among-past.result in
+    let within : hart < past = omega arith in
+    let most : past < 2 ^ 64 = omega arith in
     let is = c.row-row.ensures own came audits few in
     let mid = g.O.Write.contents c.loop-hart.out in
     let new = g.O.Write.contents c.write_text.new.out in
@@ -43,11 +53,13 @@ loop-hart-preserved g c = λ own came audits few.
     let rows : AreFew row =
     few_by row (omega arith) (omega arith) (omega arith) (omega arith) (omega arith) (omega arith) (omega arith) in
     let has = c.loop-hart.invariant own came audits few in (
-      hart_more (λ hart. fields_line (hart_fields hart (row_of sent received hart))) (hart_rows sent received count) count
+      hart_more (λ hart. fields_line (hart_fields hart (row_of sent received hart))) (hart_rows sent received
+          (harts_among c.args.harts count)) past
           (g.O.Write.contents c.args.out.now) mid hart new within has.0 line,
-      subst (λ total. IsTotal sent received total (hart + 1) count)
+      subst (λ total. IsTotal sent received total c.args.harts.first (hart + 1) past)
           (sym (c.add-total.ensures ∙ ap (added c.loop-hart.total) is))
-          (total_more sent received c.loop-hart.total hart count within most (subst AreFew is rows) has.1),
+          (total_more sent received c.loop-hart.total c.args.harts.first hart past within most
+          (subst AreFew is rows) has.1),
     )
 
 pub returns-in_err-write_text-clause-begun : goal.returns-in_err-write_text-clause-begun
@@ -56,13 +68,15 @@ returns-in_err-write_text-clause-begun g c = λ own came audits few.
     let received = known_all c.args.path.now.by came in
     let count = length c.args.path.now.harts in
     let hart = c.loop-hart.hart in
-    let within : hart < count = omega arith in
+    let past = c.past_among-past.result in
+    let within : hart < past = omega arith in
     let is = c.row-row.ensures own came audits few in
     let mid = g.O.Write.contents c.loop-hart.out in
     let new = g.O.Write.contents c.write_text.new.out in
     let line = subst (λ row. AppendsBeginning (fields_line (hart_fields hart row)) mid new) is c.write_text.ensures.begun in
     let has = c.loop-hart.invariant own came audits few in
-    hart_begun (λ hart. fields_line (hart_fields hart (row_of sent received hart))) (hart_rows sent received count) count
+    hart_begun (λ hart. fields_line (hart_fields hart (row_of sent received hart))) (hart_rows sent received
+    (harts_among c.args.harts count)) past
     (g.O.Write.contents c.args.out.now) mid hart new within has.0 line
 
 pub returns-clause-text : goal.returns-clause-text
@@ -70,23 +84,30 @@ returns-clause-text g c = λ own came audits few.
     let sent = known_all c.args.path.now.by own in
     let received = known_all c.args.path.now.by came in
     let count = length c.args.path.now.harts in
-    let past : count ≤ c.loop-hart.hart = omega arith in
+    let past = c.past_among-past.result in
+    let over : past ≤ c.loop-hart.hart = omega arith in
     let has = c.loop-hart.invariant own came audits few in
-    harts_all (λ hart. fields_line (hart_fields hart (row_of sent received hart))) (hart_rows sent received count) count
-    (g.O.Write.contents c.args.out.now) (g.O.Write.contents c.loop-hart.out) c.loop-hart.hart past has.0
+    harts_all (λ hart. fields_line (hart_fields hart (row_of sent received hart))) (hart_rows sent received
+    (harts_among c.args.harts count)) past
+    (g.O.Write.contents c.args.out.now) (g.O.Write.contents c.loop-hart.out) c.loop-hart.hart over has.0
 
 pub returns-clause-total : goal.returns-clause-total
 returns-clause-total g c = λ own came audits few.
     let sent = known_all c.args.path.now.by own in
     let received = known_all c.args.path.now.by came in
     let count = length c.args.path.now.harts in
-    let past : count ≤ c.loop-hart.hart = omega arith in
+    let past = c.past_among-past.result in
+    let over : past ≤ c.loop-hart.hart = omega arith in
     let has = c.loop-hart.invariant own came audits few in
-    total_all sent received c.loop-hart.total c.loop-hart.hart count past has.1
+    total_all sent received c.loop-hart.total c.args.harts.first c.loop-hart.hart past over has.1
+    ∙ ap (total_of sent received)
+    (among_is c.args.harts c.args.harts.first past c.harts.result count refl c.past_among-past.ensures.past
+    c.harts.ensures)
 
 pub returns-clause-begun : goal.returns-clause-begun
 returns-clause-begun g c = λ own came audits few.
     let sent = known_all c.args.path.now.by own in
     let received = known_all c.args.path.now.by came in
-    whole_begun (hart_rows sent received (length c.args.path.now.harts)) (g.O.Write.contents c.args.out.now)
+    whole_begun (hart_rows sent received (harts_among c.args.harts (length c.args.path.now.harts)))
+    (g.O.Write.contents c.args.out.now)
     (g.O.Write.contents c.loop-hart.out) (returns-clause-text g c own came audits few)

@@ -6,13 +6,15 @@ use Rattle.output.specs.Begun.{AppendsBeginning}
 use Rattle.auditing.specs.Known.{known_all}
 use Rattle.path_commands.specs.AuditRows.{all_run_rows}
 use Rattle.path_commands.specs.AuditText.{unless_summary}
+use Rattle.path_commands.specs.OnlyHarts.{harts_among}
 use Rattle.path_commands.proofs.tabling.write_run_rows.Goals as goal
 
 pub returns-clause-text : goal.returns-clause-text
 returns-clause-text g c = λ sent received audits.
     let how = c.args.path.now.by in
     let rows =
-    all_run_rows (known_all how sent) (known_all how received) (length c.args.path.now.harts) in
+    all_run_rows (known_all how sent) (known_all how received) (harts_among c.args.harts
+    (length c.args.path.now.harts)) in
     subst
     (λ summary. OnOk c.write_all_runs.result (Appends (g.O.Write.contents c.args.out.now)
     (g.O.Write.contents c.write_all_runs.new.out) (unless_summary summary rows))) (sym c.if-summary.false)
@@ -22,7 +24,8 @@ pub returns-clause-begun : goal.returns-clause-begun
 returns-clause-begun g c = λ sent received audits.
     let how = c.args.path.now.by in
     let rows =
-    all_run_rows (known_all how sent) (known_all how received) (length c.args.path.now.harts) in
+    all_run_rows (known_all how sent) (known_all how received) (harts_among c.args.harts
+    (length c.args.path.now.harts)) in
     subst
     (λ summary. AppendsBeginning (unless_summary summary rows) (g.O.Write.contents c.args.out.now)
     (g.O.Write.contents c.write_all_runs.new.out)) (sym c.if-summary.false) (c.write_all_runs.ensures.begun sent received audits)

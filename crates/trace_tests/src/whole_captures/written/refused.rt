@@ -2,13 +2,17 @@
 
 use super::told::Told;
 use super::written;
-use crate::fixtures::{BRANCH_LOOP, program_of};
+use crate::fixtures::{BRANCH_LOOP, program_of, short_log, short_words};
 use crate::refused_captures::{CAPTURE, FULL};
 use crate::same::same_at;
+use crate::whole_captures::{capture_of, copies_of};
 use hart_rows::write_decoded;
+use payload::Mode;
 use refusing::{FailingWriter, Refusing};
 use retire::WriteFault;
 use rvclass::Program;
+use std::io;
+use std::io::{ErrorKind, Write};
 use std::process::Abort;
 
 /// The requests: for the numbers, the decoders, the flags and the counts of the harts; for the list of places and for
@@ -37,6 +41,61 @@ fn each_request(rt: HostRuntime) {
     let program = program_of(&rt, &[BRANCH_LOOP]);
     are_refused(&rt, &program, &CAPTURE);
     are_refused(&rt, &program, &FULL);
+}
+
+/// However long the logs are, no other request is made: their text goes through one buffer, and their events through one
+/// piece. Here the next request would be refused.
+#[test]
+fn long_logs_request_no_more(rt: HostRuntime) {
+    let program = short_words(&rt, 70_000);
+    let logs = copies_of(&rt, &program, &short_log(&rt, 70_000), 2);
+    for period in [7, 20_000] {
+        let capture = capture_of(&rt, &logs, period, Mode::Differential);
+        let (whole, _) = written(&rt, &program, 2, &capture);
+        let heap = Refusing::new(rt.alloc(), REQUESTS);
+        let mut text = Vec::new(rt.alloc());
+        let fault = write_decoded(&heap, &program, 2, &capture, &Told::new(), &mut text).err();
+        same_at(&rt, period, fault, None);
+        assert!(rt; text == whole, "at {period}: another text");
+        same_at(&rt, period, heap.requests(), REQUESTS);
+    }
+}
+
+/// An output that fails at what is written while the first pass was not told to have ended.
+#[derive(Drop)]
+struct Late<'a> {
+    told: &'a Told,
+    held: Vec<u8>,
+}
+
+impl Write for Late<'_> {
+    fn write(&mut self, buf: &[u8]) -> io::Result<usize> {
+        if self.told.ends() != 1 {
+            return Err(io::Error::from(ErrorKind::StorageFull));
+        }
+        self.held.extend_from_slice(buf)?;
+        Ok(buf.len())
+    }
+
+    fn flush(&mut self) -> io::Result<()> {
+        Ok(())
+    }
+}
+
+#[test]
+fn the_first_pass_ends_before_the_first_row(rt: HostRuntime) {
+    let program = program_of(&rt, &[BRANCH_LOOP]);
+    for capture in [CAPTURE.as_slice(), &FULL, &CAPTURE[..70], &[1], &[]] {
+        let (whole, _) = written(&rt, &program, 2, capture);
+        let told = Told::new();
+        let mut out = Late {
+            told: &told,
+            held: Vec::new(rt.alloc()),
+        };
+        let fault = write_decoded(rt.alloc(), &program, 2, capture, &told, &mut out).err();
+        same_at(&rt, capture.len(), fault, None);
+        same_at(&rt, capture.len(), out.held.as_slice(), whole.as_slice());
+    }
 }
 
 /// An output that takes a byte a call, and fails after this many calls, holds as many bytes of the text.

@@ -1,8 +1,7 @@
 -- What the hart's decoder answers, for the decoder that stands at the hart's place: by lemmas on lists, which no tactic
 -- finds.
-use Rattle.std.proofs.Common.{ℕ, ◌≡◌, ◌++◌, List, length, set, refl, subst, sym, ap, arith}
-use Rattle.std.specs.Prelude.{IfErr}
-use Rattle.std.proofs.lemmas.Result.{IfErr-at_err, err_from_is_err_and}
+use Rattle.std.proofs.Common.{ℕ, ◌++◌, List, set, refl, sym, ap, arith}
+use Rattle.std.proofs.lemmas.Result.{err_from_is_err_and}
 use Rattle.retire.specs.declared.event.Event.{Event}
 use Rattle.rvclass.specs.Fetch.{words_of}
 use Rattle.decoder.specs.DecoderStands.{DecoderStands}

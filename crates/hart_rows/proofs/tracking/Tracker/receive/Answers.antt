@@ -1,5 +1,5 @@
 -- Both calls in turn: the decoder's clauses are of packets, so what was accepted has to be said of them.
-use Rattle.std.proofs.Common.{◌≡◌, ◌++◌, ℕ, List, [], ◌∷◌, Ok, IfOk, OnOk, inr, refl, sym, subst, ◌∙◌}
+use Rattle.std.proofs.Common.{◌≡◌, ◌++◌, ℕ, List, [], ◌∷◌, Ok, OnOk, inr, refl, sym, subst, ◌∙◌}
 use Rattle.retire.specs.declared.event.Event.{Event}
 use Rattle.rvclass.specs.Fetch.{words_of}
 use Rattle.payload.specs.Reading.{reading}

@@ -6,25 +6,25 @@ use Rattle.tables.specs.Fields.{fields_line}
 use Rattle.salvaged_table.specs.Offsets.{own_offsets}
 use Rattle.salvaged_table.specs.Rows.{columns}
 use Rattle.salvaged_table.specs.Table.{harts_rows, rest_rows}
-use Rattle.salvaged_table.proofs.table.write_salvaged_table.Goals as goal
+use Rattle.salvaged_table.proofs.table.write_salvaged_harts.Goals as goal
 
 pub returns-in_err-write_text-clause-begun : goal.returns-in_err-write_text-clause-begun
 returns-in_err-write_text-clause-begun g c =
     begun_in_front (fields_line columns)
-    (harts_rows c.args.header (own_offsets c.args.offsets.now) 0 c.args.harts.now
+    (harts_rows c.args.header (own_offsets c.args.offsets.now) c.args.first c.args.harts.now
     ++ rest_rows c.args.spans c.args.strangers) (g.W.Write.contents c.args.sink.now)
     (g.W.Write.contents c.write_text.new.out) c.write_text.ensures.begun
 
 pub returns-in_err-write_harts-clause-begun : goal.returns-in_err-write_harts-clause-begun
 returns-in_err-write_harts-clause-begun g c =
-    begun_between (fields_line columns) (harts_rows c.args.header (own_offsets c.args.offsets.now) 0 c.args.harts.now)
+    begun_between (fields_line columns) (harts_rows c.args.header (own_offsets c.args.offsets.now) c.args.first c.args.harts.now)
     (rest_rows c.args.spans c.args.strangers) (g.W.Write.contents c.args.sink.now)
     (g.W.Write.contents c.write_text.new.out) (g.W.Write.contents c.write_harts.new.sink)
     c.in_ok-write_text.ensures.whole c.write_harts.ensures.begun
 
 pub returns-clause-text : goal.returns-clause-text
 returns-clause-text g c =
-    let harts = harts_rows c.args.header (own_offsets c.args.offsets.now) 0 c.args.harts.now in
+    let harts = harts_rows c.args.header (own_offsets c.args.offsets.now) c.args.first c.args.harts.now in
     let rest = rest_rows c.args.spans c.args.strangers in
     let mid = g.W.Write.contents c.write_text.new.out in
     let new = g.W.Write.contents c.write_rest.new.sink in
@@ -35,7 +35,7 @@ returns-clause-text g c =
 
 pub returns-clause-begun : goal.returns-clause-begun
 returns-clause-begun g c =
-    let harts = harts_rows c.args.header (own_offsets c.args.offsets.now) 0 c.args.harts.now in
+    let harts = harts_rows c.args.header (own_offsets c.args.offsets.now) c.args.first c.args.harts.now in
     let rest = rest_rows c.args.spans c.args.strangers in
     let mid = g.W.Write.contents c.write_text.new.out in
     let new = g.W.Write.contents c.write_rest.new.sink in
