@@ -28,8 +28,9 @@
  * - No proof bounds the stack. Over logs of 200,000 rows and images of up to 16 MiB the calls took at most 19 kB of it.
  * - Numbers and structs are aligned as C aligns them, a struct to 8 bytes. Bytes are aligned to nothing.
  * - The library is built for x86-64-v2, 64-bit processors with SSE4.2 and POPCNT, and does not check for them.
- * - No call copies the image but tracebench_encode and tracebench_encode_over_pieces, once. So no other call takes longer
- *   with a longer image: a push, a finish and a tracebench_follow look at a few instructions of it, tracebench_push_all
+ * - No call copies the image but tracebench_encode and tracebench_encode_over_pieces, once. Once a packet is refused,
+ *   tracebench_salvage and tracebench_list_salvaged make a table of 4 bytes for each byte of the image. No other call
+ *   takes longer with a longer image: a push, a finish and a tracebench_follow look at a few instructions of it, tracebench_push_all
  *   at a few for each event, and a feed, tracebench_feed_all and tracebench_receive at those that their packets pass.
  *   They may be called with an image of 16 MiB as with one of 64 bytes.
  * - Else a call takes time in proportion to the bytes that it is given and the events that it settles, the same if it
@@ -926,7 +927,7 @@ struct tracebench_audit_end {
 uint32_t tracebench_audit(const uint8_t *sent, size_t sent_length, const uint8_t *received, size_t received_length,
                           uint16_t hart, struct tracebench_tally *tally, struct tracebench_audit_end *ended);
 
-/* How tracebench_audit_all compares messages. */
+/* How tracebench_audit_all and tracebench_audit_unnumbered compare messages. */
 #define TRACEBENCH_BY_PACKETS 1u /* payloads by the packets that they unpack to, and not by their bytes */
 
 /* What became of a message of RECEIVED: the first of these that applies, from the last on. */
@@ -999,8 +1000,8 @@ struct tracebench_path_end {
 /*
  * Audits RECEIVED against SENT, both captures, and reports what became of the messages of all harts of SENT: what
  * `tracebench audit` prints. SENT is checked to its end first. In RECEIVED the messages are found among damaged bytes,
- * as the program finds them, which tracebench_audit does not do. `flags` is 0 or TRACEBENCH_BY_PACKETS. There is no
- * flag to compare messages without their numbers, as `tracebench audit --unnumbered` does.
+ * as the program finds them, which tracebench_audit does not do. `flags` is 0 or TRACEBENCH_BY_PACKETS.
+ * tracebench_audit_unnumbered compares messages without their numbers.
  *
  * `rows` is for what is found of each hart, hart 0 first, `arrivals` for the messages of RECEIVED that are taken, in
  * their order, `lost` for the longest runs of numbers that were lost, hart by hart, and `runs` for the longest runs of
@@ -1024,6 +1025,80 @@ uint32_t tracebench_audit_all(const uint8_t *sent, size_t sent_length, const uin
                               struct tracebench_lost_run *lost, size_t lost_length, struct tracebench_byte_run *runs,
                               size_t runs_length, struct tracebench_sent_place *refused,
                               struct tracebench_path_end *ended);
+
+/* What tracebench_audit_unnumbered says of a message: this, TRACEBENCH_FATE_STRANGER or TRACEBENCH_FATE_IN_ORDER. */
+#define TRACEBENCH_FATE_EXTRA 5u /* it is matched with no message of SENT */
+
+/* What is found of a hart of SENT by payloads alone. */
+struct tracebench_aligned_row {
+    uint64_t sent;    /* how many messages of the hart SENT has */
+    uint64_t came;    /* how many messages of the hart RECEIVED has */
+    uint64_t lost;    /* how many messages of SENT are matched with none that came */
+    uint64_t extra;   /* how many messages that came are matched with none of SENT */
+    uint64_t runs;    /* in how many longest runs its lost numbers are */
+    uint64_t longest; /* how many numbers the longest of these runs has; 0 where none is lost */
+    uint32_t whole;   /* 1 where nothing is lost and nothing is extra */
+};
+
+/* A message of RECEIVED that is a stranger, is extra, or is matched and skips numbers. */
+struct tracebench_single {
+    uint64_t place;  /* how many messages of RECEIVED come before it, of whatever hart */
+    uint64_t number; /* of one that is matched the number of SENT that it is matched with; 0 of the others */
+    uint64_t skips;  /* of one that is matched how many numbers are lost between it and the last one matched before it,
+                        1 or more; 0 of the others */
+    uint32_t fate;   /* TRACEBENCH_FATE_IN_ORDER where it is matched, TRACEBENCH_FATE_EXTRA or
+                        TRACEBENCH_FATE_STRANGER, where SENT has no such hart */
+    uint16_t hart;   /* its hart */
+};
+
+/* What is found of a path by payloads alone, beside its harts and its messages. */
+struct tracebench_aligned_end {
+    size_t harts;                             /* how many harts SENT has */
+    size_t messages;                          /* how many messages RECEIVED has, up to where reading stops */
+    size_t singles;                           /* how many of them are strangers, are extra, or skip numbers */
+    size_t lost_runs;                         /* how many longest runs of numbers were lost, of all harts */
+    uint64_t strangers;                       /* how many strangers came, of whatever hart */
+    uint64_t first;                           /* the place of the first that is a stranger, is extra, or skips numbers;
+                                                 0 where there is none */
+    struct tracebench_header sent_header;     /* the header of SENT; all 0 where it has none */
+    struct tracebench_header received_header; /* that of RECEIVED; all 0 where it has none that is valid */
+    uint32_t has_sent_header;                 /* 1 where SENT has a header */
+    uint32_t has_received_header;             /* 1 where RECEIVED has one that is valid */
+    uint32_t header_fault;                    /* why it has none, where it begins as a capture of version 2 does:
+                                                 TRACEBENCH_SHORT or TRACEBENCH_BAD_HEADER; else 0 */
+    uint32_t fault;                           /* why reading stops before the last byte of RECEIVED: the same, or
+                                                 TRACEBENCH_SHORT or TRACEBENCH_BAD_LENGTH; 0 at the end */
+    uint32_t headers_differ;                  /* 1 where both have one and these differ, or SENT has one and that of
+                                                 RECEIVED is cut or not valid */
+    uint32_t has_first;                       /* 1 where some message is a stranger, is extra, or skips numbers */
+    uint32_t whole;                           /* 1 where every hart is whole, no stranger came, headers do not differ,
+                                                 and `fault` is 0 */
+};
+
+/*
+ * Audits RECEIVED against SENT, both captures, by the payloads of the messages alone, and reports what became of those
+ * of all harts of SENT: what `tracebench audit --unnumbered` prints. For each hart, the payloads that came are matched
+ * in order with those that were sent: what was sent and is not matched is lost, what came and is not matched is extra.
+ * SENT is checked to its end first, its numbers too. In RECEIVED numbers are not looked at. It is read by the lengths
+ * of its messages, up to the first place where there is none; what comes before that place is audited. `flags` is 0 or
+ * TRACEBENCH_BY_PACKETS.
+ *
+ * `rows` is for what is found of each hart, hart 0 first, `singles` for the messages of RECEIVED that are strangers,
+ * are extra, or skip numbers, in their order, and `lost` for the longest runs of numbers that were lost, hart by hart.
+ * `*ended` is how many there are of each, and what else is found. Arrays, statuses and `*refused` are as with
+ * tracebench_audit_all. The call takes memory for the messages of both captures, and for the search.
+ *
+ *     struct tracebench_aligned_row rows[4];
+ *     struct tracebench_sent_place refused;
+ *     struct tracebench_aligned_end ended;
+ *     uint32_t status = tracebench_audit_unnumbered(sent, sent_length, received, received_length, 0, rows, 4, singles,
+ *                                                   1000, lost, 100, &refused, &ended);
+ */
+uint32_t tracebench_audit_unnumbered(const uint8_t *sent, size_t sent_length, const uint8_t *received,
+                                     size_t received_length, uint32_t flags, struct tracebench_aligned_row *rows,
+                                     size_t rows_length, struct tracebench_single *singles, size_t singles_length,
+                                     struct tracebench_lost_run *lost, size_t lost_length,
+                                     struct tracebench_sent_place *refused, struct tracebench_aligned_end *ended);
 
 /* Texts of all harts. */
 
@@ -1088,6 +1163,50 @@ uint32_t tracebench_list(uint64_t base, const uint8_t *image, size_t image_lengt
                          const uint8_t *capture, size_t capture_length, const uint8_t *symbols, size_t symbols_length,
                          uint32_t format, uint8_t *buffer, size_t buffer_length, size_t *wanted,
                          struct tracebench_text_end *ended);
+
+/* A layout of tracebench_salvage alone. */
+#define TRACEBENCH_SUMMARY 2u /* lines without the rows of logs */
+
+/* A count of harts for tracebench_salvage and tracebench_list_salvaged. */
+#define TRACEBENCH_HARTS_SHOWN 65535u /* as many as the messages show */
+
+/*
+ * Writes what is left of the logs of a capture, whatever happened to its bytes, as `tracebench salvage` prints it:
+ * messages may be lost, repeated, out of order, changed or cut, and other bytes may be among them. The messages are
+ * looked for among all bytes after a valid header, and without one from the first byte on. The harts are those that the
+ * header counts. Without a valid header they are those below `harts`, and with TRACEBENCH_HARTS_SHOWN those up to the
+ * highest hart of a message, hart 0 at least. `format` is TRACEBENCH_TEXT for a line for each part and the rows of each
+ * stretch, TRACEBENCH_SUMMARY for the lines alone, or TRACEBENCH_CSV for a table.
+ *
+ * In `*ended` `place` is 0. `fault` is 0, or where the capture begins as one of version 2 does TRACEBENCH_SHORT or
+ * TRACEBENCH_BAD_HEADER: its header is cut short or bad. What is left is written all the same. `unclosed` is the lowest
+ * hart whose closing packet is not found. `whole` is 1 if and only if `fault` is 0, each hart is closed, no number is
+ * missing, bad, doubtful or alone, no message is of another hart, and each byte belongs to a message.
+ *
+ * The status is TRACEBENCH_DONE, TRACEBENCH_TOO_SMALL, TRACEBENCH_OUT_OF_RANGE where the format is none,
+ * TRACEBENCH_MEMORY, or says what is wrong with the image. `*ended` is written with the first two. Memory grows
+ * with the bytes of the capture, the harts and the events that are left, and once a packet is refused with the image.
+ * Where messages are not in the order of their numbers, time also grows with the logarithm of how many a hart has.
+ *
+ *     struct tracebench_text_end ended;
+ *     uint32_t status = tracebench_salvage(base, image, image_length, TRACEBENCH_HARTS_SHOWN, capture, capture_length,
+ *                                          TRACEBENCH_SUMMARY, text, text_length, &wanted, &ended);
+ */
+uint32_t tracebench_salvage(uint64_t base, const uint8_t *image, size_t image_length, uint16_t harts,
+                            const uint8_t *capture, size_t capture_length, uint32_t format, uint8_t *buffer,
+                            size_t buffer_length, size_t *wanted, struct tracebench_text_end *ended);
+
+/*
+ * Writes what tracebench_salvage does with each message of a capture, as `tracebench list --salvage` prints it: where
+ * the message is, what it says, and whether it adds events, is passed over, a copy, doubtful, alone, bad or a stranger;
+ * and where bytes belong to no message. The symbols and the format are those of tracebench_list, and the messages,
+ * `harts` and `*ended` those of tracebench_salvage. The statuses are those of tracebench_list. The messages are worked
+ * through twice.
+ */
+uint32_t tracebench_list_salvaged(uint64_t base, const uint8_t *image, size_t image_length, uint16_t harts,
+                                  const uint8_t *capture, size_t capture_length, const uint8_t *symbols,
+                                  size_t symbols_length, uint32_t format, uint8_t *buffer, size_t buffer_length,
+                                  size_t *wanted, struct tracebench_text_end *ended);
 
 /*
  * Writes the table of what the logs of harts cost, as `tracebench measure` prints it: how many packets of each kind
@@ -1231,6 +1350,17 @@ uint32_t tracebench_list_over_pieces(const struct tracebench_piece *pieces, size
                                      const uint8_t *capture, size_t capture_length, const uint8_t *symbols,
                                      size_t symbols_length, uint32_t format, uint8_t *buffer, size_t buffer_length,
                                      size_t *wanted, struct tracebench_text_end *ended);
+
+uint32_t tracebench_salvage_over_pieces(const struct tracebench_piece *pieces, size_t pieces_length, uint16_t harts,
+                                        const uint8_t *capture, size_t capture_length, uint32_t format,
+                                        uint8_t *buffer, size_t buffer_length, size_t *wanted,
+                                        struct tracebench_text_end *ended);
+
+uint32_t tracebench_list_salvaged_over_pieces(const struct tracebench_piece *pieces, size_t pieces_length,
+                                              uint16_t harts, const uint8_t *capture, size_t capture_length,
+                                              const uint8_t *symbols, size_t symbols_length, uint32_t format,
+                                              uint8_t *buffer, size_t buffer_length, size_t *wanted,
+                                              struct tracebench_text_end *ended);
 
 uint32_t tracebench_measure_over_pieces(const struct tracebench_piece *pieces, size_t pieces_length,
                                         const uint8_t *logs, size_t logs_length, const size_t *ends,

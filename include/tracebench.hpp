@@ -125,6 +125,14 @@ enum class capture_version : std::uint32_t { One = TRACEBENCH_VERSION_ONE, Two =
 
 /* How a listing is laid out. */
 enum class text_format : std::uint32_t { Lines = TRACEBENCH_TEXT, Table = TRACEBENCH_CSV };
+enum class salvage_format : std::uint32_t {
+    Lines = TRACEBENCH_TEXT,
+    Table = TRACEBENCH_CSV,
+    Summary = TRACEBENCH_SUMMARY
+};
+
+/* As many harts as the messages of a capture show. */
+constexpr std::uint16_t harts_shown = TRACEBENCH_HARTS_SHOWN;
 
 using packet = ::tracebench_packet;
 using event = ::tracebench_event;
@@ -144,6 +152,9 @@ using lost_run = ::tracebench_lost_run;
 using byte_run = ::tracebench_byte_run;
 using sent_place = ::tracebench_sent_place;
 using path_end = ::tracebench_path_end;
+using aligned_row = ::tracebench_aligned_row;
+using single = ::tracebench_single;
+using aligned_end = ::tracebench_aligned_end;
 
 /* What became of a message of RECEIVED. */
 enum class fate : std::uint32_t {
@@ -152,6 +163,7 @@ enum class fate : std::uint32_t {
     Repeat = TRACEBENCH_FATE_REPEAT,
     Changed = TRACEBENCH_FATE_CHANGED,
     Stranger = TRACEBENCH_FATE_STRANGER,
+    Extra = TRACEBENCH_FATE_EXTRA,
 };
 using hart_end = ::tracebench_hart_end;
 using decode_all_end = ::tracebench_decode_all_end;
@@ -611,6 +623,49 @@ inline status audit_all(span<const std::uint8_t> sent, span<const std::uint8_t> 
     return said;
 }
 
+/* What is found of a path by payloads alone: of its harts, of the messages that are strangers, are extra, or skip
+ * numbers, which numbers were lost, and the rest. */
+struct aligned_path {
+    buffer<aligned_row> rows;
+    buffer<single> singles;
+    buffer<lost_run> lost;
+    aligned_end ended;
+};
+
+inline status audit_unnumbered(span<const std::uint8_t> sent, span<const std::uint8_t> received, compared how,
+                               span<aligned_row> rows, span<single> singles, span<lost_run> lost, sent_place &refused,
+                               aligned_end &ended) noexcept {
+    return status{tracebench_audit_unnumbered(
+        detail::at(sent), sent.size(), detail::at(received), received.size(), static_cast<std::uint32_t>(how),
+        detail::at(rows), rows.size(), detail::at(singles), singles.size(), detail::at(lost), lost.size(), &refused,
+        &ended)};
+}
+
+/* The same into buffers. Where one is too small they grow, and the call is made again. */
+inline status audit_unnumbered(span<const std::uint8_t> sent, span<const std::uint8_t> received, compared how,
+                               aligned_path &found, sent_place &refused) noexcept {
+    const auto call = [&] {
+        return audit_unnumbered(sent, received, how, found.rows.room(), found.singles.room(), found.lost.room(),
+                                refused, found.ended);
+    };
+    const auto fits = [](auto &into, std::size_t count) { return into.room().size() >= count || into.grow(count); };
+    found.rows.keep(0);
+    found.singles.keep(0);
+    found.lost.keep(0);
+    status said = call();
+    if (said == status::TooSmall) {
+        if (!fits(found.rows, found.ended.harts) || !fits(found.singles, found.ended.singles) ||
+            !fits(found.lost, found.ended.lost_runs))
+            return status::Memory;
+        said = call();
+    }
+    if (said != status::Done) return said;
+    found.rows.keep(found.ended.harts);
+    found.singles.keep(found.ended.singles);
+    found.lost.keep(found.ended.lost_runs);
+    return said;
+}
+
 /* The texts of all harts, one after the other, and where each ends. */
 inline status decode_all(const program &of, std::uint16_t harts, span<const std::uint8_t> capture,
                          span<std::uint8_t> room, std::size_t &wanted, span<hart_end> ends,
@@ -624,6 +679,26 @@ inline status list(const program &of, std::uint16_t harts, span<const std::uint8
                    span<const std::uint8_t> symbols, text_format how, bytes &text, text_end &ended) noexcept {
     return detail::into(text, [&](auto room, auto &wanted) {
         return status{tracebench_list(of.base, detail::at(of.image), of.image.size(), harts,
+                                           detail::at(capture), capture.size(), detail::at(symbols), symbols.size(),
+                                           static_cast<std::uint32_t>(how), detail::at(room), room.size(), &wanted,
+                                           &ended)};
+    });
+}
+
+inline status salvage(const program &of, std::uint16_t harts, span<const std::uint8_t> capture, salvage_format how,
+                      bytes &text, text_end &ended) noexcept {
+    return detail::into(text, [&](auto room, auto &wanted) {
+        return status{tracebench_salvage(of.base, detail::at(of.image), of.image.size(), harts,
+                                           detail::at(capture), capture.size(), static_cast<std::uint32_t>(how),
+                                           detail::at(room), room.size(), &wanted, &ended)};
+    });
+}
+
+inline status list_salvaged(const program &of, std::uint16_t harts, span<const std::uint8_t> capture,
+                            span<const std::uint8_t> symbols, text_format how, bytes &text,
+                            text_end &ended) noexcept {
+    return detail::into(text, [&](auto room, auto &wanted) {
+        return status{tracebench_list_salvaged(of.base, detail::at(of.image), of.image.size(), harts,
                                            detail::at(capture), capture.size(), detail::at(symbols), symbols.size(),
                                            static_cast<std::uint32_t>(how), detail::at(room), room.size(), &wanted,
                                            &ended)};
@@ -800,6 +875,26 @@ inline status list(const program_in_pieces &of, std::uint16_t harts, span<const 
                    span<const std::uint8_t> symbols, text_format how, bytes &text, text_end &ended) noexcept {
     return detail::into(text, [&](auto room, auto &wanted) {
         return status{tracebench_list_over_pieces(detail::at(of.pieces), of.pieces.size(), harts,
+                                           detail::at(capture), capture.size(), detail::at(symbols), symbols.size(),
+                                           static_cast<std::uint32_t>(how), detail::at(room), room.size(), &wanted,
+                                           &ended)};
+    });
+}
+
+inline status salvage(const program_in_pieces &of, std::uint16_t harts, span<const std::uint8_t> capture,
+                      salvage_format how, bytes &text, text_end &ended) noexcept {
+    return detail::into(text, [&](auto room, auto &wanted) {
+        return status{tracebench_salvage_over_pieces(detail::at(of.pieces), of.pieces.size(), harts,
+                                           detail::at(capture), capture.size(), static_cast<std::uint32_t>(how),
+                                           detail::at(room), room.size(), &wanted, &ended)};
+    });
+}
+
+inline status list_salvaged(const program_in_pieces &of, std::uint16_t harts, span<const std::uint8_t> capture,
+                            span<const std::uint8_t> symbols, text_format how, bytes &text,
+                            text_end &ended) noexcept {
+    return detail::into(text, [&](auto room, auto &wanted) {
+        return status{tracebench_list_salvaged_over_pieces(detail::at(of.pieces), of.pieces.size(), harts,
                                            detail::at(capture), capture.size(), detail::at(symbols), symbols.size(),
                                            static_cast<std::uint32_t>(how), detail::at(room), room.size(), &wanted,
                                            &ended)};

@@ -23,8 +23,11 @@ PLAIN, UPDISCON, NOTIFY = range(3)
 RETIREMENT, TRAP_TAKEN = 0, 1
 VERSION_ONE, VERSION_TWO = 1, 2
 BY_PACKETS = 1
-FATE_IN_ORDER, FATE_LATE, FATE_REPEAT, FATE_CHANGED, FATE_STRANGER = range(5)
-TEXT, CSV = 0, 1
+FATE_IN_ORDER, FATE_LATE, FATE_REPEAT, FATE_CHANGED, FATE_STRANGER, FATE_EXTRA = range(6)
+TEXT, CSV, SUMMARY = range(3)
+
+# As many harts as the messages of a capture show.
+HARTS_SHOWN = 65535
 
 # What lends its bytes. Python 3.12 has a name for it, collections.abc.Buffer.
 Lender = Any
@@ -38,11 +41,12 @@ Payload = Annotated[Any, c_uint8 * 18]
 
 
 class Refused(Exception):
-    """A call gives no answer: its status, and the log and row that are at fault, 0 where none is named."""
+    """A call gives no answer: its status, and the log and row that are at fault, 0 where none is named. Of SENT, `row`
+    is the message that is refused, and `expected` with `GAP` the number that is expected in place of its own."""
 
-    def __init__(self, status: int, log: int = 0, row: int = 0) -> None:
+    def __init__(self, status: int, log: int = 0, row: int = 0, expected: int = 0) -> None:
         super().__init__(f"status {status}, log {log}, row {row}")
-        self.status, self.log, self.row = status, log, row
+        self.status, self.log, self.row, self.expected = status, log, row, expected
 
 
 class Struct(ctypes.Structure):
@@ -252,6 +256,54 @@ class AuditedPath(NamedTuple):
 
 
 @of_hints
+class AlignedRow(Struct):
+    sent: U64
+    came: U64
+    lost: U64
+    extra: U64
+    runs: U64
+    longest: U64
+    whole: U32
+
+
+@of_hints
+class Single(Struct):
+    place: U64
+    number: U64
+    skips: U64
+    fate: U32
+    hart: U16
+
+
+@of_hints
+class AlignedEnd(Struct):
+    harts: SIZE
+    messages: SIZE
+    singles: SIZE
+    lost_runs: SIZE
+    strangers: U64
+    first: U64
+    sent_header: Header
+    received_header: Header
+    has_sent_header: U32
+    has_received_header: U32
+    header_fault: U32
+    fault: U32
+    headers_differ: U32
+    has_first: U32
+    whole: U32
+
+
+class AlignedPath(NamedTuple):
+    """What is found of a path by payloads alone: of each hart, of the messages that are strangers, are extra, or skip
+    numbers, which numbers were lost, and the rest."""
+    rows: Sequence[AlignedRow]
+    singles: Sequence[Single]
+    lost: Sequence[LostRun]
+    ended: AlignedEnd
+
+
+@of_hints
 class HartEnd(Struct):
     end: SIZE
     closed: U32
@@ -349,6 +401,7 @@ PARAMETERS = {
     "decode": [c_uint64, *SLICE, c_uint16, *SLICE, c_uint16, *ROOM, POINTER(DecodeEnd)],
     "audit": [*SLICE, *SLICE, c_uint16, POINTER(Tally), POINTER(AuditEnd)],
     "audit_all": [*SLICE, *SLICE, c_uint32, *SLICE, *SLICE, *SLICE, *SLICE, POINTER(SentPlace), POINTER(PathEnd)],
+    "audit_unnumbered": [*SLICE, *SLICE, c_uint32, *SLICE, *SLICE, *SLICE, POINTER(SentPlace), POINTER(AlignedEnd)],
     "write_message": [c_uint16, c_uint64, *SLICE, *ROOM],
     "read_message": [*SLICE, POINTER(Message), POINTER(c_size_t)],
     "write_header": [POINTER(Header), *ROOM],
@@ -356,6 +409,8 @@ PARAMETERS = {
     "capture_of_lines": [*SLICE, c_uint32, c_uint32, c_uint16, c_uint16, *ROOM, POINTER(c_uint64)],
     "decode_all": [c_uint64, *SLICE, c_uint16, *SLICE, *ROOM, POINTER(HartEnd), c_size_t, POINTER(DecodeAllEnd)],
     "list": [c_uint64, *SLICE, c_uint16, *SLICE, *SLICE, c_uint32, *ROOM, POINTER(TextEnd)],
+    "salvage": [c_uint64, *SLICE, c_uint16, *SLICE, c_uint32, *ROOM, POINTER(TextEnd)],
+    "list_salvaged": [c_uint64, *SLICE, c_uint16, *SLICE, *SLICE, c_uint32, *ROOM, POINTER(TextEnd)],
     "measure": [c_uint64, *SLICE, *SLICE, POINTER(c_size_t), c_size_t, c_uint16, c_uint32, *ROOM, POINTER(LogPlace)],
     "compare": [c_uint64, *SLICE, c_uint16, *SLICE, *SLICE, POINTER(c_size_t), c_size_t, *ROOM, POINTER(TextEnd),
                 POINTER(LogPlace)],
@@ -363,7 +418,7 @@ PARAMETERS = {
 }
 # Calls that take a base and an image, and their like over pieces.
 OVER = "push", "push_checked", "push_all", "follow", "check_events", "finish", "feed", "feed_all", "receive", "check", \
-    "encode", "decode", "decode_all", "list", "measure", "compare", "explain"
+    "encode", "decode", "decode_all", "list", "salvage", "list_salvaged", "measure", "compare", "explain"
 PARAMETERS.update({f"{name}_over_pieces": [POINTER(Piece), c_size_t, *PARAMETERS[name][3:]] for name in OVER})
 Call = Callable[..., int]
 
@@ -590,19 +645,33 @@ class Library:
     def audit_all(self, sent: Lender, received: Lender, flags: int = 0) -> AuditedPath:
         """What became of the messages of all harts of SENT in RECEIVED. Where SENT is refused, `Refused` has why, and
         its row is the message of SENT."""
-        before, after, refused, ended = Borrowed(sent), Borrowed(received), SentPlace(), PathEnd()
-        kinds: List[Any] = [HartRow, Arrival, LostRun, ByteRun]
+        ended, fields = PathEnd(), ("harts", "messages", "lost_runs", "byte_runs")
+        rows, arrivals, lost, runs = self._audited("audit_all", sent, received, flags, ended, fields,
+                                                   (HartRow, Arrival, LostRun, ByteRun))
+        return AuditedPath(rows, arrivals, lost, runs, ended)
+
+    def audit_unnumbered(self, sent: Lender, received: Lender, flags: int = 0) -> AlignedPath:
+        """The same by the payloads of the messages alone."""
+        ended, fields = AlignedEnd(), ("harts", "singles", "lost_runs")
+        rows, singles, lost = self._audited("audit_unnumbered", sent, received, flags, ended, fields,
+                                            (AlignedRow, Single, LostRun))
+        return AlignedPath(rows, singles, lost, ended)
+
+    def _audited(self, call: str, sent: Lender, received: Lender, flags: int, ended: Any, fields: Sequence[str],
+                 kinds: Sequence[Any]) -> List[Any]:
+        """What an audit of all harts hands out: an array of each kind. `ended` is then written, and how many there are
+        of each is in its fields."""
+        before, after, refused = Borrowed(sent), Borrowed(received), SentPlace()
         counts = [0] * len(kinds)
         while True:
             arrays = [(kind * (count or 1))() for kind, count in zip(kinds, counts)]
             rooms = [word for room in zip(arrays, counts) for word in room]
-            status = self.calls["audit_all"](*before.slice, *after.slice, flags, *rooms, byref(refused), byref(ended))
+            status = self.calls[call](*before.slice, *after.slice, flags, *rooms, byref(refused), byref(ended))
             if status == DONE:
-                rows, arrivals, lost, runs = (array[:count] for array, count in zip(arrays, counts))
-                return AuditedPath(rows, arrivals, lost, runs, ended)
+                return [array[:count] for array, count in zip(arrays, counts)]
             if status != TOO_SMALL:
-                raise Refused(status, row=refused.message)
-            counts = [ended.harts, ended.messages, ended.lost_runs, ended.byte_runs]
+                raise Refused(status, row=refused.message, expected=refused.expected)
+            counts = [getattr(ended, field) for field in fields]
 
     def write_message(self, hart: int, number: int, payload: Lender) -> bytes:
         """The bytes of a message."""
@@ -670,6 +739,26 @@ class Library:
         given, names, ended = Borrowed(capture), Borrowed(symbols), TextEnd()
         words = harts, *given.slice, *names.slice, how
         status, text = handed_out(self._over("list", base, image), *words, more=(ended,))
+        if status != DONE:
+            raise Refused(status)
+        return text, ended
+
+    def salvage(self, base: int, image: Lender, harts: int, capture: Lender,
+                how: int = TEXT) -> Tuple[bytes, TextEnd]:
+        """What is left of the logs of a capture after any damage, and how it ends."""
+        given, ended = Borrowed(capture), TextEnd()
+        words = harts, *given.slice, how
+        status, text = handed_out(self._over("salvage", base, image), *words, more=(ended,))
+        if status != DONE:
+            raise Refused(status)
+        return text, ended
+
+    def list_salvaged(self, base: int, image: Lender, harts: int, capture: Lender, symbols: Lender = b"",
+                      how: int = TEXT) -> Tuple[bytes, TextEnd]:
+        """What `salvage` does with each message of a capture, and how it ends."""
+        given, names, ended = Borrowed(capture), Borrowed(symbols), TextEnd()
+        words = harts, *given.slice, *names.slice, how
+        status, text = handed_out(self._over("list_salvaged", base, image), *words, more=(ended,))
         if status != DONE:
             raise Refused(status)
         return text, ended

@@ -216,6 +216,194 @@ pub struct ExplainEnd {
     pub fault: u32,
 }
 
+/// A message in numbers, `struct tracebench_message`.
+#[derive(Clone, Copy, Debug, Default, PartialEq, Eq)]
+#[repr(C)]
+#[allow(missing_docs)]
+pub struct Message {
+    pub number: u64,
+    pub payload_length: usize,
+    pub hart: u16,
+    pub payload: [u8; 18],
+}
+
+impl Message {
+    /// The bytes of its payload.
+    pub fn payload_bytes(&self) -> &[u8] {
+        &self.payload[..self.payload_length]
+    }
+}
+
+/// The header of a capture of version 2, `struct tracebench_header`.
+#[derive(Clone, Copy, Debug, Default, PartialEq, Eq)]
+#[repr(C)]
+#[allow(missing_docs)]
+pub struct Header {
+    pub mode: u32,
+    pub period: u16,
+    pub harts: u16,
+}
+
+/// How payloads are compared.
+#[derive(Clone, Copy, Debug, PartialEq, Eq)]
+#[repr(u32)]
+pub enum Compared {
+    /// By their bytes.
+    ByBytes = 0,
+    /// By the packets that they unpack to.
+    ByPackets = 1,
+}
+
+/// What is found of a hart of SENT, `struct tracebench_hart_row`.
+#[derive(Clone, Copy, Debug, Default, PartialEq, Eq)]
+#[repr(C)]
+#[allow(missing_docs)]
+pub struct HartRow {
+    pub tally: Tally,
+    pub strange: u64,
+    pub runs: u64,
+    pub longest: u64,
+    pub latest: u64,
+}
+
+/// A message of RECEIVED that is taken, and what became of it, `struct tracebench_arrival`.
+#[derive(Clone, Copy, Debug, Default, PartialEq, Eq)]
+#[repr(C)]
+#[allow(missing_docs)]
+pub struct Arrival {
+    pub number: u64,
+    pub by: u64,
+    pub offset: u64,
+    pub fate: u32,
+    pub hart: u16,
+}
+
+/// A longest run of numbers of a hart that were lost, `struct tracebench_lost_run`.
+#[derive(Clone, Copy, Debug, Default, PartialEq, Eq)]
+#[repr(C)]
+#[allow(missing_docs)]
+pub struct LostRun {
+    pub first: u64,
+    pub last: u64,
+    pub hart: u64,
+}
+
+/// A longest run of bytes that are of no message, `struct tracebench_byte_run`.
+#[derive(Clone, Copy, Debug, Default, PartialEq, Eq)]
+#[repr(C)]
+#[allow(missing_docs)]
+pub struct ByteRun {
+    pub offset: u64,
+    pub count: u64,
+}
+
+/// The message of SENT that is refused, `struct tracebench_sent_place`.
+#[derive(Clone, Copy, Debug, Default, PartialEq, Eq)]
+#[repr(C)]
+#[allow(missing_docs)]
+pub struct SentPlace {
+    pub message: u64,
+    pub expected: u64,
+}
+
+/// What is found of a path, beside its harts and its messages, `struct tracebench_path_end`.
+#[derive(Clone, Copy, Debug, Default, PartialEq, Eq)]
+#[repr(C)]
+#[allow(missing_docs)]
+pub struct PathEnd {
+    pub harts: usize,
+    pub messages: usize,
+    pub lost_runs: usize,
+    pub byte_runs: usize,
+    pub bytes: u64,
+    pub strangers: u64,
+    pub first: u64,
+    pub sent_header: Header,
+    pub received_header: Header,
+    pub has_sent_header: u32,
+    pub has_received_header: u32,
+    pub header_fault: u32,
+    pub headers_differ: u32,
+    pub has_first: u32,
+    pub whole: u32,
+}
+
+/// What is found of a path.
+#[derive(Clone, Debug, Default, PartialEq, Eq)]
+pub struct AuditedPath {
+    /// Of each hart of SENT.
+    pub rows: Vec<HartRow>,
+    /// Of each message that came.
+    pub arrivals: Vec<Arrival>,
+    /// Which numbers were lost.
+    pub lost: Vec<LostRun>,
+    /// Which bytes are of no message.
+    pub runs: Vec<ByteRun>,
+    /// The rest.
+    pub ended: PathEnd,
+}
+
+/// What is found of a hart of SENT by payloads alone, `struct tracebench_aligned_row`.
+#[derive(Clone, Copy, Debug, Default, PartialEq, Eq)]
+#[repr(C)]
+#[allow(missing_docs)]
+pub struct AlignedRow {
+    pub sent: u64,
+    pub came: u64,
+    pub lost: u64,
+    pub extra: u64,
+    pub runs: u64,
+    pub longest: u64,
+    pub whole: u32,
+}
+
+/// A message of RECEIVED that is a stranger, is extra, or skips numbers, `struct tracebench_single`.
+#[derive(Clone, Copy, Debug, Default, PartialEq, Eq)]
+#[repr(C)]
+#[allow(missing_docs)]
+pub struct Single {
+    pub place: u64,
+    pub number: u64,
+    pub skips: u64,
+    pub fate: u32,
+    pub hart: u16,
+}
+
+/// What is found of a path by payloads alone, beside its harts and its messages, `struct tracebench_aligned_end`.
+#[derive(Clone, Copy, Debug, Default, PartialEq, Eq)]
+#[repr(C)]
+#[allow(missing_docs)]
+pub struct AlignedEnd {
+    pub harts: usize,
+    pub messages: usize,
+    pub singles: usize,
+    pub lost_runs: usize,
+    pub strangers: u64,
+    pub first: u64,
+    pub sent_header: Header,
+    pub received_header: Header,
+    pub has_sent_header: u32,
+    pub has_received_header: u32,
+    pub header_fault: u32,
+    pub fault: u32,
+    pub headers_differ: u32,
+    pub has_first: u32,
+    pub whole: u32,
+}
+
+/// What is found of a path by payloads alone.
+#[derive(Clone, Debug, Default, PartialEq, Eq)]
+pub struct AlignedPath {
+    /// Of each hart of SENT.
+    pub rows: Vec<AlignedRow>,
+    /// The messages that are strangers, are extra, or skip numbers.
+    pub singles: Vec<Single>,
+    /// Which numbers were lost.
+    pub lost: Vec<LostRun>,
+    /// The rest.
+    pub ended: AlignedEnd,
+}
+
 /// How a listing is laid out.
 #[derive(Clone, Copy, Debug, PartialEq, Eq)]
 #[repr(u32)]
@@ -250,6 +438,22 @@ extern "C" {
         ended: *mut DecodeEnd) -> u32;
     fn tracebench_audit(sent: *const u8, sent_length: usize, received: *const u8, received_length: usize, hart: u16,
         tally: *mut Tally, ended: *mut AuditEnd) -> u32;
+    fn tracebench_audit_all(sent: *const u8, sent_length: usize, received: *const u8, received_length: usize,
+        flags: u32, rows: *mut HartRow, rows_length: usize, arrivals: *mut Arrival, arrivals_length: usize,
+        lost: *mut LostRun, lost_length: usize, runs: *mut ByteRun, runs_length: usize, refused: *mut SentPlace,
+        ended: *mut PathEnd) -> u32;
+    fn tracebench_audit_unnumbered(sent: *const u8, sent_length: usize, received: *const u8, received_length: usize,
+        flags: u32, rows: *mut AlignedRow, rows_length: usize, singles: *mut Single, singles_length: usize,
+        lost: *mut LostRun, lost_length: usize, refused: *mut SentPlace, ended: *mut AlignedEnd) -> u32;
+    fn tracebench_write_message(hart: u16, number: u64, payload: *const u8, payload_length: usize, buffer: *mut u8,
+        buffer_length: usize, wanted: *mut usize) -> u32;
+    fn tracebench_read_message(bytes: *const u8, bytes_length: usize, message: *mut Message,
+        taken: *mut usize) -> u32;
+    fn tracebench_write_header(header: *const Header, buffer: *mut u8, buffer_length: usize,
+        wanted: *mut usize) -> u32;
+    fn tracebench_read_header(bytes: *const u8, bytes_length: usize, header: *mut Header, taken: *mut usize) -> u32;
+    fn tracebench_capture_of_lines(text: *const u8, text_length: usize, version: u32, mode: u32, period: u16,
+        harts: u16, buffer: *mut u8, buffer_length: usize, wanted: *mut usize, line: *mut u64) -> u32;
     fn tracebench_decode_all(base: u64, image: *const u8, image_length: usize, harts: u16, capture: *const u8,
         capture_length: usize, buffer: *mut u8, buffer_length: usize, wanted: *mut usize, ends: *mut HartEnd,
         ends_length: usize, ended: *mut DecodeAllEnd) -> u32;
@@ -511,6 +715,168 @@ pub fn audit(sent: &[u8], received: &[u8], hart: u16) -> Result<(Tally, AuditEnd
         )
     })?;
     Ok((tally, ended))
+}
+
+/// What became of the messages of all harts of SENT in RECEIVED; or why SENT is refused, and which message of it.
+pub fn audit_all(
+    sent: &[u8],
+    received: &[u8],
+    how: Compared,
+) -> Result<AuditedPath, (Status, SentPlace)> {
+    let (mut found, mut refused) = (AuditedPath::default(), SentPlace::default());
+    loop {
+        // SAFETY: as above.
+        let status = unsafe {
+            tracebench_audit_all(
+                sent.as_ptr(),
+                sent.len(),
+                received.as_ptr(),
+                received.len(),
+                how as u32,
+                found.rows.as_mut_ptr(),
+                found.rows.len(),
+                found.arrivals.as_mut_ptr(),
+                found.arrivals.len(),
+                found.lost.as_mut_ptr(),
+                found.lost.len(),
+                found.runs.as_mut_ptr(),
+                found.runs.len(),
+                &mut refused,
+                &mut found.ended,
+            )
+        };
+        match Status(status) {
+            DONE => return Ok(found),
+            TOO_SMALL => {
+                let PathEnd {
+                    harts,
+                    messages,
+                    lost_runs,
+                    byte_runs,
+                    ..
+                } = found.ended;
+                found.rows.resize(harts, HartRow::default());
+                found.arrivals.resize(messages, Arrival::default());
+                found.lost.resize(lost_runs, LostRun::default());
+                found.runs.resize(byte_runs, ByteRun::default());
+            }
+            status => return Err((status, refused)),
+        }
+    }
+}
+
+/// The same by the payloads of the messages alone.
+pub fn audit_unnumbered(
+    sent: &[u8],
+    received: &[u8],
+    how: Compared,
+) -> Result<AlignedPath, (Status, SentPlace)> {
+    let (mut found, mut refused) = (AlignedPath::default(), SentPlace::default());
+    loop {
+        // SAFETY: as above.
+        let status = unsafe {
+            tracebench_audit_unnumbered(
+                sent.as_ptr(),
+                sent.len(),
+                received.as_ptr(),
+                received.len(),
+                how as u32,
+                found.rows.as_mut_ptr(),
+                found.rows.len(),
+                found.singles.as_mut_ptr(),
+                found.singles.len(),
+                found.lost.as_mut_ptr(),
+                found.lost.len(),
+                &mut refused,
+                &mut found.ended,
+            )
+        };
+        match Status(status) {
+            DONE => return Ok(found),
+            TOO_SMALL => {
+                let AlignedEnd {
+                    harts,
+                    singles,
+                    lost_runs,
+                    ..
+                } = found.ended;
+                found.rows.resize(harts, AlignedRow::default());
+                found.singles.resize(singles, Single::default());
+                found.lost.resize(lost_runs, LostRun::default());
+            }
+            status => return Err((status, refused)),
+        }
+    }
+}
+
+/// The bytes of a message.
+pub fn write_message(hart: u16, number: u64, payload: &[u8]) -> Result<Vec<u8>, Status> {
+    // SAFETY: as above.
+    handed_out(|buffer, wanted| unsafe {
+        tracebench_write_message(
+            hart,
+            number,
+            payload.as_ptr(),
+            payload.len(),
+            buffer.as_mut_ptr(),
+            buffer.len(),
+            wanted,
+        )
+    })
+}
+
+/// The message that bytes begin with, and the bytes after it; nothing where there is no byte.
+pub fn read_message(bytes: &[u8]) -> Result<Option<(Message, &[u8])>, Status> {
+    let (mut message, mut taken) = (Message::default(), 0);
+    // SAFETY: as above.
+    done(unsafe {
+        tracebench_read_message(bytes.as_ptr(), bytes.len(), &mut message, &mut taken)
+    })?;
+    Ok((taken != 0).then(|| (message, &bytes[taken..])))
+}
+
+/// The bytes of a header.
+pub fn write_header(header: &Header) -> Result<Vec<u8>, Status> {
+    // SAFETY: as above.
+    handed_out(|buffer, wanted| unsafe {
+        tracebench_write_header(header, buffer.as_mut_ptr(), buffer.len(), wanted)
+    })
+}
+
+/// The header that bytes begin with, and the bytes after it; nothing where they begin with none.
+pub fn read_header(bytes: &[u8]) -> Result<Option<(Header, &[u8])>, Status> {
+    let (mut header, mut taken) = (Header::default(), 0);
+    // SAFETY: as above.
+    done(unsafe { tracebench_read_header(bytes.as_ptr(), bytes.len(), &mut header, &mut taken) })?;
+    Ok((taken != 0).then(|| (header, &bytes[taken..])))
+}
+
+/// The capture of the lines of a text, of so many harts; with 0 of those up to the highest of the lines. Or why there
+/// is none, and the line that is at fault, or 0.
+pub fn capture_of_lines(
+    text: &[u8],
+    version: Version,
+    mode: Mode,
+    period: u16,
+    harts: u16,
+) -> Result<Vec<u8>, (Status, u64)> {
+    let mut line = 0;
+    // SAFETY: as above.
+    let capture = handed_out(|buffer, wanted| unsafe {
+        tracebench_capture_of_lines(
+            text.as_ptr(),
+            text.len(),
+            version as u32,
+            mode as u32,
+            period,
+            harts,
+            buffer.as_mut_ptr(),
+            buffer.len(),
+            wanted,
+            &mut line,
+        )
+    });
+    capture.map_err(|status| (status, line))
 }
 
 /// The log of each hart of a capture as text, whether the hart is closed, and how decoding ends.

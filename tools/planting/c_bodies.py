@@ -102,6 +102,22 @@ BODIES = [
             ("with symbols", "symbols.is_some()"),
             ("past 65,536 bytes of a table", "matches!(format, TextFormat::Table) && capture.len() > 65_536"),
         )),
+    *(("tracebench_salvage MEMORY " + where, "tracebench_c", "salvaging_capture.rt",
+        "    let mut text = Vec::new(alloc);\n",
+        f"    if {test} {{\n        return Err(TextFault::Of(Fault::Memory));\n    }}\n"
+        "    let mut text = Vec::new(alloc);\n")
+        for where, test in (
+            ("past 65,536 bytes", "capture.len() > 65_536"),
+            ("past 65,536 bytes of a table", "matches!(layout, Layout::Table) && capture.len() > 65_536"),
+        )),
+    *(("tracebench_list_salvaged MEMORY " + where, "tracebench_c", "listing_salvaged.rt",
+        "    let mut text = Vec::new(alloc);\n",
+        f"    if {test} {{\n        return Err(WriteFault::Memory);\n    }}\n    let mut text = Vec::new(alloc);\n")
+        for where, test in (
+            ("past 65,536 bytes", "capture.len() > 65_536"),
+            ("with symbols", "symbols.is_some()"),
+            ("past 65,536 bytes of a table", "matches!(format, TextFormat::Table) && capture.len() > 65_536"),
+        )),
     *(("tracebench_measure MEMORY " + where, "tracebench_c", "measuring_logs.rt",
         "    let mut table = Vec::new(alloc);\n",
         f"    if {test} {{\n        return Err((0, Fault::Memory));\n    }}\n    let mut table = Vec::new(alloc);\n")

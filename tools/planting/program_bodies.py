@@ -51,7 +51,7 @@ BODIES = [
     ("list Memory past 4,096 bytes", "capture_commands", "message_listing.rt",
         *memory_first("    write_listing(\n", "bytes.len() > 4096")),
     ("the salvage of the program Memory past 3 harts", "capture_commands", "salvaging_capture.rt",
-        *memory_first("    let salvaged = salvage_shown(\n", "count > 3")),
+        *memory_first("    hart_below(only, count.max(1))?;\n", "count > 3")),
     ("list --salvage Memory past 2 harts", "capture_commands", "salvaged_listing.rt",
         *refused_first(TREATED, "harts > 2")),
     ("list --salvage Memory past 64 messages", "capture_commands", "salvaged_listing.rt",

@@ -169,6 +169,25 @@ class Calls(unittest.TestCase):
             self.library.audit_all(sent[:-1], sent)
         self.assertEqual((raised.exception.status, raised.exception.row), (tracebench.SHORT, 199))
 
+    def test_an_audit_by_payloads_alone(self):
+        words = 1024, tracebench.FULL, tracebench.VERSION_TWO
+        sent = self.library.capture_of_lines(b"0 61\n0 62\n1 61\n0 63\n", *words)
+        messages = (0, b"a"), (1, b"x"), (0, b"c"), (2, b"a")
+        came = (self.library.write_message(hart, 7, payload) for hart, payload in messages)
+        found = self.library.audit_unnumbered(sent, sent[:16] + b"".join(came) + b"\0")
+        rows = [(row.sent, row.came, row.lost, row.extra, row.runs, row.longest, row.whole) for row in found.rows]
+        self.assertEqual(rows, [(3, 2, 1, 0, 1, 1, 0), (1, 1, 1, 1, 1, 1, 0)])
+        self.assertEqual([(one.place, one.hart, one.fate, one.number, one.skips) for one in found.singles],
+                         [(1, 1, tracebench.FATE_EXTRA, 0, 0), (2, 0, tracebench.FATE_IN_ORDER, 2, 1),
+                          (3, 2, tracebench.FATE_STRANGER, 0, 0)])
+        self.assertEqual([(run.hart, run.first, run.last) for run in found.lost], [(0, 1, 1), (1, 0, 0)])
+        self.assertEqual((found.ended.messages, found.ended.strangers, found.ended.fault, found.ended.whole),
+                         (4, 1, tracebench.SHORT, 0))
+        self.assertEqual(self.library.audit_unnumbered(sent, sent, tracebench.BY_PACKETS).ended.whole, 1)
+        with self.assertRaises(tracebench.Refused) as raised:
+            self.library.audit_unnumbered(sent[16:28] * 2, sent)
+        self.assertEqual((raised.exception.status, raised.exception.row), (97, 1))
+
     @unittest.skipUnless(numpy, "no NumPy")
     def test_arrays(self):
         events = numpy.array([tuple(getattr(event, name) for name in arrays.EVENT.names) for event in self.log],

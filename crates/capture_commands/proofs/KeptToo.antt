@@ -40,16 +40,18 @@ use Rattle.salvaging.specs.Salvages.{GivesSalvaged}
 use Rattle.salvaging.specs.declared.salvaged.Salvaged.{Salvaged}
 use Rattle.salvaging.specs.declared.salvaged.SalvagedHart.{SalvagedHart}
 use Rattle.searching.specs.Harts.{harts_counted, harts_in}
+use Rattle.searching.specs.Search.{mode_of}
 use Rattle.searching.specs.Start.{IsStart, first_place, known_harts, spans_of}
+use Rattle.salvaged_text.specs.Damage.{closed_harts, has_loss, is_damaged, is_no_stretch}
+use Rattle.salvaged_text.specs.Found.{IsSalvagedCapture}
+use Rattle.salvaged_text.specs.Frames.{is_run, messages_in}
 use Rattle.capture_commands.specs.Decoding.{end_of_harts}
 use Rattle.capture_commands.specs.Faults.{reading_fault}
-use Rattle.capture_commands.specs.Frames.{is_run, messages_in}
 use Rattle.capture_commands.specs.KeptToo.{AreReadAlike, CountAlike, HaveSmallNumbers, IsKeptToo, IsOfFrames}
 use Rattle.capture_commands.specs.Pieces.{AreCollectedFrom, ArePieces, IsReadWhole, closed_of, end_of_pieces}
 use Rattle.capture_commands.specs.Pieces.{end_with_gaps}
-use Rattle.capture_commands.specs.Pieces.{harts_counted as pieces_counted, have_gaps, is_gap, mode_of_header, parts_of}
-use Rattle.capture_commands.specs.Salvaging.{IsSalvagedCapture, closed_harts, end_of_salvage, has_loss, is_damaged}
-use Rattle.capture_commands.specs.Salvaging.{is_no_stretch}
+use Rattle.capture_commands.specs.Pieces.{harts_counted as pieces_counted, have_gaps, is_gap, parts_of}
+use Rattle.capture_commands.specs.Salvaging.{end_of_salvage}
 
 -- Messages whose harts and numbers are known are frames.
 all_frames : (known : ℕ) (messages : List Message) → All IsMessage messages
@@ -191,13 +193,13 @@ module _ (harts : ℕ) (asked : Option ℕ) (program : Image) (bytes : List ℕ)
   -- What is collected is collected of this header and these messages.
   collected_of : (read : Result (Option Header × List Message) ReadFault) → IsReadWhole bytes read
       → AreCollectedFrom harts every_hart program read (Ok pieces)
-      → GivesPieces program (pieces_counted harts header) (mode_of_header header) messages pieces
+      → GivesPieces program (pieces_counted harts header) (mode_of header) messages pieces
   collected_of (Err why) is from = let never : Ok pieces ≡ Err (reading_fault why) = from in cc
   collected_of (Ok read) is from =
       let same = whole_only bytes read.0 header read.1 messages is whole in
-      subst (λ ms. GivesPieces program (pieces_counted harts header) (mode_of_header header) ms pieces)
+      subst (λ ms. GivesPieces program (pieces_counted harts header) (mode_of header) ms pieces)
       (ap (selected every_hart) same.1 ∙ all_selected messages whole.ranges)
-      (subst (λ h. GivesPieces program (pieces_counted harts h) (mode_of_header h) (selected every_hart read.1) pieces)
+      (subst (λ h. GivesPieces program (pieces_counted harts h) (mode_of h) (selected every_hart read.1) pieces)
       same.0 from)
 
   pub kept_too : (found : Option Header) (why : Option MessageFault) (salvaged : Salvaged Global)
@@ -219,13 +221,13 @@ module _ (harts : ℕ) (asked : Option ℕ) (program : Image) (bytes : List ℕ)
       let reads = read_alike bytes header messages frames in
       let start = reads.start found why is.start in
       let counted = counted_alike harts asked bytes header messages alike frames known in
-      let of_header : GivesSalvaged program (harts_counted asked header bytes) (mode_of_header header)
+      let of_header : GivesSalvaged program (harts_counted asked header bytes) (mode_of header)
       (selected every_hart (messages_in (spans_of header bytes))) salvaged =
-      subst (λ h. GivesSalvaged program (harts_counted asked h bytes) (mode_of_header h)
+      subst (λ h. GivesSalvaged program (harts_counted asked h bytes) (mode_of h)
       (selected every_hart (messages_in (spans_of h bytes))) salvaged) start.0 is.left in
-      let left : GivesSalvaged program (pieces_counted harts header) (mode_of_header header) messages salvaged =
-      subst (λ n. GivesSalvaged program n (mode_of_header header) messages salvaged) counted
-      (subst (λ ms. GivesSalvaged program (harts_counted asked header bytes) (mode_of_header header) ms salvaged)
+      let left : GivesSalvaged program (pieces_counted harts header) (mode_of header) messages salvaged =
+      subst (λ n. GivesSalvaged program n (mode_of header) messages salvaged) counted
+      (subst (λ ms. GivesSalvaged program (harts_counted asked header bytes) (mode_of header) ms salvaged)
       (ap (selected every_hart) reads.frames ∙ all_selected messages whole.ranges) of_header) in
       let count : length salvaged.harts.items ≡ length pieces = left.left.count ∙ sym gives.count in
       let both = left.collected pieces gives in

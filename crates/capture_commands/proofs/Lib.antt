@@ -1,16 +1,9 @@
 mod DecodedRuns
-mod ItemTexts
 mod ListedRuns
-mod OffsetLists
-mod OwnSpans
-mod HartLists
 mod OnlyOrders
-mod PartTexts
 mod PlacesAmong
 mod SalvageRuns
 mod SymbolsFound
-mod TextsBehind
 mod TreatedRuns
-mod WorkedSalvages
 mod WrittenOutcomes
 mod KeptToo

@@ -1,19 +1,20 @@
 -- What `salvage` prints, from what was found.
-use Rattle.std.proofs.Common.{◌≡◌, inr, refl, ℕ, zero, suc, ◌+◌, ◌<◌, ◌≤◌, ◌++◌, Bool, List, [], ◌∷◌, Option, Result, Ok}
-use Rattle.std.proofs.Common.{Some, ap, arith, length, slice_get, subst, ◌∙◌}
+use Rattle.std.proofs.Common.{◌≡◌, inr, refl, ℕ, Bool, true, false, List, Option, Result, Ok, ap, subst, ◌∙◌}
 use Rattle.std.specs.Io.KnownBytes.{Keeps}
+use Rattle.std.specs.declared.alloc.Global.{Global}
 use Rattle.frames.specs.declared.span.Span.{Span}
 use Rattle.hart_range.specs.declared.range.HartRange.{HartRange}
 use Rattle.output.proofs.Beginnings.{begun_kept}
 use Rattle.output.specs.Begun.{AppendsBeginning}
 use Rattle.rvclass.specs.Image.{Image}
 use Rattle.message.specs.declared.header.Header.{Header}
-use Rattle.salvaged_table.specs.Rows.{columns}
-use Rattle.salvaged_table.specs.Table.{hart_rows, harts_rows, rest_rows, salvaged_table_from}
-use Rattle.salvaging.specs.declared.salvaged.SalvagedHart.{SalvagedHart}
+use Rattle.salvaging.specs.declared.salvaged.Salvaged.{Salvaged}
 use Rattle.searching.specs.Start.{spans_of}
-use Rattle.std.specs.declared.alloc.Global.{Global}
-use Rattle.tables.specs.Fields.{fields_line}
+use Rattle.salvaged_text.proofs.OwnSpans.{runs_chosen}
+use Rattle.salvaged_text.proofs.SameTexts.{text_same as same_texts}
+use Rattle.salvaged_text.specs.FoundTexts.{found_as}
+use Rattle.salvaged_text.specs.Layouts.{salvaged_as}
+use Rattle.salvaged_text.specs.declared.found.Found.{Found}
 use Rattle.subcommands.specs.declared.words.Format.{Format}
 use Rattle.subcommands.specs.declared.words.Format.TheVariants.{Csv, Other, Text}
 use Rattle.subcommands.specs.declared.words.Salvage.{Salvage}
@@ -26,101 +27,35 @@ use Rattle.files.specs.Known.{Content}
 use Rattle.command_inputs.specs.Printed.{PrintsUnlessDenied}
 use Rattle.capture_commands.specs.Faults.{Fault, Printed}
 use Rattle.command_inputs.specs.declared.status.Status.{Status}
-use Rattle.hart_rows.specs.EachHart.{hart_line, numbered_harts}
-use Rattle.salvaged_table.specs.Offsets.{offsets_in, offsets_or, own_offsets}
 use Rattle.capture_commands.specs.SalvagedFormats.{salvaged_in}
-use Rattle.capture_commands.specs.SalvagedText.{hart_text, rest_text, salvaged_text}
-use Rattle.capture_commands.specs.HartItems.{items_of}
 use Rattle.capture_commands.specs.Salvaging.{CanSalvage, CanSalvageOf, Salvages, SalvagesOf, end_of_salvage_of}
-use Rattle.capture_commands.specs.steps.Reading.{IsFound, found_in}
-use Rattle.capture_commands.proofs.HartLists.{one_of}
-use Rattle.capture_commands.proofs.OwnSpans.{offsets_chosen, runs_chosen}
-use Rattle.capture_commands.specs.declared.salvaging_capture.Found.{Found}
+use Rattle.capture_commands.specs.steps.Layouts.{layout_of}
+use Rattle.capture_commands.specs.steps.Reading.{IsFoundOf}
 use Rattle.capture_commands.specs.declared.reason.CaptureReason.{CaptureReason}
 
--- The texts of harts are the same where those of each are.
-same_harts : {X : Type 0} (text other : ℕ → X → List ℕ) (hart : ℕ) (harts : List X)
-    → ((k : ℕ) (own : X) → hart ≤ k → k < hart + length harts → text k own ≡ other k own)
-    → numbered_harts text hart harts ≡ numbered_harts other hart harts
-same_harts text other hart [] same = refl
-same_harts text other hart (own ∷ harts) same =
-    ap (λ t. (hart_line hart ++ t) ++ numbered_harts text (hart + 1) harts) (same hart own (omega arith) (omega arith))
-    ∙ ap (λ l. (hart_line hart ++ other hart own) ++ l)
-    (same_harts text other (hart + 1) harts
-    (λ k one from within. same k one (omega (arith, from)) (omega (arith, within))))
-
--- An item within a list.
-some_within : {X : Type 0} (xs : List X) (i : ℕ) → i < length xs → (x : X) × (slice_get xs i ≡ Some x)
-some_within [] i within = let none : ⊥ = omega (arith, within) in absurd none
-some_within (x ∷ xs) zero within = (x, refl)
-some_within (x ∷ xs) (suc i) within = some_within xs i (omega (arith, within))
-
--- The rows of harts are the same where the offsets of each are.
-same_rows : (header : Option Header) (offsets other : ℕ → List ℕ) (hart : ℕ) (harts : List (SalvagedHart Global))
-    → ((k : ℕ) → hart ≤ k → k < hart + length harts → offsets k ≡ other k)
-    → harts_rows header offsets hart harts ≡ harts_rows header other hart harts
-same_rows header offsets other hart [] same = refl
-same_rows header offsets other hart (own ∷ harts) same =
-    ap (λ l. hart_rows header hart l own ++ harts_rows header offsets (hart + 1) harts)
-    (same hart (omega arith) (omega arith))
-    ∙ ap (λ l. hart_rows header hart (other hart) own ++ l)
-    (same_rows header offsets other (hart + 1) harts
-    (λ k from within. same k (omega (arith, from)) (omega (arith, within))))
+-- The layout in a format is that of the format.
+same_layout : (format : Format) (summary : Bool) (only : HartRange) (header : Option Header) (spans : List Span)
+    (salvaged : Salvaged Global)
+    → salvaged_as (layout_of format summary) only header spans salvaged
+    ≡ salvaged_in format summary only header spans salvaged
+same_layout Csv summary only header spans salvaged = refl
+same_layout Text true only header spans salvaged = refl
+same_layout Text false only header spans salvaged = refl
+same_layout Other true only header spans salvaged = refl
+same_layout Other false only header spans salvaged = refl
 
 module _ (only : HartRange) (format : Format) (asked : Option ℕ) (summary : Bool) (program : Image) (bytes : List ℕ)
-    (found : Found) (is : IsFound only asked program bytes found) where
+    (found : Found) (is : IsFoundOf only asked program bytes found) where
   abbrev spans : List Span
   spans = spans_of found.header bytes
 
   abbrev text : List ℕ
   text = salvaged_in format summary only found.header spans found.salvaged
 
-  -- The offsets of the lists are those of the frames.
-  same_offsets : (hart : ℕ) → only.first ≤ hart
-      → hart < only.first + length (items_of only found.salvaged.harts.items)
-      → own_offsets found.frames.offsets.items hart ≡ offsets_in hart spans
-  same_offsets hart from within =
-      let here = one_of only found.salvaged.harts.items hart from within in
-      let known = here.within in
-      let many = is.frames.count in
-      let count = is.salvaged.left.left.count in
-      let own = some_within found.frames.offsets.items hart (omega (arith, known, many, count)) in
-      ap offsets_or own.1 ∙ is.frames.offsets hart own.0 own.1 ∙ offsets_chosen only hart spans here.selected
-
-  lines_same : (harts : HartRange) → harts ≡ only
-      → numbered_harts (λ hart. hart_text summary found.header (own_offsets found.frames.offsets.items hart)) harts.first
-      (items_of harts found.salvaged.harts.items) ++ rest_text spans found.salvaged.strangers
-      ≡ salvaged_text summary only found.header spans found.salvaged
-  lines_same harts are =
-      ap (λ (r : HartRange). numbered_harts
-      (λ hart. hart_text summary found.header (own_offsets found.frames.offsets.items hart)) r.first
-      (items_of r found.salvaged.harts.items) ++ rest_text spans found.salvaged.strangers) are
-      ∙ ap (λ l. l ++ rest_text spans found.salvaged.strangers)
-      (same_harts (λ hart. hart_text summary found.header (own_offsets found.frames.offsets.items hart))
-      (λ hart. hart_text summary found.header (offsets_in hart spans)) only.first
-      (items_of only found.salvaged.harts.items)
-      (λ k own from within. ap (λ l. hart_text summary found.header l own) (same_offsets k from within)))
-
-  rows_same : (harts : HartRange) → harts ≡ only
-      → salvaged_table_from found.header spans (own_offsets found.frames.offsets.items) harts.first
-      (items_of harts found.salvaged.harts.items) found.salvaged.strangers
-      ≡ salvaged_table_from found.header spans (λ hart. offsets_in hart spans) only.first
-      (items_of only found.salvaged.harts.items) found.salvaged.strangers
-  rows_same harts are =
-      ap (λ (r : HartRange). salvaged_table_from found.header spans (own_offsets found.frames.offsets.items) r.first
-      (items_of r found.salvaged.harts.items) found.salvaged.strangers) are
-      ∙ ap (λ l. fields_line columns ++ (l ++ rest_rows spans found.salvaged.strangers))
-      (same_rows found.header (own_offsets found.frames.offsets.items) (λ hart. offsets_in hart spans) only.first
-      (items_of only found.salvaged.harts.items) same_offsets)
-
-  in_same : (which : Format) → found_in which summary found bytes
-      ≡ salvaged_in which summary only found.header spans found.salvaged
-  in_same Csv = rows_same found.only is.only_is
-  in_same Text = lines_same found.only is.only_is
-  in_same Other = lines_same found.only is.only_is
-
-  pub text_same : found_in format summary found bytes ≡ text
-  text_same = in_same format
+  pub text_same : found_as (layout_of format summary) found bytes ≡ text
+  text_same =
+      same_texts only asked program bytes found is.is (layout_of format summary)
+      ∙ same_layout format summary only found.header spans found.salvaged
 
   -- What is salvaged is printed, and the end is that of salvaging.
   pub salvaged_printed : (ended : Result Status Fault)
@@ -133,17 +68,17 @@ module _ (only : HartRange) (format : Format) (asked : Option ℕ) (summary : Bo
       header = found.header;
       why = found.fault;
       salvaged = found.salvaged;
-      found = is.salvaged;
+      found = is.is.salvaged;
       text = refl;
       ended = end
-          ∙ ap (λ (r : HartRange). end_of_salvage_of r found.fault found.frames.runs found.salvaged) is.only_is
+          ∙ ap (λ (r : HartRange). end_of_salvage_of r found.fault found.frames.runs found.salvaged) is.is.only_is
           ∙ ap (λ b. end_of_salvage_of only found.fault b found.salvaged)
-          (is.frames.runs ∙ runs_chosen only spans);
+          (is.is.frames.runs ∙ runs_chosen only spans);
     },
   )
 
   -- A beginning of it was written, and then nothing more.
-  pub salvaged_cut : (old mid new : Option (List ℕ)) → AppendsBeginning (found_in format summary found bytes) old mid
+  pub salvaged_cut : (old mid new : Option (List ℕ)) → AppendsBeginning (found_as (layout_of format summary) found bytes) old mid
       → Keeps mid new → IsCutOf (SalvagesOf only format asked summary program bytes) old new
   salvaged_cut old mid new begun kept =
       let ended = end_of_salvage_of found.only found.fault found.frames.runs found.salvaged in

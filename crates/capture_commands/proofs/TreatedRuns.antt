@@ -11,16 +11,16 @@ use Rattle.command_inputs.proofs.Beginnings.{printed_begun}
 use Rattle.command_inputs.specs.Begun.{IsCutOf}
 use Rattle.command_inputs.specs.declared.status.Status.{Status}
 use Rattle.subcommands.specs.declared.words.Format.{Format}
-use Rattle.capture_commands.proofs.OwnSpans.{runs_chosen}
+use Rattle.salvaged_text.proofs.OwnSpans.{runs_chosen}
 use Rattle.capture_commands.specs.Faults.{Fault}
 use Rattle.capture_commands.specs.ListedFormats.{treated_in}
 use Rattle.capture_commands.specs.ListedSalvaged.{AreTreatedIn, TreatsHarts}
 use Rattle.capture_commands.specs.Salvaging.{end_of_salvage_of}
-use Rattle.capture_commands.specs.steps.Reading.{IsFound}
-use Rattle.capture_commands.specs.declared.salvaging_capture.Found.{Found}
+use Rattle.capture_commands.specs.steps.Reading.{IsFoundOf}
+use Rattle.salvaged_text.specs.declared.found.Found.{Found}
 
 module _ (format : Format) (only : HartRange) (asked : Option ℕ) (program : Image) (symbols : Option (List ℕ))
-    (bytes : List ℕ) (found : Found) (is : IsFound only asked program bytes found) (treated : List Treated)
+    (bytes : List ℕ) (found : Found) (is : IsFoundOf only asked program bytes found) (treated : List Treated)
     (done : AreTreatedIn only asked program found.header bytes treated) where
   abbrev text : List ℕ
   text = treated_in format only symbols found.header bytes treated
@@ -36,14 +36,14 @@ module _ (format : Format) (only : HartRange) (asked : Option ℕ) (program : Im
       header = found.header;
       why = found.fault;
       salvaged = found.salvaged;
-      found = is.salvaged;
+      found = is.is.salvaged;
       treated = treated;
       done = done;
       text = refl;
       ended = end
-          ∙ ap (λ (r : HartRange). end_of_salvage_of r found.fault found.frames.runs found.salvaged) is.only_is
+          ∙ ap (λ (r : HartRange). end_of_salvage_of r found.fault found.frames.runs found.salvaged) is.is.only_is
           ∙ ap (λ b. end_of_salvage_of only found.fault b found.salvaged)
-          (is.frames.runs ∙ runs_chosen only (spans_of found.header bytes));
+          (is.is.frames.runs ∙ runs_chosen only (spans_of found.header bytes));
     },
   )
 

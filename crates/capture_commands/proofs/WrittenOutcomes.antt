@@ -13,7 +13,8 @@ use Rattle.retire.specs.declared.fault.WriteFault.TheVariants as write
 use Rattle.rvclass.specs.Fetch.{words_of}
 use Rattle.rvclass.specs.Image.{Image}
 use Rattle.captures.specs.OfHarts.{IsDecodedOf}
-use Rattle.hart_rows.specs.Written.{BeginsHartsOf, NeverMemory}
+use Rattle.hart_survey.specs.Surveyed.{NeverMemory}
+use Rattle.hart_rows.specs.Written.{BeginsHartsOf}
 use Rattle.command_inputs.specs.Begun.{IsCutOf}
 use Rattle.command_inputs.specs.Faults.{write_fault}
 use Rattle.command_inputs.specs.Printed.{IsPrintingDenied}
@@ -25,10 +26,14 @@ use Rattle.capture_commands.specs.Decoding.{end_of_capture_of, end_of_harts_of}
 use Rattle.capture_commands.specs.Faults.{Fault}
 use Rattle.capture_commands.specs.declared.reason.CaptureReason.{CaptureReason}
 
--- A fault of writing is one that denies printing.
+-- A fault of writing is one that denies printing, once the run can write.
+pub write_denied_once : (CanWrite : Type 0) → CanWrite → (why : WriteFault)
+    → IsPrintingDenied CanWrite (write_fault {W = CaptureReason} why)
+write_denied_once CanWrite can write.Write = inr (refl, can)
+write_denied_once CanWrite can write.Memory = inl refl
+
 pub write_denied : (why : WriteFault) → IsPrintingDenied ⊤ (write_fault {W = CaptureReason} why)
-write_denied write.Write = inr (refl, tt)
-write_denied write.Memory = inl refl
+write_denied why = write_denied_once ⊤ tt why
 
 -- Memory alone is reported as memory.
 pub write_memory : (why : WriteFault) → write_fault {W = CaptureReason} why ≡ fault.Memory → why ≡ write.Memory

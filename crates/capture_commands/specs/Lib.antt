@@ -4,7 +4,6 @@ pub mod Symbols
 pub mod OnlyHarts
 pub mod Dumping
 pub mod Decoding
-pub mod HartItems
 pub mod Placed
 pub mod Pieces
 pub mod CountedHarts
@@ -12,9 +11,7 @@ pub mod Decoded
 pub mod ListedSalvaged
 pub mod ListedFormats
 pub mod Listed
-pub mod Frames
 pub mod HartsFound
-pub mod SalvagedText
 pub mod SalvagedFormats
 pub mod Salvaging
 pub mod KeptToo

@@ -12,21 +12,22 @@ use Rattle.salvaging.specs.Treatments.{AreTreated}
 use Rattle.salvaging.specs.declared.salvaged.Salvaged.{Salvaged}
 use Rattle.salvaging.specs.declared.treatment.Treated.{Treated}
 use Rattle.searching.specs.Harts.{harts_counted}
+use Rattle.searching.specs.Search.{mode_of}
 use Rattle.searching.specs.Start.{spans_of}
+use Rattle.salvaged_text.specs.Found.{IsSalvagedOf}
+use Rattle.salvaged_text.specs.Frames.{is_run, messages_in}
 use Rattle.subcommands.specs.declared.words.Format.{Format}
 use Rattle.command_inputs.specs.Printed.{First}
 use Rattle.capture_commands.specs.Faults.{Printed}
-use Rattle.capture_commands.specs.Frames.{is_run, messages_in}
 use Rattle.capture_commands.specs.HartsFound.{HasHartFound}
 use Rattle.capture_commands.specs.ListedFormats.{treated_in}
-use Rattle.capture_commands.specs.Pieces.{mode_of_header}
-use Rattle.capture_commands.specs.Salvaging.{IsSalvagedOf, end_of_salvage_of}
+use Rattle.capture_commands.specs.Salvaging.{end_of_salvage_of}
 
 -- This is done with each message of these harts' frames of a capture, where this count of harts is asked for, if one
 -- is.
 abbrev pub AreTreatedIn : HartRange → Option ℕ → Image → Option Header → List ℕ → List Treated → Type 0
 AreTreatedIn only asked program header bytes treated =
-    AreTreated (words_of program) (mode_of_header header) (harts_counted asked header bytes)
+    AreTreated (words_of program) (mode_of header) (harts_counted asked header bytes)
     (selected only (messages_in (spans_of header bytes))) treated
 
 -- What salvaging does with each message of these harts of a capture is written in a format, and the run ends as one of

@@ -15,8 +15,6 @@ use Rattle.losses.specs.declared.fault.LossyFault.{LossyFault}
 use Rattle.losses.specs.declared.part.HartPieces.{HartPieces}
 use Rattle.message.specs.declared.header.Header.{Header}
 use Rattle.message.specs.declared.message.Message.{Message}
-use Rattle.payload.specs.declared.mode.Mode.{Mode}
-use Rattle.payload.specs.declared.mode.Mode.TheVariants.{Differential}
 use Rattle.retire.specs.LogText.{log_text}
 use Rattle.rvclass.specs.Image.{Image}
 use Rattle.command_inputs.specs.Printed.{First}
@@ -24,13 +22,11 @@ use Rattle.capture_commands.specs.Faults.{Fault, Printed, lossy_fault, reading_f
 use Rattle.command_inputs.specs.declared.status.Status.{Status}
 use Rattle.command_inputs.specs.declared.status.Status.TheVariants.{NotWhole}
 use Rattle.capture_commands.specs.Decoding.{end_of_harts}
-use Rattle.capture_commands.specs.HartItems.{items_of}
+use Rattle.salvaged_text.specs.HartItems.{items_of}
+use Rattle.salvaged_text.specs.MessagesLine.{messages_line}
+use Rattle.searching.specs.Search.{mode_of}
 use Rattle.capture_commands.specs.Placed.{placed_fault}
 use Rattle.hart_rows.specs.EachHart.{each_hart}
-
--- The line of a count of messages, after the name of what they are.
-abbrev pub messages_line : List ℕ → ℕ → List ℕ
-messages_line name count = name ++ (codes ": " ++ (decimal count ++ codes " messages\n"))
 
 -- The line of a gap, with how many numbers are missing; or the line of a stretch, with how many events it has, and the
 -- text of their log.
@@ -79,11 +75,6 @@ abbrev pub harts_counted : ℕ → Option Header → ℕ
 harts_counted harts None = harts
 harts_counted harts (Some header) = header.harts
 
--- The header's mode, or without a header the differential one.
-abbrev pub mode_of_header : Option Header → Mode
-mode_of_header None = Differential
-mode_of_header (Some header) = header.mode
-
 -- A capture's header, if it has one, and all its messages are found, or why it is not read to its end.
 abbrev pub IsReadWhole : List ℕ → Result (Option Header × List Message) ReadFault → Type 0
 IsReadWhole bytes (Ok whole) = IsWhole bytes whole.0 whole.1
@@ -95,10 +86,10 @@ abbrev pub AreCollectedFrom : ℕ → HartRange → Image → Result (Option Hea
     → Result (List (HartPieces Global)) Fault → Type 0
 AreCollectedFrom harts only program (Err why) found = found ≡ Err (reading_fault why)
 AreCollectedFrom harts only program (Ok whole) (Ok pieces) =
-    GivesPieces program (harts_counted harts whole.0) (mode_of_header whole.0) (selected only whole.1) pieces
+    GivesPieces program (harts_counted harts whole.0) (mode_of whole.0) (selected only whole.1) pieces
 AreCollectedFrom harts only program (Ok whole) (Err why) =
     (fault : LossyFault) × (why ≡ lossy_fault (placed_fault only whole.1 fault))
-    × GivesFault program (harts_counted harts whole.0) (mode_of_header whole.0) (selected only whole.1) fault
+    × GivesFault program (harts_counted harts whole.0) (mode_of whole.0) (selected only whole.1) fault
 
 -- What the messages of these harts leave of the logs of a capture's harts is found, or the first fault. All messages
 -- are read before any is checked.

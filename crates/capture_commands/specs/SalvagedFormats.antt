@@ -9,8 +9,8 @@ use Rattle.salvaged_table.specs.Offsets.{offsets_in}
 use Rattle.salvaged_table.specs.Table.{salvaged_table_from}
 use Rattle.subcommands.specs.declared.words.Format.{Format}
 use Rattle.subcommands.specs.declared.words.Format.TheVariants.{Csv}
-use Rattle.capture_commands.specs.HartItems.{items_of}
-use Rattle.capture_commands.specs.SalvagedText.{salvaged_text}
+use Rattle.salvaged_text.specs.HartItems.{items_of}
+use Rattle.salvaged_text.specs.SalvagedText.{salvaged_text}
 
 -- The table of these harts, or their lines and, where no summary is asked for, the rows of their logs. A table has no
 -- rows of logs.

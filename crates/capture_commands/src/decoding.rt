@@ -2,8 +2,7 @@
 
 ghost use Rattle.std.specs.Prelude.{⊤, ◌≡◌, ◌≢◌, ◌⊎◌, true, false, Err, IfOk, IfSome};
 ghost use Rattle.std.specs.Io.KnownBytes.{Keeps};
-ghost use Rattle.captures.specs.OfHarts.{IsDecodedOf};
-ghost use Rattle.receiver.specs.Received.{events_in};
+ghost use Rattle.hart_survey.specs.CaptureSurveyed.{IsCaptureSurvey};
 ghost use Rattle.rvclass.specs.Fetch.{words_of};
 ghost use Rattle.command_inputs.specs.Begun.{BeginsPrinted, IsCutOf};
 ghost use Rattle.command_inputs.specs.FurtherPieces.{base_number};
@@ -20,15 +19,16 @@ use crate::hart_check::check_harts_below;
 use crate::lossy_decoding::decode_lossy;
 use crate::reason::Fault;
 use crate::survey_progress::SurveyProgress;
-use captures::CaptureOutcome;
 use command_inputs::{
     Files, MessageProgress, Status, base_of, content_of, harts_asked, program_of,
 };
 use hart_range::HartRange;
-use hart_rows::write_decoded_of;
+use hart_survey::{CaptureSurvey, survey_capture};
+use rows_side_by_side::{Sharing, write_decoded_side_by_side};
 use rvclass::ProgramOver;
 use std::alloc::{AllocError, Global};
 use std::io::Write;
+use std::thread::Threads;
 use subcommands::Decode;
 
 /// Writes the log of each hart, as far as the messages of a capture settle it. Returns that all is done where the
@@ -43,8 +43,9 @@ use subcommands::Decode;
 /// Where some harts are asked for, this is what the messages of these harts alone give: messages of all other harts are
 /// passed over, unjudged, and only the closing packets of these harts are missed. A fault counts them all. Where the
 /// capture has none of these harts, nothing is written.
-pub fn decode<'a, F: Files, O: Write>(
+pub fn decode<'a, F: Files, O: Write, R: Threads + Sync>(
     alloc: Global,
+    rt: &R,
     files: &mut F,
     asked: &Decode<'a>,
     out: &mut O,
@@ -64,12 +65,13 @@ pub fn decode<'a, F: Files, O: Write>(
 {
     let base = base_of(asked.base, &asked.also)?;
     let range = harts_asked(asked.only)?;
-    decode_harts(alloc, files, asked, base, range, out)
+    decode_harts(alloc, rt, files, asked, base, range, out)
 }
 
 /// Writes what a capture has of the logs of the harts in a range, by the program at this base.
-fn decode_harts<'a, F: Files, O: Write>(
+fn decode_harts<'a, F: Files, O: Write, R: Threads + Sync>(
     alloc: Global,
+    rt: &R,
     files: &mut F,
     asked: &Decode<'a>,
     base: u64,
@@ -92,14 +94,25 @@ fn decode_harts<'a, F: Files, O: Write>(
     if asked.lossy {
         decode_lossy(alloc, &progress, &program, asked.harts, range, capture, out)
     } else {
-        decode_whole(alloc, &progress, &program, asked.harts, range, capture, out)
+        decode_whole(
+            alloc,
+            rt,
+            &progress,
+            &program,
+            asked.harts,
+            range,
+            capture,
+            out,
+        )
     }
 }
 
 /// Writes the log of each hart in a range, as far as the messages of these bytes settle it, where no message may be
-/// lost. All memory is taken before anything is written.
-fn decode_whole<'a, F: Files, O: Write>(
+/// lost. They are decoded in as many threads as the machine has processors. All memory is taken before anything is
+/// written.
+fn decode_whole<'a, F: Files, O: Write, R: Threads + Sync>(
     alloc: Global,
+    rt: &R,
     progress: &MessageProgress<'_, F>,
     program: &ProgramOver,
     harts: u16,
@@ -117,29 +130,37 @@ fn decode_whole<'a, F: Files, O: Write>(
         progress.begin(messages_in(bytes));
     }
     let survey = SurveyProgress { progress };
-    let decoded = write_decoded_of(alloc, program, harts, range, bytes, &survey, out)?;
+    let decoded = write_decoded_side_by_side(
+        alloc,
+        rt,
+        Sharing::of(rt),
+        program,
+        harts,
+        range,
+        bytes,
+        &survey,
+        out,
+    )?;
     out.flush()?;
     ended_of(range, decoded.fault, decoded.closed.as_slice())
 }
 
-/// What the messages of some harts among these bytes decode to. How far all of them are worked through is shown, where
-/// that is asked for.
-pub fn outcome_of_harts<F: Files>(
+/// Where the messages of some harts among these bytes are, and how far they are decoded. How far all of them are worked
+/// through is shown, where that is asked for. The error says that an allocation failed.
+pub fn survey_of_harts<'b, F: Files>(
     alloc: Global,
     progress: &MessageProgress<'_, F>,
     program: &ProgramOver,
     harts: u16,
     range: HartRange,
-    bytes: &[u8],
-) -> Result<CaptureOutcome, AllocError>
-    ensures { IfOk result (λ outcome.
-        IsDecodedOf range (words_of program.now) harts bytes.now (events_in outcome.harts.items) outcome.closed.items
-        outcome.fault) }
+    bytes: &'b [u8],
+) -> Result<CaptureSurvey<'b, Global>, AllocError>
+    ensures { IfOk result (IsCaptureSurvey range (words_of program.now) harts bytes.now) }
 {
     if progress.is_asked() {
         progress.begin(messages_in(bytes));
     }
-    let outcome = captures::decode_harts(alloc, program, harts, range, bytes, progress);
+    let found = survey_capture(alloc, program, harts, range, bytes, progress);
     progress.end();
-    outcome
+    found
 }

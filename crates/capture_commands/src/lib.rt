@@ -7,23 +7,20 @@ mod counting;
 mod decoding;
 mod dumping;
 mod ending;
-mod frame_reading;
 mod hart_check;
-mod hart_items;
 mod laws;
 mod lossy_decoding;
 mod message_listing;
-mod messages_line;
 mod own_messages;
 mod reason;
+mod salvage_progress;
 mod salvaged_listing;
-mod salvaged_writing;
 mod salvaging_capture;
 mod stopping;
 mod survey_progress;
 mod symbols_input;
 
-pub use decoding::{decode, outcome_of_harts};
+pub use decoding::{decode, survey_of_harts};
 pub use dumping::dump;
 pub use hart_check::check_harts_below;
 pub use laws::{

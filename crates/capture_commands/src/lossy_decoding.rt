@@ -14,12 +14,11 @@ ghost use Rattle.capture_commands.specs.Faults.{final_status, status_of};
 ghost use Rattle.capture_commands.specs.Decoding.{end_of_harts};
 ghost use Rattle.hart_rows.specs.EachHart.{each_hart};
 ghost use Rattle.capture_commands.specs.Pieces.{ArePiecesOf, HasPieces, WritesPieces, closed_of, end_of_pieces_from};
-ghost use Rattle.capture_commands.specs.Pieces.{harts_counted, have_gaps, is_gap, mode_of_header, part_text, parts_of};
+ghost use Rattle.capture_commands.specs.Pieces.{harts_counted, have_gaps, is_gap, part_text, parts_of};
 ghost use Rattle.capture_commands.specs.Pieces.{parts_text};
+ghost use Rattle.searching.specs.Search.{mode_of};
 
 use crate::counting::messages_in;
-use crate::hart_items::items_of;
-use crate::messages_line::write_messages;
 use crate::own_messages::{fault_among, select_messages};
 use crate::reason::{CaptureReason, Fault};
 use crate::stopping::reading_fault;
@@ -29,9 +28,10 @@ use hart_range::HartRange;
 use losses::{HartPieces, LossyFault, Part, collect_watched};
 use message::Header;
 use output::write_text;
-use payload::Mode;
 use retire::{Event, write_log};
 use rvclass::ProgramOver;
+use salvaged_text::{items_of, write_messages};
+use searching::mode_of;
 use std::alloc::Global;
 use std::io::Write;
 use watching::Watch;
@@ -116,9 +116,9 @@ fn collect_own<F: Files>(
     whole: WholeCapture,
 ) -> Result<Vec<HartPieces>, LossyFault>
     ensures found { IfOk result (λ pieces. GivesPieces program.now (harts_counted harts whole.header)
-        (mode_of_header whole.header) (selected only whole.messages.items) pieces.items) }
+        (mode_of whole.header) (selected only whole.messages.items) pieces.items) }
     ensures fault { IfErr result (λ fault. GivesFault program.now (harts_counted harts whole.header)
-        (mode_of_header whole.header) (selected only whole.messages.items) fault) }
+        (mode_of whole.header) (selected only whole.messages.items) fault) }
 {
     let header = whole.header;
     let count = whole.messages.len();
@@ -128,7 +128,7 @@ fn collect_own<F: Files>(
         alloc,
         program,
         harts_counted(harts, header),
-        mode_of_header(header),
+        mode_of(header),
         messages.as_slice(),
         progress,
     )
@@ -141,17 +141,6 @@ pub(crate) fn harts_counted(harts: u16, header: Option<Header>) -> u16
     match header {
         Some(header) => header.harts,
         None => harts,
-    }
-}
-
-/// The mode of a hart whose packet that opens the trace is lost: the header's, or without a header the differential
-/// one.
-pub(crate) fn mode_of_header(header: Option<Header>) -> Mode
-    ensures { result ≡ mode_of_header header }
-{
-    match header {
-        Some(header) => header.mode,
-        None => Mode::Differential,
     }
 }
 
@@ -210,7 +199,8 @@ fn write_gap<'a, O: Write>(missing: u64, out: &mut O) -> Result<(), Fault<'a>>
     ensures text { OnOk result (Appends (O.contents out.old) (O.contents out.new) (part_text (Missing missing))) }
     ensures begun { AppendsBeginning (part_text (Missing missing)) (O.contents out.old) (O.contents out.new) }
 {
-    write_messages("gap", missing, out)
+    write_messages("gap", missing, out)?;
+    Ok(())
 }
 
 /// Writes the line of a stretch, with how many events it has, and their log.

@@ -11,12 +11,11 @@ ghost use Rattle.capture_commands.specs.Faults.{final_status};
 ghost use Rattle.capture_commands.specs.ListedFormats.{treated_in};
 ghost use Rattle.capture_commands.specs.Listed.{CanTreat};
 ghost use Rattle.capture_commands.specs.ListedSalvaged.{AreTreatedIn, TreatsHarts};
-ghost use Rattle.capture_commands.specs.steps.Reading.{IsFound};
+ghost use Rattle.capture_commands.specs.steps.Reading.{IsFoundOf};
 ghost use Rattle.command_inputs.specs.declared.fault.Fault.TheVariants as Fault;
 
-use crate::lossy_decoding::mode_of_header;
 use crate::reason::Fault;
-use crate::salvaging_capture::{Found, ended, find};
+use crate::salvaging_capture::{ended, find};
 use command_inputs::{Files, MessageProgress, Status};
 use hart_range::HartRange;
 use message::{Header, Message};
@@ -24,8 +23,9 @@ use payload::Mode;
 use retire::WriteFault;
 use rvclass::ProgramOver;
 use salvaged_lines::write_treated_harts;
+use salvaged_text::Found;
 use salvaging::{Treated, treat_watched};
-use searching::harts_counted;
+use searching::{harts_counted, mode_of};
 use std::alloc::{AllocError, Global};
 use std::io::Write;
 use subcommands::Format;
@@ -107,7 +107,7 @@ fn treat_found<F: Files>(
     found: &Found,
     bytes: &[u8],
 ) -> Result<Vec<Treated>, AllocError>
-    requires { IsFound only harts program.now bytes.now found.now }
+    requires { IsFoundOf only harts program.now bytes.now found.now }
     ensures { IfOk result (λ treated. AreTreatedIn only harts program.now found.now.header bytes.now treated.items) }
 {
     treat_shown(
@@ -115,7 +115,7 @@ fn treat_found<F: Files>(
         progress,
         program,
         harts_counted(harts, found.header, bytes),
-        mode_of_header(found.header),
+        mode_of(found.header),
         found.frames.messages.as_slice(),
     )
 }

@@ -26,15 +26,16 @@ pub(crate) fn run_dump<'a, F: Files, O: Write>(
 }
 
 /// A run of `decode`.
-pub(crate) fn run_decode<'a, F: Files, O: Write>(
+pub(crate) fn run_decode<'a, F: Files, O: Write, R: Threads + Sync>(
     alloc: Global,
+    rt: &R,
     files: &mut F,
     asked: &Decode<'a>,
     out: &mut O,
 ) -> Result<Status, Fault<'a>>
     ensures { IsRun (F.content files.old) (Asked.Decode asked.now) O.contents result out.old out.new }
 {
-    joined_end(decode(alloc, files, asked, out))
+    joined_end(decode(alloc, rt, files, asked, out))
 }
 
 /// A run of `list`.

@@ -69,7 +69,7 @@ where
         Asked::Check(asked) => run_check(alloc, rt, files, asked, out),
         Asked::Encode(asked) => run_encode(alloc, rt, files, asked, out),
         Asked::Dump(asked) => run_dump(files, asked, out),
-        Asked::Decode(asked) => run_decode(alloc, files, asked, out),
+        Asked::Decode(asked) => run_decode(alloc, rt, files, asked, out),
         Asked::Replay(asked) => run_replay(alloc, rt, files, asked, out),
         Asked::Bench(asked) => run_bench(alloc, rt, files, asked, out),
         Asked::Audit(asked) => run_audit(alloc, files, asked, out),

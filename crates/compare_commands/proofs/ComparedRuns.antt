@@ -122,7 +122,8 @@ module _ (content : Content) (asked : Compare) (range : HartRange) (program : Im
         old new leads_through
 
 module _ (content : Content) (asked : Compare) (range : HartRange) (program : Image) (bytes : List ℕ)
-    (gots : List Got) (stop : Option (ℕ × CaptureFault)) (got : AreGotOf range (words_of program) asked.harts bytes gots stop)
+    (gots : List Got) (stop : Option (ℕ × CaptureFault))
+    (got : AreGotOf range (words_of program) asked.harts bytes gots stop)
     (no_memory : end_of_stop stop ≢ Err fault.Memory) where
   abbrev Prints : Printed → Type 0
   Prints = ComparesCapture content asked range program bytes
@@ -135,7 +136,13 @@ module _ (content : Content) (asked : Compare) (range : HartRange) (program : Im
       → AreAsMany (length gots) asked.logs.items (Err why) → PrintsUnlessDenied Prints Can ended old old
   count_ends why ended old is other =
       ends_silently Prints Can (AreAsMany (length gots) asked.logs.items (Err why)) why ended old is (inr other)
-      (λ other. record { gots = gots; stop = stop; got = got; no_memory = no_memory; prints = (Err why, (Err why, other, refl), refl) })
+      (λ other. record {
+        gots = gots;
+        stop = stop;
+        got = got;
+        no_memory = no_memory;
+        prints = (Err why, (Err why, other, refl), refl);
+      })
 
   module _ (u : Unit {0}) (many : AreAsMany (length gots) asked.logs.items (Ok u)) where
     -- A log is not legal.
@@ -145,7 +152,13 @@ module _ (content : Content) (asked : Compare) (range : HartRange) (program : Im
     logs_end why ended old is refused =
         ends_silently Prints Can (AreLegalLogsUpTo (rows_of asked.long) content program asked.logs.items (Err why)) why
         ended old is refused
-        (λ refused. record { gots = gots; stop = stop; got = got; no_memory = no_memory; prints = (Err why, (Ok u, many, refused), refl) })
+        (λ refused. record {
+          gots = gots;
+          stop = stop;
+          got = got;
+          no_memory = no_memory;
+          prints = (Err why, (Ok u, many, refused), refl);
+        })
 
     module _ (lines : List ComparedHart)
         (are : AreLinesOfLogs (rows_of asked.long) content program asked.logs.items range.first gots lines) where
@@ -183,7 +196,13 @@ module _ (content : Content) (asked : Compare) (range : HartRange) (program : Im
           → PrintsUnlessDenied (WritesLines stop lines) ⊤ ended old new → PrintsUnlessDenied Prints Can ended old new
       report_printed ended old new =
           leads_on (WritesLines stop lines) Prints ⊤ Can ended old new leads
-          (λ there. record { gots = gots; stop = stop; got = got; no_memory = no_memory; logs = (are.logs, (Ok u, many, are.legal), tt) })
+          (λ there. record {
+            gots = gots;
+            stop = stop;
+            got = got;
+            no_memory = no_memory;
+            logs = (are.logs, (Ok u, many, are.legal), tt);
+          })
 
       -- Or a prefix of it.
       pub report_cut : (old new : Option (List ℕ)) → AppendsBeginning (lines_text (is_none stop) lines) old new

@@ -1,3 +1,5 @@
+mod BesideLemmas
 mod ComparedRuns
+mod FoundHarts
 mod LinesMade
 mod Reported

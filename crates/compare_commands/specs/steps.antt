@@ -1,3 +1,4 @@
-pub mod Decoded
-pub mod Lines
 pub mod Places
+pub mod Beside
+pub mod Surveyed
+pub mod Lines

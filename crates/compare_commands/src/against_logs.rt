@@ -11,9 +11,9 @@ ghost use Rattle.capture_commands.specs.Faults.{final_status};
 ghost use Rattle.compare_commands.specs.Comparing.{CanCompare, CanCompareCapture, CanCompareHarts, Compares, ComparesCapture};
 ghost use Rattle.compare_commands.specs.Comparing.{ComparesHarts};
 
-use crate::decoded::{decoded_of, harts_below};
 use crate::hart_lines::{check_count, lines_of_logs};
 use crate::report::write_report;
+use crate::surveyed::{harts_below, surveyed_of};
 use capture_commands::{Fault, check_harts_below};
 use command_inputs::{Status, base_of, content_of, harts_asked, program_of};
 use files::Files;
@@ -31,8 +31,8 @@ use subcommands::Compare;
 /// There have to be as many logs as the capture has harts: by its header, or else by `harts`; where its header is bad
 /// there are `harts` harts, and nothing of them is decoded. Each log has to be legal for the program, also behind a
 /// difference. A log may have 4,294,967,295 rows where long logs are asked for, and else 16,777,216. The logs are read
-/// side by side, each a piece at a time; no list holds the events of a log. Nothing is written before all logs are
-/// read.
+/// side by side, each a piece at a time, and its hart's messages are decoded beside it; no list holds the events of a
+/// log or of a hart. Nothing is written before all logs are read.
 ///
 /// Where some harts are asked for, the logs have to be those of the harts among them that the capture has, in their
 /// order. Messages of all other harts are passed over, whatever they are. The lines, the result and how the run ends
@@ -112,7 +112,7 @@ where
     ensures cut { IsCutOf (ComparesCapture (F.content files.now) asked.now range program.now capture.now)
         (O.contents out.old) (O.contents out.new) }
 {
-    let decoded = decoded_of(
+    let found = surveyed_of(
         alloc,
         files,
         asked.progress,
@@ -122,7 +122,7 @@ where
         capture,
     )?;
     let paths = asked.logs.as_slice();
-    check_count(harts_below(range, decoded.lists.len()), paths)?;
+    check_count(harts_below(range, found.places.len()), paths)?;
     let lines = lines_of_logs(
         alloc,
         rt,
@@ -132,7 +132,7 @@ where
         program,
         paths,
         range,
-        &decoded,
+        &found,
     )?;
-    write_report(lines.as_slice(), decoded.stop, out)
+    write_report(lines.as_slice(), found.stop, out)
 }

@@ -1,15 +1,17 @@
 //! The lines of harts, by their logs.
 
-ghost use Rattle.std.specs.Prelude.{◌^◌, ◌<◌, ◌≡◌, ◌⊎◌, Err, IfErr, IfOk, length};
+ghost use Rattle.std.specs.Prelude.{◌^◌, ◌<◌, ◌≡◌, ◌⊎◌, List, Err, IfErr, IfOk, length};
 ghost use Rattle.command_inputs.specs.FoundLogs.{AreLegalLogsUpTo};
 ghost use Rattle.command_inputs.specs.declared.fault.Fault.TheVariants as Fault;
-ghost use Rattle.receiver.specs.Received.{events_in};
+ghost use Rattle.comparing.specs.Compared.{of_harts};
 ghost use Rattle.compare_commands.specs.Comparison.{AreAsMany, rows_of};
-ghost use Rattle.compare_commands.specs.steps.Decoded.{gots_in};
 ghost use Rattle.compare_commands.specs.steps.Lines.{AreLinesOfLogs};
+ghost use Rattle.compare_commands.specs.steps.Surveyed.{AreFound, gots_in};
+ghost use Rattle.retire.specs.declared.event.Event.{Event as AnyEvent};
+ghost use Rattle.rvclass.specs.Fetch.{words_of};
 
-use crate::decoded::Decoded;
-use crate::task::AgainstDecoded;
+use crate::surveyed::Surveyed;
+use crate::task::AgainstMessages;
 use capture_commands::{CaptureReason, Fault};
 use command_inputs::begin_progress;
 use comparing::ComparedHart;
@@ -39,7 +41,7 @@ fn rows_of(long: bool) -> u32
 }
 
 /// The line of each of these harts, by the log at its path. The logs are read side by side, and compared as they are
-/// read. It is shown how far they are read, where that is asked for.
+/// read with what their harts' messages decode to. It is shown how far they are read, where that is asked for.
 pub(crate) fn lines_of_logs<'a, F: Files + Sync, R: Threads + Sync>(
     alloc: Global,
     rt: &R,
@@ -49,25 +51,28 @@ pub(crate) fn lines_of_logs<'a, F: Files + Sync, R: Threads + Sync>(
     program: &ProgramOver,
     paths: &[&'a str],
     range: HartRange,
-    decoded: &Decoded,
+    found: &Surveyed,
 ) -> Result<Vec<ComparedHart>, Fault<'a>>
 where
     F::Reader: Send,
-    requires many { length paths.now ≡ length (gots_in range decoded.now) }
+    requires many { length paths.now ≡ length (of_harts range found.now.places.items) }
     requires few { range.last < 2 ^ 64 }
-    requires flags { length decoded.now.closed.items ≡ length (events_in decoded.now.lists.items) }
-    ensures lines { IfOk result (λ lines.
-        AreLinesOfLogs (rows_of long) (F.content files.now) program.now paths.now range.first (gots_in range decoded.now)
-        lines.items) }
+    ensures lines { IfOk result (λ lines. (lists : List (List AnyEvent))
+        → AreFound (words_of program.now) found.now lists
+        → AreLinesOfLogs (rows_of long) (F.content files.now) program.now paths.now range.first
+        (gots_in range lists found.now) lines.items) }
     ensures fault { IfErr result (λ why. (why ≡ Fault.Memory)
         ⊎ AreLegalLogsUpTo (rows_of long) (F.content files.now) program.now paths.now (Err why)) }
 {
-    let lists = decoded.lists.as_slice();
-    let closed = decoded.closed.as_slice();
-    let counts = decoded.counts.as_slice();
-    let task = AgainstDecoded {
+    let places = found.places.as_slice();
+    let closed = found.closed.as_slice();
+    let counts = found.counts.as_slice();
+    let task = AgainstMessages {
+        alloc,
         first: usize::from(range.first),
-        lists,
+        program,
+        messages: found.messages,
+        places,
         closed,
         counts,
     };

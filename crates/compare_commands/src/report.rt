@@ -9,7 +9,7 @@ ghost use Rattle.comparing.specs.Lines.{lines_text};
 ghost use Rattle.compare_commands.specs.Comparison.{end_of_stop};
 ghost use Rattle.compare_commands.specs.steps.Lines.{WritesLines};
 
-use crate::decoded::ended;
+use crate::surveyed::ended;
 use capture_commands::Fault;
 use captures::CaptureFault;
 use command_inputs::Status;

@@ -1,43 +1,52 @@
 //! A log that is compared as it is read.
 
-ghost use Rattle.std.specs.Prelude.{◌≡◌, [], false, get_or};
-ghost use Rattle.comparing.specs.Compared.{HasCompared};
+ghost use Rattle.std.specs.Prelude.{◌≡◌, [], false, get_or, List};
 ghost use Rattle.comparing.specs.Lines.{line_of};
+ghost use Rattle.comparing.specs.Compared.{got_by};
+ghost use Rattle.comparing.specs.steps.Held.{count_in};
+ghost use Rattle.hart_survey.specs.Placed.{IsPlacedLog};
 ghost use Rattle.legalpath.specs.ProgramLog.{program_log};
-ghost use Rattle.receiver.specs.Received.{events_in};
-ghost use Rattle.comparing.specs.steps.Held.{count_in, got_at};
-ghost use Rattle.compare_commands.specs.steps.Places.{hart_at_place};
+ghost use Rattle.retire.specs.declared.event.Event.{Event as AnyEvent};
+ghost use Rattle.rvclass.specs.Fetch.{words_of};
+ghost use Rattle.compare_commands.specs.steps.Beside.{IsBeside};
+ghost use Rattle.compare_commands.specs.steps.Places.{hart_at_place, places_in};
 
-use comparing::{ComparedHart, Comparing, HartCount};
+use crate::beside::Beside;
+use comparing::{ComparedHart, HartCount};
 use legalpath::PathFault;
 use log_streams::{IllegalRow, LogTask};
 use retire::Event;
 use rvclass::ProgramOver;
-use std::alloc::AllocError;
+use std::alloc::{AllocError, Global};
 
-/// Compares each log with what was decoded of its hart. The first log is that of this hart, and the others follow.
+/// Compares each log with what its hart's messages decode to. The first log is that of this hart, and the others
+/// follow.
 #[derive(Clone, Copy)]
-pub(crate) struct AgainstDecoded<'d> {
+pub(crate) struct AgainstMessages<'d> {
+    pub(crate) alloc: Global,
     pub(crate) first: usize,
-    pub(crate) lists: &'d [Vec<Event>],
+    pub(crate) program: &'d ProgramOver<'d>,
+    /// The bytes that the places are in.
+    pub(crate) messages: &'d [u8],
+    pub(crate) places: &'d [Vec<usize>],
     pub(crate) closed: &'d [bool],
     pub(crate) counts: &'d [HartCount],
 }
 
 /// How far the log of a hart is compared.
-#[derive(Clone, Copy)]
-pub(crate) struct ComparingHart {
+#[derive(Drop)]
+pub(crate) struct ComparingHart<'d> {
     pub(crate) hart: usize,
-    pub(crate) comparing: Comparing,
+    pub(crate) beside: Beside<'d>,
 }
 
-impl AgainstDecoded<'_> {
-    /// The events that were decoded of a hart, if there is such a hart.
-    fn decoded(&self, hart: usize) -> &[Event]
-        ensures { result.now ≡ get_or (events_in self.now.lists.now) hart [] }
+impl<'d> AgainstMessages<'d> {
+    /// Where a hart's messages begin, if there is such a hart.
+    fn places(&self, hart: usize) -> &'d [usize]
+        ensures { result.now ≡ places_in self.now.places.now hart }
     {
-        match self.lists.get(hart) {
-            Some(list) => list.as_slice(),
+        match self.places.get(hart) {
+            Some(places) => places.as_slice(),
             None => &[],
         }
     }
@@ -63,48 +72,58 @@ impl AgainstDecoded<'_> {
     }
 }
 
-impl LogTask<ComparedHart> for AgainstDecoded<'_> {
-    type State = ComparingHart;
+impl<'d> LogTask<ComparedHart> for AgainstMessages<'d> {
+    type State = ComparingHart<'d>;
 
     ghost Keeps = { λ task program place seen state. (state.hart ≡ hart_at_place task.first place)
-        × HasCompared (get_or (events_in task.lists.now) (hart_at_place task.first place) []) seen state.comparing };
+        × ((log : List AnyEvent) → IsPlacedLog (words_of task.program.now) task.messages.now
+        (places_in task.places.now (hart_at_place task.first place)) log → IsBeside log seen state.beside) };
 
-    ghost Makes = { λ task program place events line.
-        line ≡ line_of (hart_at_place task.first place)
-        (got_at task.counts.now (events_in task.lists.now) task.closed.now (hart_at_place task.first place))
-        (program_log program events) };
+    ghost Makes = { λ task program place events line. (log : List AnyEvent)
+        → IsPlacedLog (words_of task.program.now) task.messages.now
+        (places_in task.places.now (hart_at_place task.first place)) log
+        → line ≡ line_of (hart_at_place task.first place)
+        (got_by (count_in task.counts.now (hart_at_place task.first place)) log
+        (get_or task.closed.now (hart_at_place task.first place) false)) (program_log program events) };
 
     ghost MakesOfIllegal = { λ task program events row line. ⊥ };
 
-    fn begin(&self, _: &ProgramOver, place: usize) -> Result<ComparingHart, AllocError> {
-        Ok(ComparingHart {
-            hart: self.first.saturating_add(place),
-            comparing: Comparing::new(),
-        })
+    fn begin(&self, _: &ProgramOver, place: usize) -> Result<ComparingHart<'d>, AllocError> {
+        let hart = self.first.saturating_add(place);
+        let beside = Beside::new(self.alloc, self.program, self.messages, self.places(hart))?;
+        Ok(ComparingHart { hart, beside })
     }
 
     fn add(
         &self,
         _: &ProgramOver,
-        state: &mut ComparingHart,
+        state: &mut ComparingHart<'d>,
         events: &[Event],
     ) -> Result<(), AllocError> {
-        let decoded = self.decoded(state.hart);
-        state.comparing.add(decoded, events);
+        state.beside.add(events);
         Ok(())
     }
 
-    fn finish(&self, _: &ProgramOver, state: ComparingHart) -> Result<ComparedHart, AllocError> {
+    fn finish(
+        &self,
+        _: &ProgramOver,
+        mut state: ComparingHart<'d>,
+    ) -> Result<ComparedHart, AllocError> {
         let hart = state.hart;
-        let decoded = self.decoded(hart);
+        let compared = state.beside.finish()?;
+        let decoded = compared.decoded();
+        if decoded == usize::MAX {
+            // There may be more than it can say.
+            return Err(AllocError);
+        }
         let count = self.count(hart);
         Ok(ComparedHart {
             hart,
-            events: state.comparing.events(),
+            events: compared.events(),
             taken: count.taken,
             bytes: count.bytes,
-            decoded: decoded.len(),
-            verdict: state.comparing.verdict(self.is_closed(hart), decoded),
+            decoded,
+            verdict: compared.verdict(self.is_closed(hart)),
         })
     }
 

@@ -1,11 +1,12 @@
--- How many events are alike, of a log that comes in pieces.
-use Rattle.std.proofs.Common.{◌≡◌, ◌≢◌, ◌≤◌, ◌+◌, ◌++◌, suc, Bool, true, false, List, [], ◌∷◌, length, drop, refl}
-use Rattle.std.proofs.Common.{ap, arith}
+-- How many events are alike, of lists that come in pieces.
+use Rattle.std.proofs.Common.{◌≡◌, ◌⊎◌, ◌≤◌, ◌+◌, ◌++◌, ℕ, suc, Bool, true, false, List, [], ◌∷◌, length, refl}
+use Rattle.std.proofs.Common.{ap, arith, inl, inr}
 use Rattle.std.proofs.lemmas.Bool.{eqb-true}
 use Rattle.std.specs.Prelude.{◌==◌, if◌then◌else◌}
 use Rattle.retire.specs.declared.event.Event.{Event}
 use Rattle.bench.specs.Verdict.{count_alike, is_alike, verdict}
 use Rattle.bench.specs.declared.verdict.Verdict.TheVariants.{Beginning, Differs, Whole}
+use Rattle.comparing.specs.Compared.{AreNext}
 
 -- None where there is no log.
 pub none_alike : (decoded : List Event) → count_alike decoded [] ≡ 0
@@ -34,38 +35,58 @@ alike_few (event ∷ decoded) (row ∷ log) = go (is_alike event row) (alike_few
     go true rest = omega (arith, rest)
     go false rest = omega arith
 
--- Where all events so far are alike, the count goes on with the others.
-pub alike_on : (decoded seen more : List Event) → count_alike decoded seen ≡ length seen
-    → count_alike decoded (seen ++ more) ≡ length seen + count_alike (drop (length seen) decoded) more
-alike_on decoded [] more all = omega arith
-alike_on [] (row ∷ seen) more all = absurd (omega (arith, all))
-alike_on (event ∷ decoded) (row ∷ seen) more all =
-    go (is_alike event row) (λ all. alike_on decoded seen more all) all
+-- Where all events so far are alike, and as many of both came, the count goes on with the next ones.
+pub alike_on : (before seen decoded events : List Event) → count_alike before seen ≡ length seen
+    → count_alike before seen ≡ length before
+    → count_alike (before ++ decoded) (seen ++ events) ≡ count_alike before seen + count_alike decoded events
+alike_on [] [] decoded events all both = omega arith
+alike_on [] (row ∷ seen) decoded events all both = absurd (omega (arith, all))
+alike_on (event ∷ before) [] decoded events all both = absurd (omega (arith, both))
+alike_on (event ∷ before) (row ∷ seen) decoded events all both =
+    go (is_alike event row) (alike_on before seen decoded events) all both
   where
     go : (alike : Bool)
-        → (count_alike decoded seen ≡ length seen
-        → count_alike decoded (seen ++ more) ≡ length seen + count_alike (drop (length seen) decoded) more)
-        → (if alike then suc (count_alike decoded seen) else 0) ≡ suc (length seen)
-        → (if alike then suc (count_alike decoded (seen ++ more)) else 0)
-        ≡ suc (length seen) + count_alike (drop (length seen) decoded) more
-    go true on all =
-        let rest = on (omega (arith, all)) in omega (arith, rest)
-    go false on all = absurd (omega (arith, all))
+        → (count_alike before seen ≡ length seen → count_alike before seen ≡ length before
+        → count_alike (before ++ decoded) (seen ++ events) ≡ count_alike before seen + count_alike decoded events)
+        → (if alike then suc (count_alike before seen) else 0) ≡ suc (length seen)
+        → (if alike then suc (count_alike before seen) else 0) ≡ suc (length before)
+        → (if alike then suc (count_alike (before ++ decoded) (seen ++ events)) else 0)
+        ≡ (if alike then suc (count_alike before seen) else 0) + count_alike decoded events
+    go true on all both =
+        let rest = on (omega (arith, all)) (omega (arith, both)) in omega (arith, rest)
+    go false on all both = absurd (omega (arith, all))
 
 -- Where they are not, it stays.
-pub alike_stays : (decoded seen more : List Event) → count_alike decoded seen ≢ length seen
-    → count_alike decoded (seen ++ more) ≡ count_alike decoded seen
-alike_stays decoded [] more other = absurd (other (none_alike decoded))
-alike_stays [] (row ∷ seen) more other = refl
-alike_stays (event ∷ decoded) (row ∷ seen) more other =
-    go (is_alike event row) (λ other. alike_stays decoded seen more other) other
+pub alike_stays : (before seen decoded events : List Event) → AreNext before seen decoded events
+    → ¬ ((count_alike before seen ≡ length seen) × (count_alike before seen ≡ length before))
+    → count_alike (before ++ decoded) (seen ++ events) ≡ count_alike before seen
+alike_stays [] [] decoded events next other = absurd (other (refl, refl))
+alike_stays [] (row ∷ seen) decoded events next other = go next.1
   where
+    go : (length (row ∷ seen) ≤ 0) ⊎ (decoded ≡ []) → count_alike decoded (row ∷ seen ++ events) ≡ 0
+    go (inl few) = absurd (omega (arith, few))
+    go (inr none) = ap (λ decoded. count_alike decoded (row ∷ seen ++ events)) none
+alike_stays (event ∷ before) [] decoded events next other = go next.0
+  where
+    go : (length (event ∷ before) ≤ 0) ⊎ (events ≡ []) → count_alike (event ∷ before ++ decoded) events ≡ 0
+    go (inl few) = absurd (omega (arith, few))
+    go (inr none) = ap (count_alike (event ∷ before ++ decoded)) none
+alike_stays (event ∷ before) (row ∷ seen) decoded events next other =
+    go (is_alike event row) (alike_stays before seen decoded events (fewer next.0, fewer next.1)) other
+  where
+    fewer : {A : Type 0} {m n : ℕ} → (suc m ≤ suc n) ⊎ A → (m ≤ n) ⊎ A
+    fewer (inl few) = inl (omega (arith, few))
+    fewer (inr none) = inr none
+
     go : (alike : Bool)
-        → (count_alike decoded seen ≢ length seen → count_alike decoded (seen ++ more) ≡ count_alike decoded seen)
-        → (if alike then suc (count_alike decoded seen) else 0) ≢ suc (length seen)
-        → (if alike then suc (count_alike decoded (seen ++ more)) else 0)
-        ≡ (if alike then suc (count_alike decoded seen) else 0)
-    go true stays other = ap (λ n. suc n) (stays (λ same. other (ap (λ n. suc n) same)))
+        → (¬ ((count_alike before seen ≡ length seen) × (count_alike before seen ≡ length before))
+        → count_alike (before ++ decoded) (seen ++ events) ≡ count_alike before seen)
+        → ¬ (((if alike then suc (count_alike before seen) else 0) ≡ suc (length seen))
+        × ((if alike then suc (count_alike before seen) else 0) ≡ suc (length before)))
+        → (if alike then suc (count_alike (before ++ decoded) (seen ++ events)) else 0)
+        ≡ (if alike then suc (count_alike before seen) else 0)
+    go true stays other =
+        ap (λ n. suc n) (stays (λ same. other (ap (λ n. suc n) same.0, ap (λ n. suc n) same.1)))
     go false stays other = refl
 
 -- The verdict on a hart that is not closed is a beginning only where all that was decoded is alike.

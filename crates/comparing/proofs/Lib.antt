@@ -1,5 +1,7 @@
 pub mod AlikePieces
+pub mod ComparedCounts
 pub mod CountedMessages
+pub mod CountedFronts
 pub mod DecodedHarts
 pub mod EqualLogs
 pub mod HeldHarts

@@ -1,47 +1,23 @@
 -- How many payload bytes some messages have at most.
-use Rattle.std.proofs.Common.{◌≤◌, ◌+◌, ◌*◌, ℕ, zero, suc, All, Bool, true, false, List, [], ◌∷◌, Option, Some, None}
-use Rattle.std.proofs.Common.{arith, inl, inr, length, subst, sym, take}
-use Rattle.std.proofs.lemmas.List.Elements.{All-cons, All-head, All-nil, All-tail}
+use Rattle.std.proofs.Common.{◌≡◌, ◌≤◌, ◌+◌, ◌++◌, ℕ, suc, Bool, true, false, List, [], ◌∷◌, ap, arith, length, refl}
+use Rattle.std.proofs.lemmas.List.{length-append}
 use Rattle.std.specs.Prelude.{◌==◌, if◌then◌else◌}
-use Rattle.captures.specs.Whole.{IsFront}
-use Rattle.captures.specs.declared.outcome.CaptureFault.{CaptureFault}
-use Rattle.message.specs.Cut.{IsMessage}
+use Rattle.message.specs.Capture.{head_bytes, message_bytes}
 use Rattle.message.specs.OfHart.{of_hart}
-use Rattle.message.specs.declared.fault.MessageFault.{MessageFault}
-use Rattle.message.specs.declared.header.Header.{Header}
 use Rattle.message.specs.declared.message.Message.{Message}
-use Rattle.comparing.specs.Counts.{before_stop, payload_bytes}
+use Rattle.comparing.specs.Counts.{payload_bytes}
 
--- A payload has at most 18 bytes.
-few_bytes : (messages : List Message) → All IsMessage messages → payload_bytes messages ≤ 18 * length messages
-few_bytes [] good = omega arith
-few_bytes (message ∷ messages) good =
-    let here : length message.payload ≤ 18 = (All-head IsMessage message messages good).few in
-    let rest = few_bytes messages (All-tail IsMessage message messages good) in omega (arith, here, rest)
+-- Messages after others have their own payload bytes.
+pub payload_bytes-append : (messages more : List Message)
+    → payload_bytes (messages ++ more) ≡ payload_bytes messages + payload_bytes more
+payload_bytes-append [] more = omega arith
+payload_bytes-append (message ∷ messages) more =
+    let rest = payload_bytes-append messages more in omega (arith, rest)
 
--- The messages of a front are messages.
-front_ranges : (bytes : List ℕ) (header : Option Header) (messages : List Message) (end : Option MessageFault)
-    → IsFront bytes header messages end → All IsMessage messages
-front_ranges bytes header messages None front = front.ranges
-front_ranges bytes header messages (Some why) (inl cut) = cut.ranges
-front_ranges bytes header messages (Some why) (inr none) =
-    subst (All IsMessage) (sym none.no_messages) (All-nil IsMessage)
-
--- And so are the first of them.
-first_ranges : (count : ℕ) (messages : List Message) → All IsMessage messages → All IsMessage (take count messages)
-first_ranges zero messages good = All-nil IsMessage
-first_ranges (suc count) [] good = All-nil IsMessage
-first_ranges (suc count) (message ∷ messages) good =
-    All-cons IsMessage message (take count messages) (All-head IsMessage message messages good)
-    (first_ranges count messages (All-tail IsMessage message messages good))
-
-pub stop_few : (stop : Option (ℕ × CaptureFault)) (bytes : List ℕ) (header : Option Header) (messages : List Message)
-    (end : Option MessageFault) → IsFront bytes header messages end
-    → payload_bytes (before_stop stop messages) ≤ 18 * length (before_stop stop messages)
-stop_few None bytes header messages end front =
-    few_bytes messages (front_ranges bytes header messages end front)
-stop_few (Some at) bytes header messages end front =
-    few_bytes (take at.0 messages) (first_ranges at.0 messages (front_ranges bytes header messages end front))
+-- A message has more bytes than its payload.
+pub message_longer : (message : Message) → length message.payload + 1 ≤ length (message_bytes message)
+message_longer message =
+    let all = length-append (head_bytes message) message.payload in omega (arith, all)
 
 -- Those of a hart have no more than all.
 pub hart_fewer : (hart : ℕ) (messages : List Message)

@@ -105,6 +105,13 @@ pub hart_within : {X : Type 0} (range : HartRange) (each : List X) (i : ℕ) →
 hart_within range each i within =
     let few = (take_within (range.last + 1 - range.first) (drop range.first each) i within).0 in omega (arith, few)
 
+-- And it is one of all.
+pub hart_there : {X : Type 0} (range : HartRange) (each : List X) (i : ℕ) → i < length (of_harts range each)
+    → range.first + i < length each
+hart_there range each i within =
+    let inside = (take_within (range.last + 1 - range.first) (drop range.first each) i within).1 in
+    let left = length-drop range.first each in omega (arith, inside, left)
+
 -- How much there is of some harts.
 pub of_length : {X : Type 0} (range : HartRange) (each : List X)
     → length (of_harts range each) ≡ min (range.last + 1 - range.first) (length each - range.first)

@@ -1,5 +1,6 @@
 -- What a capture has of logs.
-use Rattle.std.specs.Prelude.{ℕ, ◌+◌, ◌-◌, ◌≡◌, ◌++◌, ◌&&◌, is_none, Bool, List, [], ◌∷◌, Option, drop, length, take}
+use Rattle.std.specs.Prelude.{ℕ, ◌+◌, ◌-◌, ◌^◌, ◌≡◌, ◌≤◌, ◌⊎◌, ◌++◌, ◌&&◌, is_none, Bool, List, [], ◌∷◌, Option, drop, length}
+use Rattle.std.specs.Prelude.{min, take}
 use Rattle.bench.specs.Got.{Got}
 use Rattle.bench.specs.Report.{are_whole, report_lines, result_line}
 use Rattle.bench.specs.Verdict.{count_alike}
@@ -18,11 +19,17 @@ use Rattle.comparing.specs.Counts.{before_stop, count_of}
 use Rattle.comparing.specs.declared.hart_count.HartCount.{HartCount}
 use Rattle.comparing.specs.declared.pieces.Comparing.{Comparing}
 
--- These events of a log were compared with those that were decoded: how many they are, and how many of the first are
--- alike.
+-- These events of a log and these decoded ones were compared: how many they are, and how many of the first are alike. Of
+-- the decoded ones 2^64 - 1 is counted if there are more.
 pub record HasCompared (decoded : List Event) (seen : List Event) (comparing : Comparing) : Type 0 where
   pub events : comparing.events ≡ length seen
+  pub counted : comparing.decoded ≡ min (length decoded) (2 ^ 64 - 1)
   pub alike : comparing.alike ≡ count_alike decoded seen
+
+-- These come next of what is decoded and of the log: of the one of which fewer came before, none comes any more.
+abbrev pub AreNext : List Event → List Event → List Event → List Event → Type 0
+AreNext before seen decoded events =
+    ((length before ≤ length seen) ⊎ (events ≡ [])) × ((length seen ≤ length before) ⊎ (decoded ≡ []))
 
 -- What is decoded of a hart, with the count of its messages. The packets are not kept.
 abbrev pub got_by : HartCount → List Event → Bool → Got

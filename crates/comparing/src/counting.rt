@@ -1,12 +1,12 @@
 //! How much of each hart there is in a capture before decoding stops.
 
-ghost use Rattle.std.specs.Prelude.{◌≡◌, ◌+◌, ◌<◌, ◌^◌, IfOk, length};
-ghost use Rattle.comparing.specs.Counts.{AreCounted, AreCounts, before_stop, payload_bytes};
-ghost use Rattle.comparing.specs.steps.Counting.{AreCountedOn};
+ghost use Rattle.std.specs.Prelude.{◌≡◌, ◌<◌, ◌^◌, IfOk, [], false, length, true};
+ghost use Rattle.comparing.specs.Counts.{AreCounted, AreCounts};
+ghost use Rattle.comparing.specs.steps.Counting.{AreCountedOn, AreCountedUpTo, comes_before};
 
 use crate::hart_count::HartCount;
-use captures::{CaptureFault, read_front};
-use message::Message;
+use captures::CaptureFault;
+use message::{Message, Messages};
 use std::alloc::{AllocError, Allocator};
 
 /// How many messages each of so many harts has in a capture before decoding stops at `stop`, and how many bytes their
@@ -14,7 +14,7 @@ use std::alloc::{AllocError, Allocator};
 ///
 /// `stop` is the fault of a [`CaptureOutcome`](captures::CaptureOutcome): the number of a message, counted from 0 over
 /// all harts, and why it is refused; or `None` where decoding comes to the end of the capture. The messages are read
-/// once more, and kept until they are counted.
+/// once more, and none is kept.
 pub fn counts_of<A: Allocator + Copy>(
     alloc: A,
     harts: usize,
@@ -23,38 +23,63 @@ pub fn counts_of<A: Allocator + Copy>(
 ) -> Result<Vec<HartCount, A>, AllocError>
     ensures { IfOk result (λ counts. AreCounted bytes.now harts stop counts.items) }
 {
-    let front = read_front(alloc, bytes)?;
-    let first = first_messages(front.messages.as_slice(), stop);
-    count_messages(alloc, harts, first)
+    let mut counts = vec![in alloc; HartCount::NONE; harts]?;
+    let mut left = Messages::new(bytes);
+    match left.header() {
+        Ok(_) => {
+            count_messages(&mut counts, stop, left);
+            Ok(counts)
+        }
+        Err(_) => Ok(counts),
+    }
 }
 
-/// The messages before the one at which decoding stops, or all.
-fn first_messages(messages: &[Message], stop: Option<(u64, CaptureFault)>) -> &[Message]
-    ensures { result.now ≡ before_stop stop messages.now }
+/// Counts the messages that these bytes begin with, before the one at which decoding stops. No message was counted.
+fn count_messages<A: Allocator>(
+    counts: &mut Vec<HartCount, A>,
+    stop: Option<(u64, CaptureFault)>,
+    mut left: Messages<'_>,
+)
+    requires none { AreCounts (length counts.old.items) [] counts.old.items }
+    requires few { length left < 2 ^ 64 }
+    ensures { AreCountedUpTo left.entry (length counts.old.items) stop counts.new.items }
+{
+    let mut number = 0;
+    loop {
+        let message = match left.next() {
+            Ok(Some(message)) => message,
+            Ok(None) => return,
+            Err(_) => return,
+        };
+        count_before(counts, stop, number, &message);
+        number += 1;
+    }
+}
+
+/// Counts the message with this number, if it comes before the one at which decoding stops.
+fn count_before<A: Allocator>(
+    counts: &mut Vec<HartCount, A>,
+    stop: Option<(u64, CaptureFault)>,
+    number: u64,
+    message: &Message,
+)
+    ensures counted { comes_before stop number ≡ true → AreCountedOn message.now counts.old.items counts.new.items }
+    ensures kept { comes_before stop number ≡ false → counts.new.items ≡ counts.old.items }
+{
+    if !comes_before(stop, number) {
+        return;
+    }
+    count_message(counts, message);
+}
+
+/// Whether the message with this number comes before the one at which decoding stops.
+fn comes_before(stop: Option<(u64, CaptureFault)>, number: u64) -> bool
+    ensures { result ≡ comes_before stop number }
 {
     match stop {
-        None => messages,
-        Some((number, _)) => {
-            let count = messages.len().min(number as usize);
-            &messages[..count]
-        }
+        None => true,
+        Some((end, _)) => number < end,
     }
-}
-
-/// How many of these messages each of so many harts has, and how many bytes their payloads have.
-fn count_messages<A: Allocator>(
-    alloc: A,
-    harts: usize,
-    messages: &[Message],
-) -> Result<Vec<HartCount, A>, AllocError>
-    requires { payload_bytes messages.now + length messages.now < 2 ^ 64 }
-    ensures { IfOk result (λ counts. AreCounts harts messages.now counts.items) }
-{
-    let mut counts = vec![in alloc; HartCount::NONE; harts]?;
-    for message in messages {
-        count_message(&mut counts, message);
-    }
-    Ok(counts)
 }
 
 /// Counts one more message of its hart, if that is one of the harts.

@@ -1,8 +1,8 @@
-//! A log that is compared piece by piece.
+//! A log and what is decoded of its hart, which are compared piece by piece.
 
-ghost use Rattle.std.specs.Prelude.{◌≡◌, ◌+◌, ◌≤◌, ◌++◌, List, [], length};
+ghost use Rattle.std.specs.Prelude.{◌≡◌, ◌≤◌, ◌-◌, ◌^◌, ◌++◌, ◌==◌, ◌&&◌, List, [], length, min};
 ghost use Rattle.bench.specs.Verdict.{count_alike, verdict};
-ghost use Rattle.comparing.specs.Compared.{HasCompared};
+ghost use Rattle.comparing.specs.Compared.{AreNext, HasCompared};
 ghost use Rattle.comparing.specs.Verdicts.{verdict_at};
 ghost use Rattle.retire.specs.Log.{most_long_rows};
 ghost use Rattle.retire.specs.declared.event.Event.{Event as AnyEvent};
@@ -11,22 +11,25 @@ use crate::alike_events::count_alike;
 use bench::Verdict;
 use retire::Event;
 
-/// How far the events of a log, which come piece by piece, are those that were decoded of its hart.
+/// How far the events of a log are those that were decoded of its hart. Both come piece by piece, side by side.
 #[derive(Clone, Copy, Debug)]
 pub struct Comparing {
     /// How many events of the log came.
     pub(crate) events: usize,
+    /// How many decoded events came, or 2^64 - 1 if there were more.
+    pub(crate) decoded: usize,
     /// How many of the first are alike.
     pub(crate) alike: usize,
 }
 
 impl Comparing {
-    /// No event of the log came.
+    /// No event of the log came, and no decoded one.
     pub fn new() -> Comparing
-        ensures { (decoded : List AnyEvent) → HasCompared decoded [] result }
+        ensures { HasCompared [] [] result }
     {
         Comparing {
             events: 0,
+            decoded: 0,
             alike: 0,
         }
     }
@@ -39,35 +42,53 @@ impl Comparing {
         events
     }
 
-    /// Compares the next events of the log with those that were decoded. A log has at most 4,294,967,295 events. After
-    /// the first difference the events are only counted.
+    /// How many decoded events came, or 18,446,744,073,709,551,615 if there were more.
+    pub fn decoded(&self) -> usize
+        ensures { (decoded seen : List AnyEvent) → HasCompared decoded seen self.now
+            → result ≡ min (length decoded) (2 ^ 64 - 1) }
+    {
+        let Comparing { decoded, .. } = *self;
+        decoded
+    }
+
+    /// Compares the next decoded events with the next events of the log. As many of both came before, or of the one that
+    /// was shorter none comes any more. A log has at most 4,294,967,295 events. After the first difference all are only
+    /// counted.
     pub fn add(&mut self, decoded: &[Event], events: &[Event])
-        ensures { (seen : List AnyEvent) → HasCompared decoded.now seen self.old
-            → length (seen ++ events.now) ≤ most_long_rows
-            → HasCompared decoded.now (seen ++ events.now) self.new }
+        ensures { (before seen : List AnyEvent) → HasCompared before seen self.old
+            → AreNext before seen decoded.now events.now → length (seen ++ events.now) ≤ most_long_rows
+            → HasCompared (before ++ decoded.now) (seen ++ events.now) self.new }
     {
         self.alike = self.alike_with(decoded, events);
         self.events = self.events.saturating_add(events.len());
+        self.decoded = self.decoded.saturating_add(decoded.len());
     }
 
-    /// How many of the first events are alike, with the next ones of the log.
+    /// How many of the first events are alike, with the next ones of both.
     fn alike_with(&self, decoded: &[Event], events: &[Event]) -> usize
-        ensures { (seen : List AnyEvent) → HasCompared decoded.now seen self.now
-            → length (seen ++ events.now) ≤ most_long_rows → result ≡ count_alike decoded.now (seen ++ events.now) }
+        ensures { (before seen : List AnyEvent) → HasCompared before seen self.now
+            → AreNext before seen decoded.now events.now → length (seen ++ events.now) ≤ most_long_rows
+            → result ≡ count_alike (before ++ decoded.now) (seen ++ events.now) }
     {
-        if self.alike != self.events {
+        if !self.are_alike() {
             return self.alike;
         }
-        let start = self.alike.min(decoded.len());
-        start.saturating_add(count_alike(&decoded[start..], events))
+        self.alike.saturating_add(count_alike(decoded, events))
+    }
+
+    /// Whether all that came of both is alike.
+    fn are_alike(&self) -> bool
+        ensures { result ≡ (self.now.alike == self.now.events && self.now.alike == self.now.decoded) }
+    {
+        self.alike == self.events && self.alike == self.decoded
     }
 
     /// How what was decoded of a hart compares with its log, all of which came. The hart is closed or not.
-    pub fn verdict(&self, closed: bool, decoded: &[Event]) -> Verdict
-        ensures { (seen : List AnyEvent) → HasCompared decoded.now seen self.now
-            → result ≡ verdict closed decoded.now seen }
+    pub fn verdict(&self, closed: bool) -> Verdict
+        ensures { (decoded seen : List AnyEvent) → HasCompared decoded seen self.now
+            → length seen ≤ most_long_rows → result ≡ verdict closed decoded seen }
     {
-        verdict_at(closed, self.alike, decoded.len(), self.events)
+        verdict_at(closed, self.alike, self.decoded, self.events)
     }
 }
 

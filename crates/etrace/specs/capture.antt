@@ -27,6 +27,12 @@ pub use Rattle.captures.specs.FaultText as CaptureFaultText
 pub use Rattle.captures.specs.PacketText
 pub use Rattle.captures.specs.Offsets as CaptureOffsets
 pub use Rattle.captures.specs.Dump
+pub use Rattle.hart_survey.specs.Places as HartPlaces
+pub use Rattle.hart_survey.specs.Placed as PlacedLogs
+pub use Rattle.hart_survey.specs.Surveyed
+pub use Rattle.hart_survey.specs.CaptureSurveyed
+pub use Rattle.hart_survey.specs.Marks
+pub use Rattle.hart_events.specs.Left as HartEventsLeft
 pub use Rattle.capture_lines.specs.Line as CaptureLine
 pub use Rattle.capture_lines.specs.Lines as CaptureLines
 pub use Rattle.capture_lines.specs.Capture as LinesCapture

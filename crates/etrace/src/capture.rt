@@ -10,8 +10,12 @@ pub use captures::{
     write_start,
 };
 pub use hart_encoding::HartMessages;
+pub use hart_events::HartEvents;
 pub use hart_range::{HartRange, range_of};
 pub use hart_rows::{DecodedHarts, WatchSurvey, write_decoded, write_decoded_of};
+pub use hart_survey::{
+    CaptureSurvey, Mark, Survey, feed_packet, packet_at, survey_capture, survey_messages,
+};
 pub use listing::{Listed, list_capture, list_harts, list_watched};
 pub use listing_table::{write_harts_table, write_listing_table};
 pub use message::{

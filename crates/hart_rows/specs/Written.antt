@@ -1,10 +1,9 @@
 -- What is written of the logs of a capture's harts.
-use Rattle.std.specs.Prelude.{ℕ, ⊤, Bool, List, Option, Some, None}
+use Rattle.std.specs.Prelude.{ℕ, Bool, List, Option}
 use Rattle.std.specs.Io.KnownBytes.{Appends}
 use Rattle.hart_range.specs.declared.range.HartRange.{HartRange}
 use Rattle.output.specs.Begun.{AppendsBeginning}
 use Rattle.retire.specs.declared.event.Event.{Event}
-use Rattle.captures.specs.Returned.{IsMemory}
 use Rattle.captures.specs.declared.outcome.CaptureFault.{CaptureFault}
 use Rattle.hart_rows.specs.HartsText.{harts_text, harts_text_of}
 
@@ -44,8 +43,3 @@ WritesHartsOf range IsDecoded closed stop old new = WritesLists (harts_text_of r
 -- Lists are decoded, and a prefix of the lines and the logs of these harts alone was appended.
 abbrev pub BeginsHartsOf : HartRange → Decoding → Option (List ℕ) → Option (List ℕ) → Type 0
 BeginsHartsOf range IsDecoded old new = BeginsLists (harts_text_of range 0) IsDecoded old new
-
--- Decoding does not stop where an allocation failed.
-abbrev pub NeverMemory : Option (ℕ × CaptureFault) → Type 0
-NeverMemory None = ⊤
-NeverMemory (Some stop) = ¬ IsMemory stop.1

@@ -4,24 +4,19 @@ ghost use Rattle.std.specs.Prelude.{◌≡◌, ◌⊎◌, Err, IfOk};
 ghost use Rattle.std.specs.Io.KnownBytes.{Keeps};
 ghost use Rattle.rvclass.specs.Fetch.{words_of};
 ghost use Rattle.captures.specs.Decoded.{IsDecoded};
-ghost use Rattle.captures.specs.OfHarts.{AreHartsDecoded, IsDecodedOf};
-ghost use Rattle.hart_rows.specs.Written.{BeginsHarts, BeginsHartsOf, NeverMemory, WritesHarts, WritesHartsOf};
-ghost use Rattle.hart_rows.specs.steps.Nothing.{IsNothing};
+ghost use Rattle.captures.specs.OfHarts.{IsDecodedOf};
+ghost use Rattle.hart_survey.specs.Surveyed.{NeverMemory};
+ghost use Rattle.hart_rows.specs.Written.{BeginsHarts, BeginsHartsOf, WritesHarts, WritesHartsOf};
 
 use crate::rows::write_harts;
-use crate::surveying::survey_messages;
 use crate::watch::WatchSurvey;
 use captures::CaptureFault;
 use hart_range::HartRange;
-use message::{MessageFault, Messages};
-use payload::Mode;
+use hart_survey::survey_capture;
 use retire::{LOG_ROOM, WriteFault};
 use rvclass::ProgramOver;
 use std::alloc::{Allocator, Global};
 use std::io::Write;
-
-/// How many bytes of a capture its header takes.
-const HEADER_SIZE: usize = 16;
 
 /// How many events are held before their rows are written.
 const PIECE: usize = 2_048;
@@ -88,86 +83,22 @@ pub fn write_decoded_of<A: Allocator + Copy, V: WatchSurvey, O: Write>(
     ensures never_memory { IfOk result (λ decoded. NeverMemory decoded.fault) }
     ensures untouched { result ≡ Err WriteFault.Memory → out.new ≡ out.old }
 {
-    let mut messages = Messages::new(bytes);
-    match messages.header() {
-        Ok(Some(header)) => {
-            write_messages(
-                alloc,
-                program,
-                header.harts,
-                range,
-                Some(header.mode),
-                &bytes[HEADER_SIZE..],
-                watch,
-                out,
-            )
-        }
-        Ok(None) => write_messages(alloc, program, harts, range, None, bytes, watch, out),
-        Err(fault) => write_nothing(alloc, program, harts, range, fault, watch, out),
-    }
-}
-
-/// Writes what messages of the harts in a range decode to, of so many harts, where the header announces this mode, if
-/// there is a header.
-fn write_messages<A: Allocator + Copy, V: WatchSurvey, O: Write>(
-    alloc: A,
-    program: &ProgramOver,
-    harts: u16,
-    range: HartRange,
-    announced: Option<Mode>,
-    bytes: &[u8],
-    watch: &V,
-    out: &mut O,
-) -> Result<DecodedHarts<A>, WriteFault>
-    ensures written { IfOk result (λ decoded.
-        WritesHartsOf range (AreHartsDecoded range (words_of program.now) harts announced bytes.now)
-        decoded.closed.items decoded.fault (O.contents out.old) (O.contents out.new)) }
-    ensures begun { Keeps (O.contents out.old) (O.contents out.new)
-        ⊎ BeginsHartsOf range (AreHartsDecoded range (words_of program.now) harts announced bytes.now)
-        (O.contents out.old) (O.contents out.new) }
-    ensures never_memory { IfOk result (λ decoded. NeverMemory decoded.fault) }
-    ensures untouched { result ≡ Err WriteFault.Memory → out.new ≡ out.old }
-{
-    let surveyed = survey_messages(alloc, program, harts, range, announced, bytes, watch);
+    let surveyed = survey_capture(alloc, program, harts, range, bytes, watch);
     watch.surveyed();
-    let survey = surveyed?;
+    let found = surveyed?;
     let mut room = Vec::with_capacity(alloc, LOG_ROOM)?;
     let mut piece = Vec::with_capacity(alloc, PIECE)?;
     write_harts(
         range,
         program,
-        bytes,
-        survey.places.as_slice(),
+        found.messages,
+        found.survey.places.as_slice(),
         &mut room,
         &mut piece,
         out,
     )?;
     Ok(DecodedHarts {
-        closed: survey.closed,
-        fault: survey.fault,
-    })
-}
-
-/// Writes what is decoded of the harts in a range, of so many harts, where the header is cut short or bad: no event.
-fn write_nothing<A: Allocator + Copy, V: WatchSurvey, O: Write>(
-    alloc: A,
-    program: &ProgramOver,
-    harts: u16,
-    range: HartRange,
-    fault: MessageFault,
-    watch: &V,
-    out: &mut O,
-) -> Result<DecodedHarts<A>, WriteFault>
-    ensures written { IfOk result (λ decoded. WritesHartsOf range (IsNothing harts fault) decoded.closed.items
-        decoded.fault (O.contents out.old) (O.contents out.new)) }
-    ensures begun { Keeps (O.contents out.old) (O.contents out.new)
-        ⊎ BeginsHartsOf range (IsNothing harts fault) (O.contents out.old) (O.contents out.new) }
-    ensures never_memory { IfOk result (λ decoded. NeverMemory decoded.fault) }
-    ensures untouched { result ≡ Err WriteFault.Memory → out.new ≡ out.old }
-{
-    let decoded = write_messages(alloc, program, harts, range, None, &[], watch, out)?;
-    Ok(DecodedHarts {
-        closed: decoded.closed,
-        fault: Some((0, CaptureFault::Message(fault))),
+        closed: found.survey.closed,
+        fault: found.survey.fault,
     })
 }

@@ -1,9 +1,8 @@
 //! The logs of a capture's harts, written while they are decoded.
 //!
 //! [`write_decoded`] writes what `captures::decode_capture` returns, and holds no list of events. It goes over the
-//! messages twice. The first pass decodes all of them and throws the events away: it finds the first fault of the
-//! capture, which harts are closed, and where each hart's messages are. The second pass decodes one hart after the
-//! other, and writes its rows a piece at a time.
+//! messages twice. The first pass is a survey of them (`hart_survey`). The second pass decodes one hart after the other,
+//! and writes its rows a piece at a time.
 //!
 //! [`write_decoded_of`] does the same of some harts alone: it passes over the messages of all others.
 //!
@@ -12,17 +11,16 @@
 #![tactic(auto)]
 
 mod decoded;
-mod feeding;
 mod laws;
 mod packet_rows;
-mod placing;
+mod part;
 mod rows;
 mod selecting;
-mod surveying;
-mod tracking;
 mod watch;
 
 pub use decoded::{DecodedHarts, write_decoded, write_decoded_of};
 pub use laws::all_harts_are_decoded;
+pub use part::write_part;
+pub use rows::write_harts;
 pub use selecting::selects_hart;
 pub use watch::WatchSurvey;

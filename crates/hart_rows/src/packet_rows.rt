@@ -11,8 +11,8 @@ ghost use Rattle.decoder.specs.DecoderStands.{DecoderStands};
 ghost use Rattle.retire.specs.Split.{Split};
 ghost use Rattle.hart_rows.specs.steps.Rows.{AddsRows, IsNextPacket};
 
-use crate::feeding::feed_packet;
 use decoder::{Decoder, Unwritten};
+use hart_survey::feed_packet;
 use payload::Packet;
 use retire::{Event, LOG_ROOM, WriteFault, write_rows_in};
 use rvclass::ProgramOver;

@@ -2,18 +2,15 @@
 
 ghost use Rattle.std.specs.Prelude.{ℕ, ◌≡◌, ◌≤◌, ◌++◌, List, IfErr, OnOk, vec_capacity};
 ghost use Rattle.std.specs.Io.KnownBytes.{Appends};
-ghost use Rattle.std.specs.List.{flat_map};
 ghost use Rattle.output.specs.Begun.{AppendsBeginning};
-ghost use Rattle.retire.specs.LogText.{event_line, log_text};
+ghost use Rattle.retire.specs.LogText.{log_text};
 ghost use Rattle.retire.specs.declared.event.Event.{Event as AnyEvent};
 ghost use Rattle.rvclass.specs.Fetch.{words_of};
 ghost use Rattle.hart_rows.specs.EachHart.{hart_line, numbered_hart_of};
 ghost use Rattle.hart_rows.specs.HartsText.{harts_text_of};
-ghost use Rattle.retire.specs.Split.{Split};
-ghost use Rattle.hart_rows.specs.steps.Rows.{ArePlacedLogs, HavePlacedLog, HavePlacedLogs, IsPlacedLog};
+ghost use Rattle.hart_survey.specs.Placed.{ArePlacedLogs, HavePlacedLog, HavePlacedLogs, IsPlacedLog};
 
-use crate::packet_rows::write_packet;
-use crate::placing::packet_at;
+use crate::part::write_part;
 use crate::selecting::selects_hart;
 use decoder::Decoder;
 use hart_range::HartRange;
@@ -25,7 +22,9 @@ use std::io::Write;
 
 /// Writes the log of each hart in a range, after a line with the hart's number, through the buffer `room` and a piece of
 /// events. The messages of a hart are at the places of its list.
-pub(crate) fn write_harts<A: Allocator, O: Write>(
+///
+/// The only fault is [`WriteFault::Write`]. Then what was written is a prefix of the text. The writer is not flushed.
+pub fn write_harts<A: Allocator, O: Write>(
     range: HartRange,
     program: &ProgramOver,
     bytes: &[u8],
@@ -112,37 +111,6 @@ fn write_hart<A: Allocator, O: Write>(
 {
     write_text(out, format_args!("hart {hart}\n"))?;
     begin_log_in(room)?;
-    write_rows(program, bytes, places, room, piece, out)?;
+    write_part(Decoder::new(), program, bytes, places, room, piece, out)?;
     end_log_in(room, out)
-}
-
-/// Goes on with the rows of a hart's log: decodes the packets of the messages at these places, one after the other.
-fn write_rows<A: Allocator, O: Write>(
-    program: &ProgramOver,
-    bytes: &[u8],
-    places: &[usize],
-    room: &mut Vec<u8, A>,
-    piece: &mut Vec<Event, A>,
-    out: &mut O,
-) -> Result<(), WriteFault>
-    requires placed { HavePlacedLog (words_of program.now) bytes.now places.now }
-    requires piece { 1 ≤ vec_capacity piece.old }
-    requires room { LOG_ROOM ≤ vec_capacity room.old }
-    ensures rows { (log : List AnyEvent) → IsPlacedLog (words_of program.now) bytes.now places.now log
-        → OnOk result (Split (O.contents out.old) (O.contents out.new) room.new.items
-        (room.old.items ++ flat_map event_line log)) }
-    ensures begun { (log : List AnyEvent) → IsPlacedLog (words_of program.now) bytes.now places.now log
-        → AppendsBeginning (room.old.items ++ flat_map event_line log) (O.contents out.old) (O.contents out.new) }
-    ensures fault { IfErr result (λ fault. fault ≡ WriteFault.Write) }
-    ensures piece { vec_capacity piece.new ≡ vec_capacity piece.old }
-    ensures room { vec_capacity room.old ≤ vec_capacity room.new }
-{
-    let mut decoder = Decoder::new();
-    for place in places {
-        match packet_at(bytes, *place) {
-            Some(packet) => write_packet(&mut decoder, program, &packet, room, piece, out)?,
-            None => unreachable!(),
-        }
-    }
-    Ok(())
 }

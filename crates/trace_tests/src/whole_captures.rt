@@ -1,11 +1,13 @@
 //! Whole captures (`captures`): of worked logs with each byte changed, of long logs, to writers that fail, and as lines;
-//! and the logs of their harts, written while they are decoded (`hart_rows`).
+//! the logs of their harts, written while they are decoded (`hart_rows`); and the first pass over them, with the harts
+//! side by side (`survey_threads`).
 
 mod by_bytes;
 mod changed;
 mod failing;
 mod lines;
 mod long_logs;
+mod surveyed;
 mod written;
 
 use crate::fixtures::add;

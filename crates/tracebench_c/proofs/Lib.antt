@@ -7,6 +7,7 @@ mod EventsPassed
 mod EventsRead
 mod FedInTurn
 mod FirstUnclosed
+mod FrontStarts
 mod HartFound
 mod HartsListed
 mod HartsWritten
@@ -30,5 +31,6 @@ mod StatesRead
 mod StepsJudged
 mod StepsTaken
 mod TextsRead
+mod Unmatched
 mod WorkedNumbers
 mod WrittenInTurn

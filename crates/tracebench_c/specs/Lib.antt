@@ -19,6 +19,8 @@ pub mod Audited
 pub mod Dumped
 pub mod Texts
 pub mod Listed
+pub mod Salvaged
+pub mod Treated
 pub mod Explained
 pub mod Encoded
 pub mod Measured
@@ -29,4 +31,5 @@ pub mod PushedChecked
 pub mod Sending
 pub mod OfLines
 pub mod AuditedAll
+pub mod AuditedUnnumbered
 pub mod steps

@@ -283,6 +283,6 @@ fn line_of(
         taken: count.taken,
         bytes: count.bytes,
         decoded: decoded.len(),
-        verdict: comparing.verdict(closed, decoded),
+        verdict: comparing.verdict(closed),
     }
 }

@@ -9,6 +9,9 @@
 //! as C sees them, and says what a caller owes: no pointer is null, and what is written to overlaps nothing else.
 #![tactic(auto)]
 
+mod aligned_audit;
+mod aligned_harts;
+mod aligned_numbers;
 mod checking;
 mod checking_pieces;
 mod coding_pieces;
@@ -33,6 +36,7 @@ mod images;
 mod legal_texts;
 mod lines;
 mod listing_capture;
+mod listing_salvaged;
 mod measuring_logs;
 mod messages;
 mod numbers;
@@ -48,12 +52,19 @@ mod pushing_all;
 mod pushing_blocks;
 mod pushing_pieces;
 mod receiving;
+mod salvaged;
+mod salvaging_capture;
 pub mod status;
 #[cfg(test)]
 mod tests;
 mod texts;
 mod version;
 
+pub use aligned_audit::tracebench_audit_unnumbered;
+pub use aligned_numbers::AlignedEnd;
+pub use aligned_numbers::AlignedRow;
+pub use aligned_numbers::FATE_EXTRA;
+pub use aligned_numbers::Single;
 pub use checking::tracebench_check;
 pub use checking_pieces::tracebench_check_events_over_pieces;
 pub use checking_pieces::tracebench_check_over_pieces;
@@ -120,6 +131,8 @@ pub use listing_capture::TEXT;
 pub use listing_capture::TextFormat;
 pub use listing_capture::tracebench_list;
 pub use listing_capture::tracebench_list_over_pieces;
+pub use listing_salvaged::tracebench_list_salvaged;
+pub use listing_salvaged::tracebench_list_salvaged_over_pieces;
 pub use measuring_logs::tracebench_measure;
 pub use measuring_logs::tracebench_measure_over_pieces;
 pub use messages::MessageNumbers;
@@ -170,6 +183,10 @@ pub use pushing_pieces::tracebench_push_over_pieces;
 pub use receiving::HartNumbers;
 pub use receiving::tracebench_receive;
 pub use receiving::tracebench_resume;
+pub use salvaged::HARTS_SHOWN;
+pub use salvaged::SUMMARY;
+pub use salvaging_capture::tracebench_salvage;
+pub use salvaging_capture::tracebench_salvage_over_pieces;
 pub use texts::TextEnd;
 pub use texts::TextFault;
 pub use texts::Written;

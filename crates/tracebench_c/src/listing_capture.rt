@@ -152,7 +152,7 @@ fn list_as(
 }
 
 /// The symbols of bytes, if there are any.
-fn symbols_of(alloc: Global, bytes: &[u8]) -> Result<Option<Symbols>, SymbolsFault>
+pub(crate) fn symbols_of(alloc: Global, bytes: &[u8]) -> Result<Option<Symbols>, SymbolsFault>
     ensures read { IfOk result (λ symbols. symbols_in bytes.now ≡ Ok symbols) }
     ensures refused { IfErr result (AreNotRead bytes.now) }
 {

@@ -86,7 +86,7 @@ pub extern "C" fn tracebench_audit_all(
 }
 
 /// By what payloads are compared.
-fn compared_by(flags: u32) -> Option<By>
+pub(crate) fn compared_by(flags: u32) -> Option<By>
     ensures { result ≡ compared_by flags }
 {
     match flags {
@@ -116,7 +116,7 @@ fn hand_out_path(
 }
 
 /// All is done where so many things fit into each of four arrays.
-fn fitting_status(rows: bool, arrivals: bool, lost: bool, runs: bool) -> u32
+pub(crate) fn fitting_status(rows: bool, arrivals: bool, lost: bool, runs: bool) -> u32
     ensures { result ≡ fitting_status rows arrivals lost runs }
 {
     if rows && arrivals && lost && runs {
@@ -127,7 +127,7 @@ fn fitting_status(rows: bool, arrivals: bool, lost: bool, runs: bool) -> u32
 }
 
 /// Writes things to the start of an array, if they fit. Whether they do.
-fn give<T: Copy>(things: &[T], array: &mut [T]) -> bool
+pub(crate) fn give<T: Copy>(things: &[T], array: &mut [T]) -> bool
     ensures fits { result ≡ nat_le (length things.now) (length array.old) }
     ensures given { IsGiven things.now array.old array.new }
 {

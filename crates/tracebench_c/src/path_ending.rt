@@ -46,7 +46,7 @@ pub(crate) fn end_of(
 }
 
 /// A header in numbers, all 0 where there is none.
-fn header_reported(header: Option<Header>) -> HeaderNumbers
+pub(crate) fn header_reported(header: Option<Header>) -> HeaderNumbers
     ensures { result ≡ header_reported header }
 {
     match header {
@@ -60,7 +60,11 @@ fn header_reported(header: Option<Header>) -> HeaderNumbers
 }
 
 /// Whether both captures have a header, and these differ; or SENT has one, and that of RECEIVED is cut or not valid.
-fn heads_differ(sent: Option<Header>, came: Option<Header>, fault: Option<MessageFault>) -> bool
+pub(crate) fn heads_differ(
+    sent: Option<Header>,
+    came: Option<Header>,
+    fault: Option<MessageFault>,
+) -> bool
     ensures { result ≡ heads_differ sent came fault }
 {
     match fault {
@@ -89,7 +93,7 @@ fn are_unlike(header: &HeaderNumbers, other: &HeaderNumbers) -> bool
 }
 
 /// Why RECEIVED has no header, as a status, where it begins as a capture of version 2 does; 0 else.
-fn header_fault(fault: Option<MessageFault>) -> u32
+pub(crate) fn header_fault(fault: Option<MessageFault>) -> u32
     ensures { result ≡ header_fault fault }
 {
     match fault {

@@ -37,7 +37,11 @@ pub(crate) fn lost_of(alloc: Global, path: &Audit<'_>) -> Result<Vec<LostRun>, A
 }
 
 /// Adds the longest runs of numbers of a hart that were lost.
-fn add_lost(runs: LostRuns<'_>, hart: usize, lost: &mut Vec<LostRun>) -> Result<(), AllocError>
+pub(crate) fn add_lost(
+    runs: LostRuns<'_>,
+    hart: usize,
+    lost: &mut Vec<LostRun>,
+) -> Result<(), AllocError>
     ensures { OnOk result (lost.new.items ≡ lost.old.items ++ map (lost_reported hart) runs.entry) }
 {
     let mut left = runs;

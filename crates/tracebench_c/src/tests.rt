@@ -1,10 +1,13 @@
 //! Each call by values that were worked by hand, with every refusal, and at its largest. Statuses, kinds and other
 //! numbers are written out as `include/tracebench.h` has them.
 
+mod aligned_paths;
+mod aligned_said;
 mod all_at_once;
 mod audited;
 mod blocks;
 mod compared;
+mod damaged;
 mod decoded;
 mod decoded_all;
 mod encoded;
@@ -14,6 +17,7 @@ mod fed;
 mod followed;
 mod images;
 mod large;
+mod large_salvages;
 mod large_texts;
 mod listed;
 mod many_steps;
@@ -21,6 +25,7 @@ mod measured;
 mod messages;
 mod of_lines;
 mod packed;
+mod path_aligned;
 mod path_all;
 mod path_said;
 mod payload_traces;
@@ -30,6 +35,8 @@ mod pushed_past;
 mod received;
 mod refused_pieces;
 mod rows;
+mod salvaged;
+mod treated;
 mod versions;
 
 use std::fmt::Debug;

@@ -6,57 +6,17 @@
 #include "draft.h"
 #include "draws.h"
 #include "judge.h"
-
-/* A message in bytes. */
-struct told {
-    const uint8_t *at;
-    size_t length; /* with its head */
-};
-
-static unsigned hart_of(const struct told *one) { return one->at[0] | (unsigned)one->at[1] << 8; }
-
-static uint64_t number_of(const struct told *one) {
-    uint64_t number = 0;
-    for (size_t place = 10; place-- != 2;) number = number << 8 | one->at[place];
-    return number;
-}
+#include "told.h"
 
 /* SENT's messages. */
 enum { MOST_SENT = 4096 };
 static struct told sent[MOST_SENT];
 static size_t sent_count;
 
-/* The length of the complete message at a place, 0 where there is none. */
-static size_t length_at(const struct slice *bytes, size_t at) {
-    if (bytes->length - at < HEAD) return 0;
-    const size_t count = bytes->at[at + HEAD - 1];
-    return count == 0 || count > 18 || bytes->length - at < HEAD + count ? 0 : HEAD + count;
-}
-
-/* Where messages begin: after a valid header, or at the first byte. */
-static size_t begin_of(const struct slice *bytes) {
-    static const uint8_t mark[] = {0xff, 0xff, 'r', 'v', 't', 'r', 'a', 'c', 'e', '2', 0};
-    if (bytes->length < HEADER || memcmp(bytes->at, mark, sizeof mark) != 0) return 0;
-    const unsigned period = bytes->at[12] | (unsigned)bytes->at[13] << 8;
-    const unsigned harts = bytes->at[14] | (unsigned)bytes->at[15] << 8;
-    return bytes->at[11] <= 1 && period != 0 && harts != 0 && harts <= 1024 ? HEADER : 0;
-}
-
 static const struct told *sent_as(const struct told *one) {
     for (size_t place = 0; place < sent_count; place++)
         if (memcmp(sent[place].at, one->at, 10) == 0) return &sent[place];
     return NULL;
-}
-
-/* The same packet, by the call that unpacks. */
-static bool are_same(const struct told *one, const struct told *other, bool by_packets) {
-    if (one->length == other->length && memcmp(one->at + HEAD, other->at + HEAD, one->length - HEAD) == 0) return true;
-    struct tracebench_packet first, second;
-    memset(&first, 0, sizeof first);
-    memset(&second, 0, sizeof second);
-    return by_packets && tracebench_unpack(one->at + HEAD, one->length - HEAD, &first) == TRACEBENCH_DONE &&
-           tracebench_unpack(other->at + HEAD, other->length - HEAD, &second) == TRACEBENCH_DONE &&
-           memcmp(&first, &second, sizeof first) == 0;
 }
 
 static bool is_true(const struct told *one, bool by_packets) {

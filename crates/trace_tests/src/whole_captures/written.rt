@@ -1,8 +1,9 @@
 //! The logs of a capture's harts, written while they are decoded: what is written is what `decode_capture` returns of the
 //! same bytes.
 
+mod in_threads;
 mod refused;
-mod told;
+pub(super) mod told;
 
 use self::told::Told;
 use super::{capture_of, copies_of, decoded};

@@ -10,7 +10,7 @@ use crate::{TextEnd, tracebench_list, tracebench_list_over_pieces};
 use std::process::Abort;
 
 /// How a text ends: harts, the lowest hart that is not closed, place, fault and whole.
-type End = (u64, u64, u64, u32, u32);
+pub(super) type End = (u64, u64, u64, u32, u32);
 
 /// An end that nothing was written to.
 pub(super) const UNWRITTEN: TextEnd = TextEnd {
@@ -110,7 +110,7 @@ const FULL_LINES: &[u8] = b"\
     0000002d 0 2 address addr=80000004 map=- plain => nothing, waits\n\
     0000003d 0 3 close ended_rep => 1 event, 80000004 <start+4>, closed\n";
 
-const COLUMNS: &[u8] =
+pub(super) const COLUMNS: &[u8] =
     b"kind,place,offset,hart,number,packet,addr,diff,priv,branch,trap,cause,tval,handler,epc,map,\
     report,mode,ended,bad,waits,closed,treatment,reason,late,bytes,added,first,last,first_symbol,first_distance,\
     last_symbol,last_distance\n";

@@ -21,19 +21,19 @@ returns-in_err-decoded-clause-untouched g c = λ memory.
     let why = c.in_err-decoded.field-0.0 in
     let failed : c.from_residual.result ≡ Err (write_fault why) = grind (arith, common_steps) in
     let refused = write_memory why (cc (sym failed ∙ memory)) in
-    c.write_decoded_of.ensures.untouched (c.in_err-decoded.was ∙ ap Err refused)
+    c.write_decoded_side_by_side.ensures.untouched (c.in_err-decoded.was ∙ ap Err refused)
 
 pub returns-in_err-decoded-clause-printed : goal.returns-in_err-decoded-clause-printed
 returns-in_err-decoded-clause-printed g c =
     let why = c.in_err-decoded.field-0.0 in
     let failed : c.from_residual.result ≡ Err (write_fault why) = grind (arith, common_steps) in
     subst (λ ended. PrintsUnlessDenied (WritesDecoded c.args.harts c.args.range c.args.program.now c.args.bytes.now) ⊤ ended
-    (g.O.Write.contents c.args.out.now) (g.O.Write.contents c.write_decoded_of.new.out)) (sym failed) (inl (write_denied why))
+    (g.O.Write.contents c.args.out.now) (g.O.Write.contents c.write_decoded_side_by_side.new.out)) (sym failed) (inl (write_denied why))
 
 pub returns-in_err-decoded-clause-cut : goal.returns-in_err-decoded-clause-cut
 returns-in_err-decoded-clause-cut g c =
     harts_cut c.args.harts c.args.range c.args.program.now c.args.bytes.now (g.O.Write.contents c.args.out.now)
-    (g.O.Write.contents c.write_decoded_of.new.out) c.write_decoded_of.ensures.begun
+    (g.O.Write.contents c.write_decoded_side_by_side.new.out) c.write_decoded_side_by_side.ensures.begun
 
 module _ (g : _) (c : After-flush g) where
   -- The logs were written that the capture decodes to.
@@ -42,7 +42,7 @@ module _ (g : _) (c : After-flush g) where
   whole =
       let all = c.in_ok-decoded.ensures.written in
       let old = g.O.Write.contents c.args.out.now in
-      let mid = g.O.Write.contents c.write_decoded_of.new.out in
+      let mid = g.O.Write.contents c.write_decoded_side_by_side.new.out in
       inr (record {
         printed = record {
           text = harts_text_of c.args.range 0 all.lists;
@@ -70,7 +70,7 @@ pub returns-clause-printed : goal.returns-clause-printed
 returns-clause-printed g c =
     let all = c.in_ok-decoded.ensures.written in
     let old = g.O.Write.contents c.args.out.now in
-    let mid = g.O.Write.contents c.write_decoded_of.new.out in
+    let mid = g.O.Write.contents c.write_decoded_side_by_side.new.out in
     let new = g.O.Write.contents c.flush.new.self in
     let run = WritesDecoded c.args.harts c.args.range c.args.program.now c.args.bytes.now in
     let closed = c.in_ok-decoded.decoded.closed.items in

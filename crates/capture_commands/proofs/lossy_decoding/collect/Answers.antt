@@ -11,7 +11,8 @@ use Rattle.message.specs.declared.header.Header.{Header}
 use Rattle.message.specs.declared.message.Message.{Message}
 use Rattle.rvclass.specs.Image.{Image}
 use Rattle.capture_commands.specs.Faults.{Fault, lossy_fault}
-use Rattle.capture_commands.specs.Pieces.{ArePiecesOf, harts_counted, mode_of_header}
+use Rattle.capture_commands.specs.Pieces.{ArePiecesOf, harts_counted}
+use Rattle.searching.specs.Search.{mode_of}
 use Rattle.capture_commands.specs.Placed.{placed_fault}
 use Rattle.capture_commands.proofs.lossy_decoding.collect.Goals as goal
 
@@ -32,7 +33,7 @@ returns-in-Ok-collect_own-clause-found g c = record {
 -- The fault names the place of a message among all, or an allocation failed.
 faulted : (harts : ℕ) (only : HartRange) (program : Image) (bytes : List ℕ) (header : Option Header)
     (messages : List Message) (own : LossyFault) (why : Fault) → IsWhole bytes header messages
-    → GivesFault program (harts_counted harts header) (mode_of_header header) (selected only messages) own
+    → GivesFault program (harts_counted harts header) (mode_of header) (selected only messages) own
     → (why ≡ fault.Memory) ⊎ (why ≡ lossy_fault (placed_fault only messages own))
     → ArePiecesOf harts only program bytes (Err why)
 faulted harts only program bytes header messages own why whole gives (inl memory) = record {

@@ -17,7 +17,8 @@ use Rattle.losses.specs.declared.part.HartPieces.{HartPieces}
 use Rattle.message.specs.Accepted.{newcomers}
 use Rattle.message.specs.declared.message.Message.{Message}
 use Rattle.payload.specs.declared.mode.Mode.{Mode}
-use Rattle.capture_commands.specs.Pieces.{harts_counted, mode_of_header}
+use Rattle.capture_commands.specs.Pieces.{harts_counted}
+use Rattle.searching.specs.Search.{mode_of}
 use Rattle.capture_commands.proofs.lossy_decoding.collect_own.Goals as goal
 
 abbrev Found : Type 0
@@ -52,13 +53,13 @@ returns-clause-found g c =
     let header = c.args.whole.header in
     let found = c.collect_watched.result in
     let known = c.collect_watched.ensures in
-    let given = gives program c.harts_counted.result c.mode_of_header.result c.as_slice.result.now found known.count
+    let given = gives program c.harts_counted.result c.mode_of.result c.as_slice.result.now found known.count
     known.accepted known.described known.parts in
-    subst (λ harts. IfOk found (λ pieces. GivesPieces program harts (mode_of_header header)
+    subst (λ harts. IfOk found (λ pieces. GivesPieces program harts (mode_of header)
     (selected c.args.only c.args.whole.messages.items) pieces.items)) c.harts_counted.ensures
     (subst (λ mode. IfOk found (λ pieces. GivesPieces program c.harts_counted.result mode
-    (selected c.args.only c.args.whole.messages.items) pieces.items)) c.mode_of_header.ensures
-    (subst (λ all. IfOk found (λ pieces. GivesPieces program c.harts_counted.result c.mode_of_header.result all
+    (selected c.args.only c.args.whole.messages.items) pieces.items)) c.mode_of.ensures
+    (subst (λ all. IfOk found (λ pieces. GivesPieces program c.harts_counted.result c.mode_of.result all
     pieces.items)) (c.as_slice.ensures.value ∙ c.select_messages-messages.ensures) given))
 
 pub returns-clause-fault : goal.returns-clause-fault
@@ -67,11 +68,11 @@ returns-clause-fault g c =
     let header = c.args.whole.header in
     let found = c.collect_watched.result in
     let known = c.collect_watched.ensures in
-    let given = stops_by program c.harts_counted.result c.mode_of_header.result c.as_slice.result.now found known.stops
+    let given = stops_by program c.harts_counted.result c.mode_of.result c.as_slice.result.now found known.stops
     known.memory in
-    subst (λ harts. IfErr found (λ fault. GivesFault program harts (mode_of_header header)
+    subst (λ harts. IfErr found (λ fault. GivesFault program harts (mode_of header)
     (selected c.args.only c.args.whole.messages.items) fault)) c.harts_counted.ensures
     (subst (λ mode. IfErr found (λ fault. GivesFault program c.harts_counted.result mode
-    (selected c.args.only c.args.whole.messages.items) fault)) c.mode_of_header.ensures
-    (subst (λ all. IfErr found (λ fault. GivesFault program c.harts_counted.result c.mode_of_header.result all fault))
+    (selected c.args.only c.args.whole.messages.items) fault)) c.mode_of.ensures
+    (subst (λ all. IfErr found (λ fault. GivesFault program c.harts_counted.result c.mode_of.result all fault))
     (c.as_slice.ensures.value ∙ c.select_messages-messages.ensures) given))

@@ -12,7 +12,7 @@ use Rattle.command_inputs.specs.Begun.{IsCutOf}
 use Rattle.command_inputs.proofs.Beginnings.{printed_begun}
 use Rattle.command_inputs.proofs.Runs.{appends-keeps, ends_silently, prints}
 use Rattle.hart_rows.specs.EachHart.{each_hart}
-use Rattle.capture_commands.specs.HartItems.{items_of}
+use Rattle.salvaged_text.specs.HartItems.{items_of}
 use Rattle.capture_commands.specs.Pieces.{ArePiecesOf, HasPieces, WritesPieces, end_of_pieces_from, parts_of, parts_text}
 use Rattle.capture_commands.proofs.lossy_decoding.decode_lossy.Goals as goal
 use Rattle.capture_commands.proofs.lossy_decoding.decode_lossy.Goals.{After-items_of-own}

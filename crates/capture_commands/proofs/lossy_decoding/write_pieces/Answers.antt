@@ -8,7 +8,7 @@ use Rattle.output.specs.Begun.{AppendsBeginning}
 use Rattle.output.proofs.Beginnings.{begun_behind, begun_in_front}
 use Rattle.hart_rows.specs.EachHart.{each_hart, hart_line, numbered_harts}
 use Rattle.capture_commands.specs.Pieces.{parts_of, parts_text}
-use Rattle.capture_commands.proofs.HartLists.{each_of, from_begun, from_written}
+use Rattle.salvaged_text.proofs.HartLists.{each_of, from_begun, from_written}
 use Rattle.capture_commands.proofs.lossy_decoding.write_pieces.Goals as goal
 use Rattle.capture_commands.proofs.lossy_decoding.write_pieces.Goals.{After-write_text}
 

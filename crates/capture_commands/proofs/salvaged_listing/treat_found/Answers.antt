@@ -5,9 +5,9 @@ use Rattle.hart_range.specs.Range.{selected}
 use Rattle.rvclass.specs.Fetch.{words_of}
 use Rattle.salvaging.specs.Treatments.{AreTreated}
 use Rattle.searching.specs.Start.{spans_of}
-use Rattle.capture_commands.specs.Frames.{messages_in}
-use Rattle.capture_commands.specs.Pieces.{mode_of_header}
-use Rattle.capture_commands.proofs.OwnSpans.{messages_chosen}
+use Rattle.salvaged_text.specs.Frames.{messages_in}
+use Rattle.searching.specs.Search.{mode_of}
+use Rattle.salvaged_text.proofs.OwnSpans.{messages_chosen}
 use Rattle.capture_commands.proofs.salvaged_listing.treat_found.Goals as goal
 
 pub returns : goal.returns
@@ -17,11 +17,11 @@ returns g c =
     let own = selected c.args.only (messages_in spans) in
     let words = words_of c.args.program.now in
     let treated = c.treat_shown.result in
-    subst (λ harts. IfOk treated (λ all. AreTreated words (mode_of_header found.header) harts own all.items))
+    subst (λ harts. IfOk treated (λ all. AreTreated words (mode_of found.header) harts own all.items))
     c.harts_counted.ensures
     (subst (λ mode. IfOk treated (λ all. AreTreated words mode c.harts_counted.result own all.items))
-    c.mode_of_header.ensures
-    (subst (λ messages. IfOk treated (λ all. AreTreated words c.mode_of_header.result c.harts_counted.result messages
+    c.mode_of.ensures
+    (subst (λ messages. IfOk treated (λ all. AreTreated words c.mode_of.result c.harts_counted.result messages
     all.items))
-    (c.as_slice.ensures.value ∙ c.requires.frames.messages ∙ messages_chosen c.args.only spans)
+    (c.as_slice.ensures.value ∙ c.requires.is.frames.messages ∙ messages_chosen c.args.only spans)
     c.treat_shown.ensures))

@@ -8,25 +8,28 @@ use Rattle.command_inputs.proofs.Runs.{ends_silently}
 use Rattle.command_inputs.specs.FoundLogs.{AreLegalLogsUpTo}
 use Rattle.command_inputs.specs.declared.fault.Fault.TheVariants as fault
 use Rattle.comparing.proofs.SomeHarts.{of_length}
+use Rattle.comparing.specs.Compared.{of_harts}
+use Rattle.rvclass.specs.Fetch.{words_of}
 use Rattle.files.specs.Known.{Content}
 use Rattle.compare_commands.specs.Comparing.{CanCompareCapture, ComparesCapture}
 use Rattle.subcommands.specs.declared.words.Compare.{Compare}
 use Rattle.compare_commands.specs.Comparison.{count_at, rows_of}
-use Rattle.compare_commands.specs.steps.Decoded.{gots_in}
+use Rattle.compare_commands.specs.steps.Surveyed.{gots_in}
 use Rattle.compare_commands.specs.steps.Lines.{AreLinesOfLogs}
 use Rattle.compare_commands.proofs.ComparedRuns.{as_many, count_ends, logs_end, report_cut, report_printed}
+use Rattle.compare_commands.proofs.FoundHarts.{gots_found}
 use Rattle.compare_commands.proofs.against_logs.compare_capture.Goals.{After-check_count, After-write_report}
 use Rattle.compare_commands.proofs.against_logs.compare_capture.Goals as goal
 
-pub returns-in_err-decoded-clause-printed : goal.returns-in_err-decoded-clause-printed
-returns-in_err-decoded-clause-printed g c =
+pub returns-in_err-found-clause-printed : goal.returns-in_err-found-clause-printed
+returns-in_err-found-clause-printed g c =
     let content = g.F.Files.content c.args.files.now in
     let asked = c.args.asked.now in
-    let why = c.in_err-decoded.field-0.0 in
+    let why = c.in_err-found.field-0.0 in
     let is : c.from_residual.result ≡ Err why = grind (arith, common_steps) in
     ends_silently (ComparesCapture content asked c.args.range c.args.program.now c.args.capture.now)
     (CanCompareCapture content asked c.args.range c.args.program.now c.args.capture.now) ⊥ why c.from_residual.result
-    (g.O.Write.contents c.args.out.now) is (inl c.in_err-decoded.ensures.fault) (λ none. absurd none)
+    (g.O.Write.contents c.args.out.now) is (inl c.in_err-found.ensures.fault) (λ none. absurd none)
 
 module _ (g : _) (c : After-check_count g) where
   abbrev content : Content
@@ -36,7 +39,13 @@ module _ (g : _) (c : After-check_count g) where
   asked = c.args.asked.now
 
   abbrev gots : List Got
-  gots = gots_in c.args.range c.in_ok-decoded.decoded
+  gots = gots_in c.args.range c.in_ok-found.ensures.found.lists c.in_ok-found.found
+
+  -- There are as many as lists of places.
+  many : length gots ≡ length (of_harts c.args.range c.in_ok-found.found.places.items)
+  many =
+      gots_found c.args.range (words_of c.args.program.now) c.in_ok-found.found c.in_ok-found.ensures.found.lists
+      c.in_ok-found.ensures.found.are
 
   -- What the count of logs is compared with, and what it is found to be.
   counted : c.check_count.result ≡ count_at (length gots) asked.logs.items
@@ -45,20 +54,21 @@ module _ (g : _) (c : After-check_count g) where
       ∙ ap (λ harts. count_at harts c.as_slice-paths.result.now)
       (c.harts_below.ensures.count
       ∙ ap (λ many. min (c.args.range.last + 1 - c.args.range.first) (many - c.args.range.first))
-      (c.len.ensures ∙ c.in_ok-decoded.decoded.lists.ok.0)
-      ∙ sym (of_length c.args.range c.in_ok-decoded.decoded.lists.items) ∙ sym c.in_ok-decoded.ensures.many)
+      (c.len.ensures ∙ c.in_ok-found.found.places.ok.0)
+      ∙ sym (of_length c.args.range c.in_ok-found.found.places.items) ∙ sym many)
       ∙ ap (count_at (length gots)) c.as_slice-paths.ensures.value
 
 pub returns-in_err-check_count-clause-printed : goal.returns-in_err-check_count-clause-printed
 returns-in_err-check_count-clause-printed g c =
     let at = (goal.at.returns-in_err-check_count-clause-printed g c).After-check_count in
-    let decoded = c.in_ok-decoded.decoded in
+    let found = c.in_ok-found.found in
     let why = c.in_err-check_count.field-0.0 in
     let made = err_from_is_err_and c.from_residual-in_err-check_count.result
     c.from_residual-in_err-check_count.ensures.1 in
     let is : c.from_residual-in_err-check_count.result ≡ Err why = made.1 ∙ ap Err made.2 in
-    count_ends (content g at) (asked g at) c.args.range c.args.program.now c.args.capture.now (gots g at) decoded.stop
-    c.in_ok-decoded.ensures.got c.in_ok-decoded.ensures.no_memory why c.from_residual-in_err-check_count.result (g.O.Write.contents c.args.out.now) is
+    count_ends (content g at) (asked g at) c.args.range c.args.program.now c.args.capture.now (gots g at) found.stop
+    c.in_ok-found.ensures.found.got c.in_ok-found.ensures.no_memory why
+    c.from_residual-in_err-check_count.result (g.O.Write.contents c.args.out.now) is
     (sym c.in_err-check_count.was ∙ counted g at)
 
 pub lines_of_logs-requires-clause-many : goal.lines_of_logs-requires-clause-many
@@ -66,16 +76,17 @@ lines_of_logs-requires-clause-many g c = λ lifetimes live.
     let at = (goal.at.lines_of_logs-requires-clause-many g c).After-check_count in
     ap length c.as_slice-paths.ensures.value
     ∙ as_many (length (gots g at)) c.args.asked.now.logs.items tt (sym c.in_ok-check_count.was ∙ counted g at)
+    ∙ many g at
 
 pub returns-in_err-lines-clause-printed : goal.returns-in_err-lines-clause-printed
 returns-in_err-lines-clause-printed g c =
     let at = (goal.at.returns-in_err-lines-clause-printed g c).After-check_count in
-    let decoded = c.in_ok-decoded.decoded in
+    let found = c.in_ok-found.found in
     let why = c.in_err-lines.field-0.0 in
     let made = err_from_is_err_and c.from_residual-in_err-lines.result c.from_residual-in_err-lines.ensures.1 in
     let is : c.from_residual-in_err-lines.result ≡ Err why = made.1 ∙ ap Err made.2 in
-    logs_end (content g at) (asked g at) c.args.range c.args.program.now c.args.capture.now (gots g at) decoded.stop
-    c.in_ok-decoded.ensures.got c.in_ok-decoded.ensures.no_memory tt (sym c.in_ok-check_count.was ∙ counted g at) why
+    logs_end (content g at) (asked g at) c.args.range c.args.program.now c.args.capture.now (gots g at) found.stop
+    c.in_ok-found.ensures.found.got c.in_ok-found.ensures.no_memory tt (sym c.in_ok-check_count.was ∙ counted g at) why
     c.from_residual-in_err-lines.result (g.O.Write.contents c.args.out.now) is
     (subst (λ paths. (why ≡ fault.Memory) ⊎ AreLegalLogsUpTo (rows_of c.args.asked.now.long) (content g at)
     c.args.program.now paths (Err why)) c.as_slice-paths.ensures.value c.in_err-lines.ensures.fault)
@@ -85,26 +96,31 @@ returns-clause-refused g c = λ refused. absurd (c.write_report.ensures.never_re
 
 pub returns-clause-untouched : goal.returns-clause-untouched
 returns-clause-untouched g c = λ memory.
-    absurd (c.in_ok-decoded.ensures.no_memory (c.write_report.ensures.memory memory))
+    absurd (c.in_ok-found.ensures.no_memory (c.write_report.ensures.memory memory))
 
 module _ (g : _) (c : After-write_report g) where
   lines_are : AreLinesOfLogs (rows_of c.args.asked.now.long) (g.F.Files.content c.args.files.now) c.args.program.now
-      c.args.asked.now.logs.items c.args.range.first (gots_in c.args.range c.in_ok-decoded.decoded) c.as_slice.result.now
+      c.args.asked.now.logs.items c.args.range.first
+      (gots_in c.args.range c.in_ok-found.ensures.found.lists c.in_ok-found.found) c.as_slice.result.now
   lines_are =
       subst (λ lines. AreLinesOfLogs (rows_of c.args.asked.now.long) (g.F.Files.content c.args.files.now)
-      c.args.program.now c.args.asked.now.logs.items c.args.range.first (gots_in c.args.range c.in_ok-decoded.decoded) lines)
+      c.args.program.now c.args.asked.now.logs.items c.args.range.first
+      (gots_in c.args.range c.in_ok-found.ensures.found.lists c.in_ok-found.found) lines)
       (sym c.as_slice.ensures.value)
       (subst (λ paths. AreLinesOfLogs (rows_of c.args.asked.now.long) (g.F.Files.content c.args.files.now)
-      c.args.program.now paths c.args.range.first (gots_in c.args.range c.in_ok-decoded.decoded) c.in_ok-lines.lines.items)
-      c.as_slice-paths.ensures.value c.in_ok-lines.ensures.lines)
+      c.args.program.now paths c.args.range.first
+      (gots_in c.args.range c.in_ok-found.ensures.found.lists c.in_ok-found.found) c.in_ok-lines.lines.items)
+      c.as_slice-paths.ensures.value
+      (c.in_ok-lines.ensures.lines c.in_ok-found.ensures.found.lists c.in_ok-found.ensures.found.are))
 
 pub returns-clause-printed : goal.returns-clause-printed
 returns-clause-printed g c =
     let before = (goal.at.returns-clause-printed g c).After-check_count in
     let at = (goal.at.returns-clause-printed g c).After-write_report in
-    let decoded = c.in_ok-decoded.decoded in
-    report_printed (content g before) (asked g before) c.args.range c.args.program.now c.args.capture.now (gots g before)
-    decoded.stop c.in_ok-decoded.ensures.got c.in_ok-decoded.ensures.no_memory tt (sym c.in_ok-check_count.was ∙ counted g before)
+    let found = c.in_ok-found.found in
+    report_printed (content g before) (asked g before) c.args.range c.args.program.now c.args.capture.now
+    (gots g before) found.stop c.in_ok-found.ensures.found.got c.in_ok-found.ensures.no_memory tt
+    (sym c.in_ok-check_count.was ∙ counted g before)
     c.as_slice.result.now (lines_are g at) c.write_report.result (g.O.Write.contents c.args.out.now)
     (g.O.Write.contents c.write_report.new.out) c.write_report.ensures.printed
 
@@ -112,8 +128,9 @@ pub returns-clause-cut : goal.returns-clause-cut
 returns-clause-cut g c =
     let before = (goal.at.returns-clause-cut g c).After-check_count in
     let at = (goal.at.returns-clause-cut g c).After-write_report in
-    let decoded = c.in_ok-decoded.decoded in
-    report_cut (content g before) (asked g before) c.args.range c.args.program.now c.args.capture.now (gots g before)
-    decoded.stop c.in_ok-decoded.ensures.got c.in_ok-decoded.ensures.no_memory tt (sym c.in_ok-check_count.was ∙ counted g before)
+    let found = c.in_ok-found.found in
+    report_cut (content g before) (asked g before) c.args.range c.args.program.now c.args.capture.now
+    (gots g before) found.stop c.in_ok-found.ensures.found.got c.in_ok-found.ensures.no_memory tt
+    (sym c.in_ok-check_count.was ∙ counted g before)
     c.as_slice.result.now (lines_are g at) (g.O.Write.contents c.args.out.now)
     (g.O.Write.contents c.write_report.new.out) c.write_report.ensures.begun

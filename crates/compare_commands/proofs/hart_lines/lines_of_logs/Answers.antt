@@ -7,56 +7,61 @@ use Rattle.command_inputs.specs.Faults.{stop_fault}
 use Rattle.command_inputs.specs.FoundLogs.{AreLegalLogsUpTo}
 use Rattle.command_inputs.specs.declared.fault.Fault.TheVariants as fault
 use Rattle.comparing.specs.Compared.{gots_by, of_harts}
+use Rattle.hart_survey.specs.Placed.{ArePlacedLogs}
 use Rattle.log_streams.specs.Made.{AreMade}
-use Rattle.receiver.specs.Received.{events_in}
+use Rattle.rvclass.specs.Fetch.{words_of}
 use Rattle.compare_commands.specs.Comparison.{rows_of}
 use Rattle.comparing.specs.steps.Held.{count_in}
-use Rattle.compare_commands.specs.steps.Decoded.{gots_in}
 use Rattle.compare_commands.specs.steps.Lines.{AreLinesOfLogs}
+use Rattle.compare_commands.specs.steps.Surveyed.{gots_in}
+use Rattle.compare_commands.proofs.FoundHarts.{gots_found}
 use Rattle.compare_commands.proofs.LinesMade.{OfEvents, lines_made}
 use Rattle.compare_commands.proofs.hart_lines.lines_of_logs.Goals as goal
 
 pub returns-in-Ok-clause-lines : goal.returns-in-Ok-clause-lines
-returns-in-Ok-clause-lines g c =
+returns-in-Ok-clause-lines g c = λ lists are.
     let content = g.F.Files.content c.args.files.now in
     let program = c.args.program.now in
+    let words = words_of program in
     let paths = c.args.paths.now in
     let made = c.made_of_logs-made.result.made.items in
     let rows = c.rows_of-rows.result in
-    let decoded = c.args.decoded.now in
-    let lists = events_in c.as_slice-lists.result.now in
+    let found = c.args.found.now in
+    let messages = found.messages.now in
+    let places = c.as_slice-places.result.now in
     let closed = c.as_slice-closed.result.now in
     let counts = c.as_slice-counts.result.now in
     let is : c.made_of_logs-made.result.end ≡ Ok c.in-Ok.field-0 = grind (arith, common_steps) in
-    let flags : length closed ≡ length lists =
-    ap length c.as_slice-closed.ensures.value ∙ c.requires.flags
-    ∙ sym (ap (λ lists. length (events_in lists)) c.as_slice-lists.ensures.value) in
+    let flags : length closed ≡ length lists = ap length c.as_slice-closed.ensures.value ∙ are.flags in
+    let placed = subst (λ places. ArePlacedLogs words messages places lists) (sym c.as_slice-places.ensures.value)
+    are.placed in
     let range = c.args.range in
-    let same : of_harts range (gots_by (count_in counts) 0 lists closed) ≡ gots_in range decoded =
-    ap (of_harts range) (ap (λ lists. gots_by (count_in counts) 0 (events_in lists) closed) c.as_slice-lists.ensures.value
-    ∙ ap (gots_by (count_in counts) 0 (events_in decoded.lists.items)) c.as_slice-closed.ensures.value
-    ∙ ap (λ counts. gots_by (count_in counts) 0 (events_in decoded.lists.items) decoded.closed.items)
-    c.as_slice-counts.ensures.value) in
-    let are = lines_made rows content program range c.requires.few counts lists closed flags
-    paths made c.in-Ok.field-0 (c.requires.many ∙ sym (ap length same))
+    let same : of_harts range (gots_by (count_in counts) 0 lists closed) ≡ gots_in range lists found =
+    ap (of_harts range) (ap (gots_by (count_in counts) 0 lists) c.as_slice-closed.ensures.value
+    ∙ ap (λ counts. gots_by (count_in counts) 0 lists found.closed.items) c.as_slice-counts.ensures.value) in
+    let logs = lines_made rows content program words messages places range c.requires.few counts lists closed flags
+    placed paths made c.in-Ok.field-0
+    (c.requires.many ∙ sym (gots_found range words found lists are) ∙ sym (ap length same))
     (subst
-    (λ first. AreMade (OfEvents program counts lists closed first) (λ events row line. ⊥) content program rows paths made
-    (Ok c.in-Ok.field-0)) c.from.ensures
-    (subst (AreMade (OfEvents program counts lists closed c.from.result) (λ events row line. ⊥) content program rows paths
-    made) is c.made_of_logs-made.ensures.made)) in
+    (λ first. AreMade (OfEvents words messages places program counts closed first) (λ events row line. ⊥) content
+    program rows paths made (Ok c.in-Ok.field-0)) c.from.ensures
+    (subst (AreMade (OfEvents words messages places program counts closed c.from.result) (λ events row line. ⊥) content
+    program rows paths made) is c.made_of_logs-made.ensures.made)) in
     subst (λ gots. AreLinesOfLogs (rows_of c.args.long) content program paths range.first gots made) same
     (subst (λ rows. AreLinesOfLogs rows content program paths range.first
     (of_harts range (gots_by (count_in counts) 0 lists closed)) made)
-    c.rows_of-rows.ensures are)
+    c.rows_of-rows.ensures logs)
 
 pub returns-in-Err-clause-fault : goal.returns-in-Err-clause-fault
 returns-in-Err-clause-fault g c =
     let content = g.F.Files.content c.args.files.now in
     let program = c.args.program.now in
+    let words = words_of program in
     let paths = c.args.paths.now in
     let made = c.made_of_logs-made.result.made.items in
     let rows = c.rows_of-rows.result in
-    let lists = events_in c.as_slice-lists.result.now in
+    let messages = c.args.found.now.messages.now in
+    let places = c.as_slice-places.result.now in
     let closed = c.as_slice-closed.result.now in
     let counts = c.as_slice-counts.result.now in
     let end = c.in-Err.field-0 in
@@ -65,7 +70,7 @@ returns-in-Err-clause-fault g c =
     subst (λ why. (why ≡ fault.Memory) ⊎ AreLegalLogsUpTo (rows_of c.args.long) content program paths (Err why))
     (sym c.of_stop.ensures)
     (subst (λ rows. (why ≡ fault.Memory) ⊎ AreLegalLogsUpTo rows content program paths (Err why)) c.rows_of-rows.ensures
-    (first_refused rows (OfEvents program counts lists closed c.from.result) (λ events row line. ⊥)
+    (first_refused rows (OfEvents words messages places program counts closed c.from.result) (λ events row line. ⊥)
     (λ events row line none. none) content program paths made end
-    (subst (AreMade (OfEvents program counts lists closed c.from.result) (λ events row line. ⊥) content program rows
-    paths made) is c.made_of_logs-made.ensures.made)))
+    (subst (AreMade (OfEvents words messages places program counts closed c.from.result) (λ events row line. ⊥) content
+    program rows paths made) is c.made_of_logs-made.ensures.made)))

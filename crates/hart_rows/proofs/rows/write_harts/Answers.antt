@@ -10,7 +10,7 @@ use Rattle.hart_rows.proofs.HartTexts.{joined_more, joined_more_begun}
 use Rattle.hart_rows.proofs.RowLemmas.{log_at}
 use Rattle.hart_rows.specs.EachHart.{numbered_hart_of}
 use Rattle.hart_rows.specs.HartsText.{harts_text_of}
-use Rattle.hart_rows.specs.steps.Rows.{ArePlacedLogs, IsPlacedLog}
+use Rattle.hart_survey.specs.Placed.{ArePlacedLogs, IsPlacedLog}
 use Rattle.hart_rows.proofs.rows.write_harts.Goals.{After-as_slice}
 use Rattle.hart_rows.proofs.rows.write_harts.Goals as goal
 

@@ -5,7 +5,7 @@ use Rattle.std.specs.Vec.{vec_capacity}
 use Rattle.retire.specs.declared.event.Event.{Event}
 use Rattle.rvclass.specs.Fetch.{words_of}
 use Rattle.hart_rows.specs.HartsText.{harts_text_of}
-use Rattle.hart_rows.specs.steps.Rows.{ArePlacedLogs}
+use Rattle.hart_survey.specs.Placed.{ArePlacedLogs}
 use Rattle.hart_rows.proofs.rows.write_harts.Given as goal
 
 abbrev pub invariant-loop-hart : goal.invariant-loop-hart

@@ -1,0 +1,4 @@
+pub mod PlaceLemmas
+pub mod TrackLemmas
+pub mod SurveyLemmas
+pub mod CaptureLemmas

@@ -1,0 +1,3 @@
+pub mod Tracking
+pub mod Surveying
+pub mod Nothing

@@ -1,0 +1,5 @@
+pub mod StretchLemmas
+pub mod PuttingLemmas
+pub mod PlanLemmas
+pub mod HartLemmas
+pub mod MarkedLemmas

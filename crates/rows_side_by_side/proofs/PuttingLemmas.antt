@@ -1,0 +1,134 @@
+-- The text of stretches that is written so far, and one text more.
+use Rattle.std.proofs.Common.{◌≡◌, ◌+◌, ◌∙◌, ℕ, List, [], ◌++◌, Option, Ok, Err, Result, ap, append_assoc, append-nil}
+use Rattle.std.proofs.Common.{drop, IfErr, OnOk, refl, subst, sym}
+use Rattle.std.proofs.KnownBytes.{Appends-nil, Appends-trans}
+use Rattle.std.proofs.lemmas.List.{drop-drop}
+use Rattle.std.specs.Io.KnownBytes.{Appends}
+use Rattle.std.specs.declared.vec.Vec.{Vec}
+use Rattle.output.proofs.Beginnings.{begun_behind, begun_in_front, whole_begun}
+use Rattle.output.specs.Begun.{AppendsBeginning}
+use Rattle.retire.specs.Split.{Split}
+use Rattle.retire.specs.declared.fault.WriteFault.{WriteFault}
+use Rattle.retire.specs.declared.fault.WriteFault.TheVariants as fault
+use Rattle.rvclass.specs.Words.{Words}
+use Rattle.rows_side_by_side.proofs.StretchLemmas.{Parted, text_parted}
+use Rattle.rows_side_by_side.specs.declared.stretch.Stretch.{Stretch}
+use Rattle.rows_side_by_side.specs.steps.Putting.{IsPut}
+use Rattle.rows_side_by_side.specs.steps.Stretches.{HaveText}
+
+-- A text was written behind another.
+pub put_behind : (ended : Result Unit WriteFault) (old mid new : Option (List ℕ)) (front back : List ℕ)
+    → Appends old mid front → IsPut ended mid new back → IsPut ended old new (front ++ back)
+put_behind (Ok _) old mid new front back first put = Appends-trans old mid new front back first put
+put_behind (Err why) old mid new front back first put =
+    (begun_behind front back old mid new first put.0, put.1)
+
+-- Where writing failed, a prefix of any text that goes on was written.
+pub put_in_front : (why : WriteFault) (old new : Option (List ℕ)) (front back : List ℕ)
+    → IsPut (Err why) old new front → IsPut (Err why) old new (front ++ back)
+put_in_front why old new front back put = (begun_in_front front back old new put.0, put.1)
+
+-- At Ok the text was written.
+pub put_whole : (ended : Result Unit WriteFault) (old new : Option (List ℕ)) (text : List ℕ) → IsPut ended old new text
+    → OnOk ended (Appends old new text)
+put_whole (Ok _) old new text put = put
+put_whole (Err why) old new text put = tt
+
+-- Writing does not fail for want of memory.
+pub put_never_memory : (ended : Result Unit WriteFault) (old new : Option (List ℕ)) (text : List ℕ)
+    → IsPut ended old new text → ended ≡ Err fault.Memory → ⊥
+put_never_memory (Ok _) old new text put memory = absurd cc
+put_never_memory (Err why) old new text put memory =
+    let write = put.1 in
+    let is : why ≡ fault.Memory = cc in
+    absurd (cc (sym write ∙ is))
+
+-- A call that appends bytes, or fails after a prefix, puts them.
+pub put_of : (ended : Result Unit WriteFault) (old new : Option (List ℕ)) (text : List ℕ)
+    → OnOk ended (Appends old new text) → AppendsBeginning text old new → IfErr ended (λ why. why ≡ fault.Write)
+    → IsPut ended old new text
+put_of (Ok _) old new text whole begun write = whole
+put_of (Err why) old new text whole begun write = (begun, write)
+
+-- What was held is written too.
+pub put_held : (ended : Result Unit WriteFault) (old mid new : Option (List ℕ)) (held text : List ℕ)
+    → Split old mid held text → IsPut ended mid new held → IsPut ended old new text
+put_held ended old mid new held text (written, got, whole) put =
+    subst (IsPut ended old new) whole (put_behind ended old mid new written held got put)
+
+-- A prefix was written in any case.
+pub put_begun : (ended : Result Unit WriteFault) (old new : Option (List ℕ)) (text : List ℕ) → IsPut ended old new text
+    → AppendsBeginning text old new
+put_begun (Ok _) old new text put = whole_begun text old new put
+put_begun (Err why) old new text put = put.0
+
+module _ {A : Type 0} (words : Words) (bytes : List ℕ) (places : List (Vec ℕ A)) where
+  -- A prefix of the text is written, and the rest is that of these stretches.
+  pub record Left (stretches : List Stretch) (text : List ℕ) (old new : Option (List ℕ)) : Type 0 where
+    pub written : List ℕ
+    pub rest : List ℕ
+    pub have : HaveText words bytes places stretches rest
+    pub appended : Appends old new written
+    pub whole : text ≡ written ++ rest
+
+  -- At first all is left.
+  pub left_all : (stretches : List Stretch) (text : List ℕ) (old : Option (List ℕ))
+      → HaveText words bytes places stretches text → Left stretches text old old
+  left_all stretches text old have =
+      record { written = []; rest = text; have = have; appended = Appends-nil old; whole = refl }
+
+  -- At last nothing is left.
+  pub left_none : (stretches : List Stretch) (text : List ℕ) (old new : Option (List ℕ)) → stretches ≡ []
+      → Left stretches text old new → Appends old new text
+  left_none stretches text old new none left =
+      let rest : left.rest ≡ [] = subst (λ ss. HaveText words bytes places ss left.rest) none left.have in
+      subst (Appends old new)
+      (sym (left.whole ∙ ap (λ l. left.written ++ l) rest ∙ append-nil left.written)) left.appended
+
+  module _ (stretches later : List Stretch) (text : List ℕ) (old mid new : Option (List ℕ))
+      (left : Left stretches text old mid) (front back : List ℕ) (parted : left.rest ≡ front ++ back) where
+    whole : text ≡ (left.written ++ front) ++ back
+    whole =
+        left.whole ∙ ap (λ l. left.written ++ l) parted ∙ sym (append_assoc left.written front back)
+
+    -- The first of what is left was written.
+    pub left_more : HaveText words bytes places later back → Appends mid new front → Left later text old new
+    left_more have put = record {
+      written = left.written ++ front;
+      rest = back;
+      have = have;
+      appended = Appends-trans old mid new left.written front left.appended put;
+      whole = whole;
+    }
+
+    -- Or a prefix of it.
+    pub left_fails : (why : WriteFault) → IsPut (Err why) mid new front → IsPut (Err why) old new text
+    left_fails why put =
+        subst (IsPut (Err why) old new) (sym whole)
+        (put_in_front why old new (left.written ++ front) back
+        (put_behind (Err why) old mid new left.written front left.appended put))
+
+  module _ (stretches : List Stretch) (from count more : ℕ) (same : count ≡ more) (text : List ℕ)
+      (old mid : Option (List ℕ)) (left : Left (drop from stretches) text old mid) where
+    -- The text of the next stretches, and that of those after them.
+    pub wave : Parted words bytes places count (drop from stretches) left.rest
+    wave = text_parted words bytes places count (drop from stretches) left.rest left.have
+
+    later : HaveText words bytes places (drop (from + more) stretches) wave.back
+    later =
+        subst (λ ss. HaveText words bytes places ss wave.back)
+        (ap (λ n. drop n (drop from stretches)) same ∙ drop-drop more from stretches) wave.others
+
+    -- The text of the next stretches was written.
+    pub wave_more : (new : Option (List ℕ)) → Appends mid new wave.front
+        → Left (drop (from + more) stretches) text old new
+    wave_more new put =
+        left_more (drop from stretches) (drop (from + more) stretches) text old mid new left wave.front wave.back wave.whole
+        later put
+
+    -- Or a prefix of it.
+    pub wave_fails : (why : WriteFault) (new : Option (List ℕ)) → IsPut (Err why) mid new wave.front
+        → IsPut (Err why) old new text
+    wave_fails why new put =
+        left_fails (drop from stretches) (drop (from + more) stretches) text old mid new left wave.front wave.back
+        wave.whole why put

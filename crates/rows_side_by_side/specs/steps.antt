@@ -1,0 +1,4 @@
+pub mod Stretches
+pub mod Filled
+pub mod Planning
+pub mod Putting

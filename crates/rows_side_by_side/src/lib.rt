@@ -1,0 +1,26 @@
+//! The logs of a capture's harts, decoded in several threads.
+//!
+//! [`write_harts_side_by_side`] writes what `hart_rows::write_harts` writes. A first pass over the messages left marks on
+//! the way: decoders from which decoding can go on. So each hart's messages are cut into stretches, from one mark to the
+//! next. Threads decode the next few stretches, each into a buffer of text, and the calling thread writes the buffers in
+//! order.
+//!
+//! A stretch whose text is longer than a buffer, or for which no memory is left, is decoded by the calling thread, which
+//! needs no buffer for it. So the memory does not grow with the number of events.
+#![tactic(auto)]
+
+mod crew;
+mod decoded;
+mod filling;
+mod harts;
+mod planning;
+mod sharing;
+mod slot;
+mod stretch;
+mod text;
+mod waves;
+mod writing;
+
+pub use decoded::write_decoded_side_by_side;
+pub use harts::write_harts_side_by_side;
+pub use sharing::Sharing;

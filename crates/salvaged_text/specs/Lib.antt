@@ -1,0 +1,10 @@
+pub mod MessagesLine
+pub mod HartItems
+pub mod Frames
+pub mod SalvagedText
+pub mod Layouts
+pub mod Damage
+pub mod Found
+pub mod FoundTexts
+pub mod Salvaged
+pub mod steps

@@ -1,0 +1,38 @@
+-- One message more: by lemmas on captures, which no tactic finds.
+use Rattle.std.proofs.Common.{◌++◌, ◌∙◌, [], ◌∷◌, All, ap, arith, length, subst, sym}
+use Rattle.hart_range.specs.Range.{selected}
+use Rattle.survey_threads.proofs.WalkLemmas.{walked-next, walked-none}
+use Rattle.survey_threads.specs.steps.Walked.{IsOfHarts}
+use Rattle.survey_threads.proofs.walking.walk_over.Goals as goal
+
+pub loop-walk-init : goal.loop-walk-init
+loop-walk-init g c = record {
+  messages = [];
+  walked = walked-none c.args.range c.args.harts c.args.bytes.now c.in_ok-empty_lists.field-0.items
+      c.in_ok-empty_lists.ensures.empty (c.in_ok-empty_lists.ensures.count ∙ c.from.ensures);
+  left = sym c.new-messages.ensures;
+  counted = omega (arith, ap length c.new-messages.ensures);
+}
+
+pub loop-walk-preserved : goal.loop-walk-preserved
+loop-walk-preserved g c =
+    let messages = c.loop-walk.invariant.messages in
+    let walked = c.loop-walk.invariant.walked in
+    let message = c.in-Some.message in
+    let next = c.next_of.new.messages in
+    let shorter = c.in-Some.ensures.shorter in
+    let begins = c.loop-walk.invariant.left ∙ c.in-Some.ensures.message in
+    let more = c.in_ok-add_start.ensures.added c.args.bytes.now (selected c.args.range messages) walked.starts
+    (record { rest = next; within = walked.within; begins = begins; ranges = c.in-Some.ensures.ranges })
+    c.if-not-branch.false in
+    let all = walked-next c.args.range c.args.harts c.args.bytes.now messages message c.loop-walk.walk.places.items
+    c.add_start.new.places.items c.loop-walk.walk.place c.loop-walk.walk.passed c.size.result next walked
+    c.in-Some.ensures.ranges begins c.size.ensures.bytes more.0
+    (subst (λ n. All (IsOfHarts n) (selected c.args.range (message ∷ []))) walked.count more.1)
+    (c.in_ok-add_start.ensures.count ∙ walked.count) in
+    record {
+      messages = messages ++ message ∷ [];
+      walked = all.0;
+      left = all.1;
+      counted = omega (arith, c.loop-walk.invariant.counted, shorter);
+    }

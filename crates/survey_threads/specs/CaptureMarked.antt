@@ -1,0 +1,24 @@
+-- What the first pass over a capture finds, with states of decoders on the way.
+use Rattle.std.specs.Prelude.{ℕ, Bool, List, Option}
+use Rattle.hart_range.specs.declared.range.HartRange.{HartRange}
+use Rattle.retire.specs.declared.event.Event.{Event}
+use Rattle.rvclass.specs.Words.{Words}
+use Rattle.captures.specs.OfHarts.{IsDecodedOf}
+use Rattle.captures.specs.declared.outcome.CaptureFault.{CaptureFault}
+use Rattle.hart_survey.specs.Marks.{AreMarkedLogs}
+use Rattle.hart_survey.specs.Surveyed.{NeverMemory}
+use Rattle.survey_threads.specs.declared.capturing.MarkedCaptureSurvey.{MarkedCaptureSurvey}
+
+-- Lists are decoded with these flags and this fault. The messages of each hart are at the places of its list, their
+-- packets describe the events of the hart, and its marks are on the way through them.
+pub record IsMarkedSurveyBy (IsDecoded : List (List Event) → List Bool → Option (ℕ × CaptureFault) → Type 0)
+    (words : Words) (found : MarkedCaptureSurvey) : Type 0 where
+  pub lists : List (List Event)
+  pub decoded : IsDecoded lists found.survey.closed.items found.survey.fault
+  pub marked : AreMarkedLogs words found.messages.now found.survey.places.items found.survey.marks.items lists
+  pub never_memory : NeverMemory found.survey.fault
+
+-- The flags and the fault are those of what the bytes of a capture decode to, where messages of these harts alone are
+-- looked at; the places are those of the messages that are decoded, and the marks are on the way.
+abbrev pub IsMarkedCaptureSurvey : HartRange → Words → ℕ → List ℕ → MarkedCaptureSurvey → Type 0
+IsMarkedCaptureSurvey range words harts bytes found = IsMarkedSurveyBy (IsDecodedOf range words harts bytes) words found

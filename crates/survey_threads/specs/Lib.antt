@@ -1,0 +1,3 @@
+pub mod Marked
+pub mod CaptureMarked
+pub mod steps

@@ -1,0 +1,4 @@
+pub mod Ends
+pub mod OwnMessages
+pub mod Starts
+pub mod Walked

@@ -1,0 +1,112 @@
+//! The receiving end of one hart: it keeps no events.
+
+ghost use Rattle.std.specs.Prelude.{◌≡◌, ◌++◌, ◌-◌, ◌^◌, List, [], ◌∷◌, Err, IfErr, IfOk, length, min};
+ghost use Rattle.retire.specs.declared.event.Event.{Event as AnyEvent};
+ghost use Rattle.rvclass.specs.Fetch.{words_of};
+ghost use Rattle.rvclass.specs.Words.{Words};
+ghost use Rattle.payload.specs.declared.mode.Mode.{Mode as AnyMode};
+ghost use Rattle.payload.specs.ClosedTrace.{last_is_closing};
+ghost use Rattle.payload.specs.declared.packet.Packet.{Packet as AnyPacket};
+ghost use Rattle.decoder.specs.DecoderStands.{DecoderStands};
+ghost use Rattle.decoder.specs.declared.fault.DecodeFault.TheVariants.{Memory};
+ghost use Rattle.message.specs.declared.message.Message.{Message as AnyMessage};
+ghost use Rattle.receiver.specs.NotReceived.{IsNotDecoded};
+ghost use Rattle.survey_threads.specs.steps.OwnMessages.{IsOwn, IsOwnRefused};
+ghost use Rattle.std.specs.Prelude.{Option, ℕ};
+
+use decoder::{DecodeFault, Decoder};
+use hart_survey::feed_packet;
+use message::{Demux, Message};
+use payload::{Mode, Packet};
+use receiver::{ReceiveFault, opens_another};
+use rvclass::ProgramOver;
+use std::alloc::{AllocError, Global};
+
+/// What is expected of a hart, and its decoder.
+#[derive(Drop)]
+pub(crate) struct Own {
+    /// It knows one hart, whose messages are handed in as those of hart 0.
+    pub(crate) demux: Demux<Global>,
+    pub(crate) decoder: Decoder,
+    /// Whether the hart's closing packet was decoded.
+    pub(crate) closed: bool,
+}
+
+impl Own {
+    /// Nothing was received.
+    pub(crate) fn new(alloc: Global) -> Result<Own, AllocError>
+        ensures { (words : Words) (announced : Option AnyMode) → IfOk result (IsOwn words announced [] []) }
+    {
+        Ok(Own {
+            demux: Demux::new(alloc, 1)?,
+            decoder: Decoder::new(),
+            closed: false,
+        })
+    }
+
+    /// Receives the hart's next message; the events are thrown away. Returns how many they are, or 2^64 - 1 if there
+    /// are more. Where a mode was announced before, a packet that opens a trace in another mode is a fault.
+    pub(crate) fn receive(
+        &mut self,
+        alloc: Global,
+        program: &ProgramOver,
+        announced: Option<Mode>,
+        message: Message,
+    ) -> Result<u64, ReceiveFault>
+        ensures received { (messages : List AnyMessage) (log : List AnyEvent)
+            → IsOwn (words_of program.now) announced messages log self.old
+            → IfOk result (λ events. (added : List AnyEvent) × (events ≡ min (2 ^ 64 - 1) (length added))
+            × IsOwn (words_of program.now) announced (messages ++ message ∷ []) (log ++ added) self.new) }
+        ensures refused { (messages : List AnyMessage) (log : List AnyEvent)
+            → IsOwn (words_of program.now) announced messages log self.old
+            → IfErr result (IsOwnRefused (words_of program.now) announced messages message) }
+        ensures never_memory { ¬ (result ≡ Err (ReceiveFault.Decode Memory)) }
+    {
+        let message = Message {
+            hart: 0,
+            number: message.number,
+            payload: message.payload,
+        };
+        let packet = match self.demux.accept(&message) {
+            Ok(packet) => packet,
+            Err(fault) => return Err(ReceiveFault::Demux(fault)),
+        };
+        if opens_another(announced, &packet) {
+            return Err(ReceiveFault::Mode);
+        }
+        match self.decode(alloc, program, &packet) {
+            Ok(events) => Ok(events),
+            Err(fault) => Err(ReceiveFault::Decode(fault)),
+        }
+    }
+
+    /// Decodes the hart's next packet; the events are thrown away.
+    fn decode(
+        &mut self,
+        alloc: Global,
+        program: &ProgramOver,
+        packet: &Packet,
+    ) -> Result<u64, DecodeFault>
+        ensures decoded { (packets : List AnyPacket) (log : List AnyEvent)
+            → DecoderStands (words_of program.now) packets log self.old.decoder
+            → IfOk result (λ events. (added : List AnyEvent) × (events ≡ min (2 ^ 64 - 1) (length added))
+            × DecoderStands (words_of program.now) (packets ++ packet.now ∷ []) (log ++ added) self.new.decoder) }
+        ensures not_decoded { (packets : List AnyPacket) (log : List AnyEvent)
+            → DecoderStands (words_of program.now) packets log self.old.decoder
+            → IfErr result (IsNotDecoded (words_of program.now) packets packet.now) }
+        ensures closed { (packets : List AnyPacket)
+            → IfOk result (λ events. self.new.closed ≡ last_is_closing (packets ++ packet.now ∷ [])) }
+        ensures never_memory { ¬ (result ≡ Err Memory) }
+        ensures expected { self.new.demux ≡ self.old.demux }
+    {
+        let mut piece = Vec::new(alloc);
+        match feed_packet(&mut self.decoder, program, packet, &mut piece) {
+            Ok(left) => {
+                self.closed = packet.is_closing();
+                let written = piece.len() as u64;
+                Ok(written.saturating_add(left.len() as u64))
+            }
+            Err(fault) => Err(fault),
+        }
+    }
+}

@@ -1,0 +1,112 @@
+//! Where the messages of a capture begin.
+
+ghost use Rattle.std.specs.Prelude.{ℕ, ◌≡◌, ◌<◌, ◌++◌, true, false, All, List, [], ◌∷◌, IfOk, IfSome, length};
+ghost use Rattle.hart_range.specs.Range.{selected};
+ghost use Rattle.message.specs.Capture.{message_bytes};
+ghost use Rattle.message.specs.Cut.{IsMessage};
+ghost use Rattle.message.specs.declared.message.Message.{Message as AnyMessage};
+ghost use Rattle.survey_threads.specs.steps.Starts.{AreStarts, StartsAt};
+ghost use Rattle.survey_threads.specs.steps.Walked.{AreWalked, IsOfHarts};
+
+use crate::lists::empty_lists;
+use hart_range::HartRange;
+use message::{Message, Messages};
+use std::alloc::{AllocError, Global};
+use watching::Watch;
+
+/// Where the messages of each hart begin, and how far they were walked.
+#[derive(Drop)]
+pub(crate) struct Walk {
+    pub(crate) places: Vec<Vec<usize>>,
+    /// Where the bytes behind these messages begin.
+    pub(crate) place: usize,
+    /// How many messages there are, those of all harts.
+    pub(crate) passed: u64,
+}
+
+/// Walks over the messages that begin before this limit, up to the first of the harts in a range that is of none of so
+/// many harts, and up to the first place where there is no complete message. `watch` is told of each.
+pub(crate) fn walk_over<V: Watch>(
+    alloc: Global,
+    harts: u16,
+    range: HartRange,
+    limit: usize,
+    bytes: &[u8],
+    watch: &V,
+) -> Result<Walk, AllocError>
+    ensures { IfOk result (λ walk. (messages : List AnyMessage) × AreWalked range harts bytes.now messages
+        walk.places.items walk.place walk.passed) }
+{
+    let mut walk = Walk {
+        places: empty_lists(alloc, usize::from(harts))?,
+        place: 0,
+        passed: 0,
+    };
+    let mut messages = Messages::new(bytes);
+    while walk.place < limit {
+        let Some(message) = next_of(&mut messages) else {
+            return Ok(walk);
+        };
+        if !add_start(&mut walk.places, range, &message, walk.place)? {
+            return Ok(walk);
+        }
+        walk.place += message.size();
+        walk.passed += 1;
+        watch.note(1);
+    }
+    Ok(walk)
+}
+
+/// The next complete message, if there is one.
+fn next_of(messages: &mut Messages<'_>) -> Option<Message>
+    ensures ranges { IfSome result (λ message. IsMessage message) }
+    ensures message { IfSome result (λ message. messages.old ≡ message_bytes message ++ messages.new) }
+    ensures shorter { IfSome result (λ message. length messages.new < length messages.old) }
+{
+    match messages.next() {
+        Ok(found) => found,
+        Err(_) => None,
+    }
+}
+
+/// Adds the place of a message to the list of its hart, if that is one of the harts in a range. Returns false if there
+/// is no list of it.
+fn add_start(
+    places: &mut Vec<Vec<usize>>,
+    range: HartRange,
+    message: &Message,
+    place: usize,
+) -> Result<bool, AllocError>
+    ensures added { (bytes : List ℕ) (messages : List AnyMessage) → AreStarts bytes places.old.items messages
+        → StartsAt bytes place message.now
+        → IfOk result (λ known. known ≡ true
+        → AreStarts bytes places.new.items (messages ++ selected range (message.now ∷ []))
+        × All (IsOfHarts (length places.old.items)) (selected range (message.now ∷ []))) }
+    ensures kept { IfOk result (λ known. known ≡ false → places.new.items ≡ places.old.items) }
+    ensures count { length places.new.items ≡ length places.old.items }
+{
+    if range.selects(message.hart) {
+        add_place(places, message.hart, place)
+    } else {
+        Ok(true)
+    }
+}
+
+/// Adds a place to the list of a hart. Returns false if there is none.
+fn add_place(places: &mut Vec<Vec<usize>>, hart: u16, place: usize) -> Result<bool, AllocError>
+    ensures added { (bytes : List ℕ) (messages : List AnyMessage) (message : AnyMessage) → message.hart ≡ hart
+        → AreStarts bytes places.old.items messages → StartsAt bytes place message
+        → IfOk result (λ known. known ≡ true → AreStarts bytes places.new.items (messages ++ message ∷ [])
+        × (hart < length places.old.items)) }
+    ensures kept { IfOk result (λ known. known ≡ false → places.new.items ≡ places.old.items) }
+    ensures count { length places.new.items ≡ length places.old.items }
+{
+    match places.get_mut(usize::from(hart)) {
+        Some(own) => {
+            own.reserve(1)?;
+            own.push_reserved(place);
+            Ok(true)
+        }
+        None => Ok(false),
+    }
+}

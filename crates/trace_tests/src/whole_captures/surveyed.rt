@@ -1,0 +1,176 @@
+//! The first pass over a capture with the harts side by side (`survey_threads`): what it finds is what the first pass in
+//! one thread finds, and decoding goes on from each mark.
+
+use super::written::told::Told;
+use super::{copies_of, decoded, write_capture};
+use crate::fixtures::{BRANCH_LOOP, program_of, short_log, short_words};
+use crate::large::made;
+use crate::refused_captures::{CAPTURE, FULL};
+use crate::same::same_at;
+use hart_range::HartRange;
+use hart_survey::{Mark, survey_messages};
+use message::Version;
+use payload::Mode;
+use rvclass::Program;
+use std::fmt::Debug;
+use std::process::Abort;
+use std::thread::Threads;
+use survey_threads::{MarkedSurvey, survey_side_by_side};
+use watching::Unwatched;
+
+/// Ends the test unless the messages of these harts are surveyed alike by several threads and by one. Returns what the
+/// several find.
+fn is_same<R: Abort + AllocGlobal + Threads + Sync, P: Debug + Copy + Drop>(
+    rt: &R,
+    place: P,
+    program: &Program,
+    (harts, range): (u16, HartRange),
+    announced: Option<Mode>,
+    bytes: &[u8],
+) -> MarkedSurvey {
+    let told = Told::new();
+    let alloc = rt.alloc();
+    let found = survey_side_by_side(alloc, rt, program, harts, range, announced, bytes, &told);
+    let found = found.expect(rt, "memory");
+    let alone = survey_messages(alloc, program, harts, range, announced, bytes, &Unwatched);
+    let alone = alone.expect(rt, "memory");
+    same_at(rt, place, found.fault, alone.fault);
+    same_at(rt, place, found.closed.as_slice(), alone.closed.as_slice());
+    same_at(rt, place, found.places.len(), alone.places.len());
+    same_at(rt, place, found.marks.len(), alone.places.len());
+    for (own, want) in found.places.iter().zip(alone.places.iter()) {
+        same_at(rt, place, own.as_slice(), want.as_slice());
+    }
+    // A message takes 12 bytes at least.
+    let most = bytes.len() as u64 / 12;
+    assert!(rt;
+        told.messages() <= most,
+        "at {place:?}: {} are told",
+        told.messages()
+    );
+    found
+}
+
+/// Which harts are looked at.
+const RANGES: [HartRange; 4] = [
+    HartRange::ALL,
+    HartRange { first: 0, last: 0 },
+    HartRange { first: 1, last: 1 },
+    HartRange { first: 1, last: 0 },
+];
+
+/// Each range of harts, of few, as many and more than there are.
+fn harts_are_same<R: Abort + AllocGlobal + Threads + Sync>(
+    rt: &R,
+    place: (usize, u8),
+    program: &Program,
+    bytes: &[u8],
+) {
+    for range in RANGES {
+        for harts in [0u16, 1, 2, 3] {
+            for mode in [None, Some(Mode::Differential), Some(Mode::Full)] {
+                is_same(
+                    rt,
+                    (place, harts, mode),
+                    program,
+                    (harts, range),
+                    mode,
+                    bytes,
+                );
+            }
+        }
+    }
+}
+
+#[test]
+fn cut_at_each_byte(rt: HostRuntime) {
+    let program = program_of(&rt, &[BRANCH_LOOP]);
+    for place in 0..CAPTURE.len() {
+        harts_are_same(
+            &rt,
+            (place, 0),
+            &program,
+            CAPTURE.get(..place).unwrap_or(&[]),
+        );
+    }
+    harts_are_same(&rt, (CAPTURE.len(), 0), &program, &CAPTURE);
+    harts_are_same(&rt, (FULL.len(), 1), &program, &FULL);
+}
+
+#[test]
+fn changed_at_each_byte(rt: HostRuntime) {
+    let program = program_of(&rt, &[BRANCH_LOOP]);
+    for place in 0..CAPTURE.len() {
+        for value in [0u8, 1, 2, 5, 0x0d, 0x1f, 0x4f, 0x63, 0x73, 0xff] {
+            let mut capture = CAPTURE;
+            capture[place] = value;
+            let at = (place, value);
+            is_same(&rt, at, &program, (2, HartRange::ALL), None, &capture);
+        }
+    }
+}
+
+/// Ends the test unless so many messages of the one hart settle the events of its mark: as many as it says, and fewer
+/// than are between two marks without the last of them.
+fn is_mark<R: Abort + AllocGlobal>(
+    rt: &R,
+    program: &Program,
+    bytes: &[u8],
+    places: &[usize],
+    mark: &Mark,
+) {
+    let events_before = |taken: usize| {
+        let end = places.get(taken).copied().unwrap_or(bytes.len());
+        let front = bytes.get(..end).unwrap_or(&[]);
+        let outcome = decoded(rt, program, 1, front);
+        outcome.harts.first().expect(rt, "a hart").len()
+    };
+    same_at(
+        rt,
+        mark.taken,
+        events_before(mark.taken) as u64,
+        mark.events,
+    );
+    assert!(rt; mark.events >= 65_536, "{} events", mark.events);
+    let before = events_before(mark.taken.saturating_sub(1));
+    assert!(rt; before < 65_536, "at {}: {before} events", mark.taken);
+}
+
+/// A hart of 70,000 events has one mark, and each of two has one.
+#[test]
+fn marks_of_long_logs(rt: HostRuntime) {
+    let program = short_words(&rt, 70_000);
+    let log = short_log(&rt, 70_000);
+    for harts in [1u16, 2] {
+        let logs = copies_of(&rt, &program, &log, harts);
+        let mut bytes = Vec::new(rt.alloc());
+        let form = (Version::One, Mode::Full);
+        write_capture(&rt, &logs, 100, form, &mut bytes).expect(&rt, "a capture");
+        let found = is_same(&rt, harts, &program, (harts, HartRange::ALL), None, &bytes);
+        for (own, marks) in found.places.iter().zip(found.marks.iter()) {
+            same_at(&rt, harts, marks.len(), 1);
+            if harts == 1 {
+                is_mark(
+                    &rt,
+                    &program,
+                    &bytes,
+                    own,
+                    marks.first().expect(&rt, "a mark"),
+                );
+            }
+        }
+    }
+}
+
+/// 1,024 harts, and 70,002 messages of one.
+#[test]
+fn harts_many_and_messages_many(rt: HostRuntime) {
+    for case in made::CASES {
+        let (shape, version, mode) = case;
+        let messages = made::messages(&rt, shape, mode);
+        let bytes = made::capture(&rt, (shape, Version::One, mode), &messages);
+        let program = made::program(&rt, shape);
+        let harts = (made::harts_of(shape), HartRange::ALL);
+        is_same(&rt, (shape, version), &program, harts, Some(mode), &bytes);
+    }
+}
