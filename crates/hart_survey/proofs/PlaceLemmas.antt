@@ -1,6 +1,7 @@
 -- Places of messages, and one message more.
 use Rattle.std.proofs.Common.{◌≡◌, ◌≢◌, ◌⊎◌, inl, inr, ◌<◌, ◌≤◌, ◌+◌, ℕ, zero, suc, true, false, true≢false, All, List, []}
 use Rattle.std.proofs.Common.{◌∷◌, ◌++◌, Bool}
+use Rattle.std.specs.Prelude.{IfSome, Option}
 use Rattle.std.proofs.Common.{Some, None, Ok, drop, get_or, length, set, slice_get, take, arith, refl, sym, ap, subst, ◌∙◌, take-append-drop}
 use Rattle.std.proofs.lemmas.List.{append_assoc, drop-drop, drop_at, drop_more, length-append, length-drop, take_all, take_more}
 use Rattle.std.proofs.lemmas.List.Elements.{All-cons, All-nil}
@@ -11,6 +12,8 @@ use Rattle.hart_range.specs.Range.{selected, selects}
 use Rattle.hart_range.specs.declared.range.HartRange.{HartRange}
 use Rattle.message.proofs.AcceptedLemmas.{answered, slice_get-set}
 use Rattle.message.proofs.OfHartLemmas.{of_hart-next, of_hart-other}
+use Rattle.payload.specs.Reading.{reading}
+use Rattle.payload.specs.declared.packet.Packet.{Packet}
 use Rattle.message.specs.Accepted.{AreAccepted}
 use Rattle.message.specs.Accepting.{accepting, harts_after}
 use Rattle.message.specs.Capture.{capture, message_bytes}
@@ -19,7 +22,7 @@ use Rattle.message.specs.Harts.{Harts}
 use Rattle.message.specs.OfHart.{of_hart}
 use Rattle.message.specs.declared.message.Message.{Message}
 use Rattle.receiver.proofs.AcceptLemmas.{packet_read}
-use Rattle.hart_survey.specs.Places.{AreAt, AreFirst, ArePlaced, IsAt, IsReadOf}
+use Rattle.hart_survey.specs.Places.{AreAt, AreFirst, ArePlaced, HasPacketAt, IsAt, IsReadOf}
 
 -- What is selected of a message and others behind it.
 pub selected_first : (range : HartRange) (message : Message) (messages : List Message)
@@ -59,6 +62,23 @@ places-push bytes [] (first ∷ messages) place message are is = absurd are
 places-push bytes (at ∷ places) [] place message are is = absurd are
 places-push bytes (at ∷ places) (first ∷ messages) place message are is =
     (are.0, places-push bytes places messages place message are.1 is)
+
+-- The packet that was found is that of the message which is here.
+pub packet_here : (bytes left : List ℕ) (place : ℕ) (message : Message) (found : Option Packet)
+    → place ≤ length bytes → drop place bytes ≡ message_bytes message ++ left → IsMessage message
+    → IfSome found (λ packet. reading message.payload ≡ Ok packet) → IfSome found (HasPacketAt bytes place)
+packet_here bytes left place message None within begins ranges read = tt
+packet_here bytes left place message (Some packet) within begins ranges read = record {
+  message = message;
+  is_at = record {
+    rest = left;
+    within = within;
+    begins = begins;
+    ranges = ranges;
+    read = record { packet = packet; read = read };
+  };
+  read = read;
+}
 
 -- There are as many places as messages.
 pub places-length : (bytes places : List ℕ) (messages : List Message) → AreAt bytes places messages

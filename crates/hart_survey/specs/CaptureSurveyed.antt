@@ -9,8 +9,7 @@ use Rattle.hart_survey.specs.Surveyed.{NeverMemory}
 use Rattle.hart_survey.specs.declared.capturing.CaptureSurvey.{CaptureSurvey}
 
 -- The flags and the fault are those of what the bytes of a capture decode to, where messages of these harts alone are
--- looked at. The messages of each hart that are decoded are at the places of its list, and their packets describe the
--- events of the hart.
+-- looked at. At the places of each hart's list are messages whose packets describe the events of the hart.
 pub record IsCaptureSurvey {A : Type 0} (range : HartRange) (words : Words) (harts : ℕ) (bytes : List ℕ)
     (found : CaptureSurvey A) : Type 0 where
   pub lists : List (List Event)

@@ -23,6 +23,12 @@ pub record IsAt (bytes : List ℕ) (place : ℕ) (message : Message) : Type 0 wh
   pub ranges : IsMessage message
   pub read : IsRead message
 
+-- A message begins at this place of the bytes, and its payload is this packet.
+pub record HasPacketAt (bytes : List ℕ) (place : ℕ) (packet : Packet) : Type 0 where
+  pub message : Message
+  pub is_at : IsAt bytes place message
+  pub read : reading message.payload ≡ Ok packet
+
 -- The messages begin at these places, one at each.
 abbrev pub AreAt : List ℕ → List ℕ → List Message → Type 0
 AreAt bytes [] [] = Unit {0}

@@ -1,11 +1,11 @@
 //! Where each hart's messages are.
 
-ghost use Rattle.std.specs.Prelude.{ℕ, ◌≡◌, ◌++◌, true, All, List, [], ◌∷◌, IfOk, OnOk, Ok, Some, length};
+ghost use Rattle.std.specs.Prelude.{ℕ, ◌≡◌, ◌++◌, true, All, List, [], ◌∷◌, IfOk, IfSome, OnOk, Ok, Some, length};
 ghost use Rattle.hart_range.specs.Range.{selected, selects};
 ghost use Rattle.payload.specs.Reading.{reading};
 ghost use Rattle.payload.specs.declared.packet.Packet.{Packet as AnyPacket};
 ghost use Rattle.message.specs.declared.message.Message.{Message as AnyMessage};
-ghost use Rattle.hart_survey.specs.Places.{AreFirst, ArePlaced, IsAt};
+ghost use Rattle.hart_survey.specs.Places.{AreFirst, ArePlaced, HasPacketAt, IsAt};
 
 use hart_range::HartRange;
 use message::{Message, Messages};
@@ -98,8 +98,9 @@ fn empty_lists<A: Allocator + Copy>(
 
 /// The packet of the message that begins at this place, if one does whose payload is a packet.
 pub fn packet_at(bytes: &[u8], place: usize) -> Option<Packet>
-    ensures { (message : AnyMessage) (packet : AnyPacket) → IsAt bytes.now place message
+    ensures read { (message : AnyMessage) (packet : AnyPacket) → IsAt bytes.now place message
         → reading message.payload ≡ Ok packet → result ≡ Some packet }
+    ensures found { IfSome result (HasPacketAt bytes.now place) }
 {
     if bytes.len() < place {
         return None;
@@ -114,7 +115,8 @@ pub fn packet_at(bytes: &[u8], place: usize) -> Option<Packet>
 
 /// The packet of a message, if its payload is one.
 fn packet_of(message: &Message) -> Option<Packet>
-    ensures { (packet : AnyPacket) → reading message.now.payload ≡ Ok packet → result ≡ Some packet }
+    ensures read { (packet : AnyPacket) → reading message.now.payload ≡ Ok packet → result ≡ Some packet }
+    ensures found { IfSome result (λ packet. reading message.now.payload ≡ Ok packet) }
 {
     match unpack(message.payload.bytes()) {
         Ok(packet) => Some(packet),

@@ -9,8 +9,8 @@ use Rattle.hart_survey.specs.Marks.{AreMarkedLogs}
 use Rattle.hart_survey.specs.Surveyed.{NeverMemory}
 use Rattle.survey_threads.specs.declared.capturing.MarkedCaptureSurvey.{MarkedCaptureSurvey}
 
--- Lists are decoded with these flags and this fault. The messages of each hart are at the places of its list, their
--- packets describe the events of the hart, and its marks are on the way through them.
+-- Lists are decoded with these flags and this fault. At the places of each hart's list are messages whose packets
+-- describe the events of the hart, and its marks are on the way through them.
 pub record IsMarkedSurveyBy (IsDecoded : List (List Event) → List Bool → Option (ℕ × CaptureFault) → Type 0)
     (words : Words) (found : MarkedCaptureSurvey) : Type 0 where
   pub lists : List (List Event)
@@ -19,6 +19,6 @@ pub record IsMarkedSurveyBy (IsDecoded : List (List Event) → List Bool → Opt
   pub never_memory : NeverMemory found.survey.fault
 
 -- The flags and the fault are those of what the bytes of a capture decode to, where messages of these harts alone are
--- looked at; the places are those of the messages that are decoded, and the marks are on the way.
+-- looked at. At the places are messages whose packets describe the events of the harts, and the marks are on the way.
 abbrev pub IsMarkedCaptureSurvey : HartRange → Words → ℕ → List ℕ → MarkedCaptureSurvey → Type 0
 IsMarkedCaptureSurvey range words harts bytes found = IsMarkedSurveyBy (IsDecodedOf range words harts bytes) words found

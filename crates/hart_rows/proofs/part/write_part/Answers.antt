@@ -21,7 +21,7 @@ unreachable-requires g c =
     never_none (words_of c.args.program.now) c.args.bytes.now c.args.places.now c.args.decoder log is c.args.room.now.items
     (g.O.Write.contents c.args.out.now) c.loop-place.place-index c.loop-place.decoder c.loop-place.room.items
     (g.O.Write.contents c.loop-place.out) (c.loop-place.invariant.reached log is) 0
-    c.loop-place-test.true c.packet_at.result c.packet_at.ensures c.in-None.is
+    c.loop-place-test.true c.packet_at.result c.packet_at.ensures.read c.in-None.is
 
 pub write_packet-requires-clause-next : goal.write_packet-requires-clause-next
 write_packet-requires-clause-next g c =
@@ -34,7 +34,7 @@ write_packet-requires-clause-next g c =
     0 c.loop-place-test.true c.in-Some.packet
     (is_found words c.args.bytes.now c.args.places.now c.args.decoder log is c.args.room.now.items (g.O.Write.contents c.args.out.now)
     c.loop-place.place-index c.loop-place.decoder c.loop-place.room.items (g.O.Write.contents c.loop-place.out) r
-    0 c.loop-place-test.true c.packet_at.result c.in-Some.packet c.packet_at.ensures
+    0 c.loop-place-test.true c.packet_at.result c.in-Some.packet c.packet_at.ensures.read
     c.in-Some.is)
 
 pub loop-place-preserved : goal.loop-place-preserved
@@ -48,7 +48,7 @@ loop-place-preserved g c = record {
       let start = c.args.room.now.items in
       let same = is_found words c.args.bytes.now c.args.places.now c.args.decoder log is start old c.loop-place.place-index
       c.loop-place.decoder c.loop-place.room.items mid r 0 c.loop-place-test.true
-      c.packet_at.result c.in-Some.packet c.packet_at.ensures c.in-Some.is in
+      c.packet_at.result c.in-Some.packet c.packet_at.ensures.read c.in-Some.is in
       subst (λ ended. OnOk ended (Reached words c.args.bytes.now c.args.places.now c.args.decoder log is
       (c.loop-place.place-index + 1) c.write_packet.new.decoder start
       c.write_packet.new.room.items old new)) c.in_ok-write_packet-in-Some.was
@@ -70,7 +70,7 @@ returns-in_err-write_packet-in-Some-clause-begun g c = λ log is.
     let start = c.args.room.now.items in
     let same = is_found words c.args.bytes.now c.args.places.now c.args.decoder log is start old c.loop-place.place-index
     c.loop-place.decoder c.loop-place.room.items mid r 0 c.loop-place-test.true
-    c.packet_at.result c.in-Some.packet c.packet_at.ensures c.in-Some.is in
+    c.packet_at.result c.in-Some.packet c.packet_at.ensures.read c.in-Some.is in
     next_begun words c.args.bytes.now c.args.places.now c.args.decoder log is start old c.loop-place.place-index
     c.loop-place.decoder c.loop-place.room.items mid r 0 c.loop-place-test.true
     c.in-Some.packet same c.write_packet.new.decoder c.write_packet.result c.write_packet.new.room.items new

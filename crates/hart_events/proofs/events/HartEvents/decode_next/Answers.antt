@@ -13,13 +13,13 @@ use Rattle.hart_events.proofs.events.HartEvents.decode_next.Goals as goal
 pub returns-in_default-packet_at-clause-hands : goal.returns-in_default-packet_at-clause-hands
 returns-in_default-packet_at-clause-hands g c = λ rest has none within.
     let finds = subst (λ place. (message : Message) (packet : Packet) → IsAt c.args.self.now.bytes.now place message
-    → reading message.payload ≡ Ok packet → c.packet_at.result ≡ Some packet) c.in-Some.ensures.lookup.1 c.packet_at.ensures in
+    → reading message.payload ≡ Ok packet → c.packet_at.result ≡ Some packet) c.in-Some.ensures.lookup.1 c.packet_at.ensures.read in
     absurd (never_none rest c.args.self.now has c.in-Some.place.now within c.packet_at.result finds c.in_default-packet_at.is)
 
 pub returns-in_default-packet_at-clause-taken : goal.returns-in_default-packet_at-clause-taken
 returns-in_default-packet_at-clause-taken g c = λ rest has within.
     let finds = subst (λ place. (message : Message) (packet : Packet) → IsAt c.args.self.now.bytes.now place message
-    → reading message.payload ≡ Ok packet → c.packet_at.result ≡ Some packet) c.in-Some.ensures.lookup.1 c.packet_at.ensures in
+    → reading message.payload ≡ Ok packet → c.packet_at.result ≡ Some packet) c.in-Some.ensures.lookup.1 c.packet_at.ensures.read in
     absurd (never_none rest c.args.self.now has c.in-Some.place.now within c.packet_at.result finds c.in_default-packet_at.is)
 
 pub returns-in_default-feed_packet-clause-hands : goal.returns-in_default-feed_packet-clause-hands
@@ -27,7 +27,7 @@ returns-in_default-feed_packet-clause-hands g c = λ rest has none within.
     let self = c.args.self.now in
     let any = c.in-Some.place.now in
     let finds = subst (λ place. (message : Message) (packet : Packet) → IsAt self.bytes.now place message
-    → reading message.payload ≡ Ok packet → c.packet_at.result ≡ Some packet) c.in-Some.ensures.lookup.1 c.packet_at.ensures in
+    → reading message.payload ≡ Ok packet → c.packet_at.result ≡ Some packet) c.in-Some.ensures.lookup.1 c.packet_at.ensures.read in
     let same = is_found rest self has any within c.packet_at.result c.in-Some-packet_at.packet finds c.in-Some-packet_at.is in
     let all = described rest self has any within in
     absurd (c.in_default-feed_packet.ensures.adds_none (packets rest self has any within) has.front has.decoded.stands all.0
@@ -38,7 +38,7 @@ returns-in_default-feed_packet-clause-taken g c = λ rest has within.
     let self = c.args.self.now in
     let any = c.in-Some.place.now in
     let finds = subst (λ place. (message : Message) (packet : Packet) → IsAt self.bytes.now place message
-    → reading message.payload ≡ Ok packet → c.packet_at.result ≡ Some packet) c.in-Some.ensures.lookup.1 c.packet_at.ensures in
+    → reading message.payload ≡ Ok packet → c.packet_at.result ≡ Some packet) c.in-Some.ensures.lookup.1 c.packet_at.ensures.read in
     let same = is_found rest self has any within c.packet_at.result c.in-Some-packet_at.packet finds c.in-Some-packet_at.is in
     let all = described rest self has any within in
     absurd (c.in_default-feed_packet.ensures.adds_none (packets rest self has any within) has.front has.decoded.stands all.0
@@ -49,7 +49,7 @@ returns-clause-hands g c = λ rest has none within.
     let self = c.args.self.now in
     let any = c.in-Some.place.now in
     let finds = subst (λ place. (message : Message) (packet : Packet) → IsAt self.bytes.now place message
-    → reading message.payload ≡ Ok packet → c.packet_at.result ≡ Some packet) c.in-Some.ensures.lookup.1 c.packet_at.ensures in
+    → reading message.payload ≡ Ok packet → c.packet_at.result ≡ Some packet) c.in-Some.ensures.lookup.1 c.packet_at.ensures.read in
     let same = is_found rest self has any within c.packet_at.result c.in-Some-packet_at.packet finds c.in-Some-packet_at.is in
     let left = c.in-Ok.left in
     let old = c.args.piece.now.items in
