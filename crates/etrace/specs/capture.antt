@@ -12,6 +12,8 @@ pub use Rattle.message.specs.Accepting
 pub use Rattle.message.specs.Accepted
 pub use Rattle.message.specs.Lossy
 pub use Rattle.message.specs.FaultText as MessageFaultText
+pub use Rattle.hart_range.specs.Range as RangeOfHarts
+pub use Rattle.hart_range.specs.Text as RangeText
 pub use Rattle.receiver.specs.Received
 pub use Rattle.receiver.specs.Holds
 pub use Rattle.receiver.specs.Agreeing
@@ -22,6 +24,7 @@ pub use Rattle.captures.specs.Versions
 pub use Rattle.captures.specs.NoMessage
 pub use Rattle.captures.specs.Whole
 pub use Rattle.captures.specs.Decoded
+pub use Rattle.captures.specs.OfHarts as DecodedOfHarts
 pub use Rattle.captures.specs.Returned
 pub use Rattle.captures.specs.FaultText as CaptureFaultText
 pub use Rattle.captures.specs.PacketText
@@ -32,6 +35,13 @@ pub use Rattle.hart_survey.specs.Placed as PlacedLogs
 pub use Rattle.hart_survey.specs.Surveyed
 pub use Rattle.hart_survey.specs.CaptureSurveyed
 pub use Rattle.hart_survey.specs.Marks
+pub use Rattle.hart_rows.specs.EachHart
+pub use Rattle.hart_rows.specs.HartsText
+pub use Rattle.hart_rows.specs.Written as WrittenHarts
+pub use Rattle.hart_rows.specs.Laws as WrittenHartsLaws
+pub use Rattle.survey_threads.specs.Marked as MarkedSurveys
+pub use Rattle.survey_threads.specs.CaptureMarked
+pub use Rattle.rows_side_by_side.specs.Marked as MarkedHarts
 pub use Rattle.hart_events.specs.Left as HartEventsLeft
 pub use Rattle.capture_lines.specs.Line as CaptureLine
 pub use Rattle.capture_lines.specs.Lines as CaptureLines
@@ -49,10 +59,14 @@ pub use Rattle.listing.specs.EffectText
 pub use Rattle.listing.specs.Lines as ListingLines
 pub use Rattle.listing.specs.Listing
 pub use Rattle.listing.specs.Begun as ListingBegun
+pub use Rattle.listing.specs.ListingOf
+pub use Rattle.listing.specs.BegunOf as ListingBegunOf
 pub use Rattle.listing_table.specs.Packets as ListingTablePackets
 pub use Rattle.listing_table.specs.Rows as ListingTableRows
 pub use Rattle.listing_table.specs.Table as ListingTable
 pub use Rattle.listing_table.specs.Part as ListingTablePart
+pub use Rattle.listing_table.specs.TableOf as ListingTableOf
+pub use Rattle.listing_table.specs.PartOf as ListingTablePartOf
 pub use Rattle.listing_table.specs.ReadBack as ListingTableReadBack
 pub use Rattle.tables.specs.Fields as TableFields
 pub use Rattle.tables.specs.Quoted as TableQuoted

@@ -24,6 +24,7 @@ pub use Rattle.retire.specs.Number
 pub use Rattle.retire.specs.Row
 pub use Rattle.retire.specs.Log
 pub use Rattle.retire.specs.LogText
+pub use Rattle.retire.specs.Split as SplitLog
 pub use Rattle.retire.specs.FaultText as LogFaultText
 pub use Rattle.retire.specs.InRange
 pub use Rattle.retire.specs.ReadBack
@@ -56,3 +57,4 @@ pub use Rattle.explaining.specs.Following as WhatFollows
 pub use Rattle.explaining.specs.ElfImage
 pub use Rattle.explaining.specs.Explanation
 pub use Rattle.explaining.specs.StandsAt
+pub use Rattle.explaining.specs.Listed as ListedStandings

@@ -24,4 +24,5 @@ pub use Rattle.bench.specs.SetupText
 pub use Rattle.comparing.specs.Counts as ComparedCounts
 pub use Rattle.comparing.specs.Compared
 pub use Rattle.comparing.specs.Lines as ComparedLines
+pub use Rattle.comparing.specs.Verdicts as ComparedVerdicts
 pub use Rattle.comparing.specs.Whole as ComparedWhole

@@ -1,5 +1,5 @@
 //! Messages of several harts and the captures that hold them: writing, also from lines of text, reading, dumping,
-//! listing, also as a table, and decoding, of all harts or of some.
+//! listing, also as a table, and decoding, of all harts or of some, in one thread or in several.
 
 pub use capture_lines::{LineFault, LinesFault, Settings, write_capture};
 pub use captures::{
@@ -23,5 +23,9 @@ pub use message::{
     read_message, read_start, write_header, write_message,
 };
 pub use receiver::{ReceiveFault, Receiver};
+pub use rows_side_by_side::{Sharing, write_decoded_side_by_side, write_harts_side_by_side};
+pub use survey_threads::{
+    MarkedCaptureSurvey, MarkedSurvey, survey_capture_side_by_side, survey_side_by_side,
+};
 pub use symbols::{Named, Symbols, SymbolsFault, write_symbol};
 pub use watching::{Unwatched, Watch};
