@@ -21,7 +21,7 @@ pub(super) const TWO: Row = [2, 2, 0, 0, 0, 0, 1];
 
 const THREE: Row = [3, 3, 0, 0, 0, 0, 1];
 
-pub(super) const PATHS: [Path; 27] = [
+pub(super) const PATHS: [Path; 29] = [
     ("", "", &[], &[], &[]),
     ("aAbBcC", "aAbBcC", &[], &[THREE, THREE], &[]),
     // Only the order of a hart's own messages counts.
@@ -167,6 +167,21 @@ pub(super) const PATHS: [Path; 27] = [
         &[(0, 0, 5, 0, 0), (1, 0, 0, 1, 1), (3, 0, 5, 0, 0)],
         &[[5, 4, 3, 2, 2, 2, 0]],
         &[(0, 0, 0), (3, 4, 0)],
+    ),
+    // As many messages as there can be are matched, in their order: all but the one that changed its place.
+    (
+        "abcde",
+        "eabcd",
+        &[(0, 0, 5, 0, 0)],
+        &[[5, 5, 1, 1, 1, 1, 0]],
+        &[(4, 4, 0)],
+    ),
+    (
+        "abcde",
+        "bcdea",
+        &[(0, 0, 0, 1, 1), (4, 0, 5, 0, 0)],
+        &[[5, 5, 1, 1, 1, 1, 0]],
+        &[(0, 0, 0)],
     ),
     // The payloads of hart 1 are those that hart 0 lost.
     (

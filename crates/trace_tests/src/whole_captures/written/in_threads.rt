@@ -2,19 +2,26 @@
 
 use super::told::Told;
 use super::written;
-use crate::fixtures::{BRANCH_LOOP, program_of};
+use crate::fixtures::{BRANCH_LOOP, program_of, short_log, short_words};
 use crate::refused_captures::{CAPTURE, FULL};
 use crate::same::same_at;
+use crate::whole_captures::{capture_of, copies_of};
 use hart_range::HartRange;
+use hart_rows::DecodedHarts;
+use payload::Mode;
+use refusing::FailingWriter;
+use retire::WriteFault;
 use rows_side_by_side::{Sharing, write_decoded_side_by_side};
 use rvclass::Program;
 use std::fmt::Debug;
+use std::io::Write;
 use std::process::Abort;
 use std::thread::Threads;
 
 /// How many stretches are decoded at once, and for how many bytes of text each has a buffer: for no row, for a row or two,
 /// for the rows of a small hart, and for all.
-const SHARINGS: [(usize, usize); 6] = [
+const SHARINGS: [(usize, usize); 7] = [
+    (0, 480),
     (1, 0),
     (2, 0),
     (2, 31),
@@ -23,6 +30,34 @@ const SHARINGS: [(usize, usize); 6] = [
     (7, 1 << 23),
 ];
 
+/// Of long harts: a buffer for a row or two, and one for a stretch.
+const LONG_SHARINGS: [(usize, usize); 2] = [(2, 31), (4, 1 << 20)];
+
+/// Writes the logs of a capture's harts in so many threads, which have buffers of so many bytes.
+fn write_shared<R: Threads + Sync + AllocGlobal, O: Write>(
+    rt: &R,
+    (threads, text): (usize, usize),
+    program: &Program,
+    harts: u16,
+    capture: &[u8],
+    told: &Told,
+    out: &mut O,
+) -> Result<DecodedHarts, WriteFault> {
+    let sharing = Sharing { threads, text };
+    let range = HartRange::ALL;
+    write_decoded_side_by_side(
+        rt.alloc(),
+        rt,
+        sharing,
+        program,
+        harts,
+        range,
+        capture,
+        told,
+        out,
+    )
+}
+
 /// Ends the test unless what is written of a capture is what one thread writes, however threads share it.
 fn is_same<R: Threads + Sync + Abort + AllocGlobal, P: Debug + Copy + Drop>(
     rt: &R,
@@ -30,23 +65,14 @@ fn is_same<R: Threads + Sync + Abort + AllocGlobal, P: Debug + Copy + Drop>(
     program: &Program,
     harts: u16,
     capture: &[u8],
+    sharings: &[(usize, usize)],
 ) {
     let (wanted, wanted_end) = written(rt, program, harts, capture);
-    for (threads, text) in SHARINGS {
-        let at = (place, threads, text);
+    for sharing in sharings {
+        let at = (place, *sharing);
         let told = Told::new();
         let mut got = Vec::new(rt.alloc());
-        let ended = write_decoded_side_by_side(
-            rt.alloc(),
-            rt,
-            Sharing { threads, text },
-            program,
-            harts,
-            HartRange::ALL,
-            capture,
-            &told,
-            &mut got,
-        );
+        let ended = write_shared(rt, *sharing, program, harts, capture, &told, &mut got);
         let ended = ended.expect(rt, "memory");
         assert!(rt;
             got == wanted,
@@ -76,7 +102,64 @@ fn small_harts(rt: HostRuntime) {
             &program,
             2,
             CAPTURE.get(..place).unwrap_or(&CAPTURE),
+            &SHARINGS,
         );
     }
-    is_same(&rt, 145usize, &program, 2, &FULL);
+    is_same(&rt, 145usize, &program, 2, &FULL, &SHARINGS);
+}
+
+/// The events of a hart of three stretches, and of one of two: a stretch ends at the first packet after 65,536 events.
+const LONG: u32 = 140_000;
+
+const SHORTER: u32 = 70_000;
+
+/// Harts of several stretches, in captures that are whole and that end in the last stretch.
+#[test]
+fn long_harts(rt: HostRuntime) {
+    for (harts, events) in [(1u16, LONG), (2, SHORTER)] {
+        let program = short_words(&rt, events);
+        let logs = copies_of(&rt, &program, &short_log(&rt, events), harts);
+        let capture = capture_of(&rt, &logs, 20_000, Mode::Differential);
+        is_same(
+            &rt,
+            (harts, false),
+            &program,
+            harts,
+            &capture,
+            &LONG_SHARINGS,
+        );
+        let end = capture.len().saturating_sub(20);
+        let front = capture.get(..end).unwrap_or(&[]);
+        is_same(&rt, (harts, true), &program, harts, front, &LONG_SHARINGS);
+    }
+}
+
+/// An output that takes 1,000 bytes a call at most, and fails after this many calls, holds a prefix of the text: none, a part
+/// of the first stretch, and of the second hart.
+#[test]
+fn output_fails(rt: HostRuntime) {
+    let program = short_words(&rt, SHORTER);
+    let logs = copies_of(&rt, &program, &short_log(&rt, SHORTER), 2);
+    let capture = capture_of(&rt, &logs, 5_000, Mode::Full);
+    let (whole, _) = written(&rt, &program, 2, &capture);
+    for calls in [0, 1, 700, 1_500] {
+        for sharing in LONG_SHARINGS {
+            let mut out = FailingWriter {
+                held: Vec::new(rt.alloc()),
+                most: 1_000,
+                calls,
+            };
+            let told = Told::new();
+            let fault = write_shared(&rt, sharing, &program, 2, &capture, &told, &mut out).err();
+            let at = (calls, sharing);
+            same_at(&rt, at, fault, Some(WriteFault::Write));
+            let held = out.held.as_slice();
+            assert!(rt;
+                Some(held) == whole.get(..held.len()),
+                "at {at:?}: {} bytes",
+                held.len()
+            );
+            assert!(rt; (calls == 0) == held.is_empty(), "at {at:?}: nothing");
+        }
+    }
 }
