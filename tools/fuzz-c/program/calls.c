@@ -161,6 +161,14 @@ static uint32_t make_list(const struct given *given, struct answer *answer) {
     return OVER(tracebench_list, given->harts, BYTES, BESIDE, given->mode, BUFFER, FIRST);
 }
 
+static uint32_t make_salvage(const struct given *given, struct answer *answer) {
+    return OVER(tracebench_salvage, given->harts, BYTES, given->mode, BUFFER, FIRST);
+}
+
+static uint32_t make_list_salvaged(const struct given *given, struct answer *answer) {
+    return OVER(tracebench_list_salvaged, given->harts, BYTES, BESIDE, given->mode, BUFFER, FIRST);
+}
+
 static uint32_t make_measure(const struct given *given, struct answer *answer) {
     return OVER(tracebench_measure, BYTES, ENDS, given->period, given->mode, BUFFER, FIRST);
 }
@@ -297,13 +305,16 @@ static const struct span of_audit_all[] = {ONE(DONE), ONE(TOO_SMALL), ONE(MEMORY
 static const struct span of_decode_all[] = {ONE(DONE), ONE(TOO_SMALL), ONE(MEMORY), SPAN(ODD_BASE, NOT_SORTED), END};
 static const struct span of_list[] = {ONE(DONE), ONE(TOO_SMALL), ONE(MEMORY), ONE(OUT_OF_RANGE),
                                       SPAN(ODD_BASE, NOT_SORTED), ONE(NO_SYMBOL), ONE(SYMBOLS_TOO_LARGE), END};
+static const struct span of_salvage[] = {ONE(DONE), ONE(TOO_SMALL), ONE(MEMORY), ONE(OUT_OF_RANGE),
+                                         SPAN(ODD_BASE, NOT_SORTED), END};
 static const struct span of_compare[] = {ONE(DONE), ONE(TOO_SMALL), ONE(MEMORY), ONE(UNEQUAL_COUNTS), ONE(BAD_ENDS),
                                          SPAN(ODD_BASE, NOT_SORTED), SPAN(WRONG_HEADER, TOO_MANY_ROWS),
                                          SPAN(OFF_PROGRAM, WRONG_EPC), END};
 static const struct span of_explain[] = {ONE(DONE), ONE(TOO_SMALL), ONE(MEMORY), SPAN(ODD_BASE, NOT_SORTED),
                                          SPAN(WRONG_HEADER, TOO_MANY_ROWS), END};
 
-/* Why a capture is not read on; and why it is not decoded on; and why a log is not legal. */
+/* Why a header is none; why a capture is not read on; and why it is not decoded on; and why a log is not legal. */
+static const struct span no_header[] = {ONE(DONE), ONE(SHORT), ONE(BAD_HEADER), END};
 static const struct span unread[] = {ONE(DONE), ONE(SHORT), ONE(BAD_LENGTH), ONE(BAD_HEADER), END};
 static const struct span undecoded[] = {ONE(DONE), ONE(MEMORY), ONE(SHORT), ONE(BAD_LENGTH), ONE(BAD_HEADER),
                                         SPAN(BAD_PAD, BAD_REPORT), SPAN(STRANGER, OTHER_MODE),
@@ -444,6 +455,14 @@ const struct call list_capture = {
     .name = "list", .make = make_list, .takes_image = true, .statuses = of_list, .faults = undecoded,
     .fault = text_fault, .first = ALL_OF(struct tracebench_text_end), .unit = 1, .written = WITH_DONE | WITH_TOO_SMALL,
 };
+const struct call salvage = {
+    .name = "salvage", .make = make_salvage, .takes_image = true, .statuses = of_salvage, .faults = no_header,
+    .fault = text_fault, .first = ALL_OF(struct tracebench_text_end), .unit = 1, .written = WITH_DONE | WITH_TOO_SMALL,
+};
+const struct call list_salvaged = {
+    .name = "list_salvaged", .make = make_list_salvaged, .takes_image = true, .statuses = of_list, .faults = no_header,
+    .fault = text_fault, .first = ALL_OF(struct tracebench_text_end), .unit = 1, .written = WITH_DONE | WITH_TOO_SMALL,
+};
 const struct call measure = {
     .name = "measure", .make = make_measure, .takes_image = true, .statuses = of_encode,
     .first = ALL_OF(struct tracebench_log_place), .unit = 1, .written = WITH_REFUSAL,
@@ -465,7 +484,8 @@ const struct call *const calls[CALLS] = {&pack, &unpack, &check, &encode, &dump,
                                          &follow, &check_events, &push_checked, &receive, &resume,
                                          &push_all, &feed_all, &version, &write_message, &read_message,
                                          &write_header, &read_header, &capture_of_lines, &audit_all, &decode_all,
-                                         &list_capture, &measure, &compare_logs, &explain, &audit_unnumbered};
+                                         &list_capture, &measure, &compare_logs, &explain, &audit_unnumbered,
+                                         &salvage, &list_salvaged};
 
 bool is_listed(const struct span *spans, uint32_t status) {
     for (; spans->from <= spans->to; spans++)

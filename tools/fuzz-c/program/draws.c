@@ -203,6 +203,13 @@ struct given drawn_for_list(const struct program *program) {
     return given;
 }
 
+struct given drawn_for_salvage(const struct program *program) {
+    struct given given = drawn_for_list(program);
+    given.mode = one_in(16) ? (uint32_t)any_number() : (uint32_t)below(3);
+    if (one_in(4)) given.harts = TRACEBENCH_HARTS_SHOWN;
+    return given;
+}
+
 /* SENT is one that was encoded, most often; RECEIVED is it with damages, or another capture. */
 struct given drawn_for_audit(const struct program *program) {
     struct given given = drawn_for_dump(program);

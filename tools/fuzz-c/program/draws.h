@@ -21,6 +21,9 @@ struct given drawn_for_audit(const struct program *program);
 /* What is given to tracebench_decode_all; with symbols and a format to tracebench_list. */
 struct given drawn_for_list(const struct program *program);
 
+/* What is given to tracebench_salvage and tracebench_list_salvaged. */
+struct given drawn_for_salvage(const struct program *program);
+
 /* A log of one row too many for a log. It takes 134 MB. */
 struct given of_too_many_rows(const struct program *program);
 

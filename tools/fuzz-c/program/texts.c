@@ -90,6 +90,39 @@ void try_list(struct program *program) {
     forget(&given, &answer);
 }
 
+/* Whether all harts of a capture are decoded to its end, and closed. */
+static bool is_decoded_whole(const struct given *given) {
+    struct answer all = run(&decode_all, given, 1 << 16);
+    bool whole = all.status == TRACEBENCH_DONE;
+    struct tracebench_decode_all_end end = decode_all_end_of(&all);
+    whole = whole && end.fault == TRACEBENCH_DONE && 0 < end.harts && end.harts <= MOST_ENDS;
+    for (size_t hart = 0; whole && hart < end.harts; hart++) whole = hart_end_of(&all, hart).closed == 1;
+    give_back_answer(&all);
+    return whole;
+}
+
+void try_salvage(struct program *program) {
+    struct given given = drawn_for_salvage(program);
+    struct answer left = exercise(&salvage, &given), listed = exercise(&list_salvaged, &given);
+    if (is_answer(left.status)) {
+        struct tracebench_text_end end = text_end_of(&left);
+        require(given.mode <= TRACEBENCH_SUMMARY, &salvage, "a format that is none is taken");
+        require(end.place == 0 && end.unclosed <= end.harts && end.whole <= 1, &salvage,
+                "a number is out of its range");
+        require(end.whole == 0 || (end.fault == TRACEBENCH_DONE && end.unclosed == end.harts), &salvage,
+                "what is left is whole, against its end");
+        require(end.whole == 1 || given.harts == TRACEBENCH_HARTS_SHOWN || !is_decoded_whole(&given), &salvage,
+                "a capture that is decoded whole is not salvaged whole");
+        if (is_answer(listed.status)) {
+            require(given.mode <= TRACEBENCH_CSV, &list_salvaged, "a format that is none is taken");
+            require(memcmp(listed.first.at, left.first.at, sizeof end) == 0, &list_salvaged,
+                    "another end than that of salvaging");
+        }
+    }
+    give_back_answer(&listed);
+    forget(&given, &left);
+}
+
 void try_measure(struct program *program) {
     bool plain;
     struct given given = drawn_for_encode(program, &plain);

@@ -10,6 +10,10 @@ void try_decode_all(struct program *program);
 /* How a listing ends is how decoding all harts ends. */
 void try_list(struct program *program);
 
+/* How salvaging ends is how listing what it does ends. A capture that is decoded to the end, with each hart closed, is
+   salvaged whole. */
+void try_salvage(struct program *program);
+
 /* What is refused is what encoding refuses. */
 void try_measure(struct program *program);
 
