@@ -9,11 +9,8 @@ ghost use Rattle.captures.specs.declared.outcome.CaptureFault.{CaptureFault as A
 ghost use Rattle.hart_survey.specs.Body.{end_of};
 
 use captures::CaptureFault;
-use message::{MessageFault, Messages};
+use message::{HEADER_SIZE, MessageFault, Messages};
 use payload::Mode;
-
-/// How many bytes of a capture its header takes.
-const HEADER_SIZE: usize = 16;
 
 /// The messages of a capture, and what its header says of them.
 #[derive(Drop)]

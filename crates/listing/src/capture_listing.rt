@@ -19,7 +19,7 @@ use crate::message_listing::list_selected;
 use crate::outcome::Listed;
 use captures::{CaptureFault, write_header_line};
 use hart_range::HartRange;
-use message::{Header, MessageFault, Messages};
+use message::{HEADER_SIZE, Header, MessageFault, Messages};
 use payload::Mode;
 use receiver::Receiver;
 use retire::WriteFault;
@@ -28,9 +28,6 @@ use std::alloc::Allocator;
 use std::io::Write;
 use symbols::Symbols;
 use watching::{Unwatched, Watch};
-
-/// The bytes of a capture's header.
-const HEADER_SIZE: u64 = 16;
 
 /// Writes what each message of a capture says and settles. Of a capture of version 2 the first line is that of its
 /// header, as [`dump_capture`](captures::dump_capture) writes it. Then comes a line for each message, in the capture's
@@ -212,7 +209,7 @@ fn first_offset(header: Option<Header>) -> u64
     ensures { result ≡ first_offset header }
 {
     match header {
-        Some(_) => HEADER_SIZE,
+        Some(_) => HEADER_SIZE as u64,
         None => 0,
     }
 }

@@ -22,7 +22,7 @@ use crate::rows::{write_columns, write_incomplete_row};
 use captures::CaptureFault;
 use hart_range::HartRange;
 use listing::Listed;
-use message::{Header, MessageFault, Messages};
+use message::{HEADER_SIZE, Header, MessageFault, Messages};
 use payload::Mode;
 use receiver::Receiver;
 use retire::WriteFault;
@@ -31,9 +31,6 @@ use std::alloc::Allocator;
 use std::io::Write;
 use symbols::Symbols;
 use watching::Watch;
-
-/// The bytes of a capture's header.
-const HEADER_SIZE: u64 = 16;
 
 /// Writes the listing of a capture as a table of CSV: the names of the columns, and a row for each message for which
 /// [`list_capture`](listing::list_capture) has a line, with the same effect. A message that is refused has a row without an
@@ -185,7 +182,7 @@ fn first_offset(header: Option<Header>) -> u64
     ensures { result ≡ first_offset header }
 {
     match header {
-        Some(_) => HEADER_SIZE,
+        Some(_) => HEADER_SIZE as u64,
         None => 0,
     }
 }

@@ -10,18 +10,18 @@ use payload::{Packet, unpack};
 /// The number from which on no message of a hart is accepted.
 const END_OF_NUMBERS: u64 = 1 << 63;
 
-/// What is expected of a hart.
+/// What is expected of a hart. [`Demux`](crate::Demux) holds one for each hart that it knows.
 #[derive(Clone, Copy, Debug, PartialEq, Eq)]
-pub(crate) struct Hart {
+pub struct Hart {
     /// The number of its next message.
-    pub(crate) expected: u64,
-    /// Its closing packet was accepted.
-    pub(crate) closed: bool,
+    pub expected: u64,
+    /// Whether its closing packet was accepted.
+    pub closed: bool,
 }
 
 impl Hart {
     /// A hart of which nothing was accepted.
-    pub(crate) const FIRST: Hart = Hart {
+    pub const FIRST: Hart = Hart {
         expected: 0,
         closed: false,
     };
@@ -34,8 +34,10 @@ impl Hart {
         self.closed || self.expected >= END_OF_NUMBERS
     }
 
-    /// The packet of the hart's next message.
-    pub(crate) fn accept(&mut self, message: &Message) -> Result<Packet, DemuxFault>
+    /// Returns the packet of a message of this hart, where the hart is still open and the message's number is the expected
+    /// one. A fault changes nothing, and is none of [`Stranger`](DemuxFault::Stranger): whose message it is, is not
+    /// looked at.
+    pub fn accept(&mut self, message: &Message) -> Result<Packet, DemuxFault>
         ensures result { result ≡ answer self.old message.now }
         ensures state { self.new ≡ state_after self.old message.now }
     {

@@ -55,6 +55,9 @@ pub enum Start {
     Version1(Option<Message>),
 }
 
+/// How many bytes the header of a capture of version 2 takes.
+pub const HEADER_SIZE: usize = 16;
+
 /// The bytes with which a capture of version 2 begins.
 pub(crate) const MARK: [u8; 11] = *b"\xff\xffrvtrace2\0";
 

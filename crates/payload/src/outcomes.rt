@@ -75,8 +75,9 @@ impl Outcomes {
         }
     }
 
-    /// The outcomes of the lowest `count` bits of a branch map.
-    pub(crate) fn of_map(count: u32, map: u32) -> Self
+    /// The outcomes in the `count` bits of a branch map, the oldest in the lowest bit: 0 is a taken branch. There are 0
+    /// to 31, and the map has no bit above them.
+    pub fn of_map(count: u32, map: u32) -> Self
         requires few { count ≤ most_outcomes }
         requires below { map < 2 ^ count }
         ensures { result ≡ outcomes_in_map count map }
@@ -84,8 +85,9 @@ impl Outcomes {
         Outcomes { map, count }
     }
 
-    /// The branch map: the oldest outcome in the lowest bit, 0 for a taken branch.
-    pub(crate) fn map(&self) -> u32
+    /// The branch map: the oldest outcome in the lowest bit, 0 for a taken branch. It has as many bits as there are
+    /// outcomes.
+    pub fn map(&self) -> u32
         ensures value { result ≡ map_of self.now }
         ensures below { result < 2 ^ length self.now }
     {

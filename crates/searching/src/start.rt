@@ -4,10 +4,7 @@ ghost use Rattle.std.specs.Prelude.{◌≡◌};
 ghost use Rattle.searching.specs.Start.{IsStart, first_place, known_harts, spans_of};
 
 use frames::Spans;
-use message::{Header, MOST_HARTS, MessageFault, Messages};
-
-/// The bytes of a capture's header.
-const HEADER_SIZE: usize = 16;
+use message::{HEADER_SIZE, Header, MOST_HARTS, MessageFault, Messages};
 
 /// How a capture begins. Where it begins with no valid header, its messages may still be looked for from its first byte
 /// on.

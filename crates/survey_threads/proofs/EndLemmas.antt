@@ -11,9 +11,8 @@ use Rattle.rvclass.specs.Words.{Words}
 use Rattle.payload.specs.declared.mode.Mode.{Mode}
 use Rattle.survey_threads.specs.declared.hart.Entry.{Entry}
 use Rattle.survey_threads.specs.declared.hart.HartEnd.{HartEnd}
-use Rattle.survey_threads.specs.declared.own.Own.{Own}
-use Rattle.survey_threads.specs.declared.trail.Trail.{Trail}
-use Rattle.survey_threads.specs.steps.Ends.{AreEnds, AreOnWay, IsEnd, IsEntry, IsReceivedHart, IsReceivedUpTo}
+use Rattle.survey_threads.specs.declared.hart.HartSoFar.{HartSoFar}
+use Rattle.survey_threads.specs.steps.Ends.{AreEnds, AreOnWay, IsEnd, IsEntry, IsReceivedHart, IsReceivedSoFar}
 use Rattle.survey_threads.specs.steps.OwnMessages.{IsOwn}
 
 -- What is at a place of a list with one element more.
@@ -60,17 +59,16 @@ found-at xs i place x within is here =
     (slice_get-get_or xs i x (ltb-true i (length xs) (sym within)) ∙ ap Some (sym is))
 
 -- All messages of a hart were received.
-pub received-end : (words : Words) (announced : Option Mode) (messages : List Message) (count : ℕ) (own : Own)
-    (trail : Trail) (end : HartEnd) → IsReceivedUpTo words announced messages count own trail
-    → length messages ≤ count → end.own ≡ own → end.marks ≡ trail.marks
-    → IsReceivedHart words announced messages end
-received-end words announced messages count own trail end is all same marks =
-    let whole = take_all count messages all in
+pub received-end : (words : Words) (announced : Option Mode) (messages : List Message) (so_far : HartSoFar)
+    (end : HartEnd) → IsReceivedSoFar words announced messages so_far → length messages ≤ so_far.taken
+    → end.own ≡ so_far.own → end.marks ≡ so_far.trail.marks → IsReceivedHart words announced messages end
+received-end words announced messages so_far end is all same marks =
+    let whole = take_all so_far.taken messages all in
     let made = is.made in
     record {
       log = is.log;
       own = subst (λ own. IsOwn words announced messages is.log own) (sym same)
-          (subst (λ ms. IsOwn words announced ms is.log own) whole is.received);
+          (subst (λ ms. IsOwn words announced ms is.log so_far.own) whole is.received);
       on_way = subst (λ (marks : Vec Mark Global). AreOnWay words messages is.log marks.items) (sym marks)
-          (subst (λ ms. AreOnWay words ms is.log trail.marks.items) whole made.on_way);
+          (subst (λ ms. AreOnWay words ms is.log so_far.trail.marks.items) whole made.on_way);
     }

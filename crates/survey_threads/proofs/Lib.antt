@@ -1,5 +1,6 @@
 pub mod ByHart
 pub mod OwnLemmas
+pub mod SectionLemmas
 pub mod StartLemmas
 pub mod MarkLemmas
 pub mod EndLemmas

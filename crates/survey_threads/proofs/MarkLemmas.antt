@@ -1,7 +1,7 @@
--- Marks on the way through messages, with one message more.
+-- Marks on the way through messages, with more messages.
 use Rattle.std.proofs.Common.{◌≡◌, ◌+◌, ◌<◌, ◌≤◌, ◌-◌, ◌^◌, ℕ, zero, suc, All, List, [], ◌∷◌, ◌++◌, length, min, take}
 use Rattle.std.proofs.Common.{refl, sym, ap, subst, ◌∙◌, arith}
-use Rattle.std.proofs.lemmas.List.{append_assoc, append-nil, length-append, length_push}
+use Rattle.std.proofs.lemmas.List.{append_assoc, append-nil, length-append}
 use Rattle.std.proofs.lemmas.List.Elements.{All-cons, All-head, All-nil, All-push, All-tail}
 use Rattle.retire.specs.declared.event.Event.{Event}
 use Rattle.rvclass.specs.Words.{Words}
@@ -25,28 +25,27 @@ take-all [] (suc n) is = absurd (omega (arith, is))
 take-all (x ∷ xs) zero is = absurd (omega (arith, is))
 take-all (x ∷ xs) (suc n) is = ap (λ l. x ∷ l) (take-all xs n (omega (arith, is)))
 
-module _ (words : Words) (messages : List Message) (message : Message) (log added : List Event) where
+module _ (words : Words) (messages more : List Message) (log added : List Event) where
   -- A mark stays one.
-  mark-stays : (mark : Mark) → IsMark words messages log mark
-      → IsMark words (messages ++ message ∷ []) (log ++ added) mark
+  mark-stays : (mark : Mark) → IsMark words messages log mark → IsMark words (messages ++ more) (log ++ added) mark
   mark-stays mark is =
       let within = is.within in
-      let longer = length_push messages message in
+      let longer = length-append messages more in
       record {
         before = is.before;
         rest = is.rest ++ added;
         whole = ap (λ l. l ++ added) is.whole ∙ append_assoc is.before is.rest added;
         within = omega (arith, within, longer);
         stands = subst (λ ms. DecoderStands words (packets_in ms) is.before mark.decoder)
-            (sym (take-front mark.taken messages (message ∷ []) within)) is.stands;
+            (sym (take-front mark.taken messages more within)) is.stands;
         counted = is.counted;
       }
 
   marks-stay : (marks : List Mark) → All (IsMark words messages log) marks
-      → All (IsMark words (messages ++ message ∷ []) (log ++ added)) marks
-  marks-stay [] are = All-nil (IsMark words (messages ++ message ∷ []) (log ++ added))
+      → All (IsMark words (messages ++ more) (log ++ added)) marks
+  marks-stay [] are = All-nil (IsMark words (messages ++ more) (log ++ added))
   marks-stay (mark ∷ marks) are =
-      All-cons (IsMark words (messages ++ message ∷ []) (log ++ added)) mark marks
+      All-cons (IsMark words (messages ++ more) (log ++ added)) mark marks
       (mark-stays mark (All-head (IsMark words messages log) mark marks are))
       (marks-stay marks (All-tail (IsMark words messages log) mark marks are))
 
@@ -67,51 +66,47 @@ rising-push from taken (first ∷ marks) mark rising le are more =
     let up_to : first.taken ≤ taken = All-head (IsUpTo taken) first marks are in
     (rising.0, rising-push first.taken taken marks mark rising.1 up_to (All-tail (IsUpTo taken) first marks are) more)
 
-module _ (words : Words) (messages : List Message) (message : Message) (log added : List Event) (marks : List Mark)
+module _ (words : Words) (messages more : List Message) (log added : List Event) (marks : List Mark)
     (are : AreOnWay words messages log marks) where
-  abbrev more : List Message
-  more = messages ++ message ∷ []
+  abbrev whole : List Message
+  whole = messages ++ more
 
   abbrev longer : List Event
   longer = log ++ added
 
-  up_to : All (IsUpTo (length more)) marks
+  up_to : All (IsUpTo (length whole)) marks
   up_to =
-      let pushed = length_push messages message in
-      up_to-more (length messages) (length more) marks (omega (arith, pushed)) are.behind
+      let appended = length-append messages more in
+      up_to-more (length messages) (length whole) marks (omega (arith, appended)) are.behind
 
   -- The marks stay on the way.
-  pub on_way-stays : AreOnWay words more longer marks
+  pub on_way-stays : AreOnWay words whole longer marks
   on_way-stays = record {
-    marked = marks-stay words messages message log added marks are.marked;
+    marked = marks-stay words messages more log added marks are.marked;
     rising = are.rising;
     behind = up_to;
   }
 
   -- One mark more, at the end of the way.
-  pub on_way-next : (mark : Mark) → mark.taken ≡ length messages + 1
+  pub on_way-next : (mark : Mark) → mark.taken ≡ length whole → length messages < mark.taken
       → mark.events ≡ min (2 ^ 64 - 1) (length longer)
-      → DecoderStands words (packets_in more) longer mark.decoder
-      → AreOnWay words more longer (marks ++ mark ∷ [])
-  on_way-next mark taken counted stands =
-      let pushed = length_push messages message in
-      let all : mark.taken ≡ length more = omega (arith, pushed, taken) in
-      record {
-        marked = All-push (IsMark words more longer) marks mark
-            (marks-stay words messages message log added marks are.marked)
-            (record {
-              before = longer;
-              rest = [];
-              whole = sym (append-nil longer);
-              within = omega (arith, all);
-              stands = subst (λ ms. DecoderStands words (packets_in ms) longer mark.decoder)
-                  (sym (take-all more mark.taken all)) stands;
-              counted = counted;
-            });
-        rising = rising-push 0 (length messages) marks mark are.rising (omega arith) are.behind
-            (omega (arith, taken));
-        behind = All-push (IsUpTo (length more)) marks mark up_to (omega (arith, all));
-      }
+      → DecoderStands words (packets_in whole) longer mark.decoder
+      → AreOnWay words whole longer (marks ++ mark ∷ [])
+  on_way-next mark taken further counted stands = record {
+    marked = All-push (IsMark words whole longer) marks mark
+        (marks-stay words messages more log added marks are.marked)
+        (record {
+          before = longer;
+          rest = [];
+          whole = sym (append-nil longer);
+          within = omega (arith, taken);
+          stands = subst (λ ms. DecoderStands words (packets_in ms) longer mark.decoder)
+              (sym (take-all whole mark.taken taken)) stands;
+          counted = counted;
+        });
+    rising = rising-push 0 (length messages) marks mark are.rising (omega arith) are.behind further;
+    behind = All-push (IsUpTo (length whole)) marks mark up_to (omega (arith, taken));
+  }
 
 -- At first there is none.
 pub on_way-none : (words : Words) → AreOnWay words [] [] []

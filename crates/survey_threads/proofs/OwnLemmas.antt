@@ -12,7 +12,7 @@ use Rattle.payload.specs.declared.packet.Packet.{Packet}
 use Rattle.decoder.specs.DecoderStands.{DecoderStands}
 use Rattle.message.proofs.Answering.{answer-unpacked}
 use Rattle.message.proofs.HartMessages.{packets_in-append, packets_in-cons}
-use Rattle.message.specs.Accepting.{accepting, answer, harts_after, state_after}
+use Rattle.message.specs.Accepting.{answer, state_after}
 use Rattle.message.specs.Harts.{newcomer}
 use Rattle.message.specs.OfHart.{packets_in}
 use Rattle.message.specs.declared.hart.Hart.{Hart}
@@ -35,10 +35,6 @@ own_accepted-next h [] message all is = (is, tt)
 own_accepted-next h (first ∷ messages) message all is =
     (all.0, own_accepted-next (state_after h first) messages message all.1 is)
 
--- The message as one of hart 0.
-abbrev pub as_first : Message → Message
-as_first message = record { hart = 0; number = message.number; payload = message.payload }
-
 -- The packets of messages and of one more.
 pub packets-next : (messages : List Message) (message : Message) (packet : Packet)
     → reading message.payload ≡ Ok packet
@@ -50,14 +46,12 @@ packets-next messages message packet read =
 module _ (words : Words) (announced : Option Mode) (messages : List Message) (log : List Event) (old : Own)
     (is : IsOwn words announced messages log old) (message : Message) where
   -- What is answered to it.
-  pub answer-is : accepting old.demux (as_first message) ≡ answer (own_after newcomer messages) message
-  answer-is = ap (λ harts. accepting harts (as_first message)) is.expected
+  pub answer-is : answer old.expected message ≡ answer (own_after newcomer messages) message
+  answer-is = ap (λ h. answer h message) is.expected
 
   -- What is expected then.
-  pub expected-is : harts_after old.demux (as_first message) ≡ own_after newcomer (messages ++ message ∷ []) ∷ []
-  expected-is =
-      ap (λ harts. harts_after harts (as_first message)) is.expected
-      ∙ ap (λ h. h ∷ []) (sym (own_after-next newcomer messages message))
+  pub expected-is : state_after old.expected message ≡ own_after newcomer (messages ++ message ∷ [])
+  expected-is = ap (λ h. state_after h message) is.expected ∙ sym (own_after-next newcomer messages message)
 
   -- Its packet is the one of its payload.
   pub read-is : (packet : Packet) → answer (own_after newcomer messages) message ≡ Ok packet
@@ -69,7 +63,7 @@ module _ (words : Words) (announced : Option Mode) (messages : List Message) (lo
   pub own-next : (packet : Packet) (new : Own) (added : List Event)
       → answer (own_after newcomer messages) message ≡ Ok packet
       → opens_another announced packet ≡ false
-      → new.demux ≡ harts_after old.demux (as_first message)
+      → new.expected ≡ state_after old.expected message
       → DecoderStands words (packets_in messages ++ packet ∷ []) (log ++ added) new.decoder
       → new.closed ≡ last_is_closing (packets_in messages ++ packet ∷ [])
       → IsOwn words announced (messages ++ message ∷ []) (log ++ added) new

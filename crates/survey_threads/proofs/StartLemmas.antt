@@ -34,7 +34,7 @@ starts-length bytes (at ∷ places) [] are = absurd are
 starts-length bytes (at ∷ places) (first ∷ messages) are = ap suc (starts-length bytes places messages are.1)
 
 -- The message at a place.
-start-of : (bytes places : List ℕ) (messages : List Message) (i any : ℕ) → StartAt bytes places messages
+pub start-of : (bytes places : List ℕ) (messages : List Message) (i any : ℕ) → StartAt bytes places messages
     → i < length places → StartsAt bytes (get_or places i any) (get_or messages i any_message)
 start-of bytes [] messages i any are within = absurd (omega (arith, within))
 start-of bytes (at ∷ places) [] i any are within = absurd are

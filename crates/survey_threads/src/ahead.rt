@@ -68,13 +68,13 @@ fn refusal_of(
     let Some(own) = places.get(usize::from(message.hart)) else {
         return Ok(Ahead::Fault(CaptureFault::Demux(DemuxFault::Stranger)));
     };
-    let mut end = receive_hart(work, own.as_slice())?;
+    let mut end = receive_hart(work, usize::from(message.hart), own.as_slice(), &[])?;
     if end.refused.is_some() {
         return Ok(Ahead::Received);
     }
     match end
         .own
-        .receive(work.alloc, work.program, work.announced, message)
+        .receive(work.alloc, work.program, work.announced, &message)
     {
         Ok(_) => Ok(Ahead::Received),
         Err(fault) => Ok(Ahead::Fault(CaptureFault::from(fault))),

@@ -9,15 +9,12 @@ ghost use Rattle.survey_threads.specs.CaptureMarked.{IsMarkedCaptureSurvey, IsMa
 use crate::surveying::{MarkedSurvey, survey_side_by_side};
 use captures::CaptureFault;
 use hart_range::HartRange;
-use message::{MessageFault, Messages};
+use message::{HEADER_SIZE, MessageFault, Messages};
 use payload::Mode;
 use rvclass::ProgramOver;
 use std::alloc::{AllocError, Global};
 use std::thread::Threads;
 use watching::Watch;
-
-/// How many bytes of a capture its header takes.
-const HEADER_SIZE: usize = 16;
 
 /// What the first pass over a capture finds, with states of decoders on the way.
 #[derive(Drop)]

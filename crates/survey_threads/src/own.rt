@@ -1,6 +1,6 @@
 //! The receiving end of one hart: it keeps no events.
 
-ghost use Rattle.std.specs.Prelude.{◌≡◌, ◌++◌, ◌-◌, ◌^◌, List, [], ◌∷◌, Err, IfErr, IfOk, length, min};
+ghost use Rattle.std.specs.Prelude.{◌≡◌, ◌++◌, ◌-◌, ◌^◌, List, [], ◌∷◌, Err, IfErr, IfOk, IsTrue, length, min};
 ghost use Rattle.retire.specs.declared.event.Event.{Event as AnyEvent};
 ghost use Rattle.rvclass.specs.Fetch.{words_of};
 ghost use Rattle.rvclass.specs.Words.{Words};
@@ -14,19 +14,19 @@ ghost use Rattle.receiver.specs.NotReceived.{IsNotDecoded};
 ghost use Rattle.survey_threads.specs.steps.OwnMessages.{IsOwn, IsOwnRefused};
 ghost use Rattle.std.specs.Prelude.{Option, ℕ};
 
+use crate::same::is_state;
 use decoder::{DecodeFault, Decoder};
 use hart_survey::feed_packet;
-use message::{Demux, Message};
+use message::{Hart, Message};
 use payload::{Mode, Packet};
 use receiver::{ReceiveFault, opens_another};
 use rvclass::ProgramOver;
-use std::alloc::{AllocError, Global};
+use std::alloc::Global;
 
 /// What is expected of a hart, and its decoder.
-#[derive(Drop)]
+#[derive(Clone, Copy)]
 pub(crate) struct Own {
-    /// It knows one hart, whose messages are handed in as those of hart 0.
-    pub(crate) demux: Demux<Global>,
+    pub(crate) expected: Hart,
     pub(crate) decoder: Decoder,
     /// Whether the hart's closing packet was decoded.
     pub(crate) closed: bool,
@@ -34,14 +34,27 @@ pub(crate) struct Own {
 
 impl Own {
     /// Nothing was received.
-    pub(crate) fn new(alloc: Global) -> Result<Own, AllocError>
-        ensures { (words : Words) (announced : Option AnyMode) → IfOk result (IsOwn words announced [] []) }
+    pub(crate) fn new() -> Own
+        ensures { (words : Words) (announced : Option AnyMode) → IsOwn words announced [] [] result }
     {
-        Ok(Own {
-            demux: Demux::new(alloc, 1)?,
+        Own {
+            expected: Hart::FIRST,
             decoder: Decoder::new(),
             closed: false,
-        })
+        }
+    }
+
+    /// Whether this is the other one, where both are behind a retirement and no packet waits. Else the answer is no.
+    pub(crate) fn is(&self, other: &Own) -> bool
+        ensures { IsTrue result → self.now ≡ other.now }
+    {
+        if self.expected.expected != other.expected.expected {
+            return false;
+        }
+        if self.expected.closed || other.expected.closed || self.closed || other.closed {
+            return false;
+        }
+        is_state(&self.decoder.state(), &other.decoder.state())
     }
 
     /// Receives the hart's next message; the events are thrown away. Returns how many they are, or 2^64 - 1 if there
@@ -51,23 +64,18 @@ impl Own {
         alloc: Global,
         program: &ProgramOver,
         announced: Option<Mode>,
-        message: Message,
+        message: &Message,
     ) -> Result<u64, ReceiveFault>
         ensures received { (messages : List AnyMessage) (log : List AnyEvent)
             → IsOwn (words_of program.now) announced messages log self.old
             → IfOk result (λ events. (added : List AnyEvent) × (events ≡ min (2 ^ 64 - 1) (length added))
-            × IsOwn (words_of program.now) announced (messages ++ message ∷ []) (log ++ added) self.new) }
+            × IsOwn (words_of program.now) announced (messages ++ message.now ∷ []) (log ++ added) self.new) }
         ensures refused { (messages : List AnyMessage) (log : List AnyEvent)
             → IsOwn (words_of program.now) announced messages log self.old
-            → IfErr result (IsOwnRefused (words_of program.now) announced messages message) }
+            → IfErr result (IsOwnRefused (words_of program.now) announced messages message.now) }
         ensures never_memory { ¬ (result ≡ Err (ReceiveFault.Decode Memory)) }
     {
-        let message = Message {
-            hart: 0,
-            number: message.number,
-            payload: message.payload,
-        };
-        let packet = match self.demux.accept(&message) {
+        let packet = match self.expected.accept(message) {
             Ok(packet) => packet,
             Err(fault) => return Err(ReceiveFault::Demux(fault)),
         };
@@ -97,7 +105,7 @@ impl Own {
         ensures closed { (packets : List AnyPacket)
             → IfOk result (λ events. self.new.closed ≡ last_is_closing (packets ++ packet.now ∷ [])) }
         ensures never_memory { ¬ (result ≡ Err Memory) }
-        ensures expected { self.new.demux ≡ self.old.demux }
+        ensures expected { self.new.expected ≡ self.old.expected }
     {
         let mut piece = Vec::new(alloc);
         match feed_packet(&mut self.decoder, program, packet, &mut piece) {

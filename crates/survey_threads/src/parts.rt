@@ -6,33 +6,38 @@ ghost use Rattle.rvclass.specs.Fetch.{words_of};
 ghost use Rattle.rvclass.specs.Words.{Words};
 ghost use Rattle.payload.specs.declared.mode.Mode.{Mode as AnyMode};
 ghost use Rattle.survey_threads.specs.steps.Ends.{AreEnds, IsEntry};
+ghost use Rattle.survey_threads.specs.steps.Sections.{IsOfHarts};
 
 use crate::hart::{Entry, HartEnd, Work, receive_hart};
+use crate::section_ends::SectionEnd;
+use crate::section_groups::receive_sections;
 use side_by_side::{Task, processors, results};
 use std::alloc::{AllocError, Global};
 use std::thread::Threads;
 
-/// The harts from one to before another.
+/// Some of all harts, or of all sections: from one to before another.
 #[derive(Clone, Copy)]
 pub(crate) struct Group {
-    first: usize,
-    end: usize,
+    pub(crate) first: usize,
+    pub(crate) end: usize,
 }
 
-/// All harts, whose messages begin at these places.
+/// All harts, whose messages begin at these places, and sections of them that were received.
 #[derive(Drop)]
-pub(crate) struct Harts<'a> {
-    pub(crate) work: &'a Work<'a>,
-    pub(crate) places: &'a [Vec<usize>],
+pub(crate) struct Harts<'w, 'p, 's> {
+    pub(crate) work: &'w Work<'w>,
+    pub(crate) places: &'p [Vec<usize>],
+    pub(crate) sections: &'s [SectionEnd],
 }
 
-impl<'a> Task<Group, Result<Vec<Entry>, AllocError>> for Harts<'a> {
-    ghost Gives = { λ harts place group found. IfOk found (λ entries. All (IsEntry
-        (words_of harts.work.now.program.now) harts.work.now.announced harts.work.now.bytes.now harts.places.now)
-        entries.items) };
+impl<'w, 'p, 's> Task<Group, Result<Vec<Entry>, AllocError>> for Harts<'w, 'p, 's> {
+    ghost Gives = { λ harts place group found. All (IsOfHarts (words_of harts.work.now.program.now)
+        harts.work.now.announced harts.work.now.bytes.now harts.places.now) harts.sections.now
+        → IfOk found (λ entries. All (IsEntry (words_of harts.work.now.program.now) harts.work.now.announced
+        harts.work.now.bytes.now harts.places.now) entries.items) };
 
     fn call(&self, _: usize, group: &Group) -> Result<Vec<Entry>, AllocError> {
-        receive_group(self.work, self.places, *group)
+        receive_group(self.work, self.places, self.sections, *group)
     }
 }
 
@@ -40,24 +45,26 @@ impl<'a> Task<Group, Result<Vec<Entry>, AllocError>> for Harts<'a> {
 fn receive_group(
     work: &Work<'_>,
     places: &[Vec<usize>],
+    sections: &[SectionEnd],
     group: Group,
 ) -> Result<Vec<Entry>, AllocError>
-    ensures { IfOk result (λ entries. All (IsEntry (words_of work.now.program.now) work.now.announced work.now.bytes.now
-        places.now) entries.items) }
+    ensures { All (IsOfHarts (words_of work.now.program.now) work.now.announced work.now.bytes.now places.now)
+        sections.now → IfOk result (λ entries. All (IsEntry (words_of work.now.program.now) work.now.announced
+        work.now.bytes.now places.now) entries.items) }
 {
     let mut entries = Vec::new(work.alloc);
     for hart in group.first..group.end {
         let Some(own) = places.get(hart) else {
             return Ok(entries);
         };
-        let end = receive_hart(work, own.as_slice())?;
+        let end = receive_hart(work, hart, own.as_slice(), sections)?;
         entries.push(Entry { hart, end })?;
     }
     Ok(entries)
 }
 
-/// Receives the messages of harts, which begin at these places: several harts side by side. Of each hart its own
-/// messages say what is found.
+/// Receives the messages of harts, which begin at these places: several harts side by side, and first the sections of
+/// long ones. Of each hart its own messages say what is found.
 pub(crate) fn receive_harts<R: Threads + Sync>(
     rt: &R,
     work: &Work<'_>,
@@ -66,8 +73,13 @@ pub(crate) fn receive_harts<R: Threads + Sync>(
     ensures { IfOk result (λ ends. AreEnds (words_of work.now.program.now) work.now.announced work.now.bytes.now
         places.now ends.items) }
 {
+    let sections = receive_sections(rt, work, places)?;
     let groups = groups_of(work.alloc, places, processors(rt))?;
-    let harts = Harts { work, places };
+    let harts = Harts {
+        work,
+        places,
+        sections: sections.as_slice(),
+    };
     let parts = results(work.alloc, rt, &harts, groups.as_slice())?;
     joined(work, places, parts)
 }
@@ -143,7 +155,7 @@ fn groups_of(alloc: Global, places: &[Vec<usize>], most: usize) -> Result<Vec<Gr
 }
 
 /// How many places there are, or 2^64 - 1 if there are more.
-fn count_of(places: &[Vec<usize>]) -> u64 {
+pub(crate) fn count_of(places: &[Vec<usize>]) -> u64 {
     let mut count = 0u64;
     for own in places {
         count = count.saturating_add(own.len() as u64);

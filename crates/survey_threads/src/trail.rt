@@ -1,6 +1,6 @@
 //! States of decoders that are kept on the way through a hart's messages.
 
-ghost use Rattle.std.specs.Prelude.{ℕ, ◌≡◌, ◌++◌, ◌+◌, ◌-◌, ◌^◌, List, [], ◌∷◌, IfOk, OnOk, length, min};
+ghost use Rattle.std.specs.Prelude.{ℕ, ◌≡◌, ◌++◌, ◌<◌, ◌-◌, ◌^◌, List, [], OnOk, length, min};
 ghost use Rattle.retire.specs.declared.event.Event.{Event as AnyEvent};
 ghost use Rattle.rvclass.specs.Words.{Words};
 ghost use Rattle.decoder.specs.DecoderStands.{DecoderStands};
@@ -13,7 +13,7 @@ use hart_survey::Mark;
 use std::alloc::{AllocError, Global};
 
 /// At least so many events are between two marks of a hart.
-const MARK_EVENTS: u64 = 65_536;
+pub(crate) const MARK_EVENTS: u64 = 65_536;
 
 /// The marks of a hart, and how far it is decoded.
 #[derive(Drop)]
@@ -37,8 +37,8 @@ impl Trail {
         }
     }
 
-    /// With one more message, `taken` in all, so many events more are decoded, and this is the decoder then. A mark is
-    /// made if it is time, unless there are `most` of them.
+    /// With more messages, `taken` in all, so many events more are decoded, and this is the decoder then. A mark is made
+    /// if it is time, unless there are `most` of them.
     pub(crate) fn add(
         &mut self,
         most: usize,
@@ -46,11 +46,11 @@ impl Trail {
         events: u64,
         decoder: &Decoder,
     ) -> Result<(), AllocError>
-        ensures { (words : Words) (messages : List AnyMessage) (message : AnyMessage) (log added : List AnyEvent)
-            → IsTrail words messages log self.old → taken ≡ length messages + 1
+        ensures { (words : Words) (messages more : List AnyMessage) (log added : List AnyEvent)
+            → IsTrail words messages log self.old → taken ≡ length (messages ++ more) → length messages < taken
             → events ≡ min (2 ^ 64 - 1) (length added)
-            → DecoderStands words (packets_in (messages ++ message ∷ [])) (log ++ added) decoder.now
-            → OnOk result (IsTrail words (messages ++ message ∷ []) (log ++ added) self.new) }
+            → DecoderStands words (packets_in (messages ++ more)) (log ++ added) decoder.now
+            → OnOk result (IsTrail words (messages ++ more) (log ++ added) self.new) }
     {
         self.events = self.events.saturating_add(events);
         if self.events < self.next || self.marks.len() >= most {

@@ -16,7 +16,7 @@ mod HeadersKnown
 mod Hearing
 mod HeldForLogs
 mod LinesWritten
-mod MapSteps
+mod LowBits
 mod PacketsBack
 mod MadeOfCopies
 mod MeasuredInTurn

@@ -9,7 +9,7 @@ ghost use Rattle.tracebench_c.specs.steps.ReadingDecoders.{is_waiting_read, phas
 
 use crate::encoder_state::are_outcomes;
 use crate::events::{EventNumbers, event_if_any, is_event_if_any, numbers_if_any};
-use crate::numbers::{map_of, mode_in, number_of_mode, outcomes_in};
+use crate::numbers::{mode_in, number_of_mode, outcomes_in};
 use decoder::{DecoderState, Phase, Waiting};
 use payload::{Mode, Outcomes};
 
@@ -64,7 +64,7 @@ pub(crate) fn numbers_of_state(state: &DecoderState) -> DecoderNumbers
         has_last: u32::from(state.last.is_some()),
         waits: u32::from(state.waiting.is_some()),
         outcomes: outcomes.len() as u32,
-        map: map_of(&outcomes),
+        map: outcomes.map(),
         delta: delta_waiting(&state.waiting),
         reported: state.reported,
         last: numbers_if_any(&state.last),

@@ -7,7 +7,7 @@ ghost use Rattle.tracebench_c.specs.EncoderKept.{IsOfState, number_of_due, numbe
 ghost use Rattle.tracebench_c.specs.steps.ReadingStates.{are_outcomes_read, due_in, is_state_read, state_in};
 
 use crate::events::{EventNumbers, event_if_any, is_event_if_any, numbers_if_any};
-use crate::numbers::{map_of, mode_in, number_of_mode, outcomes_in};
+use crate::numbers::{mode_in, number_of_mode, outcomes_in};
 use encoder::{Due, EncoderState};
 
 /// Nothing, unless what comes next or the event itself calls for a packet.
@@ -60,7 +60,7 @@ pub(crate) fn numbers_of_state(state: &EncoderState) -> EncoderNumbers
         holds: u32::from(state.held.is_some()),
         due: number_of_due(state.due),
         outcomes: state.pending.len() as u32,
-        map: map_of(&state.pending),
+        map: state.pending.map(),
         reported: state.reported,
         held: numbers_if_any(&state.held),
     }

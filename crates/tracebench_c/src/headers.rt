@@ -14,7 +14,7 @@ use crate::handing::hand_out_both;
 use crate::numbers::{DIFFERENTIAL, FULL, number_of_mode};
 use crate::status::{DONE, OUT_OF_RANGE};
 use byteorder::{ByteOrder, LittleEndian};
-use message::{Header, MOST_HARTS, Messages};
+use message::{HEADER_SIZE, Header, MOST_HARTS, Messages};
 use payload::Mode;
 
 /// A header in numbers.
@@ -31,9 +31,6 @@ pub struct HeaderNumbers {
 
 /// What the bytes of a header begin with.
 const MARK: [u8; 11] = *b"\xff\xffrvtrace2\0";
-
-/// How many bytes a header has.
-const HEADER_SIZE: u64 = 16;
 
 /// Writes the 16 bytes of a header to a buffer.
 ///
@@ -107,7 +104,7 @@ pub extern "C" fn tracebench_read_header(
     *taken = 0;
     match Messages::new(bytes).header() {
         Ok(Some(found)) => {
-            *taken = HEADER_SIZE;
+            *taken = HEADER_SIZE as u64;
             *header = numbers_of_header(&found);
             DONE
         }

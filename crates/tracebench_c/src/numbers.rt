@@ -2,11 +2,11 @@
 
 ghost use Rattle.std.specs.Prelude.{◌≡◌, ◌↔◌, IfSome, IsTrue, min};
 ghost use Rattle.payload.specs.Limits.{most_outcomes};
-ghost use Rattle.payload.specs.Outcomes.{map_of, outcomes_in_map};
+ghost use Rattle.payload.specs.Outcomes.{outcomes_in_map};
 ghost use Rattle.payload.specs.Profile.{InProfile};
 ghost use Rattle.payload.specs.declared.packet.Packet.{Packet as AnyPacket};
 ghost use Rattle.tracebench_c.specs.Numbers.{number_of_mode, number_of_report, numbers_of, of_kind};
-ghost use Rattle.tracebench_c.specs.steps.Reading.{bit_of, mode_in, packet_in, report_in};
+ghost use Rattle.tracebench_c.specs.steps.Reading.{mode_in, packet_in, report_in};
 
 use payload::{MOST_OUTCOMES, Mode, Outcomes, Packet, Report, Support};
 
@@ -131,13 +131,13 @@ pub(crate) fn numbers_of(packet: &Packet) -> PacketNumbers
         } => PacketNumbers {
             report: number_of_report(*report),
             outcomes: outcomes.len() as u32,
-            map: map_of(outcomes),
+            map: outcomes.map(),
             address: *delta,
             ..PacketNumbers::of_kind(ADDRESS)
         },
         Packet::Map(outcomes) => PacketNumbers {
             outcomes: outcomes.len() as u32,
-            map: map_of(outcomes),
+            map: outcomes.map(),
             ..PacketNumbers::of_kind(MAP)
         },
     }
@@ -175,27 +175,6 @@ fn number_of_report(report: Report) -> u32
         Report::Plain => PLAIN,
         Report::Updiscon => UPDISCON,
         Report::Notify => NOTIFY,
-    }
-}
-
-/// The branch map of outcomes.
-pub(crate) fn map_of(outcomes: &Outcomes) -> u32
-    ensures { result ≡ map_of outcomes.now }
-{
-    let mut map = 0;
-    for place in 0..outcomes.len() {
-        map += bit_of(outcomes.get(place)) << place;
-    }
-    map
-}
-
-/// The bit of an outcome.
-fn bit_of(outcome: Option<bool>) -> u32
-    ensures { result ≡ bit_of outcome }
-{
-    match outcome {
-        Some(false) => 1,
-        _ => 0,
     }
 }
 
@@ -274,16 +253,10 @@ pub(crate) fn mode_in(number: u32) -> Mode
     }
 }
 
-/// As many outcomes of a map, at most 31.
+/// As many outcomes of a map, at most 31. What the map has above them is not read.
 pub(crate) fn outcomes_in(wanted: u32, map: u32) -> Outcomes
     ensures { result ≡ outcomes_in_map (min wanted most_outcomes) map }
 {
-    let count = (wanted as usize).min(MOST_OUTCOMES);
-    let mut outcomes = Outcomes::new();
-    let mut left = map;
-    for _place in 0..count {
-        outcomes.push(left % 2 == 0);
-        left /= 2;
-    }
-    outcomes
+    let count = wanted.min(MOST_OUTCOMES as u32);
+    Outcomes::of_map(count, map % (1 << count))
 }

@@ -11,7 +11,7 @@ use Rattle.survey_threads.specs.steps.OwnMessages.{IsOwn}
 use Rattle.survey_threads.specs.steps.Starts.{StartAt}
 use Rattle.survey_threads.specs.declared.hart.Entry.{Entry}
 use Rattle.survey_threads.specs.declared.hart.HartEnd.{HartEnd}
-use Rattle.survey_threads.specs.declared.own.Own.{Own}
+use Rattle.survey_threads.specs.declared.hart.HartSoFar.{HartSoFar}
 use Rattle.survey_threads.specs.declared.trail.Trail.{Trail}
 
 -- The mark comes after no more than so many messages.
@@ -53,9 +53,9 @@ AreEnds {A} words announced bytes places ends = (hart : ℕ) (own : Vec ℕ A) (
     → slice_get places hart ≡ Some own → slice_get ends hart ≡ Some end
     → IsEnd words announced bytes own.items end
 
--- The first messages of a hart were received, so many, and these marks were made on the way.
-pub record IsReceivedUpTo (words : Words) (announced : Option Mode) (messages : List Message) (count : ℕ) (own : Own)
-    (trail : Trail) : Type 0 where
+-- The first messages of a hart were received, as many as were taken, and marks were made on the way.
+pub record IsReceivedSoFar (words : Words) (announced : Option Mode) (messages : List Message) (so_far : HartSoFar)
+    : Type 0 where
   pub log : List Event
-  pub received : IsOwn words announced (take count messages) log own
-  pub made : IsTrail words (take count messages) log trail
+  pub received : IsOwn words announced (take so_far.taken messages) log so_far.own
+  pub made : IsTrail words (take so_far.taken messages) log so_far.trail

@@ -30,7 +30,7 @@ AreOwnAccepted h (message ∷ messages) = IsOk (answer h message) × AreOwnAccep
 -- Just these messages of a hart were received, one after the other, and they settle the events of this log.
 pub record IsOwn (words : Words) (announced : Option Mode) (messages : List Message) (log : List Event) (own : Own)
     : Type 0 where
-  pub expected : own.demux ≡ own_after newcomer messages ∷ []
+  pub expected : own.expected ≡ own_after newcomer messages
   pub accepted : AreOwnAccepted newcomer messages
   pub agree : All (Agrees announced) messages
   pub stands : DecoderStands words (packets_in messages) log own.decoder

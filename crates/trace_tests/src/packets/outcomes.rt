@@ -20,5 +20,8 @@ fn keeps_the_order(rt: HostRuntime) {
     outcomes.push(false);
     outcomes.push(false);
     assert!(rt; !outcomes.is_empty() && outcomes.len() == 3);
-    assert!(rt; first_four(&outcomes) == [Some(true), Some(false), Some(false), None]);
+    let all = [Some(true), Some(false), Some(false), None];
+    assert!(rt; first_four(&outcomes) == all);
+    assert!(rt; outcomes.map() == 6);
+    assert!(rt; first_four(&Outcomes::of_map(3, 6)) == all);
 }

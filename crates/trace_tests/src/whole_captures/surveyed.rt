@@ -111,7 +111,7 @@ fn changed_at_each_byte(rt: HostRuntime) {
 }
 
 /// Ends the test unless so many messages of the one hart settle the events of its mark: as many as it says, and fewer
-/// than are between two marks without the last of them.
+/// than twice as many as are between two marks without the last of them.
 fn is_mark<R: Abort + AllocGlobal>(
     rt: &R,
     program: &Program,
@@ -133,7 +133,7 @@ fn is_mark<R: Abort + AllocGlobal>(
     );
     assert!(rt; mark.events >= 65_536, "{} events", mark.events);
     let before = events_before(mark.taken.saturating_sub(1));
-    assert!(rt; before < 65_536, "at {}: {before} events", mark.taken);
+    assert!(rt; before < 131_072, "at {}: {before} events", mark.taken);
 }
 
 /// A hart of 70,000 events has one mark, and each of two has one.
@@ -159,6 +159,67 @@ fn marks_of_long_logs(rt: HostRuntime) {
                 );
             }
         }
+    }
+}
+
+/// Harts of 12,800 messages, each second one a synchronisation: three sections, in captures that are whole and that are
+/// changed at bytes of each of them.
+#[test]
+fn harts_of_three_sections(rt: HostRuntime) {
+    let program = short_words(&rt, 32_000);
+    let log = short_log(&rt, 32_000);
+    for (harts, mode) in [(1u16, Mode::Differential), (2, Mode::Full)] {
+        let logs = copies_of(&rt, &program, &log, harts);
+        let mut bytes = Vec::new(rt.alloc());
+        write_capture(&rt, &logs, 5, (Version::One, mode), &mut bytes).expect(&rt, "a capture");
+        for announced in [None, Some(Mode::Full)] {
+            let at = (harts, announced);
+            is_same(
+                &rt,
+                at,
+                &program,
+                (harts, HartRange::ALL),
+                announced,
+                &bytes,
+            );
+        }
+        for part in 0..10 {
+            for offset in 0..4 {
+                let at = (harts, part, offset);
+                let place = bytes.len() / 10 * part + offset;
+                if place < bytes.len() {
+                    bytes[place] ^= 1;
+                    is_same(&rt, at, &program, (harts, HartRange::ALL), None, &bytes);
+                    bytes[place] ^= 1;
+                }
+            }
+        }
+    }
+}
+
+/// A hart whose sections have more events than are between two marks: each mark is one of a part.
+#[test]
+fn marks_in_sections(rt: HostRuntime) {
+    let program = short_words(&rt, 700_000);
+    let logs = copies_of(&rt, &program, &short_log(&rt, 700_000), 1);
+    let mut bytes = Vec::new(rt.alloc());
+    let form = (Version::One, Mode::Differential);
+    write_capture(&rt, &logs, 60, form, &mut bytes).expect(&rt, "a capture");
+    let found = is_same(&rt, "parts", &program, (1, HartRange::ALL), None, &bytes);
+    let own = found.places.first().expect(&rt, "a hart");
+    let marks = found.marks.first().expect(&rt, "a hart");
+    let mut before = 0u64;
+    for mark in marks {
+        let between = mark.events.saturating_sub(before);
+        assert!(&rt; (65_536..131_072).contains(&between), "{between} events");
+        before = mark.events;
+    }
+    assert!(&rt; before > 700_000 - 131_072, "{before} events");
+    for mark in marks.iter().take(2) {
+        let end = own.get(mark.taken).copied().unwrap_or(bytes.len());
+        let outcome = decoded(&rt, &program, 1, bytes.get(..end).unwrap_or(&[]));
+        let log = outcome.harts.first().expect(&rt, "a hart");
+        same_at(&rt, mark.taken, log.len() as u64, mark.events);
     }
 }
 

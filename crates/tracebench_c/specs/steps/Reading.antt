@@ -1,5 +1,5 @@
 -- Numbers as a packet, if any has them.
-use Rattle.std.specs.Prelude.{ℕ, ◌==◌, not, Bool, true, false, if◌then◌else◌, List, Option, Some, None, min}
+use Rattle.std.specs.Prelude.{ℕ, ◌==◌, not, Bool, if◌then◌else◌, List, min}
 use Rattle.payload.specs.Limits.{most_outcomes}
 use Rattle.payload.specs.Outcomes.{outcomes_in_map}
 use Rattle.payload.specs.declared.mode.Mode.{Mode}
@@ -20,12 +20,6 @@ report_in number = if number == PLAIN then Plain else if number == UPDISCON then
 -- The mode that has this number, if any has.
 abbrev pub mode_in : ℕ → Mode
 mode_in number = if number == DIFFERENTIAL then Differential else Full
-
--- The bit of an outcome.
-abbrev pub bit_of : Option Bool → ℕ
-bit_of (Some false) = 1
-bit_of (Some true) = 0
-bit_of None = 0
 
 -- The outcomes of these numbers.
 abbrev pub outcomes_in : PacketNumbers → List Bool

@@ -8,7 +8,7 @@ use super::images::{
 };
 use super::listed::{UNWRITTEN, end_of};
 use super::measured::logs_of;
-use super::pieces::{ROM, piece};
+use super::pieces::{three_pieces, unsorted_pieces};
 use crate::{LogPlace, tracebench_compare, tracebench_compare_over_pieces};
 use std::process::Abort;
 
@@ -225,12 +225,12 @@ fn captures_are_compared_over_pieces(rt: HostRuntime) {
     let (logs, ends) = logs_of(&rt, &[PLAIN_ROWS, RETURNS_ROWS]);
     for (pieces, said, end) in [
         (
-            [piece(ROM, &rom), piece(BASE, &ram)],
+            three_pieces(&rom, &ram),
             (0, WHOLE.len() as u64, (88, 99)),
             (2, 2, 0, 0, 1),
         ),
         (
-            [piece(BASE, &ram), piece(ROM, &rom)],
+            unsorted_pieces(&rom, &ram),
             (54, 77, (0, 0)),
             (9, 9, 9, 9, 9),
         ),

@@ -5,7 +5,7 @@ use super::decoded::{FULL, PLAIN, PLAIN_ROWS, RETURNS, RETURNS_ROWS, STOPS};
 use super::images::{
     BASE, NOP, RET, WORDS, add, add_messages, add_sent, filled, header_of, image_of, text_of,
 };
-use super::pieces::{ROM, piece};
+use super::pieces::{three_pieces, unsorted_pieces};
 use crate::{DecodeAllEnd, HartEnd, tracebench_decode_all, tracebench_decode_all_over_pieces};
 use std::process::Abort;
 
@@ -179,8 +179,8 @@ fn all_harts_are_decoded_over_pieces(rt: HostRuntime) {
     let mut capture = header_of(&rt, 0, 1024, 1);
     add_messages(&rt, &mut capture, 0, PLAIN);
     for (pieces, status) in [
-        ([piece(ROM, &rom), piece(BASE, &ram)], 0),
-        ([piece(BASE, &ram), piece(ROM, &rom)], 54),
+        (three_pieces(&rom, &ram), 0),
+        (unsorted_pieces(&rom, &ram), 54),
     ] {
         let mut buffer = filled(&rt, 0xa5, 100);
         let mut wanted = 77;

@@ -3,7 +3,7 @@
 use super::agree;
 use super::decoded::RETURNS_ROWS;
 use super::images::{BASE, BEQ, MRET, NOP, RET, WORDS, add, filled, image_of, text_of};
-use super::pieces::{ROM, piece};
+use super::pieces::{three_pieces, unsorted_pieces};
 use crate::{ExplainEnd, tracebench_explain, tracebench_explain_over_pieces};
 use std::process::Abort;
 
@@ -137,11 +137,8 @@ fn logs_are_explained_over_pieces(rt: HostRuntime) {
     let text = b"  8000000c: no whole word: the image is 1000 to 1003, 80000000 to 8000000b\n";
     let log = text_of(&rt, b"8000000c,0,3,,\n");
     for (pieces, said) in [
-        (
-            [piece(0x1000, &rom), piece(BASE, &ram)],
-            (0, text.len() as u64, (1, 80)),
-        ),
-        ([piece(BASE, &ram), piece(ROM, &rom)], (54, 77, (0, 54))),
+        (three_pieces(&rom, &ram), (0, text.len() as u64, (1, 80))),
+        (unsorted_pieces(&rom, &ram), (54, 77, (0, 54))),
     ] {
         let mut buffer = filled(&rt, 0xa5, text.len());
         let mut wanted = 77;

@@ -5,7 +5,7 @@ use super::decoded::{self, FULL, PLAIN, PLAIN_ROWS, RETURNS};
 use super::images::{
     BASE, NOP, RET, Sent, WORDS, add, add_messages, add_sent, filled, header_of, image_of,
 };
-use super::pieces::{ROM, piece};
+use super::pieces::{three_pieces, unsorted_pieces};
 use crate::{TextEnd, tracebench_list, tracebench_list_over_pieces};
 use std::process::Abort;
 
@@ -230,18 +230,8 @@ fn captures_are_listed_over_pieces(rt: HostRuntime) {
     add_messages(&rt, &mut capture, 0, PLAIN);
     add_messages(&rt, &mut capture, 1, RETURNS);
     for (pieces, status, count, end) in [
-        (
-            [piece(ROM, &rom), piece(BASE, &ram)],
-            0,
-            LINES.len(),
-            (2, 2, 0, 0, 1),
-        ),
-        (
-            [piece(BASE, &ram), piece(ROM, &rom)],
-            54,
-            77,
-            (9, 9, 9, 9, 9),
-        ),
+        (three_pieces(&rom, &ram), 0, LINES.len(), (2, 2, 0, 0, 1)),
+        (unsorted_pieces(&rom, &ram), 54, 77, (9, 9, 9, 9, 9)),
     ] {
         let mut buffer = filled(&rt, 0xa5, LINES.len());
         let mut wanted = 77;

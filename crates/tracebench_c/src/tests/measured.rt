@@ -3,7 +3,7 @@
 use super::agree;
 use super::decoded::{PLAIN_ROWS, RETURNS_ROWS};
 use super::images::{BASE, NOP, RET, WORDS, add, filled, image_of, text_of};
-use super::pieces::{ROM, piece};
+use super::pieces::{three_pieces, unsorted_pieces};
 use crate::{LogPlace, tracebench_measure, tracebench_measure_over_pieces};
 use std::process::Abort;
 
@@ -161,11 +161,8 @@ fn logs_are_measured_over_pieces(rt: HostRuntime) {
     add(&rt, &mut table, b"0,4,4,0,0,4,2,1,0,1,0,0,0,9,5,18.000\n");
     let count = table.len();
     for (pieces, said) in [
-        (
-            [piece(ROM, &rom), piece(BASE, &ram)],
-            (0, count as u64, (88, 99)),
-        ),
-        ([piece(BASE, &ram), piece(ROM, &rom)], (54, 77, (0, 0))),
+        (three_pieces(&rom, &ram), (0, count as u64, (88, 99))),
+        (unsorted_pieces(&rom, &ram), (54, 77, (0, 0))),
     ] {
         let mut buffer = filled(&rt, 0xa5, count);
         let mut wanted = 77;

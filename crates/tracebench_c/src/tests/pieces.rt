@@ -71,6 +71,18 @@ fn pieces_of<'b>(rom: &'b [u8], ram: &'b [u8]) -> [ImagePiece<'b>; 3] {
     [piece(ROM, rom), piece(ROM + 4, &[]), piece(BASE, ram)]
 }
 
+/// A program in three pieces: the ROM, the first word of the RAM, and the rest of it.
+pub(super) fn three_pieces<'b>(rom: &'b [u8], ram: &'b [u8]) -> [ImagePiece<'b>; 3] {
+    let [word, rest] = cut(ram, 4);
+    [piece(ROM, rom), word, rest]
+}
+
+/// The same pieces, the last two in the other order, which no program has.
+pub(super) fn unsorted_pieces<'b>(rom: &'b [u8], ram: &'b [u8]) -> [ImagePiece<'b>; 3] {
+    let [word, rest] = cut(ram, 4);
+    [piece(ROM, rom), rest, word]
+}
+
 /// A piece.
 pub(super) fn piece(base: u64, bytes: &[u8]) -> ImagePiece<'_> {
     ImagePiece { base, bytes }

@@ -7,7 +7,7 @@ use super::damaged::{
 };
 use super::images::{BASE, NOP, add, add_sent, filled, header_of, image_of};
 use super::listed::{End, UNWRITTEN, end_of};
-use super::pieces::{ROM, piece};
+use super::pieces::{three_pieces, unsorted_pieces};
 use crate::{tracebench_salvage, tracebench_salvage_over_pieces};
 use std::process::Abort;
 
@@ -221,17 +221,12 @@ fn captures_are_salvaged_over_pieces(rt: HostRuntime) {
     let capture = capture_of(&rt, &WHOLE);
     for (pieces, status, count, end) in [
         (
-            [piece(ROM, &rom), piece(BASE, &ram)],
+            three_pieces(&rom, &ram),
             0,
             WHOLE_LINES.len(),
             (1, 1, 0, 0, 1),
         ),
-        (
-            [piece(BASE, &ram), piece(ROM, &rom)],
-            54,
-            77,
-            (9, 9, 9, 9, 9),
-        ),
+        (unsorted_pieces(&rom, &ram), 54, 77, (9, 9, 9, 9, 9)),
     ] {
         let mut buffer = filled(&rt, 0xa5, WHOLE_LINES.len());
         let mut wanted = 77;

@@ -40,7 +40,7 @@ returns c = λ messages starts accepted.
     let below : c.from.result < length places = ltb-true c.from.result (length places) (sym found.0) in
     let messages_at = subst (λ items. StartAt c.args.work.now.bytes.now items (of_hart message.hart messages))
     (sym c.as_slice.ensures.value) (starts message.hart own at) in
-    let received = c.in_ok-end.ensures (none-of c.in_ok-end.end.refused (sym c.if-is_some.ensures))
+    let received = c.in_ok-end.ensures (λ k any none. absurd (omega (arith, none))) (none-of c.in_ok-end.end.refused (sym c.if-is_some.ensures))
     (of_hart message.hart messages) messages_at in (
       c.in-Err.fault,
       c.from-in-Err.ensures,

@@ -2,8 +2,10 @@
 use Rattle.std.proofs.Common.{All}
 use Rattle.rvclass.specs.Fetch.{words_of}
 use Rattle.survey_threads.specs.steps.Ends.{IsEntry}
+use Rattle.survey_threads.specs.steps.Sections.{IsOfHarts}
 use Rattle.survey_threads.proofs.parts.receive_group.Given as goal
 
 abbrev pub invariant-loop-hart : goal.invariant-loop-hart
 invariant-loop-hart l =
-    All (IsEntry (words_of l.work.program.now) l.work.announced l.work.bytes.now l.places) l.entries.items
+    All (IsOfHarts (words_of l.work.program.now) l.work.announced l.work.bytes.now l.places) l.sections
+    → All (IsEntry (words_of l.work.program.now) l.work.announced l.work.bytes.now l.places) l.entries.items

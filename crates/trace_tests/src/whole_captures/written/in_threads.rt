@@ -113,16 +113,17 @@ const LONG: u32 = 140_000;
 
 const SHORTER: u32 = 70_000;
 
-/// Harts of several stretches, in captures that are whole and that end in the last stretch.
+/// Harts of several stretches, one of them also of several sections, in captures that are whole and that end in the last
+/// stretch.
 #[test]
 fn long_harts(rt: HostRuntime) {
-    for (harts, events) in [(1u16, LONG), (2, SHORTER)] {
+    for (harts, events, period) in [(1u16, LONG, 20_000), (2, SHORTER, 20_000), (1, LONG, 9)] {
         let program = short_words(&rt, events);
         let logs = copies_of(&rt, &program, &short_log(&rt, events), harts);
-        let capture = capture_of(&rt, &logs, 20_000, Mode::Differential);
+        let capture = capture_of(&rt, &logs, period, Mode::Differential);
         is_same(
             &rt,
-            (harts, false),
+            (harts, period, false),
             &program,
             harts,
             &capture,
@@ -130,7 +131,8 @@ fn long_harts(rt: HostRuntime) {
         );
         let end = capture.len().saturating_sub(20);
         let front = capture.get(..end).unwrap_or(&[]);
-        is_same(&rt, (harts, true), &program, harts, front, &LONG_SHARINGS);
+        let at = (harts, period, true);
+        is_same(&rt, at, &program, harts, front, &LONG_SHARINGS);
     }
 }
 

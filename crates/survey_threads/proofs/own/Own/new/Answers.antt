@@ -1,4 +1,4 @@
--- Nothing is expected but a newcomer: what four calls made is joined here.
+-- Nothing is expected but a newcomer: what calls made is joined here.
 use Rattle.std.proofs.Common.{refl}
 use Rattle.std.proofs.lemmas.List.Elements.{All-nil}
 use Rattle.receiver.specs.Agreeing.{Agrees}
@@ -6,9 +6,9 @@ use Rattle.survey_threads.proofs.own.Own.new.Goals as goal
 
 pub returns : goal.returns
 returns c = λ words announced. record {
-  expected = c.in_ok-new.ensures;
+  expected = refl;
   accepted = tt;
   agree = All-nil (Agrees announced);
-  stands = c.new-2.ensures.stands words;
+  stands = c.new.ensures.stands words;
   closed = refl;
 }

@@ -10,8 +10,8 @@ pub returns-in-Ok-decode-clause-received : goal.returns-in-Ok-decode-clause-rece
 returns-in-Ok-decode-clause-received c = λ messages log is.
     let words = words_of c.args.program.now in
     let old = c.args.self.now in
-    let message = c.args.message in
-    let answered = sym (answer-is words c.args.announced messages log old is message) ∙ sym c.accept.ensures.value
+    let message = c.args.message.now in
+    let answered = sym (answer-is words c.args.announced messages log old is message) ∙ sym c.accept.ensures.result
     ∙ c.in-Ok.is in
     let decoded = c.in-Ok-decode.ensures.decoded (packets_in messages) log is.stands in (
       decoded.0,
@@ -24,14 +24,14 @@ returns-in-Ok-decode-clause-received c = λ messages log is.
 
 pub returns-in-Err-clause-refused : goal.returns-in-Err-clause-refused
 returns-in-Err-clause-refused c = λ messages log is.
-    sym (answer-is (words_of c.args.program.now) c.args.announced messages log c.args.self.now is c.args.message)
-    ∙ sym c.accept.ensures.value ∙ c.in-Err.is
+    sym (answer-is (words_of c.args.program.now) c.args.announced messages log c.args.self.now is c.args.message.now)
+    ∙ sym c.accept.ensures.result ∙ c.in-Err.is
 
 pub returns-then-opens_another-clause-refused : goal.returns-then-opens_another-clause-refused
 returns-then-opens_another-clause-refused c = λ messages log is. (
   c.in-Ok.packet,
-  sym (answer-is (words_of c.args.program.now) c.args.announced messages log c.args.self.now is c.args.message)
-      ∙ sym c.accept.ensures.value ∙ c.in-Ok.is,
+  sym (answer-is (words_of c.args.program.now) c.args.announced messages log c.args.self.now is c.args.message.now)
+      ∙ sym c.accept.ensures.result ∙ c.in-Ok.is,
   sym c.opens_another.ensures ∙ c.if-opens_another.true,
 )
 
@@ -39,8 +39,8 @@ pub returns-in-Err-decode-clause-refused : goal.returns-in-Err-decode-clause-ref
 returns-in-Err-decode-clause-refused c = λ messages log is.
     let words = words_of c.args.program.now in
     let old = c.args.self.now in
-    let message = c.args.message in
-    let answered = sym (answer-is words c.args.announced messages log old is message) ∙ sym c.accept.ensures.value
+    let message = c.args.message.now in
+    let answered = sym (answer-is words c.args.announced messages log old is message) ∙ sym c.accept.ensures.result
     ∙ c.in-Ok.is in (
       c.in-Ok.packet,
       answered,
