@@ -1,20 +1,22 @@
 -- The text of stretches that is written so far, and one text more.
-use Rattle.std.proofs.Common.{◌≡◌, ◌+◌, ◌∙◌, ℕ, List, [], ◌++◌, Option, Ok, Err, Result, ap, append_assoc, append-nil}
-use Rattle.std.proofs.Common.{drop, IfErr, OnOk, refl, subst, sym}
+use Rattle.std.proofs.Common.{◌≡◌, ◌+◌, ◌∙◌, ℕ, List, [], ◌∷◌, ◌++◌, Option, Some, Ok, Err, Result, ap, append_assoc}
+use Rattle.std.proofs.Common.{append-nil, drop, IfErr, length, OnOk, refl, subst, sym, take}
+use lib.Seq.{take-append_seam}
 use Rattle.std.proofs.KnownBytes.{Appends-nil, Appends-trans}
-use Rattle.std.proofs.lemmas.List.{drop-drop}
 use Rattle.std.specs.Io.KnownBytes.{Appends}
 use Rattle.std.specs.declared.vec.Vec.{Vec}
 use Rattle.output.proofs.Beginnings.{begun_behind, begun_in_front, whole_begun}
 use Rattle.output.specs.Begun.{AppendsBeginning}
 use Rattle.retire.specs.Split.{Split}
+use Rattle.retire.specs.declared.event.Event.{Event}
 use Rattle.retire.specs.declared.fault.WriteFault.{WriteFault}
 use Rattle.retire.specs.declared.fault.WriteFault.TheVariants as fault
 use Rattle.rvclass.specs.Words.{Words}
-use Rattle.rows_side_by_side.proofs.StretchLemmas.{Parted, text_parted}
+use Rattle.rows_side_by_side.proofs.StretchLemmas.{First, text_first}
 use Rattle.rows_side_by_side.specs.declared.stretch.Stretch.{Stretch}
-use Rattle.rows_side_by_side.specs.steps.Putting.{IsPut}
-use Rattle.rows_side_by_side.specs.steps.Stretches.{HaveText}
+use Rattle.rows_side_by_side.specs.steps.Filled.{AddFirst}
+use Rattle.rows_side_by_side.specs.steps.Putting.{IsPut, Left}
+use Rattle.rows_side_by_side.specs.steps.Stretches.{HaveText, IsStretch, stretch_text}
 
 -- A text was written behind another.
 pub put_behind : (ended : Result Unit WriteFault) (old mid new : Option (List ℕ)) (front back : List ℕ)
@@ -63,36 +65,28 @@ put_begun (Ok _) old new text put = whole_begun text old new put
 put_begun (Err why) old new text put = put.0
 
 module _ {A : Type 0} (words : Words) (bytes : List ℕ) (places : List (Vec ℕ A)) where
-  -- A prefix of the text is written, and the rest is that of these stretches.
-  pub record Left (stretches : List Stretch) (text : List ℕ) (old new : Option (List ℕ)) : Type 0 where
-    pub written : List ℕ
-    pub rest : List ℕ
-    pub have : HaveText words bytes places stretches rest
-    pub appended : Appends old new written
-    pub whole : text ≡ written ++ rest
-
   -- At first all is left.
   pub left_all : (stretches : List Stretch) (text : List ℕ) (old : Option (List ℕ))
-      → HaveText words bytes places stretches text → Left stretches text old old
+      → HaveText words bytes places stretches text → Left words bytes places stretches text old old
   left_all stretches text old have =
       record { written = []; rest = text; have = have; appended = Appends-nil old; whole = refl }
 
   -- At last nothing is left.
   pub left_none : (stretches : List Stretch) (text : List ℕ) (old new : Option (List ℕ)) → stretches ≡ []
-      → Left stretches text old new → Appends old new text
+      → Left words bytes places stretches text old new → Appends old new text
   left_none stretches text old new none left =
       let rest : left.rest ≡ [] = subst (λ ss. HaveText words bytes places ss left.rest) none left.have in
       subst (Appends old new)
       (sym (left.whole ∙ ap (λ l. left.written ++ l) rest ∙ append-nil left.written)) left.appended
 
   module _ (stretches later : List Stretch) (text : List ℕ) (old mid new : Option (List ℕ))
-      (left : Left stretches text old mid) (front back : List ℕ) (parted : left.rest ≡ front ++ back) where
+      (left : Left words bytes places stretches text old mid) (front back : List ℕ) (parted : left.rest ≡ front ++ back) where
     whole : text ≡ (left.written ++ front) ++ back
     whole =
         left.whole ∙ ap (λ l. left.written ++ l) parted ∙ sym (append_assoc left.written front back)
 
     -- The first of what is left was written.
-    pub left_more : HaveText words bytes places later back → Appends mid new front → Left later text old new
+    pub left_more : HaveText words bytes places later back → Appends mid new front → Left words bytes places later text old new
     left_more have put = record {
       written = left.written ++ front;
       rest = back;
@@ -108,27 +102,46 @@ module _ {A : Type 0} (words : Words) (bytes : List ℕ) (places : List (Vec ℕ
         (put_in_front why old new (left.written ++ front) back
         (put_behind (Err why) old mid new left.written front left.appended put))
 
-  module _ (stretches : List Stretch) (from count more : ℕ) (same : count ≡ more) (text : List ℕ)
-      (old mid : Option (List ℕ)) (left : Left (drop from stretches) text old mid) where
-    -- The text of the next stretches, and that of those after them.
-    pub wave : Parted words bytes places count (drop from stretches) left.rest
-    wave = text_parted words bytes places count (drop from stretches) left.rest left.have
+  module _ (stretches : List Stretch) (at : ℕ) (text : List ℕ) (old mid : Option (List ℕ))
+      (left : Left words bytes places (drop at stretches) text old mid) where
+    module _ (to : ℕ) (held : List ℕ) (adds : AddFirst words bytes places stretches at to held) where
+      -- What a slot has is the first of what is left: it was written,
+      pub slot_more : (new : Option (List ℕ)) → Appends mid new held → Left words bytes places (drop to stretches) text old new
+      slot_more new put =
+          let rest = adds left.rest left.have in
+          left_more (drop at stretches) (drop to stretches) text old mid new left held rest.0 rest.2 rest.1 put
 
-    later : HaveText words bytes places (drop (from + more) stretches) wave.back
-    later =
-        subst (λ ss. HaveText words bytes places ss wave.back)
-        (ap (λ n. drop n (drop from stretches)) same ∙ drop-drop more from stretches) wave.others
+      -- or a prefix of it.
+      pub slot_fails : (why : WriteFault) (new : Option (List ℕ)) → IsPut (Err why) mid new held
+          → IsPut (Err why) old new text
+      slot_fails why new put =
+          let rest = adds left.rest left.have in
+          left_fails (drop at stretches) (drop to stretches) text old mid new left held rest.0 rest.2 why put
 
-    -- The text of the next stretches was written.
-    pub wave_more : (new : Option (List ℕ)) → Appends mid new wave.front
-        → Left (drop (from + more) stretches) text old new
-    wave_more new put =
-        left_more (drop from stretches) (drop (from + more) stretches) text old mid new left wave.front wave.back wave.whole
-        later put
+    module _ (stretch : Stretch) (parts : drop at stretches ≡ stretch ∷ drop (at + 1) stretches) where
+      next : First words bytes places stretch (drop (at + 1) stretches) left.rest
+      next =
+          text_first words bytes places stretch (drop (at + 1) stretches) left.rest
+          (subst (λ ss. HaveText words bytes places ss left.rest) parts left.have)
 
-    -- Or a prefix of it.
-    pub wave_fails : (why : WriteFault) (new : Option (List ℕ)) → IsPut (Err why) mid new wave.front
-        → IsPut (Err why) old new text
-    wave_fails why new put =
-        left_fails (drop from stretches) (drop (from + more) stretches) text old mid new left wave.front wave.back
-        wave.whole why put
+      -- So it is of the stretch that comes next.
+      pub stretch_more : (new : Option (List ℕ))
+          → ((part : List Event) → IsStretch words bytes places stretch part → Appends mid new (stretch_text stretch part))
+          → Left words bytes places (drop (at + 1) stretches) text old new
+      stretch_more new put =
+          left_more (drop at stretches) (drop (at + 1) stretches) text old mid new left (stretch_text stretch next.part)
+          next.rest next.parted next.later (put next.part next.is)
+
+      pub stretch_fails : (why : WriteFault) (new : Option (List ℕ))
+          → ((part : List Event) → IsStretch words bytes places stretch part
+          → IsPut (Err why) mid new (stretch_text stretch part)) → IsPut (Err why) old new text
+      stretch_fails why new put =
+          left_fails (drop at stretches) (drop (at + 1) stretches) text old mid new left (stretch_text stretch next.part)
+          next.rest next.parted why (put next.part next.is)
+
+-- What was held before is at the front of what is held.
+pub front_held : (ended : Result Unit WriteFault) (held new text : List ℕ) → IsPut ended (Some held) (Some new) text
+    → take (length held) new ≡ held
+front_held (Ok _) held new text put = ap (take (length held)) put ∙ take-append_seam held text
+front_held (Err why) held new text put =
+    ap (take (length held)) put.0.appended ∙ take-append_seam held put.0.text

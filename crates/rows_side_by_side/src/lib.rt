@@ -14,6 +14,7 @@ mod decoded;
 mod filling;
 mod harts;
 mod planning;
+mod shares;
 mod sharing;
 mod slot;
 mod stretch;

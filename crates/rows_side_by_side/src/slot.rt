@@ -19,8 +19,12 @@ pub(crate) struct Slot {
     pub(crate) piece: Vec<Event>,
     /// The rows of the stretch.
     pub(crate) text: Text,
-    /// Whether the text has all rows of the stretch.
-    pub(crate) is_filled: bool,
+    /// The place of the first stretch that is decoded into it.
+    pub(crate) first: usize,
+    /// The place after the last one that is to be.
+    pub(crate) end: usize,
+    /// The place after the last one whose text it has.
+    pub(crate) filled: usize,
     pub(crate) ghost sized: { (MOST_HELD ≤ vec_capacity room) × (1 ≤ vec_capacity piece) },
 }
 
@@ -33,7 +37,9 @@ impl Slot {
             text: Text {
                 held: Vec::with_capacity(alloc, size)?,
             },
-            is_filled: false,
+            first: 0,
+            end: 0,
+            filled: 0,
         })
     }
 }

@@ -1,16 +1,14 @@
 //! Stretches whose texts are written one after the other.
 
-ghost use Rattle.std.specs.Prelude.{ℕ, ◌≡◌, ◌≤◌, true, List, length, vec_capacity};
+ghost use Rattle.std.specs.Prelude.{ℕ, ◌≡◌, ◌≤◌, List, vec_capacity};
 ghost use Rattle.std.specs.List.{flat_map};
 ghost use Rattle.retire.specs.LogText.{event_line};
 ghost use Rattle.retire.specs.declared.event.Event.{Event as AnyEvent};
 ghost use Rattle.rvclass.specs.Fetch.{words_of};
-ghost use Rattle.rows_side_by_side.specs.steps.Filled.{AreFilled, HasRows};
 ghost use Rattle.rows_side_by_side.specs.steps.Putting.{IsPut};
 ghost use Rattle.rows_side_by_side.specs.steps.Stretches.{HavePartOf, HaveText, HaveTexts, IsStretch};
 ghost use Rattle.rows_side_by_side.specs.steps.Stretches.{head_if, head_of, stretch_text};
 
-use crate::slot::Slot;
 use crate::stretch::Stretch;
 use hart_rows::write_part;
 use output::{write_bytes, write_text};
@@ -18,56 +16,39 @@ use retire::{Event, LOG_ROOM, WriteFault, begin_log_in, end_log_in};
 use rvclass::ProgramOver;
 use std::io::Write;
 
-/// Writes the text that each stretch adds, in order. A stretch whose slot is not filled is decoded here.
-pub(crate) fn write_in_turn<O: Write>(
+/// Writes the text that each stretch adds, in order.
+pub(crate) fn write_stretches<O: Write>(
     program: &ProgramOver,
     bytes: &[u8],
     places: &[Vec<usize>],
     stretches: &[Stretch],
-    slots: &[Slot],
     room: &mut Vec<u8>,
     piece: &mut Vec<Event>,
     out: &mut O,
 ) -> Result<(), WriteFault>
     requires sound { HaveTexts (words_of program.now) bytes.now places.now stretches.now }
-    requires many { length stretches.now ≤ length slots.now }
-    requires filled { AreFilled (words_of program.now) bytes.now places.now stretches.now slots.now }
     requires piece { 1 ≤ vec_capacity piece.old }
     requires room { LOG_ROOM ≤ vec_capacity room.old }
     ensures put { (text : List ℕ) → HaveText (words_of program.now) bytes.now places.now stretches.now text
         → IsPut result (O.contents out.old) (O.contents out.new) text }
-    ensures piece { vec_capacity piece.new ≡ vec_capacity piece.old }
-    ensures room { vec_capacity room.old ≤ vec_capacity room.new }
 {
-    for (place, stretch) in stretches.iter().enumerate() {
-        write_stretch(
-            program,
-            bytes,
-            places,
-            stretch,
-            &slots[place],
-            room,
-            piece,
-            out,
-        )?;
+    for stretch in stretches {
+        write_stretch(program, bytes, places, stretch, room, piece, out)?;
     }
     Ok(())
 }
 
-/// Writes the text that a stretch adds. If the slot is filled, it has the rows, and else they are decoded here.
-fn write_stretch<O: Write>(
+/// Writes the text that a stretch adds.
+pub(crate) fn write_stretch<O: Write>(
     program: &ProgramOver,
     bytes: &[u8],
     places: &[Vec<usize>],
     stretch: &Stretch,
-    slot: &Slot,
     room: &mut Vec<u8>,
     piece: &mut Vec<Event>,
     out: &mut O,
 ) -> Result<(), WriteFault>
     requires sound { HavePartOf (words_of program.now) bytes.now places.now stretch.now }
-    requires filled { (part : List AnyEvent) → IsStretch (words_of program.now) bytes.now places.now stretch.now part
-        → slot.now.is_filled ≡ true → HasRows slot.now part }
     requires piece { 1 ≤ vec_capacity piece.old }
     requires room { LOG_ROOM ≤ vec_capacity room.old }
     ensures put { (part : List AnyEvent) → IsStretch (words_of program.now) bytes.now places.now stretch.now part
@@ -76,15 +57,11 @@ fn write_stretch<O: Write>(
     ensures room { vec_capacity room.old ≤ vec_capacity room.new }
 {
     write_head_if(stretch.is_first, stretch.hart, room, out)?;
-    if slot.is_filled {
-        put(out, slot.text.held.as_slice())
-    } else {
-        write_rows(program, bytes, places, stretch, room, piece, out)
-    }
+    write_rows(program, bytes, places, stretch, room, piece, out)
 }
 
 /// Writes bytes.
-fn put<O: Write>(out: &mut O, bytes: &[u8]) -> Result<(), WriteFault>
+pub(crate) fn put<O: Write>(out: &mut O, bytes: &[u8]) -> Result<(), WriteFault>
     ensures { IsPut result (O.contents out.old) (O.contents out.new) bytes.now }
 {
     write_bytes(out, bytes)?;

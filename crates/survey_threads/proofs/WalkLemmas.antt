@@ -1,8 +1,10 @@
 -- How far messages were walked, with one message more.
 use Rattle.std.proofs.Common.{◌≡◌, ◌+◌, ℕ, All, List, [], ◌∷◌, ◌++◌, Global, Vec, ap, drop, length, refl, subst, sym}
-use Rattle.std.proofs.Common.{◌∙◌, arith}
-use Rattle.std.proofs.lemmas.List.{length_push}
+use Rattle.std.proofs.Common.{◌∙◌, ◌≤◌, Bool, None, Some, arith, false, if◌then◌else◌, length-take-le, true}
+use Rattle.std.proofs.lemmas.List.{length-drop, length_push}
 use Rattle.std.proofs.lemmas.List.Elements.{All-append, All-nil, All-push}
+use Rattle.frames.proofs.FrameLemmas.{begins_complete, complete}
+use Rattle.frames.specs.Frame.{frame_in, frame_size, hart_in, is_complete, length_in, message_size, payload_in}
 use Rattle.hart_range.proofs.Selecting.{selected-append}
 use Rattle.hart_range.specs.Range.{selected}
 use Rattle.hart_range.specs.declared.range.HartRange.{HartRange}
@@ -10,10 +12,38 @@ use Rattle.message.proofs.Elements.{All-slice_get}
 use Rattle.message.specs.Capture.{capture, message_bytes}
 use Rattle.message.specs.Cut.{IsMessage}
 use Rattle.message.specs.declared.message.Message.{Message}
+use Rattle.message.specs.steps.Filling.{AreBytes}
 use Rattle.captures.proofs.Reaching.{capture_next}
 use Rattle.hart_survey.proofs.PlaceLemmas.{place_behind}
-use Rattle.survey_threads.specs.steps.Starts.{AreStarts, StartAt}
+use Rattle.survey_threads.specs.steps.Starts.{AreStarts, StartAt, StartsAt}
 use Rattle.survey_threads.specs.steps.Walked.{AreWalked, IsOfHarts}
+
+-- The size of what bytes begin with is that of a complete message.
+sized : (complete : Bool) (size found : ℕ) → (if complete then Some size else None) ≡ Some found
+    → (complete ≡ true) × (found ≡ size)
+sized false size found is = absurd cc
+sized true size found is = (refl, cc)
+
+-- A complete message begins where the walk finds a head.
+pub head_starts : (bytes : List ℕ) (place size : ℕ) → place ≤ length bytes → AreBytes (drop place bytes)
+    → message_size (drop place bytes) ≡ Some size
+    → (message : Message) × StartsAt bytes place message × (message.hart ≡ hart_in (drop place bytes))
+    × (size ≡ length (message_bytes message))
+head_starts bytes place size within are found =
+    let rest = drop place bytes in
+    let has = sized (is_complete rest) (frame_size rest) size found in
+    let begins = begins_complete rest are has.0 in
+    let fits = (complete rest has.0).fits in
+    let left = length-drop 11 rest in
+    let long : length (payload_in rest) ≡ length_in rest =
+    length-take-le (length_in rest) (drop 11 rest) (omega (arith, left, fits)) in
+    let framed : size ≡ 11 + length_in rest = has.1 in
+    let size_is : size ≡ length (message_bytes (frame_in rest)) = omega (arith, framed, long) in (
+      frame_in rest,
+      record { rest = begins.rest; within = within; begins = begins.whole; ranges = begins.ranges },
+      refl,
+      size_is,
+    )
 
 module _ (range : HartRange) (harts : ℕ) (bytes : List ℕ) where
   -- At first none was.

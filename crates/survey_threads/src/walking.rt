@@ -1,16 +1,18 @@
 //! Where the messages of a capture begin.
 
-ghost use Rattle.std.specs.Prelude.{ℕ, ◌≡◌, ◌<◌, ◌++◌, true, false, All, List, [], ◌∷◌, IfOk, IfSome, length};
+ghost use Rattle.std.specs.Prelude.{ℕ, ◌≡◌, ◌<◌, ◌≤◌, ◌++◌, true, false, All, List, [], ◌∷◌, IfOk, IfSome, length};
+ghost use Rattle.frames.specs.Frame.{hart_in};
 ghost use Rattle.hart_range.specs.Range.{selected};
 ghost use Rattle.message.specs.Capture.{message_bytes};
-ghost use Rattle.message.specs.Cut.{IsMessage};
+ghost use Rattle.message.specs.steps.Filling.{AreBytes};
 ghost use Rattle.message.specs.declared.message.Message.{Message as AnyMessage};
 ghost use Rattle.survey_threads.specs.steps.Starts.{AreStarts, StartsAt};
 ghost use Rattle.survey_threads.specs.steps.Walked.{AreWalked, IsOfHarts};
 
 use crate::lists::empty_lists;
+use byteorder::{ByteOrder, LittleEndian};
+use frames::message_size;
 use hart_range::HartRange;
-use message::{Message, Messages};
 use std::alloc::{AllocError, Global};
 use watching::Watch;
 
@@ -42,51 +44,73 @@ pub(crate) fn walk_over<V: Watch>(
         place: 0,
         passed: 0,
     };
-    let mut messages = Messages::new(bytes);
     while walk.place < limit {
-        let Some(message) = next_of(&mut messages) else {
+        let Some(head) = head_at(bytes, walk.place) else {
             return Ok(walk);
         };
-        if !add_start(&mut walk.places, range, &message, walk.place)? {
+        if !add_start(&mut walk.places, range, head.hart, walk.place)? {
             return Ok(walk);
         }
-        walk.place += message.size();
+        walk.place += head.size;
         walk.passed += 1;
         watch.note(1);
     }
     Ok(walk)
 }
 
-/// The next complete message, if there is one.
-fn next_of(messages: &mut Messages<'_>) -> Option<Message>
-    ensures ranges { IfSome result (λ message. IsMessage message) }
-    ensures message { IfSome result (λ message. messages.old ≡ message_bytes message ++ messages.new) }
-    ensures shorter { IfSome result (λ message. length messages.new < length messages.old) }
+/// What the walk looks at of a message.
+#[derive(Clone, Copy)]
+struct Head {
+    hart: u16,
+    /// How many bytes the message has.
+    size: usize,
+}
+
+/// What the walk looks at of the complete message that begins at this place, if one does.
+fn head_at(bytes: &[u8], place: usize) -> Option<Head>
+    ensures { IfSome result (λ head. (message : AnyMessage) × StartsAt bytes.now place message
+        × (message.hart ≡ head.hart) × (head.size ≡ length (message_bytes message))) }
 {
-    match messages.next() {
-        Ok(found) => found,
-        Err(_) => None,
+    if bytes.len() < place {
+        return None;
+    }
+    let rest = &bytes[place..];
+    match message_size(rest) {
+        Some(size) => Some(Head {
+            hart: hart_of(rest),
+            size,
+        }),
+        None => None,
     }
 }
 
-/// Adds the place of a message to the list of its hart, if that is one of the harts in a range. Returns false if there
+/// The hart of the message that bytes begin with.
+fn hart_of(bytes: &[u8]) -> u16
+    requires { 11 ≤ length bytes.now }
+    ensures hart { result ≡ hart_in bytes.now }
+    ensures bytes { AreBytes bytes.now }
+{
+    LittleEndian::read_u16(bytes)
+}
+
+/// Adds the place of a message of a hart to the hart's list, if it is one of the harts in a range. Returns false if there
 /// is no list of it.
 fn add_start(
     places: &mut Vec<Vec<usize>>,
     range: HartRange,
-    message: &Message,
+    hart: u16,
     place: usize,
 ) -> Result<bool, AllocError>
-    ensures added { (bytes : List ℕ) (messages : List AnyMessage) → AreStarts bytes places.old.items messages
-        → StartsAt bytes place message.now
+    ensures added { (bytes : List ℕ) (messages : List AnyMessage) (message : AnyMessage) → message.hart ≡ hart
+        → AreStarts bytes places.old.items messages → StartsAt bytes place message
         → IfOk result (λ known. known ≡ true
-        → AreStarts bytes places.new.items (messages ++ selected range (message.now ∷ []))
-        × All (IsOfHarts (length places.old.items)) (selected range (message.now ∷ []))) }
+        → AreStarts bytes places.new.items (messages ++ selected range (message ∷ []))
+        × All (IsOfHarts (length places.old.items)) (selected range (message ∷ []))) }
     ensures kept { IfOk result (λ known. known ≡ false → places.new.items ≡ places.old.items) }
     ensures count { length places.new.items ≡ length places.old.items }
 {
-    if range.selects(message.hart) {
-        add_place(places, message.hart, place)
+    if range.selects(hart) {
+        add_place(places, hart, place)
     } else {
         Ok(true)
     }

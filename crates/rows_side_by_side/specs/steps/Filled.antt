@@ -1,25 +1,19 @@
 -- Slots that threads decoded stretches into.
-use Rattle.std.specs.Prelude.{ℕ, ◌≡◌, true, List, Some, slice_get}
-use Rattle.std.specs.List.{flat_map}
+use Rattle.std.specs.Prelude.{ℕ, ◌≡◌, ◌≤◌, ◌<◌, ◌++◌, List, drop, length}
 use Rattle.std.specs.declared.vec.Vec.{Vec}
-use Rattle.retire.specs.LogText.{event_line}
-use Rattle.retire.specs.declared.event.Event.{Event}
 use Rattle.rvclass.specs.Words.{Words}
 use Rattle.rows_side_by_side.specs.declared.slot.Slot.{Slot}
 use Rattle.rows_side_by_side.specs.declared.stretch.Stretch.{Stretch}
-use Rattle.rows_side_by_side.specs.steps.Stretches.{IsStretch}
+use Rattle.rows_side_by_side.specs.steps.Stretches.{HaveText}
 
--- The slot's text is the rows of this part of a log.
-abbrev pub HasRows : Slot → List Event → Type 0
-HasRows slot part = slot.text.held.items ≡ flat_map event_line part
+-- The stretches from one place on add these bytes first, and then what those from another place on add.
+abbrev pub AddFirst : {A : Type 0} → Words → List ℕ → List (Vec ℕ A) → List Stretch → ℕ → ℕ → List ℕ → Type 0
+AddFirst words bytes places stretches from to held =
+    (text : List ℕ) → HaveText words bytes places (drop from stretches) text
+    → (rest : List ℕ) × HaveText words bytes places (drop to stretches) rest × (text ≡ held ++ rest)
 
--- If the slot is filled, its text is the rows of the stretch at this place.
-abbrev pub IsFilled : {A : Type 0} → Words → List ℕ → List (Vec ℕ A) → List Stretch → ℕ → Slot → Type 0
-IsFilled words bytes places stretches place slot =
-    (stretch : Stretch) (part : List Event) → slice_get stretches place ≡ Some stretch
-    → IsStretch words bytes places stretch part → slot.is_filled ≡ true → HasRows slot part
-
--- This holds of the slot at each place.
-abbrev pub AreFilled : {A : Type 0} → Words → List ℕ → List (Vec ℕ A) → List Stretch → List Slot → Type 0
-AreFilled words bytes places stretches slots =
-    (place : ℕ) (slot : Slot) → slice_get slots place ≡ Some slot → IsFilled words bytes places stretches place slot
+-- The slot has what the stretches add from its first one on, up to the place that it was filled to.
+pub record IsFilled {A : Type 0} (words : Words) (bytes : List ℕ) (places : List (Vec ℕ A)) (stretches : List Stretch)
+    (slot : Slot) : Type 0 where
+  pub within : slot.first < slot.filled → slot.filled ≤ length stretches
+  pub held : AddFirst words bytes places stretches slot.first slot.filled slot.text.held.items

@@ -14,7 +14,7 @@ pub loop-mark-init : goal.loop-mark-init
 loop-mark-init c = record {
   cut = λ words bytes places log text m have.
       cut_none words bytes places c.args.hart c.args.count c.args.marks.now log m text c.new.result
-      c.args.stretches.now.items c.args.count (c.new.ensures.stands words) have;
+      c.args.stretches.now.items c.args.count c.events_in.result (c.new.ensures.stands words) have;
   end = refl;
 }
 
@@ -24,8 +24,14 @@ loop-mark-preserved c = record {
       let marks = c.args.marks.now in
       let i = c.loop-mark.mark-index in
       let mark = c.mark-item.result in
-      let next : Stretch =
-      record { hart = c.args.hart; is_first = false; decoder = mark.decoder; from = mark.taken; to = c.args.count } in
+      let next : Stretch = record {
+        hart = c.args.hart;
+        is_first = false;
+        decoder = mark.decoder;
+        from = mark.taken;
+        to = c.args.count;
+        events = c.events_in-in-loop-mark.result;
+      } in
       let parts : drop i marks ≡ mark ∷ drop (i + 1) marks =
       drop_more marks i mark c.loop-mark-test.true ∙ ap (λ x. x ∷ drop (i + 1) marks) (sym c.mark-item.is) in
       let is = subst (IsMark words m.marked.messages log) (sym c.mark-item.is)
@@ -34,7 +40,7 @@ loop-mark-preserved c = record {
       (sym c.in_ok-push.ensures.items)
       (cut_more words bytes places c.args.hart c.args.count marks log m text (drop i marks) c.loop-mark.next
       c.loop-mark.stretches.items (c.loop-mark.invariant.cut words bytes places log text m have) mark
-      (drop (i + 1) marks) parts is);
+      c.saturating_sub.result c.events_in-in-loop-mark.result (drop (i + 1) marks) parts is);
   end = refl;
 }
 

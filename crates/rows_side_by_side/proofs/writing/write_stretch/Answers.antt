@@ -1,5 +1,5 @@
 -- The lines before a hart's rows and the rows are joined by lemmas, which no tactic finds.
-use Rattle.std.proofs.Common.{◌≡◌, ◌∙◌, Err, arith, subst, sym}
+use Rattle.std.proofs.Common.{◌≡◌, Err, arith, subst, sym}
 use Rattle.std.proofs.lemmas.Grind.{common_steps}
 use Rattle.hart_rows.proofs.SplitLemmas.{rows}
 use Rattle.rows_side_by_side.proofs.PuttingLemmas.{put_behind, put_in_front}
@@ -18,19 +18,8 @@ returns-in_err-write_head_if-clause-put g c = λ part is.
     (put_in_front why old new (head_if stretch.is_first stretch.hart) (rows part)
     c.in_err-write_head_if.ensures.put)
 
-pub returns-then-slot-clause-put : goal.returns-then-slot-clause-put
-returns-then-slot-clause-put g c = λ part is.
-    let old = g.O.Write.contents c.args.out.now in
-    let mid = g.O.Write.contents c.write_head_if.new.out in
-    let new = g.O.Write.contents c.put.new.out in
-    let stretch = c.args.stretch.now in
-    put_behind c.put.result old mid new (head_if stretch.is_first stretch.hart) (rows part)
-    c.in_ok-write_head_if.ensures.put
-    (subst (IsPut c.put.result mid new) (c.as_slice.ensures.value ∙ c.requires.filled part is c.if-slot.true)
-    c.put.ensures)
-
-pub returns-else-slot-clause-put : goal.returns-else-slot-clause-put
-returns-else-slot-clause-put g c = λ part is.
+pub returns-clause-put : goal.returns-clause-put
+returns-clause-put g c = λ part is.
     let old = g.O.Write.contents c.args.out.now in
     let mid = g.O.Write.contents c.write_head_if.new.out in
     let new = g.O.Write.contents c.write_rows.new.out in

@@ -10,29 +10,25 @@ loop-walk-init g c = record {
   messages = [];
   walked = walked-none c.args.range c.args.harts c.args.bytes.now c.in_ok-empty_lists.field-0.items
       c.in_ok-empty_lists.ensures.empty (c.in_ok-empty_lists.ensures.count ∙ c.from.ensures);
-  left = sym c.new-messages.ensures;
-  counted = omega (arith, ap length c.new-messages.ensures);
+  counted = omega arith;
 }
 
 pub loop-walk-preserved : goal.loop-walk-preserved
 loop-walk-preserved g c =
     let messages = c.loop-walk.invariant.messages in
     let walked = c.loop-walk.invariant.walked in
-    let message = c.in-Some.message in
-    let next = c.next_of.new.messages in
-    let shorter = c.in-Some.ensures.shorter in
-    let begins = c.loop-walk.invariant.left ∙ c.in-Some.ensures.message in
-    let more = c.in_ok-add_start.ensures.added c.args.bytes.now (selected c.args.range messages) walked.starts
-    (record { rest = next; within = walked.within; begins = begins; ranges = c.in-Some.ensures.ranges })
-    c.if-not-branch.false in
+    let found = c.in-Some.ensures in
+    let message = found.0 in
+    let starts = found.1 in
+    let more = c.in_ok-add_start.ensures.added c.args.bytes.now (selected c.args.range messages) message found.2
+    walked.starts starts c.if-not-branch.false in
     let all = walked-next c.args.range c.args.harts c.args.bytes.now messages message c.loop-walk.walk.places.items
-    c.add_start.new.places.items c.loop-walk.walk.place c.loop-walk.walk.passed c.size.result next walked
-    c.in-Some.ensures.ranges begins c.size.ensures.bytes more.0
+    c.add_start.new.places.items c.loop-walk.walk.place c.loop-walk.walk.passed c.in-Some.head.size starts.rest walked
+    starts.ranges starts.begins found.3 more.0
     (subst (λ n. All (IsOfHarts n) (selected c.args.range (message ∷ []))) walked.count more.1)
     (c.in_ok-add_start.ensures.count ∙ walked.count) in
     record {
       messages = messages ++ message ∷ [];
       walked = all.0;
-      left = all.1;
-      counted = omega (arith, c.loop-walk.invariant.counted, shorter);
+      counted = omega arith;
     }

@@ -1,5 +1,5 @@
 -- The messages so far were walked.
-use Rattle.std.proofs.Common.{◌≡◌, ◌+◌, ◌≤◌, List, drop, length}
+use Rattle.std.proofs.Common.{◌-◌, ◌≤◌, List, length}
 use Rattle.message.specs.declared.message.Message.{Message}
 use Rattle.survey_threads.specs.steps.Walked.{AreWalked}
 use Rattle.survey_threads.proofs.walking.walk_over.Given as goal
@@ -8,9 +8,8 @@ abbrev pub invariant-loop-walk : goal.invariant-loop-walk
 invariant-loop-walk g l = record {
   messages : List Message;
   walked : AreWalked l.range l.harts l.bytes messages l.walk.places.items l.walk.place l.walk.passed;
-  left : drop l.walk.place l.bytes ≡ l.messages;
-  counted : l.walk.passed + length l.messages ≤ length l.bytes;
+  counted : l.walk.passed ≤ l.walk.place;
 }
 
 abbrev pub decreases-loop-walk : goal.decreases-loop-walk
-decreases-loop-walk g l = length l.messages
+decreases-loop-walk g l = length l.bytes - l.walk.place

@@ -108,6 +108,20 @@ fn small_harts(rt: HostRuntime) {
     is_same(&rt, 145usize, &program, 2, &FULL, &SHARINGS);
 }
 
+/// Of many small harts: a buffer for a row or two, for two harts, for a dozen, and for all.
+const MANY_SHARINGS: [(usize, usize); 4] = [(2, 31), (3, 4_096), (4, 20_000), (3, 1 << 20)];
+
+/// Harts of which a thread decodes several at once, as many as its buffer has space for.
+#[test]
+fn many_harts(rt: HostRuntime) {
+    let program = short_words(&rt, 100);
+    let logs = copies_of(&rt, &program, &short_log(&rt, 100), 60);
+    let capture = capture_of(&rt, &logs, 16, Mode::Differential);
+    is_same(&rt, true, &program, 60, &capture, &MANY_SHARINGS);
+    let front = capture.get(..capture.len() / 2).unwrap_or(&[]);
+    is_same(&rt, false, &program, 60, front, &MANY_SHARINGS);
+}
+
 /// The events of a hart of three stretches, and of one of two: a stretch ends at the first packet after 65,536 events.
 const LONG: u32 = 140_000;
 

@@ -2,14 +2,14 @@
 use Rattle.std.proofs.Common.{◌≡◌, ◌≤◌, ℕ, List, drop}
 use Rattle.std.specs.Vec.{vec_capacity}
 use Rattle.rvclass.specs.Fetch.{words_of}
-use Rattle.rows_side_by_side.proofs.PuttingLemmas.{Left}
+use Rattle.rows_side_by_side.specs.steps.Putting.{Left}
 use Rattle.rows_side_by_side.specs.steps.Stretches.{HaveText}
-use Rattle.rows_side_by_side.proofs.writing.write_in_turn.Given as goal
+use Rattle.rows_side_by_side.proofs.writing.write_stretches.Given as goal
 
-abbrev pub invariant-loop-place : goal.invariant-loop-place
-invariant-loop-place g l = record {
+abbrev pub invariant-loop-stretch : goal.invariant-loop-stretch
+invariant-loop-stretch g l = record {
   left : (text : List ℕ) → HaveText (words_of l.program) l.bytes l.places l.stretches text
-      → Left (words_of l.program) l.bytes l.places (drop l.place l.stretches) text (g.O.Write.contents l.fn.out)
+      → Left (words_of l.program) l.bytes l.places (drop l.stretch-index l.stretches) text (g.O.Write.contents l.fn.out)
       (g.O.Write.contents l.out);
   piece : vec_capacity l.piece ≡ vec_capacity l.fn.piece;
   room : vec_capacity l.fn.room ≤ vec_capacity l.room;

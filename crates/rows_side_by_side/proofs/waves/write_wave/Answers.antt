@@ -1,0 +1,14 @@
+-- Where writing failed, it was in the slot that comes next.
+use Rattle.std.proofs.Common.{◌≡◌, Err, arith, subst, sym}
+use Rattle.std.proofs.lemmas.Grind.{common_steps}
+use Rattle.rvclass.specs.Fetch.{words_of}
+use Rattle.rows_side_by_side.specs.steps.Putting.{IsPutUpTo}
+use Rattle.rows_side_by_side.proofs.waves.write_wave.Goals as goal
+
+pub returns-in_err-at-clause-put : goal.returns-in_err-at-clause-put
+returns-in_err-at-clause-put g c = λ text old left.
+    let why = c.in_err-at.field-0.0 in
+    let failed : c.from_residual.result ≡ Err why = grind (arith, common_steps) in
+    subst (λ ended. IsPutUpTo (words_of c.args.program.now) c.args.bytes.now c.args.places.now c.args.stretches.now ended
+    text old (g.O.Write.contents c.write_slot.new.out)) (sym failed)
+    (c.in_err-at.ensures.put text old (c.loop-slot.invariant.left text old left))
