@@ -142,18 +142,18 @@ module _ (words : Words) (first : Encoder) (block : List Event) (old : List Pack
 
 -- A block more was pushed.
 pub pushed_block : (words : Words) (first : Encoder) (numbers : List EventNumbers) (old : List PacketNumbers)
-    (place next count more : ℕ) (middle after : Encoder) (block : List Event) (now part tail whole : List PacketNumbers)
-    → next ≡ place + 16 → part ≡ drop count now → whole ≡ take count now ++ tail → place + 16 ≤ length numbers
-    → map numbers_of_event block ≡ take 16 (drop place numbers) → 16 ≤ length now - count
+    (place size count more : ℕ) (middle after : Encoder) (block : List Event) (now part tail whole : List PacketNumbers)
+    → 1 ≤ size → part ≡ drop count now → whole ≡ take count now ++ tail → place + size ≤ length numbers
+    → map numbers_of_event block ≡ take size (drop place numbers) → size ≤ length now - count
     → ArePushed words first numbers place middle count old now → IsBlockPushed words middle block after more part tail
-    → ArePushed words first numbers next after (count + more) old whole
-pushed_block words first numbers old place next count more middle after block now part tail whole on lent back within
+    → ArePushed words first numbers (place + size) after (count + more) old whole
+pushed_block words first numbers old place size count more middle after block now part tail whole some lent back within
     is fits before pushed =
     let far = length-drop place numbers in
-    let sixteen : length block ≡ 16 =
+    let all : length block ≡ size =
     sym (length-map block numbers_of_event)
     ∙ ap length is
-    ∙ length-take-le 16 (drop place numbers) (omega (arith, far, within)) in
+    ∙ length-take-le size (drop place numbers) (omega (arith, far, within)) in
     let room : length part ≡ length old - count =
     ap length lent
     ∙ ap length (behind_front numbers_of old before.packets count now (sym before.counted) before.written)
@@ -162,23 +162,23 @@ pushed_block words first numbers old place next count more middle after block no
     let fit_before = before.fit in
     let two_before = before.two in
     let few = pushed.few in
-    subst (λ n. ArePushed words first numbers n after (count + more) old whole) (sym on) (record {
+    record {
       events = before.events ++ block;
       packets = before.packets ++ pushed.packets;
-      read = take_join place 16 numbers
-          ∙ ap (λ ns. ns ++ take 16 (drop place numbers)) before.read
+      read = take_join place size numbers
+          ∙ ap (λ ns. ns ++ take size (drop place numbers)) before.read
           ∙ ap (λ ns. map numbers_of_event before.events ++ ns) (sym is)
           ∙ sym (map-append numbers_of_event before.events block);
       goes = goes_more words first middle after before.events block before.packets pushed.packets before.goes
           pushed.goes;
       turn = turn_more words first middle after before.events block before.packets pushed.packets before.goes
           before.turn pushed.turn;
-      still = λ none. absurd (omega (arith, none));
+      still = λ none. absurd (omega (arith, none, some));
       counted = ap (λ n. n + more) before.counted
           ∙ ap (λ n. length before.packets + n) pushed.counted
           ∙ sym (length-append before.packets pushed.packets);
-      two = omega (arith, few, sixteen, two_before);
-      fit = omega (arith, few, sixteen, fits, left, room, fit_before);
+      two = omega (arith, few, all, two_before);
+      fit = omega (arith, few, all, fits, left, room, fit_before);
       written = back
           ∙ subst (λ n. take count now ++ tail
           ≡ map numbers_of (before.packets ++ pushed.packets) ++ drop (count + n) old) (sym pushed.counted)
@@ -186,4 +186,4 @@ pushed_block words first numbers old place next count more middle after block no
           (pushed.written
           ∙ ap (λ ns. map numbers_of pushed.packets ++ drop more ns) lent
           ∙ ap (λ n. map numbers_of pushed.packets ++ drop n (drop count now)) pushed.counted));
-    })
+    }

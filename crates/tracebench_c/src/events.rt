@@ -1,10 +1,10 @@
 //! Events as numbers.
 
-ghost use Rattle.std.specs.Prelude.{◌≡◌, IfSome};
+ghost use Rattle.std.specs.Prelude.{◌≡◌, ◌==◌, ◌&&◌, IfSome, IsTrue};
 ghost use Rattle.retire.specs.declared.event.Event.{Event as AnyEvent};
 ghost use Rattle.tracebench_c.specs.Events.{numbers_if_any, numbers_of_event};
 ghost use Rattle.tracebench_c.specs.steps.ReadingEvents.{event_if_any, event_in, is_any_read, is_event_read};
-ghost use Rattle.tracebench_c.specs.steps.ReadingEvents.{is_none_read};
+ghost use Rattle.tracebench_c.specs.steps.ReadingEvents.{is_none_read, is_retirement_read};
 
 use retire::Event;
 
@@ -93,6 +93,47 @@ fn is_event(numbers: &EventNumbers) -> bool
         return numbers.cause == 0 && (numbers.interrupt == 0 && numbers.tval == 0);
     }
     numbers.kind == TRAP_TAKEN && (numbers.itype == 0 && numbers.interrupt < 2)
+}
+
+/// Reads an event from its numbers. Whether they are an event's.
+#[inline(always)]
+pub(crate) fn read_event(numbers: &EventNumbers, event: &mut Event) -> bool
+    ensures { IsTrue result → numbers.now ≡ numbers_of_event event.new }
+{
+    if is_retirement(numbers) {
+        *event = Event::Retire {
+            addr: numbers.address,
+            itype: numbers.itype,
+            privilege: numbers.privilege,
+        };
+        return true;
+    }
+    read_trap(numbers, event)
+}
+
+/// Whether numbers are those of a retirement: its kind is 0, and so is what it does not have. The largest of these is
+/// looked at, which is faster than each; the cause and the interrupt lie side by side and are loaded as one number.
+#[inline(always)]
+fn is_retirement(numbers: &EventNumbers) -> bool
+    ensures { result ≡ ((numbers.now.kind == RETIREMENT) && is_retirement_read numbers.now) }
+{
+    let of_trap = u16::from(numbers.cause) + (u16::from(numbers.interrupt) << 8);
+    let small = u64::from(numbers.kind) + u64::from(of_trap);
+    small.max(numbers.tval) == 0
+}
+
+/// Reads a trap from its numbers. It is a call of its own, which keeps the loop over retirements short.
+#[inline(never)]
+fn read_trap(numbers: &EventNumbers, event: &mut Event) -> bool
+    ensures { IsTrue result → numbers.now ≡ numbers_of_event event.new }
+{
+    match event_of(numbers) {
+        Some(found) => {
+            *event = found;
+            true
+        }
+        None => false,
+    }
 }
 
 /// Whether numbers are those of an event that there may be by this flag. Without one all are 0.

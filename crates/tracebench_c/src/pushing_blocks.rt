@@ -5,7 +5,7 @@ ghost use Rattle.rvclass.specs.Fetch.{words_of};
 ghost use Rattle.tracebench_c.specs.Events.{numbers_of_event};
 ghost use Rattle.tracebench_c.specs.steps.PushingAll.{ArePushed, IsBlockPushed};
 
-use crate::events::{EventNumbers, event_of};
+use crate::events::{EventNumbers, read_event};
 use crate::numbers::{PacketNumbers, numbers_of};
 use encoder::Encoder;
 use retire::Event;
@@ -18,8 +18,8 @@ const NO_EVENT_YET: Event = Event::Retire {
     privilege: 0,
 };
 
-/// Pushes events in blocks of 16, as long as there is room for a packet of each event of a block and each is an event.
-/// Returns how many events were pushed, and how many packets were written.
+/// Pushes events in blocks of up to 32, with room for a packet of each event of a block, until no event or no room is
+/// left or a block has numbers of no event. Returns how many events were pushed, and how many packets were written.
 pub(crate) fn push_blocks(
     program: &ProgramOver,
     encoder: &mut Encoder,
@@ -30,33 +30,29 @@ pub(crate) fn push_blocks(
         packets.new }
     ensures within { result.0 ≤ length events.now }
 {
-    let mut block = [NO_EVENT_YET; 16];
+    let mut block = [NO_EVENT_YET; 32];
+    let mut taken = 0;
     let mut written = 0;
-    for place in 0..events.len() / 16 {
-        let from = place * 16;
-        if packets.len() - written < 16 {
-            return (from, written);
+    for _ in 0..events.len() {
+        let count = (events.len() - taken).min(packets.len() - written).min(32);
+        if count == 0 || !read_block(&events[taken..taken + count], &mut block) {
+            return (taken, written);
         }
-        if read_block(&events[from..], &mut block) {
-            written += push_block(program, encoder, &block, &mut packets[written..]);
-        } else {
-            return (from, written);
-        }
+        written += push_block(program, encoder, &block[..count], &mut packets[written..]);
+        taken += count;
     }
-    (events.len() / 16 * 16, written)
+    (taken, written)
 }
 
-/// Reads the first 16 events. Whether each of them is an event.
-fn read_block(events: &[EventNumbers], block: &mut [Event; 16]) -> bool
-    requires { 16 ≤ length events.now }
-    ensures { IsTrue result → map numbers_of_event block.new ≡ take 16 events.now }
+/// Reads events to the front of a block. Whether each of them is an event.
+fn read_block(events: &[EventNumbers], block: &mut [Event; 32]) -> bool
+    requires { length events.now ≤ 32 }
+    ensures { IsTrue result → map numbers_of_event (take (length events.now) block.new) ≡ events.now }
 {
-    for place in 0..16 {
-        let event = match event_of(&events[place]) {
-            Some(event) => event,
-            None => return false,
-        };
-        block[place] = event;
+    for place in 0..events.len() {
+        if !read_event(&events[place], &mut block[place]) {
+            return false;
+        }
     }
     true
 }

@@ -63,7 +63,7 @@ fn is_pushed_up_to<R: Abort + AllocGlobal>(rt: &R, illegal: usize, room: usize, 
 fn packets_before_an_illegal_event_are_written(rt: HostRuntime) {
     for mode in [0, 1] {
         for illegal in 0..41usize {
-            for room in [10, 16, 17, 40, 80] {
+            for room in [10, 31, 32, 33, 40, 80] {
                 is_pushed_up_to(&rt, illegal, room, mode);
             }
         }

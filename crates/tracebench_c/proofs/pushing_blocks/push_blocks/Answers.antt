@@ -1,25 +1,42 @@
 -- One block more is pushed: by a lemma over all blocks.
-use Rattle.std.proofs.Common.{◌+◌, ◌*◌, take, ap, ◌∙◌, arith}
+use Rattle.std.proofs.Common.{◌≡◌, ◌≤◌, ◌+◌, ◌-◌, drop, length, map, take, sym, ap, ◌∙◌, arith}
+use Rattle.std.proofs.lemmas.List.{length-drop, length-take-le}
 use Rattle.rvclass.specs.Fetch.{words_of}
 use Rattle.tracebench_c.proofs.BlocksPushed.{pushed_block}
 use Rattle.tracebench_c.proofs.PushedInTurn.{pushed_none}
 use Rattle.tracebench_c.proofs.WrittenInTurn.{part_back, part_lent}
+use Rattle.tracebench_c.specs.Events.{numbers_of_event}
 use Rattle.tracebench_c.proofs.pushing_blocks.push_blocks.Goals as goal
 
-pub loop-place-init : goal.loop-place-init
-loop-place-init c =
-    pushed_none (words_of c.args.program.now) c.args.encoder.now c.args.events.now c.args.packets.now
+pub loop-init : goal.loop-init
+loop-init c = (
+  pushed_none (words_of c.args.program.now) c.args.encoder.now c.args.events.now c.args.packets.now,
+  omega arith,
+)
 
-pub loop-place-preserved : goal.loop-place-preserved
-loop-place-preserved c =
-    let less = c.loop-place-test.true in
-    pushed_block (words_of c.args.program.now) c.args.encoder.now c.args.events.now c.args.packets.now
-    (c.loop-place.place * 16) ((c.loop-place.place + 1) * 16) c.loop-place.written c.push_block-written.result
-    c.loop-place.encoder c.push_block-written.new.encoder c.read_block.new.block c.loop-place.packets _
-    c.push_block-written.new.packets _
-    (omega arith) (part_lent c.loop-place.written c.loop-place.packets)
-    (part_back c.loop-place.written c.loop-place.packets c.push_block-written.new.packets)
-    (omega (arith, less))
-    (c.read_block.ensures c.if-read_block.true ∙ ap (take 16) (part_lent (c.loop-place.place * 16) c.args.events.now))
-    c.if-packets-written-lt16.false
-    c.loop-place.invariant c.push_block-written.ensures
+pub loop-preserved : goal.loop-preserved
+loop-preserved c =
+    let room = c.min.ensures in
+    let most = c.min-count.ensures in
+    let some = c.if-count-eq0.false in
+    let within = c.loop.invariant.1 in
+    let count = c.min-count.result in
+    let rest = drop c.loop.taken c.args.events.now in
+    let fits : c.loop.taken + count ≤ length c.args.events.now = omega (arith, room, most, within) in
+    let behind = length-drop c.loop.taken c.args.events.now in
+    let lent : take (c.loop.taken + count - c.loop.taken) rest ≡ take count rest =
+    ap (λ n. take n rest) (omega arith) in
+    let long : length (take (c.loop.taken + count - c.loop.taken) rest) ≡ count =
+    ap length lent ∙ length-take-le count rest (omega (arith, behind, fits)) in
+    let is : map numbers_of_event (take count c.read_block.new.block) ≡ take count rest =
+    ap (λ n. map numbers_of_event (take n c.read_block.new.block)) (sym long)
+    ∙ c.read_block.ensures c.if-not-read_block.false
+    ∙ lent in (
+      pushed_block (words_of c.args.program.now) c.args.encoder.now c.args.events.now c.args.packets.now
+          c.loop.taken count c.loop.written c.push_block-written.result c.loop.encoder
+          c.push_block-written.new.encoder (take count c.read_block.new.block) c.loop.packets _
+          c.push_block-written.new.packets _ (omega (arith, some)) (part_lent c.loop.written c.loop.packets)
+          (part_back c.loop.written c.loop.packets c.push_block-written.new.packets) fits is
+          (omega (arith, room, most)) c.loop.invariant.0 c.push_block-written.ensures,
+      fits,
+    )

@@ -5,4 +5,4 @@ use Rattle.tracebench_c.proofs.pushing_blocks.read_block.Given as goal
 
 abbrev pub invariant-loop-place : goal.invariant-loop-place
 invariant-loop-place l =
-    (map numbers_of_event (take l.place l.block) ≡ take l.place l.events) × (length l.block ≡ 16)
+    (map numbers_of_event (take l.place l.block) ≡ take l.place l.events) × (length l.block ≡ 32)
