@@ -26,7 +26,7 @@ pub(crate) struct Crew {
     pub(crate) slots: Vec<Slot>,
 }
 
-/// The stretches of the harts in a range, and a slot for each of those that are decoded at once. There are none where
+/// The stretches of the harts in a range, and a slot for each thread that decodes them. There are none where
 /// threads gain nothing: with a single slot, of a single stretch, or in a program without bytes, in which no packet
 /// settles an event. And there are none where an allocation fails.
 pub(crate) fn crew_of(

@@ -2,11 +2,11 @@
 //!
 //! [`write_harts_side_by_side`] writes what `hart_rows::write_harts` writes. A first pass over the messages left marks on
 //! the way: decoders from which decoding can go on. So each hart's messages are cut into stretches, from one mark to the
-//! next. Threads decode the next few stretches, each into a buffer of text, and the calling thread writes the buffers in
-//! order.
+//! next. Each thread decodes stretches that come one after the other, also of several harts, into a buffer of text. The
+//! calling thread writes the buffers in order.
 //!
-//! A stretch whose text is longer than a buffer, or for which no memory is left, is decoded by the calling thread, which
-//! needs no buffer for it. So the memory does not grow with the number of events.
+//! A stretch whose text is longer than a buffer is decoded by the calling thread, which needs no buffer for it. So are all
+//! stretches where an allocation fails. So the memory does not grow with the number of events.
 #![tactic(auto)]
 
 mod crew;

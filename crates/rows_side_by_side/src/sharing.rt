@@ -6,14 +6,14 @@ use std::thread::Threads;
 /// How threads share the decoding of a capture. It changes nothing about what is written.
 #[derive(Clone, Copy, Debug)]
 pub struct Sharing {
-    /// How many stretches are decoded at once. Where there are fewer than 2, the calling thread decodes all.
+    /// How many threads decode at once. Where there are fewer than 2, the calling thread decodes all.
     pub threads: usize,
-    /// For how many bytes of text each of these has a buffer. The calling thread decodes a stretch whose text is longer.
+    /// For how many bytes of text each of them has a buffer. The calling thread decodes a stretch whose text is longer.
     pub text: usize,
 }
 
 impl Sharing {
-    /// As many stretches at once as the machine has processors, and buffers for the rows of 65,536 retirements and more.
+    /// As many threads as the machine has processors, and buffers for the rows of 65,536 retirements and more.
     pub fn of<R: Threads>(rt: &R) -> Sharing {
         Sharing {
             threads: processors(rt),

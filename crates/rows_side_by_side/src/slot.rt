@@ -1,4 +1,4 @@
-//! What a thread decodes a stretch into.
+//! What a thread decodes stretches into.
 
 ghost use Rattle.std.specs.Prelude.{◌≡◌, ◌≤◌, IfOk, length, vec_capacity};
 ghost use Rattle.retire.specs.declared.write.TheConstants.{LOG_ROOM as MOST_HELD};
@@ -10,14 +10,14 @@ use std::alloc::{AllocError, Global};
 /// How many events are held before their rows are made.
 pub(crate) const PIECE: usize = 2_048;
 
-/// What a thread decodes a stretch into.
+/// What a thread decodes stretches into that come one after the other.
 #[derive(Drop)]
 pub(crate) struct Slot {
     /// The rows on their way to the text.
     pub(crate) room: Vec<u8>,
     /// The events on their way to the rows.
     pub(crate) piece: Vec<Event>,
-    /// The rows of the stretch.
+    /// What the stretches add.
     pub(crate) text: Text,
     /// The place of the first stretch that is decoded into it.
     pub(crate) first: usize,
