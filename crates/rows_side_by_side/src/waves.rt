@@ -7,7 +7,7 @@ ghost use Rattle.rows_side_by_side.specs.steps.Putting.{IsPut, IsPutUpTo, Left};
 ghost use Rattle.rows_side_by_side.specs.steps.Stretches.{HaveText, HaveTexts};
 
 use crate::filling::fill_slots;
-use crate::shares::{MOST_EVENTS, events_of, is_cut, share_out};
+use crate::shares::Share;
 use crate::slot::Slot;
 use crate::stretch::Stretch;
 use crate::writing::{put, write_stretch, write_stretches};
@@ -19,8 +19,7 @@ use std::thread::Threads;
 /// Writes the text that each stretch adds, in order. The stretches that come next are shared out among the slots, decoded
 /// side by side, and then written.
 ///
-/// A slot that lacks the capacity for its share ends the wave: what comes after it is decoded again. So shares are
-/// smaller from then on.
+/// A slot that lacks the space for its share ends the wave: what comes after it is decoded again.
 pub(crate) fn write_in_waves<R: Threads + Sync, O: Write>(
     rt: &R,
     program: &ProgramOver,
@@ -39,23 +38,18 @@ pub(crate) fn write_in_waves<R: Threads + Sync, O: Write>(
     ensures put { (text : List ℕ) → HaveText (words_of program.now) bytes.now places.now stretches.now text
         → IsPut result (O.contents out.old) (O.contents out.new) text }
 {
-    let mut most = MOST_EVENTS;
-    let mut left = events_of(stretches);
+    let mut share = Share::new(stretches);
     let mut at = 0;
     for _ in 0..stretches.len() {
         if at == stretches.len() {
             return Ok(());
         }
-        let share = most.min((left / slots.len() as u64).saturating_add(1));
-        share_out(stretches, at, share, slots);
+        share.hand_out(stretches, at, slots);
         fill_slots(rt, program, bytes, places, stretches, slots);
         let next = write_wave(
             program, bytes, places, stretches, at, slots, room, piece, out,
         )?;
-        if is_cut(slots) {
-            most = most / 4;
-        }
-        left = left.saturating_sub(events_of(&stretches[at..next]));
+        share.learn(&stretches[at..next], slots);
         at = next;
     }
     write_stretches(program, bytes, places, &stretches[at..], room, piece, out)
