@@ -3,6 +3,7 @@ import glob
 import os
 import re
 import unittest
+from importlib import machinery, util
 
 from support import TOOLS
 
@@ -42,3 +43,60 @@ class Edits(unittest.TestCase):
 
     def test_those_beside_it(self):
         self.can_be_applied("tools/long-edits/*/*.edit", -2)
+
+
+CODE = """//! Some code.
+
+const MOST: usize = 3;
+
+fn plain(most: usize) -> usize {
+    most
+}
+
+impl<'a> Shelf<'a> {
+    /// A comment.
+    pub(crate) fn put(&mut self)
+        requires { 1 }
+    {
+        self.count += 1;
+    }
+}
+
+impl<'a> Task<Row> for Shelf<'a> {
+    fn call(&self) -> usize {
+        self.count
+    }
+}
+
+pub trait Named {
+    fn name(&self) -> usize {
+        0
+    }
+}
+
+pub extern "C" fn called() -> usize {
+    4
+}
+"""
+
+
+class Functions(unittest.TestCase):
+    """Which function `long-edits --alone` checks."""
+
+    def test_where_a_text_is(self):
+        loader = machinery.SourceFileLoader("long_edits", f"{TOOLS}/long-edits/long-edits")
+        script = util.module_from_spec(util.spec_from_loader(loader.name, loader))
+        loader.exec_module(script)
+        for text, wanted in [
+            ("MOST: usize", None),
+            ("fn plain(most", "plain"),
+            ("    most\n", "plain"),
+            ("impl<'a> Shelf", None),
+            ("requires { 1 }", "Shelf::put"),
+            ("count += 1", "Shelf::put"),
+            ("        self.count\n", None),
+            ("        0\n", None),
+            ("    4\n", "called"),
+        ]:
+            with self.subTest(text):
+                self.assertEqual(script.function_at(CODE, CODE.index(text)), wanted)
