@@ -20,6 +20,7 @@ mod LowBits
 mod PacketsBack
 mod MadeOfCopies
 mod MeasuredInTurn
+mod NoneSet
 mod PassingBack
 mod PathWalk
 mod PiecesAdded

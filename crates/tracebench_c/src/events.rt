@@ -101,25 +101,34 @@ pub(crate) fn read_event(numbers: &EventNumbers, event: &mut Event) -> bool
     ensures { IsTrue result → numbers.now ≡ numbers_of_event event.new }
 {
     if is_retirement(numbers) {
-        *event = Event::Retire {
-            addr: numbers.address,
-            itype: numbers.itype,
-            privilege: numbers.privilege,
-        };
+        *event = retirement_in(numbers);
         return true;
     }
     read_trap(numbers, event)
 }
 
-/// Whether numbers are those of a retirement: its kind is 0, and so is what it does not have. The largest of these is
-/// looked at, which is faster than each; the cause and the interrupt lie side by side and are loaded as one number.
+/// Whether numbers are those of a retirement: its kind is 0, and so is what it does not have. All bits of these are
+/// looked at together, which is faster than each number; the cause and the interrupt lie side by side and are loaded as
+/// one number.
 #[inline(always)]
 fn is_retirement(numbers: &EventNumbers) -> bool
     ensures { result ≡ ((numbers.now.kind == RETIREMENT) && is_retirement_read numbers.now) }
 {
     let of_trap = u16::from(numbers.cause) + (u16::from(numbers.interrupt) << 8);
-    let small = u64::from(numbers.kind) + u64::from(of_trap);
-    small.max(numbers.tval) == 0
+    u64::from(numbers.kind | u32::from(of_trap)) | numbers.tval == 0
+}
+
+/// The retirement that has these numbers, if one has. It is a function's result, which is stored in fewer parts than
+/// an event that is made in place.
+#[inline(always)]
+fn retirement_in(numbers: &EventNumbers) -> Event
+    ensures { result ≡ AnyEvent.Retire numbers.now.address numbers.now.itype numbers.now.privilege }
+{
+    Event::Retire {
+        addr: numbers.address,
+        itype: numbers.itype,
+        privilege: numbers.privilege,
+    }
 }
 
 /// Reads a trap from its numbers. It is a call of its own, which keeps the loop over retirements short.

@@ -3,6 +3,7 @@
 ghost use Rattle.std.specs.Prelude.{◌≡◌, ◌≤◌, IsTrue, length, map, take};
 ghost use Rattle.rvclass.specs.Fetch.{words_of};
 ghost use Rattle.tracebench_c.specs.Events.{numbers_of_event};
+ghost use Rattle.tracebench_c.specs.declared.pushing_blocks.TheConstants.{BLOCK};
 ghost use Rattle.tracebench_c.specs.steps.PushingAll.{ArePushed, IsBlockPushed};
 
 use crate::events::{EventNumbers, read_event};
@@ -11,6 +12,9 @@ use encoder::Encoder;
 use retire::Event;
 use rvclass::ProgramOver;
 
+/// How many events a block holds.
+const BLOCK: usize = 32;
+
 /// What a block holds before events are read to it.
 const NO_EVENT_YET: Event = Event::Retire {
     addr: 0,
@@ -18,8 +22,9 @@ const NO_EVENT_YET: Event = Event::Retire {
     privilege: 0,
 };
 
-/// Pushes events in blocks of up to 32, with room for a packet of each event of a block, until no event or no room is
-/// left or a block has numbers of no event. Returns how many events were pushed, and how many packets were written.
+/// Pushes events in blocks of up to [`BLOCK`], with room for a packet of each event of a block, until no event or no
+/// room is left or a block has numbers of no event. A single event is not pushed: a block takes longer for it than its
+/// caller. Returns how many events were pushed, and how many packets were written.
 pub(crate) fn push_blocks(
     program: &ProgramOver,
     encoder: &mut Encoder,
@@ -30,11 +35,16 @@ pub(crate) fn push_blocks(
         packets.new }
     ensures within { result.0 ≤ length events.now }
 {
-    let mut block = [NO_EVENT_YET; 32];
+    if events.len() < 2 {
+        return (0, 0);
+    }
+    let mut block = [NO_EVENT_YET; BLOCK];
     let mut taken = 0;
     let mut written = 0;
     for _ in 0..events.len() {
-        let count = (events.len() - taken).min(packets.len() - written).min(32);
+        let count = (events.len() - taken)
+            .min(packets.len() - written)
+            .min(BLOCK);
         if count == 0 || !read_block(&events[taken..taken + count], &mut block) {
             return (taken, written);
         }
@@ -45,8 +55,8 @@ pub(crate) fn push_blocks(
 }
 
 /// Reads events to the front of a block. Whether each of them is an event.
-fn read_block(events: &[EventNumbers], block: &mut [Event; 32]) -> bool
-    requires { length events.now ≤ 32 }
+fn read_block(events: &[EventNumbers], block: &mut [Event; BLOCK]) -> bool
+    requires { length events.now ≤ BLOCK }
     ensures { IsTrue result → map numbers_of_event (take (length events.now) block.new) ≡ events.now }
 {
     for place in 0..events.len() {

@@ -8,6 +8,10 @@ use Rattle.tracebench_c.proofs.WrittenInTurn.{part_back, part_lent}
 use Rattle.tracebench_c.specs.Events.{numbers_of_event}
 use Rattle.tracebench_c.proofs.pushing_blocks.push_blocks.Goals as goal
 
+pub returns-then-events-lt2-clause-pushed : goal.returns-then-events-lt2-clause-pushed
+returns-then-events-lt2-clause-pushed c =
+    pushed_none (words_of c.args.program.now) c.args.encoder.now c.args.events.now c.args.packets.now
+
 pub loop-init : goal.loop-init
 loop-init c = (
   pushed_none (words_of c.args.program.now) c.args.encoder.now c.args.events.now c.args.packets.now,
