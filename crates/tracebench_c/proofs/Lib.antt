@@ -3,6 +3,7 @@ mod ComparedInTurn
 mod DecodersBack
 mod DecodersRead
 mod EventsBack
+mod EventsCopied
 mod EventsPassed
 mod EventsRead
 mod FedInTurn

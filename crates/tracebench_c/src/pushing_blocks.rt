@@ -54,15 +54,23 @@ pub(crate) fn push_blocks(
     (taken, written)
 }
 
-/// Reads events to the front of a block. Whether each of them is an event.
+/// Reads events to the front of a block, two at a step, which is faster. Whether each of them is an event.
 fn read_block(events: &[EventNumbers], block: &mut [Event; BLOCK]) -> bool
     requires { length events.now ≤ BLOCK }
     ensures { IsTrue result → map numbers_of_event (take (length events.now) block.new) ≡ events.now }
 {
-    for place in 0..events.len() {
+    for pair in 0..events.len() / 2 {
+        let place = 2 * pair;
         if !read_event(&events[place], &mut block[place]) {
             return false;
         }
+        if !read_event(&events[place + 1], &mut block[place + 1]) {
+            return false;
+        }
+    }
+    if events.len() % 2 == 1 {
+        let last = events.len() - 1;
+        return read_event(&events[last], &mut block[last]);
     }
     true
 }

@@ -1,30 +1,28 @@
--- One event more is read: by lemmas on lists, which no tactic finds.
-use Rattle.std.proofs.Common.{◌≡◌, ◌∷◌, [], ◌++◌, length, map, take, sym, ap, ◌∙◌, arith}
-use Rattle.std.proofs.lemmas.List.{length-set, map-append, take_all, take_more, take_more_set}
+-- Two events more are read: by a lemma on lists, which no tactic finds.
+use Rattle.std.proofs.Common.{◌≡◌, ◌+◌, ◌*◌, map, take, sym, ap, ◌∙◌, arith}
+use Rattle.std.specs.Prelude.{slice_set}
+use Rattle.std.proofs.lemmas.List.{length-set}
+use Rattle.tracebench_c.proofs.EventsCopied.{read_more}
 use Rattle.tracebench_c.specs.Events.{numbers_of_event}
 use Rattle.tracebench_c.proofs.pushing_blocks.read_block.Goals as goal
 
-pub loop-place-preserved : goal.loop-place-preserved
-loop-place-preserved c =
-    let long = c.loop-place.invariant.1 in
-    let few = c.loop-place-test.true in
+pub loop-pair-preserved : goal.loop-pair-preserved
+loop-pair-preserved c =
+    let long = c.loop-pair.invariant.1 in
+    let few = c.loop-pair-test.true in
     let many = c.requires in
-    let event = c.read_event.new.event in
-    let is = c.read_event.ensures c.if-not-read_event.false in (
-      ap (map numbers_of_event) (take_more_set c.loop-place.block c.loop-place.place event
-          (omega (arith, long, few)))
-          ∙ map-append numbers_of_event (take c.loop-place.place c.loop-place.block) (event ∷ [])
-          ∙ ap (λ ns. ns ++ numbers_of_event event ∷ []) c.loop-place.invariant.0
-          ∙ ap (λ n. take c.loop-place.place c.args.events.now ++ n ∷ []) (sym is)
-          ∙ sym (take_more c.args.events.now c.loop-place.place _ (omega (arith, many, few))),
-      length-set c.loop-place.block c.loop-place.place event ∙ long,
+    let numbers = c.args.events.now in
+    let block = c.loop-pair.block in
+    let place = 2 * c.loop-pair.pair in
+    let one = c.read_event.new.event in
+    let two = c.read_event-in-loop-pair.new.event in
+    let longer = length-set block place one ∙ long in
+    let on : 2 * (c.loop-pair.pair + 1) ≡ place + 1 + 1 = omega arith in
+    let first = read_more numbers block place _ one (omega (arith, long, few, many)) (omega (arith, few))
+    (c.read_event.ensures c.if-not-read_event.false) c.loop-pair.invariant.0 in (
+      ap (λ n. map numbers_of_event (take n (slice_set (slice_set block place one) (place + 1) two))) on
+          ∙ read_more numbers (slice_set block place one) (place + 1) _ two (omega (arith, longer, few, many))
+          (omega (arith, few)) (c.read_event-in-loop-pair.ensures c.if-not-read_event-2.false) first
+          ∙ ap (λ n. take n numbers) (sym on),
+      length-set (slice_set block place one) (place + 1) two ∙ longer,
     )
-
-pub returns : goal.returns
-returns c = λ yes.
-    let far = c.loop-place-test.false in
-    let end = c.loop-place.auto.place-end in
-    let last : length c.args.events.now ≡ c.loop-place.place = omega (arith, far, end) in
-    ap (λ n. map numbers_of_event (take n c.loop-place.block)) last
-    ∙ c.loop-place.invariant.0
-    ∙ take_all c.loop-place.place c.args.events.now far
