@@ -2,7 +2,7 @@
 //! examples those of the repository.
 
 /// The program's version, and the toolchain that it is proved with, as `rt version` prints that.
-pub(crate) const VERSION: &str = "1.0.0\nrattle-kit-13b logic dac8208d650f15bf";
+pub(crate) const VERSION: &str = "1.0.0\nrattle-kit-13f logic dac8208d650f15bf";
 
 /// What the help of the program ends with.
 pub(crate) const EXIT_STATUSES: &str = "\

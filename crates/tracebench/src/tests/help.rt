@@ -40,11 +40,11 @@ $ tracebench --help
 # The version has the toolchain's line. A subcommand has none.
 $ tracebench --version
 ! tracebench 1.0.0
-! rattle-kit-13b logic dac8208d650f15bf
+! rattle-kit-13f logic dac8208d650f15bf
 ? 2
 $ tracebench -V
 ! tracebench 1.0.0
-! rattle-kit-13b logic dac8208d650f15bf
+! rattle-kit-13f logic dac8208d650f15bf
 ? 2
 $ tracebench dump --version
 ! error: unexpected argument '--version' found
