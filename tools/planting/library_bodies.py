@@ -82,6 +82,8 @@ BODIES = [
     ("results always Memory", "side_by_side", "task.rt",
         "        Ok(found) => Ok(found),\n",
         "        Ok(found) if found.len() < 1 << 40 => Err(AllocError),\n        Ok(found) => Ok(found),\n"),
+    ("part_count always 1", "side_by_side", "task.rt",
+        "        count => count.saturating_mul(PARTS_A_PROCESSOR),\n", "        count => count.min(1),\n"),
     ("list_capture Memory past 2 harts", "listing", "capture_listing.rt",
         *unless("harts_by(header, harts) > 2", "WriteFault::Memory",
                 "    let mut receiver = Receiver::new(alloc, harts_by(header, harts))?;\n")),

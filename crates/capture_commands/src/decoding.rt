@@ -108,7 +108,7 @@ fn decode_harts<'a, F: Files, O: Write, R: Threads + Sync>(
 }
 
 /// Writes the log of each hart in a range, as far as the messages of these bytes settle it, where no message may be
-/// lost. They are decoded in as many threads as the machine has processors. All memory is taken before anything is
+/// lost. They are decoded in some threads for each of the machine's processors. All memory is taken before anything is
 /// written.
 fn decode_whole<'a, F: Files, O: Write, R: Threads + Sync>(
     alloc: Global,

@@ -25,7 +25,8 @@ pub use message::{
 pub use receiver::{ReceiveFault, Receiver};
 pub use rows_side_by_side::{Sharing, write_decoded_side_by_side, write_harts_side_by_side};
 pub use survey_threads::{
-    MarkedCaptureSurvey, MarkedSurvey, survey_capture_side_by_side, survey_side_by_side,
+    MARK_EVENTS, MarkedCaptureSurvey, MarkedSurvey, survey_capture_side_by_side,
+    survey_side_by_side,
 };
 pub use symbols::{Named, Symbols, SymbolsFault, write_symbol};
 pub use watching::{Unwatched, Watch};

@@ -14,8 +14,10 @@ use crate::stretch::Stretch;
 use hart_range::HartRange;
 use hart_survey::Mark;
 use rvclass::ProgramOver;
+use side_by_side::drop_side_by_side;
 use std::alloc::Global;
 use std::cmp::min;
+use std::thread::Threads;
 
 /// Stretches and slots for some of them.
 #[derive(Drop)]
@@ -24,6 +26,17 @@ pub(crate) struct Crew {
     pub(crate) stretches: Vec<Stretch>,
     /// The slots.
     pub(crate) slots: Vec<Slot>,
+}
+
+impl Crew {
+    /// Drops the slots, several at once.
+    pub(crate) fn drop_side_by_side<R: Threads + Sync>(self, rt: &R) {
+        let mut bytes = 0usize;
+        for slot in &self.slots {
+            bytes = bytes.saturating_add(slot.text.held.capacity());
+        }
+        drop_side_by_side(rt, self.slots, bytes);
+    }
 }
 
 /// The stretches of the harts in a range, and a slot for each thread that decodes them. There are none where

@@ -51,17 +51,21 @@ pub fn write_harts_side_by_side<R: Threads + Sync, O: Write>(
     let mut room = Vec::with_capacity(alloc, LOG_ROOM)?;
     let mut piece = Vec::with_capacity(alloc, PIECE)?;
     match crew_of(alloc, sharing, range, program, places, marks) {
-        Some(mut crew) => write_in_waves(
-            rt,
-            program,
-            bytes,
-            places,
-            crew.stretches.as_slice(),
-            crew.slots.as_mut_slice(),
-            &mut room,
-            &mut piece,
-            out,
-        ),
+        Some(mut crew) => {
+            let written = write_in_waves(
+                rt,
+                program,
+                bytes,
+                places,
+                crew.stretches.as_slice(),
+                crew.slots.as_mut_slice(),
+                &mut room,
+                &mut piece,
+                out,
+            );
+            crew.drop_side_by_side(rt);
+            written
+        }
         None => write_harts(range, program, bytes, places, &mut room, &mut piece, out),
     }
 }

@@ -17,12 +17,10 @@ use hart_range::HartRange;
 use hart_rows::selects_hart;
 use hart_survey::Mark;
 use std::alloc::{AllocError, Global};
+use survey_threads::MARK_EVENTS;
 
 /// How many events a message of a hart with few of them is taken to settle.
 const EVENTS_A_MESSAGE: u64 = 16;
-
-/// How many events there are from one mark of a hart to the next, or a few more.
-const EVENTS_A_MARK: u64 = 65_536;
 
 /// The stretches of the harts in a range, in order: those of a hart end at its marks, and at the end of its messages.
 pub(crate) fn stretches_of(
@@ -92,5 +90,5 @@ fn add_hart(
 /// About how many events the last messages of a hart settle, those after `taken` of `count`. No mark comes after them.
 fn events_in(count: usize, taken: usize) -> u64 {
     let messages = count.saturating_sub(taken) as u64;
-    messages.saturating_mul(EVENTS_A_MESSAGE).min(EVENTS_A_MARK)
+    messages.saturating_mul(EVENTS_A_MESSAGE).min(MARK_EVENTS)
 }

@@ -2,14 +2,14 @@
 
 use crate::slot::Slot;
 use crate::stretch::Stretch;
+use survey_threads::MARK_EVENTS;
 
-/// About how many events a slot takes at most before it is known how long their rows are.
-const FIRST_EVENTS: u64 = 65_536;
-
-/// About how many events a slot takes at once. Where the limits are too low or too high, decoding takes longer.
+/// About how many events a slot takes at once: no more than about as many as there are between two marks. So there are
+/// small shares for many threads, and no processor waits long for the last of them. Where the limits are too low or too
+/// high, decoding takes longer.
 #[derive(Clone, Copy)]
 pub(crate) struct Share {
-    /// As many events as fit into a slot.
+    /// How many events a slot takes at most, if it takes more than one stretch.
     most: u64,
     /// How many events there are that no slot took.
     left: u64,
@@ -19,7 +19,7 @@ impl Share {
     /// The share of each slot in these stretches, before any of them is decoded.
     pub(crate) fn new(stretches: &[Stretch]) -> Share {
         Share {
-            most: FIRST_EVENTS,
+            most: MARK_EVENTS,
             left: events_of(stretches),
         }
     }
@@ -36,8 +36,8 @@ impl Share {
         }
     }
 
-    /// The place after the stretches from a place on that have about `fair` events together, and not more than fit into a
-    /// slot, or after one.
+    /// The place after the stretches from a place on that have about `fair` events together, and not more than a slot
+    /// takes, or after one.
     fn end(&self, stretches: &[Stretch], first: usize, fair: u64) -> usize {
         let mut events = 0u64;
         for place in first..stretches.len() {
@@ -59,7 +59,7 @@ impl Share {
         self.most = if is_cut(slots) {
             self.most / 4
         } else {
-            fitting(events, slots)
+            fitting(events, slots).min(MARK_EVENTS)
         };
     }
 }

@@ -1,6 +1,6 @@
 //! How threads share the decoding of a capture.
 
-use side_by_side::processors;
+use side_by_side::part_count;
 use std::thread::Threads;
 
 /// How threads share the decoding of a capture. It changes nothing about what is written.
@@ -13,11 +13,12 @@ pub struct Sharing {
 }
 
 impl Sharing {
-    /// As many threads as the machine has processors, and buffers for the rows of 65,536 retirements and more.
+    /// As many threads as [`part_count`] returns, some for each of the machine's processors, and buffers for the rows of
+    /// 131,072 retirements.
     pub fn of<R: Threads>(rt: &R) -> Sharing {
         Sharing {
-            threads: processors(rt),
-            text: 1 << 22,
+            threads: part_count(rt),
+            text: 3 << 20,
         }
     }
 }

@@ -27,6 +27,20 @@ pub fn processors<R: Threads>(rt: &R) -> usize
     }
 }
 
+/// Into how many parts work is cut for each processor. If a machine lends its processors to others for a while, or a part
+/// takes longer than another, the processors that are done go on with other parts.
+const PARTS_A_PROCESSOR: usize = 4;
+
+/// Into how many parts work is best cut that can be cut anywhere: 1 for a single processor, else some for each.
+pub fn part_count<R: Threads>(rt: &R) -> usize
+    ensures { 1 ≤ result }
+{
+    match processors(rt) {
+        1 => 1,
+        count => count.saturating_mul(PARTS_A_PROCESSOR),
+    }
+}
+
 /// The result of each job, in order. Each job but one is done in a thread of its own, where one can be started, and
 /// else in the caller's. All threads have ended when this returns.
 ///

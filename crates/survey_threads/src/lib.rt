@@ -26,3 +26,4 @@ mod walking;
 
 pub use capturing::{MarkedCaptureSurvey, survey_capture_side_by_side};
 pub use surveying::{MarkedSurvey, survey_side_by_side};
+pub use trail::MARK_EVENTS;

@@ -11,7 +11,7 @@ use crate::hart::Work;
 use crate::parts::{Group, count_of};
 use crate::section_ends::{SectionEnd, receive_section};
 use crate::sections::{Section, sections_of};
-use side_by_side::{Task, processors, results};
+use side_by_side::{Task, part_count, results};
 use std::alloc::{AllocError, Global};
 use std::thread::Threads;
 
@@ -82,7 +82,7 @@ pub(crate) fn receive_sections<R: Threads + Sync>(
         places.now) ends.items) }
 {
     let sections = sections_of(work, places, count_of(places))?;
-    let groups = groups_of(work.alloc, sections.len(), processors(rt))?;
+    let groups = groups_of(work.alloc, sections.len(), part_count(rt))?;
     let all = Sections {
         work,
         places,

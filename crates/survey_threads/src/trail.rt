@@ -12,8 +12,9 @@ use decoder::Decoder;
 use hart_survey::Mark;
 use std::alloc::{AllocError, Global};
 
-/// At least so many events are between two marks of a hart.
-pub(crate) const MARK_EVENTS: u64 = 65_536;
+/// At least so many events are between two marks of a hart. Where it is surveyed in sections there are fewer than twice
+/// as many, unless one packet settles more.
+pub const MARK_EVENTS: u64 = 65_536;
 
 /// The marks of a hart, and how far it is decoded.
 #[derive(Drop)]

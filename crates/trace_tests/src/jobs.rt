@@ -1,9 +1,10 @@
-//! Jobs that are done side by side (`side_by_side`): the results of few, and of more than there are processors.
+//! Jobs that are done side by side (`side_by_side`): the results of few, and of more than there are processors, and into
+//! how many parts work is cut.
 
 ghost use Rattle.std.specs.Prelude.{◌≡◌};
 
 use crate::same::same_at;
-use side_by_side::{Task, results};
+use side_by_side::{Task, part_count, processors, results};
 use std::process::Abort;
 use std::thread::Threads;
 
@@ -47,4 +48,15 @@ fn few_and_many(rt: HostRuntime) {
     for count in [63usize, 64, 65, 200] {
         are_done(&rt, count);
     }
+}
+
+/// One part for one processor, and more parts than there are processors where there are several.
+#[test]
+fn parts_of_work(rt: HostRuntime) {
+    let (most, parts) = (processors(&rt), part_count(&rt));
+    same_at(&rt, (most, parts), parts == 1, most == 1);
+    assert!(&rt;
+        most == 1 || parts > most,
+        "{parts} parts, {most} processors"
+    );
 }

@@ -20,17 +20,17 @@ module _ (g : _) (c : After-as_slice g) (logs : List (List Event))
       (harts_text_of c.args.range 0 logs)) (sym c.as_slice.ensures.value)
       (c.in-Some.ensures.text c.args.bytes.now logs are)
 
-pub write_in_waves-requires-clause-sound : goal.write_in_waves-requires-clause-sound
-write_in_waves-requires-clause-sound g c = λ κs within. (
+pub write_in_waves-written-requires-clause-sound : goal.write_in_waves-written-requires-clause-sound
+write_in_waves-written-requires-clause-sound g c = λ κs within. (
   harts_text_of c.args.range 0 c.requires.marked.0,
-  have g (goal.at.write_in_waves-requires-clause-sound g c).After-as_slice c.requires.marked.0 c.requires.marked.1,
+  have g (goal.at.write_in_waves-written-requires-clause-sound g c).After-as_slice c.requires.marked.0 c.requires.marked.1,
 )
 
 pub returns-in-Some-clause-begun : goal.returns-in-Some-clause-begun
 returns-in-Some-clause-begun g c = λ logs are.
     let text = harts_text_of c.args.range 0 logs in
-    put_begun c.write_in_waves.result (g.O.Write.contents c.args.out.now) (g.O.Write.contents c.write_in_waves.new.out) text
-    (c.write_in_waves.ensures.put text
+    put_begun c.write_in_waves-written.result (g.O.Write.contents c.args.out.now) (g.O.Write.contents c.write_in_waves-written.new.out) text
+    (c.write_in_waves-written.ensures.put text
     (have g (goal.at.returns-in-Some-clause-begun g c).After-as_slice logs are))
 
 pub write_harts-requires-clause-placed : goal.write_harts-requires-clause-placed
