@@ -68,6 +68,18 @@ impl<'a> Task<Row> for Shelf<'a> {
     }
 }
 
+impl<W: Deref<Target = Vec<u8>>> fmt::Display for Fault<'_, W> {
+    fn fmt(&self) -> usize {
+        self.text
+    }
+}
+
+impl<'s> Task<Group, Result<Vec<u8>, row::Failed>> for Rows<'s> {
+    fn call(&self) -> usize {
+        self.rows
+    }
+}
+
 pub trait Named {
     fn name(&self) -> usize {
         0
@@ -94,7 +106,9 @@ class Functions(unittest.TestCase):
             ("impl<'a> Shelf", None),
             ("requires { 1 }", "Shelf::put"),
             ("count += 1", "Shelf::put"),
-            ("        self.count\n", None),
+            ("        self.count\n", "ShelfTaskRow::call"),
+            ("        self.text\n", "FaultDisplay::fmt"),
+            ("        self.rows\n", "RowsTaskGroupResultVecU8RowFailed::call"),
             ("        0\n", None),
             ("    4\n", "called"),
         ]:
