@@ -3,3 +3,4 @@ pub mod PuttingLemmas
 pub mod PlanLemmas
 pub mod HartLemmas
 pub mod MarkedLemmas
+pub mod ShelfLemmas

@@ -106,11 +106,11 @@ module _ {A : Type 0} (words : Words) (bytes : List ℕ) (places : List (Vec ℕ
       pub done_is : done ++ head_if next.is_first hart ≡ head_of hart ++ rows before
 
     -- At first the hart's first messages come next.
-    pub cut_none : (decoder : Decoder) (stretches : List Stretch) (to events : ℕ) → DecoderStands words [] [] decoder
+    pub cut_none : (decoder : Decoder) (stretches : List Stretch) (to : ℕ) → DecoderStands words [] [] decoder
         → HaveText words bytes places stretches text
-        → Cut marks (record { hart = hart; is_first = true; decoder = decoder; from = 0; to = to; events = events })
+        → Cut marks (record { hart = hart; is_first = true; decoder = decoder; from = 0; to = to })
         stretches
-    cut_none decoder stretches to events stands have = record {
+    cut_none decoder stretches to stands have = record {
       before = [];
       rest = log;
       whole = refl;
@@ -125,12 +125,12 @@ module _ {A : Type 0} (words : Words) (bytes : List ℕ) (places : List (Vec ℕ
 
     module _ (left : List Mark) (next : Stretch) (stretches : List Stretch) (cut : Cut left next stretches) where
       -- One stretch more, of the events that come next.
-      added : (to events : ℕ) (part : List Event)
-          → IsStretch words bytes places (record next { to = to; events = events }) part
-          → HaveText words bytes places (stretches ++ record next { to = to; events = events } ∷ [])
+      added : (to : ℕ) (part : List Event)
+          → IsStretch words bytes places (record next { to = to }) part
+          → HaveText words bytes places (stretches ++ record next { to = to } ∷ [])
           (text ++ (cut.done ++ (head_if next.is_first hart ++ rows part)))
-      added to events part is =
-          let stretch = record next { to = to; events = events } in
+      added to part is =
+          let stretch = record next { to = to } in
           subst (HaveText words bytes places (stretches ++ stretch ∷ []))
           (append_assoc text cut.done (stretch_text stretch part)
           ∙ ap (λ h. text ++ (cut.done ++ (head_if next.is_first h ++ rows part))) cut.hart_is)
@@ -146,7 +146,7 @@ module _ {A : Type 0} (words : Words) (bytes : List ℕ) (places : List (Vec ℕ
           ∙ ap (λ l. head_of hart ++ l) (sym (flat_map-append event_line cut.before part))
 
       -- The stretch up to a mark.
-      pub cut_more : (mark : Mark) (events after : ℕ) (later : List Mark) → left ≡ mark ∷ later
+      pub cut_more : (mark : Mark) (later : List Mark) → left ≡ mark ∷ later
           → IsMark words messages log mark
           → Cut later (record {
             hart = hart;
@@ -154,9 +154,8 @@ module _ {A : Type 0} (words : Words) (bytes : List ℕ) (places : List (Vec ℕ
             decoder = mark.decoder;
             from = mark.taken;
             to = count;
-            events = after;
-          }) (stretches ++ record next { to = mark.taken; events = events } ∷ [])
-      cut_more mark events after later parts is =
+          }) (stretches ++ record next { to = mark.taken } ∷ [])
+      cut_more mark later parts is =
           let rising : AreRising next.from (mark ∷ later) = subst (AreRising next.from) parts cut.rising in
           let ordered : next.from ≤ mark.taken = omega (arith, rising.0) in
           let between = packets_in (take (mark.taken - next.from) (drop next.from messages)) in
@@ -164,7 +163,7 @@ module _ {A : Type 0} (words : Words) (bytes : List ℕ) (places : List (Vec ℕ
           cut.stands.described
           (subst (λ ps. Describes words ps is.before) (first_parted messages next.from mark.taken ordered)
           is.stands.described) in
-          let stretch = cut_at (record next { to = mark.taken; events = events }) cut.before goes.rest cut.hart_is ordered is.within
+          let stretch = cut_at (record next { to = mark.taken }) cut.before goes.rest cut.hart_is ordered is.within
           cut.stands
           (subst (Describes words (packets_in (take mark.taken messages))) goes.is is.stands.described) in
           record {
@@ -176,7 +175,7 @@ module _ {A : Type 0} (words : Words) (bytes : List ℕ) (places : List (Vec ℕ
             stands = is.stands;
             rising = rising.1;
             done = cut.done ++ (head_if next.is_first hart ++ rows goes.rest);
-            have = added mark.taken events goes.rest stretch;
+            have = added mark.taken goes.rest stretch;
             done_is =
                 append-nil (cut.done ++ (head_if next.is_first hart ++ rows goes.rest))
                 ∙ more_done goes.rest ∙ ap (λ l. head_of hart ++ rows l) (sym goes.is);
@@ -196,4 +195,4 @@ module _ {A : Type 0} (words : Words) (bytes : List ℕ) (places : List (Vec ℕ
           more_done cut.rest ∙ ap (λ l. head_of hart ++ rows l) (sym cut.whole)
           ∙ append_assoc (hart_line hart) (line_of_fields header) (rows log) in
           subst (λ l. HaveText words bytes places (stretches ++ next ∷ []) (text ++ l)) line
-          (added next.to next.events cut.rest stretch)
+          (added next.to cut.rest stretch)

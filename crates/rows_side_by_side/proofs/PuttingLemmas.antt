@@ -1,7 +1,6 @@
 -- The text of stretches that is written so far, and one text more.
-use Rattle.std.proofs.Common.{◌≡◌, ◌+◌, ◌∙◌, ℕ, List, [], ◌∷◌, ◌++◌, Option, Some, Ok, Err, Result, ap, append_assoc}
-use Rattle.std.proofs.Common.{append-nil, drop, IfErr, length, OnOk, refl, subst, sym, take}
-use lib.Seq.{take-append_seam}
+use Rattle.std.proofs.Common.{◌≡◌, ◌+◌, ◌∙◌, ℕ, List, [], ◌∷◌, ◌++◌, Option, Ok, Err, Result, ap, append_assoc}
+use Rattle.std.proofs.Common.{append-nil, drop, IfErr, OnOk, refl, subst, sym}
 use Rattle.std.proofs.KnownBytes.{Appends-nil, Appends-trans}
 use Rattle.std.specs.Io.KnownBytes.{Appends}
 use Rattle.std.specs.declared.vec.Vec.{Vec}
@@ -14,7 +13,6 @@ use Rattle.retire.specs.declared.fault.WriteFault.TheVariants as fault
 use Rattle.rvclass.specs.Words.{Words}
 use Rattle.rows_side_by_side.proofs.StretchLemmas.{First, text_first}
 use Rattle.rows_side_by_side.specs.declared.stretch.Stretch.{Stretch}
-use Rattle.rows_side_by_side.specs.steps.Filled.{AddFirst}
 use Rattle.rows_side_by_side.specs.steps.Putting.{IsPut, Left}
 use Rattle.rows_side_by_side.specs.steps.Stretches.{HaveText, IsStretch, stretch_text}
 
@@ -104,20 +102,6 @@ module _ {A : Type 0} (words : Words) (bytes : List ℕ) (places : List (Vec ℕ
 
   module _ (stretches : List Stretch) (at : ℕ) (text : List ℕ) (old mid : Option (List ℕ))
       (left : Left words bytes places (drop at stretches) text old mid) where
-    module _ (to : ℕ) (held : List ℕ) (adds : AddFirst words bytes places stretches at to held) where
-      -- What a slot has is the first of what is left: it was written,
-      pub slot_more : (new : Option (List ℕ)) → Appends mid new held → Left words bytes places (drop to stretches) text old new
-      slot_more new put =
-          let rest = adds left.rest left.have in
-          left_more (drop at stretches) (drop to stretches) text old mid new left held rest.0 rest.2 rest.1 put
-
-      -- or a prefix of it.
-      pub slot_fails : (why : WriteFault) (new : Option (List ℕ)) → IsPut (Err why) mid new held
-          → IsPut (Err why) old new text
-      slot_fails why new put =
-          let rest = adds left.rest left.have in
-          left_fails (drop at stretches) (drop to stretches) text old mid new left held rest.0 rest.2 why put
-
     module _ (stretch : Stretch) (parts : drop at stretches ≡ stretch ∷ drop (at + 1) stretches) where
       next : First words bytes places stretch (drop (at + 1) stretches) left.rest
       next =
@@ -138,10 +122,3 @@ module _ {A : Type 0} (words : Words) (bytes : List ℕ) (places : List (Vec ℕ
       stretch_fails why new put =
           left_fails (drop at stretches) (drop (at + 1) stretches) text old mid new left (stretch_text stretch next.part)
           next.rest next.parted why (put next.part next.is)
-
--- What was held before is at the front of what is held.
-pub front_held : (ended : Result Unit WriteFault) (held new text : List ℕ) → IsPut ended (Some held) (Some new) text
-    → take (length held) new ≡ held
-front_held (Ok _) held new text put = ap (take (length held)) put ∙ take-append_seam held text
-front_held (Err why) held new text put =
-    ap (take (length held)) put.0.appended ∙ take-append_seam held put.0.text

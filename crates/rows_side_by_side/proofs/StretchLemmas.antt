@@ -1,11 +1,10 @@
 -- The text of stretches: one stretch more, and the first one apart from the rest.
-use Rattle.std.proofs.Common.{◌≡◌, ◌+◌, ◌∙◌, ℕ, zero, suc, List, [], ◌∷◌, ◌++◌, Some, ap, append_assoc, append-nil}
-use Rattle.std.proofs.Common.{drop, refl, slice_get, subst, sym}
+use Rattle.std.proofs.Common.{◌≡◌, ◌∙◌, ℕ, zero, suc, List, [], ◌∷◌, ◌++◌, Some, ap, append_assoc, append-nil}
+use Rattle.std.proofs.Common.{refl, slice_get, subst, sym}
 use Rattle.std.specs.declared.vec.Vec.{Vec}
 use Rattle.retire.specs.declared.event.Event.{Event}
 use Rattle.rvclass.specs.Words.{Words}
 use Rattle.rows_side_by_side.specs.declared.stretch.Stretch.{Stretch}
-use Rattle.rows_side_by_side.specs.steps.Filled.{AddFirst}
 use Rattle.rows_side_by_side.specs.steps.Stretches.{HavePartOf, HaveText, IsStretch, stretch_text}
 
 module _ {A : Type 0} (words : Words) (bytes : List ℕ) (places : List (Vec ℕ A)) where
@@ -49,22 +48,3 @@ module _ {A : Type 0} (words : Words) (bytes : List ℕ) (places : List (Vec ℕ
       same is = cc
   part_at (first ∷ stretches) text (suc place) stretch (part, rest, its, have, parted) is =
       part_at stretches rest place stretch have is
-
-  -- At first nothing was added.
-  pub adds_none : (stretches : List Stretch) (from : ℕ) → AddFirst words bytes places stretches from from []
-  adds_none stretches from text have = (text, have, refl)
-
-  -- One stretch more adds its text.
-  pub adds_more : (stretches : List Stretch) (from to : ℕ) (stretch : Stretch) (held new : List ℕ)
-      → drop to stretches ≡ stretch ∷ drop (to + 1) stretches
-      → ((part : List Event) → IsStretch words bytes places stretch part → new ≡ held ++ stretch_text stretch part)
-      → AddFirst words bytes places stretches from to held → AddFirst words bytes places stretches from (to + 1) new
-  adds_more stretches from to stretch held new parts added adds text have =
-      let so_far = adds text have in
-      let next = text_first stretch (drop (to + 1) stretches) so_far.0
-      (subst (λ ss. HaveText words bytes places ss so_far.0) parts so_far.1) in (
-        next.rest,
-        next.later,
-        so_far.2 ∙ ap (λ l. held ++ l) next.parted ∙ sym (append_assoc held (stretch_text stretch next.part) next.rest)
-            ∙ ap (λ l. l ++ next.rest) (sym (added next.part next.is)),
-      )

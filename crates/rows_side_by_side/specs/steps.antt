@@ -2,3 +2,4 @@ pub mod Stretches
 pub mod Filled
 pub mod Planning
 pub mod Putting
+pub mod Shelves

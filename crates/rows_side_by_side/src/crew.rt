@@ -1,6 +1,6 @@
 //! What is taken before stretches are decoded side by side.
 
-ghost use Rattle.std.specs.Prelude.{ℕ, ◌<◌, List, IfSome, length};
+ghost use Rattle.std.specs.Prelude.{ℕ, ◌≡◌, false, All, List, IfSome};
 ghost use Rattle.retire.specs.declared.event.Event.{Event as AnyEvent};
 ghost use Rattle.rvclass.specs.Fetch.{words_of};
 ghost use Rattle.hart_rows.specs.HartsText.{harts_text_of};
@@ -8,18 +8,17 @@ ghost use Rattle.hart_survey.specs.Marks.{AreMarkedLogs};
 ghost use Rattle.rows_side_by_side.specs.steps.Stretches.{HaveText};
 
 use crate::planning::stretches_of;
+use crate::rounds::SLOTS_A_THREAD;
 use crate::sharing::Sharing;
 use crate::slot::{Slot, slots_of};
 use crate::stretch::Stretch;
 use hart_range::HartRange;
 use hart_survey::Mark;
 use rvclass::ProgramOver;
-use side_by_side::drop_side_by_side;
 use std::alloc::Global;
 use std::cmp::min;
-use std::thread::Threads;
 
-/// Stretches and slots for some of them.
+/// Stretches, and slots that are new.
 #[derive(Drop)]
 pub(crate) struct Crew {
     /// The stretches of all harts, in order.
@@ -28,19 +27,8 @@ pub(crate) struct Crew {
     pub(crate) slots: Vec<Slot>,
 }
 
-impl Crew {
-    /// Drops the slots, several at once.
-    pub(crate) fn drop_side_by_side<R: Threads + Sync>(self, rt: &R) {
-        let mut bytes = 0usize;
-        for slot in &self.slots {
-            bytes = bytes.saturating_add(slot.text.held.capacity());
-        }
-        drop_side_by_side(rt, self.slots, bytes);
-    }
-}
-
-/// The stretches of the harts in a range, and a slot for each thread that decodes them. There are none where
-/// threads gain nothing: with a single slot, of a single stretch, or in a program without bytes, in which no packet
+/// The stretches of the harts in a range, and two slots for each thread that decodes them. There are none where
+/// threads gain nothing: with a single thread, of a single stretch, or in a program without bytes, in which no packet
 /// settles an event. And there are none where an allocation fails.
 pub(crate) fn crew_of(
     alloc: Global,
@@ -54,7 +42,7 @@ pub(crate) fn crew_of(
         → AreMarkedLogs (words_of program.now) bytes places.now marks.now logs
         → IfSome result (λ crew. HaveText (words_of program.now) bytes places.now crew.stretches.items
         (harts_text_of range 0 logs)) }
-    ensures some { IfSome result (λ crew. 0 < length crew.slots.items) }
+    ensures new { IfSome result (λ crew. All (λ slot. slot.is_whole ≡ false) crew.slots.items) }
 {
     if sharing.threads < 2 || program.byte_count() == 0 {
         return None;
@@ -65,7 +53,11 @@ pub(crate) fn crew_of(
     if stretches.len() < 2 {
         return None;
     }
-    let Ok(slots) = slots_of(alloc, min(sharing.threads, stretches.len()), sharing.text) else {
+    let Ok(slots) = slots_of(
+        alloc,
+        SLOTS_A_THREAD * min(sharing.threads, stretches.len()),
+        sharing.text,
+    ) else {
         return None;
     };
     Some(Crew { stretches, slots })

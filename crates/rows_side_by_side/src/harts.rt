@@ -9,10 +9,10 @@ ghost use Rattle.hart_rows.specs.HartsText.{harts_text_of};
 ghost use Rattle.hart_survey.specs.Marks.{AreMarkedLogs};
 ghost use Rattle.rows_side_by_side.specs.Marked.{HaveMarkedLogs};
 
-use crate::crew::crew_of;
+use crate::crew::{Crew, crew_of};
+use crate::rounds::write_in_rounds;
 use crate::sharing::Sharing;
 use crate::slot::PIECE;
-use crate::waves::write_in_waves;
 use hart_range::HartRange;
 use hart_rows::write_harts;
 use hart_survey::Mark;
@@ -20,14 +20,15 @@ use retire::{LOG_ROOM, WriteFault};
 use rvclass::ProgramOver;
 use std::alloc::Global;
 use std::io::Write;
+use std::marker::Brand;
 use std::thread::Threads;
 
 /// Writes the log of each hart in a range, after a line with the hart's number, as `hart_rows::write_harts` does. The
 /// messages of a hart are at the places of its list. They are decoded from the marks on, several stretches at once.
 ///
 /// [`WriteFault::Memory`] comes before anything is written. Where the writer fails, what was written is a prefix of the
-/// text. The writer is not flushed. The memory is about 130 KB and a buffer of text for each of the stretches that are
-/// decoded at once, and that of a mark for each mark.
+/// text. The writer is not flushed. The memory is about 130 KB and a buffer of text for each of two slots a thread, and that
+/// of a mark for each mark.
 pub fn write_harts_side_by_side<R: Threads + Sync, O: Write>(
     alloc: Global,
     rt: &R,
@@ -51,21 +52,18 @@ pub fn write_harts_side_by_side<R: Threads + Sync, O: Write>(
     let mut room = Vec::with_capacity(alloc, LOG_ROOM)?;
     let mut piece = Vec::with_capacity(alloc, PIECE)?;
     match crew_of(alloc, sharing, range, program, places, marks) {
-        Some(mut crew) => {
-            let written = write_in_waves(
-                rt,
-                program,
-                bytes,
-                places,
-                crew.stretches.as_slice(),
-                crew.slots.as_mut_slice(),
-                &mut room,
-                &mut piece,
-                out,
-            );
-            crew.drop_side_by_side(rt);
-            written
-        }
+        Some(Crew { stretches, slots }) => write_in_rounds::<Brand, R, O>(
+            alloc,
+            rt,
+            program,
+            bytes,
+            places,
+            stretches.as_slice(),
+            slots,
+            &mut room,
+            &mut piece,
+            out,
+        ),
         None => write_harts(range, program, bytes, places, &mut room, &mut piece, out),
     }
 }

@@ -2,8 +2,8 @@
 //!
 //! [`write_harts_side_by_side`] writes what `hart_rows::write_harts` writes. A first pass over the messages left marks on
 //! the way: decoders from which decoding can go on. So each hart's messages are cut into stretches, from one mark to the
-//! next. Each thread decodes stretches that come one after the other, also of several harts, into a buffer of text. The
-//! calling thread writes the buffers in order.
+//! next. Each thread takes the stretch that comes next and decodes it into a buffer of text. The calling thread writes the
+//! buffers in order, and decodes too while the next one is not ready.
 //!
 //! A stretch whose text is longer than a buffer is decoded by the calling thread, which needs no buffer for it. So are all
 //! stretches where an allocation fails. So the memory does not grow with the number of events.
@@ -13,13 +13,16 @@ mod crew;
 mod decoded;
 mod filling;
 mod harts;
+mod job;
 mod planning;
-mod shares;
+mod ready;
+mod rounds;
 mod sharing;
+mod shelf;
 mod slot;
 mod stretch;
 mod text;
-mod waves;
+mod turns;
 mod writing;
 
 pub use decoded::write_decoded_side_by_side;

@@ -17,10 +17,6 @@ use hart_range::HartRange;
 use hart_rows::selects_hart;
 use hart_survey::Mark;
 use std::alloc::{AllocError, Global};
-use survey_threads::MARK_EVENTS;
-
-/// How many events a message of a hart with few of them is taken to settle.
-const EVENTS_A_MESSAGE: u64 = 16;
 
 /// The stretches of the harts in a range, in order: those of a hart end at its marks, and at the end of its messages.
 pub(crate) fn stretches_of(
@@ -66,12 +62,9 @@ fn add_hart(
         decoder: Decoder::new(),
         from: 0,
         to: count,
-        events: events_in(count, 0),
     };
-    let mut before = 0;
     for mark in marks {
         next.to = mark.taken;
-        next.events = mark.events.saturating_sub(before);
         stretches.push(next)?;
         next = Stretch {
             hart,
@@ -79,16 +72,8 @@ fn add_hart(
             decoder: mark.decoder,
             from: mark.taken,
             to: count,
-            events: events_in(count, mark.taken),
         };
-        before = mark.events;
     }
     stretches.push(next)?;
     Ok(())
-}
-
-/// About how many events the last messages of a hart settle, those after `taken` of `count`. No mark comes after them.
-fn events_in(count: usize, taken: usize) -> u64 {
-    let messages = count.saturating_sub(taken) as u64;
-    messages.saturating_mul(EVENTS_A_MESSAGE).min(MARK_EVENTS)
 }

@@ -1,6 +1,6 @@
 //! How threads share the decoding of a capture.
 
-use side_by_side::part_count;
+use side_by_side::processors;
 use std::thread::Threads;
 
 /// How threads share the decoding of a capture. It changes nothing about what is written.
@@ -8,16 +8,16 @@ use std::thread::Threads;
 pub struct Sharing {
     /// How many threads decode at once. Where there are fewer than 2, the calling thread decodes all.
     pub threads: usize,
-    /// For how many bytes of text each of them has a buffer. The calling thread decodes a stretch whose text is longer.
+    /// For how many bytes of text a buffer has space. There are two buffers for each thread. The calling thread decodes a
+    /// stretch whose text is longer.
     pub text: usize,
 }
 
 impl Sharing {
-    /// As many threads as [`part_count`] returns, some for each of the machine's processors, and buffers for the rows of
-    /// 131,072 retirements.
+    /// As many threads as the machine has processors, and buffers for the rows of 131,072 retirements.
     pub fn of<R: Threads>(rt: &R) -> Sharing {
         Sharing {
-            threads: part_count(rt),
+            threads: processors(rt),
             text: 3 << 20,
         }
     }

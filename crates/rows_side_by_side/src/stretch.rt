@@ -18,8 +18,6 @@ pub(crate) struct Stretch {
     pub(crate) from: usize,
     /// How many messages of the hart come before their end.
     pub(crate) to: usize,
-    /// About how many events they settle. Which thread decodes them depends on it, and nothing else does.
-    pub(crate) events: u64,
 }
 
 impl Stretch {

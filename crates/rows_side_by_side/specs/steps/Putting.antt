@@ -28,3 +28,10 @@ abbrev pub IsPutUpTo : {A : Type 0} → Words → List ℕ → List (Vec ℕ A) 
     → Option (List ℕ) → Option (List ℕ) → Type 0
 IsPutUpTo words bytes places stretches (Ok at) text old new = Left words bytes places (drop at stretches) text old new
 IsPutUpTo words bytes places stretches (Err why) text old new = AppendsBeginning text old new × (why ≡ fault.Write)
+
+-- Where a prefix of a text was written up to the stretch at the place `from`, it goes on up to the one that is returned.
+abbrev pub PutsOn : {A : Type 0} → Words → List ℕ → List (Vec ℕ A) → List Stretch → ℕ → Result ℕ WriteFault
+    → Option (List ℕ) → Option (List ℕ) → Type 0
+PutsOn words bytes places stretches from ended mid new = (text : List ℕ) (old : Option (List ℕ))
+    → Left words bytes places (drop from stretches) text old mid
+    → IsPutUpTo words bytes places stretches ended text old new

@@ -1,41 +1,31 @@
--- One stretch more at a time: by lemmas on what stretches add, which no tactic finds.
-use Rattle.std.proofs.Common.{◌≡◌, ◌+◌, ◌∷◌, ◌<◌, ◌∙◌, ap, arith, drop, length, refl, sym}
-use Rattle.std.proofs.lemmas.List.{drop_more}
+-- The slot has the text of the stretch at the place: by lemmas on what is at a place of a list.
+use Rattle.std.proofs.Common.{◌≡◌, ◌∙◌, ◌++◌, Some, ap, length, refl, slice_get, subst, sym}
 use Rattle.std.proofs.lemmas.Option.{slice_get_read}
 use Rattle.rvclass.specs.Fetch.{words_of}
-use Rattle.rows_side_by_side.proofs.StretchLemmas.{adds_more, part_at}
+use Rattle.rows_side_by_side.proofs.StretchLemmas.{part_at}
+use Rattle.rows_side_by_side.specs.steps.Stretches.{IsStretch, stretch_text}
 use Rattle.rows_side_by_side.proofs.filling.fill_slot.Goals.{After-index-stretches-place}
 use Rattle.rows_side_by_side.proofs.filling.fill_slot.Goals as goal
 
 module _ (c : After-index-stretches-place) where
-  within : c.loop-place.place < length c.args.stretches.now
-  within = omega arith
+  got : slice_get c.args.stretches.now c.args.place ≡ Some c.index-stretches-place.result
+  got =
+      slice_get_read c.args.stretches.now (length c.args.stretches.now) c.args.place c.index-stretches-place.result refl
+      c.requires.within c.index-stretches-place.is
 
-  parts : drop c.loop-place.place c.args.stretches.now
-      ≡ c.index-stretches-place.result ∷ drop (c.loop-place.place + 1) c.args.stretches.now
-  parts =
-      drop_more c.args.stretches.now c.loop-place.place c.index-stretches-place.result within
-      ∙ ap (λ s. s ∷ drop (c.loop-place.place + 1) c.args.stretches.now) (sym c.index-stretches-place.is)
-
-pub add_stretch-requires : goal.add_stretch-requires
-add_stretch-requires c = record {
+pub add_stretch-is_whole-requires : goal.add_stretch-is_whole-requires
+add_stretch-is_whole-requires c = record {
   sound =
-      let stretches = c.args.stretches.now in
-      part_at (words_of c.args.program.now) c.args.bytes.now c.args.places.now stretches c.requires.sound.0
-      c.loop-place.place c.index-stretches-place.result c.requires.sound.1
-      (slice_get_read stretches (length stretches) c.loop-place.place c.index-stretches-place.result refl
-      (within (goal.at.add_stretch-requires c).After-index-stretches-place) c.index-stretches-place.is);
+      part_at (words_of c.args.program.now) c.args.bytes.now c.args.places.now c.args.stretches.now c.requires.sound.0
+      c.args.place c.index-stretches-place.result c.requires.sound.1
+      (got (goal.at.add_stretch-is_whole-requires c).After-index-stretches-place);
 }
 
-pub loop-place-preserved : goal.loop-place-preserved
-loop-place-preserved c = record {
-  first = c.add_stretch.ensures.first ∙ c.loop-place.invariant.first;
-  filled = refl;
-  within = λ more. let inside = within (goal.at.loop-place-preserved c).After-index-stretches-place in omega (arith, inside);
-  held =
-      adds_more (words_of c.args.program.now) c.args.bytes.now c.args.places.now c.args.stretches.now
-      c.args.slot.now.first c.loop-place.place c.index-stretches-place.result c.loop-place.slot.text.held.items
-      c.add_stretch.new.slot.text.held.items
-      (parts (goal.at.loop-place-preserved c).After-index-stretches-place)
-      (λ part is. c.add_stretch.ensures.added part is c.if-not-add_stretch.false) c.loop-place.invariant.held;
-}
+pub returns : goal.returns
+returns c = λ full stretch part at is.
+    let mine = got (goal.at.returns c).After-index-stretches-place in
+    let same : stretch ≡ c.index-stretches-place.result = cc (at, mine, c.add_stretch-is_whole.ensures.place) in
+    c.add_stretch-is_whole.ensures.added part
+    (subst (λ s. IsStretch (words_of c.args.program.now) c.args.bytes.now c.args.places.now s part) same is) full
+    ∙ ap (λ l. l ++ stretch_text c.index-stretches-place.result part) c.clear.ensures.items
+    ∙ ap (λ s. stretch_text s part) (sym same)

@@ -6,6 +6,7 @@ use Rattle.hart_rows.specs.HartsText.{harts_text_of}
 use Rattle.hart_survey.specs.Marks.{AreMarkedLogs}
 use Rattle.rows_side_by_side.proofs.MarkedLemmas.{marked_placed}
 use Rattle.rows_side_by_side.proofs.PuttingLemmas.{put_begun}
+use Rattle.rows_side_by_side.proofs.ShelfLemmas.{shelves_hold}
 use Rattle.rows_side_by_side.specs.steps.Stretches.{HaveText}
 use Rattle.rows_side_by_side.proofs.harts.write_harts_side_by_side.Goals.{After-as_slice}
 use Rattle.rows_side_by_side.proofs.harts.write_harts_side_by_side.Goals as goal
@@ -20,17 +21,18 @@ module _ (g : _) (c : After-as_slice g) (logs : List (List Event))
       (harts_text_of c.args.range 0 logs)) (sym c.as_slice.ensures.value)
       (c.in-Some.ensures.text c.args.bytes.now logs are)
 
-pub write_in_waves-written-requires-clause-sound : goal.write_in_waves-written-requires-clause-sound
-write_in_waves-written-requires-clause-sound g c = λ κs within. (
-  harts_text_of c.args.range 0 c.requires.marked.0,
-  have g (goal.at.write_in_waves-written-requires-clause-sound g c).After-as_slice c.requires.marked.0 c.requires.marked.1,
-)
+pub write_in_rounds-requires-clause-job : goal.write_in_rounds-requires-clause-job
+write_in_rounds-requires-clause-job g c = λ κs within.
+    shelves_hold (words_of c.args.program.now) c.args.bytes.now c.args.places.now c.as_slice.result.now (
+      harts_text_of c.args.range 0 c.requires.marked.0,
+      have g (goal.at.write_in_rounds-requires-clause-job g c).After-as_slice c.requires.marked.0 c.requires.marked.1,
+    )
 
 pub returns-in-Some-clause-begun : goal.returns-in-Some-clause-begun
 returns-in-Some-clause-begun g c = λ logs are.
     let text = harts_text_of c.args.range 0 logs in
-    put_begun c.write_in_waves-written.result (g.O.Write.contents c.args.out.now) (g.O.Write.contents c.write_in_waves-written.new.out) text
-    (c.write_in_waves-written.ensures.put text
+    put_begun c.write_in_rounds.result (g.O.Write.contents c.args.out.now) (g.O.Write.contents c.write_in_rounds.new.out) text
+    (c.write_in_rounds.ensures.put text
     (have g (goal.at.returns-in-Some-clause-begun g c).After-as_slice logs are))
 
 pub write_harts-requires-clause-placed : goal.write_harts-requires-clause-placed

@@ -14,7 +14,7 @@ pub loop-mark-init : goal.loop-mark-init
 loop-mark-init c = record {
   cut = λ words bytes places log text m have.
       cut_none words bytes places c.args.hart c.args.count c.args.marks.now log m text c.new.result
-      c.args.stretches.now.items c.args.count c.events_in.result (c.new.ensures.stands words) have;
+      c.args.stretches.now.items c.args.count (c.new.ensures.stands words) have;
   end = refl;
 }
 
@@ -30,7 +30,6 @@ loop-mark-preserved c = record {
         decoder = mark.decoder;
         from = mark.taken;
         to = c.args.count;
-        events = c.events_in-in-loop-mark.result;
       } in
       let parts : drop i marks ≡ mark ∷ drop (i + 1) marks =
       drop_more marks i mark c.loop-mark-test.true ∙ ap (λ x. x ∷ drop (i + 1) marks) (sym c.mark-item.is) in
@@ -40,7 +39,7 @@ loop-mark-preserved c = record {
       (sym c.in_ok-push.ensures.items)
       (cut_more words bytes places c.args.hart c.args.count marks log m text (drop i marks) c.loop-mark.next
       c.loop-mark.stretches.items (c.loop-mark.invariant.cut words bytes places log text m have) mark
-      c.saturating_sub.result c.events_in-in-loop-mark.result (drop (i + 1) marks) parts is);
+      (drop (i + 1) marks) parts is);
   end = refl;
 }
 

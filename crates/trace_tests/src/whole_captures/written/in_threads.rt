@@ -17,9 +17,11 @@ use std::fmt::Debug;
 use std::io::Write;
 use std::process::Abort;
 use std::thread::Threads;
+use std::time::{Clock, Duration};
+use std::{io, thread};
 
-/// How many stretches are decoded at once, and for how many bytes of text each has a buffer: for no row, for a row or two,
-/// for the rows of a small hart, and for all.
+/// How many threads decode, and for how many bytes of text each of their buffers has space: for no row, for a row or two,
+/// for the rows of a small hart, and for more.
 const SHARINGS: [(usize, usize); 7] = [
     (0, 480),
     (1, 0),
@@ -108,10 +110,10 @@ fn small_harts(rt: HostRuntime) {
     is_same(&rt, 145usize, &program, 2, &FULL, &SHARINGS);
 }
 
-/// Of many small harts: a buffer for a row or two, for two harts, for a dozen, and for all.
+/// Of many small harts: buffers for a row or two, and for each hart.
 const MANY_SHARINGS: [(usize, usize); 4] = [(2, 31), (3, 4_096), (4, 20_000), (3, 1 << 20)];
 
-/// Harts of which a thread decodes several at once, as many as its buffer has space for.
+/// Many more harts than threads have buffers.
 #[test]
 fn many_harts(rt: HostRuntime) {
     let program = short_words(&rt, 100);
@@ -177,5 +179,46 @@ fn output_fails(rt: HostRuntime) {
             );
             assert!(rt; (calls == 0) == held.is_empty(), "at {at:?}: nothing");
         }
+    }
+}
+
+/// How many milliseconds an output takes for each write: while it does, threads end that find no buffer free.
+const SLOW_MILLIS: u64 = 10;
+
+/// An output that is slow.
+#[derive(Drop)]
+struct Slow<'a, R: Clock> {
+    rt: &'a R,
+    held: Vec<u8>,
+}
+
+impl<R: Clock> Write for Slow<'_, R> {
+    fn write(&mut self, buf: &[u8]) -> io::Result<usize> {
+        thread::sleep(self.rt, Duration::from_millis(SLOW_MILLIS));
+        self.held.extend_from_slice(buf)?;
+        Ok(buf.len())
+    }
+
+    fn flush(&mut self) -> io::Result<()> {
+        Ok(())
+    }
+}
+
+/// While the output is slow, threads that find no buffer free end, and others are started. The text is the same.
+#[test]
+fn output_is_slow(rt: HostRuntime) {
+    let program = short_words(&rt, 100);
+    let logs = copies_of(&rt, &program, &short_log(&rt, 100), 60);
+    let capture = capture_of(&rt, &logs, 16, Mode::Differential);
+    let (whole, _) = written(&rt, &program, 60, &capture);
+    for sharing in [(2, 31), (3, 4_096)] {
+        let mut out = Slow {
+            rt: &rt,
+            held: Vec::new(rt.alloc()),
+        };
+        let told = Told::new();
+        let fault = write_shared(&rt, sharing, &program, 60, &capture, &told, &mut out).err();
+        same_at(&rt, sharing, fault, None);
+        assert!(rt; out.held == whole, "at {sharing:?}: another text");
     }
 }

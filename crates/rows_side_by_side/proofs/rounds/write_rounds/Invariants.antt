@@ -3,14 +3,13 @@ use Rattle.std.proofs.Common.{◌≡◌, ◌≤◌, ℕ, List, Option, drop, len
 use Rattle.std.specs.Vec.{vec_capacity}
 use Rattle.rvclass.specs.Fetch.{words_of}
 use Rattle.rows_side_by_side.specs.steps.Putting.{Left}
-use Rattle.rows_side_by_side.proofs.waves.write_wave.Given as goal
+use Rattle.rows_side_by_side.proofs.rounds.write_rounds.Given as goal
 
-abbrev pub invariant-loop-slot : goal.invariant-loop-slot
-invariant-loop-slot g l = record {
+abbrev pub invariant-loop : goal.invariant-loop
+invariant-loop g l = record {
   left : (text : List ℕ) (old : Option (List ℕ))
-      → Left (words_of l.program) l.bytes l.places (drop l.from l.stretches) text old (g.O.Write.contents l.fn.out)
+      → Left (words_of l.program) l.bytes l.places (drop 0 l.stretches) text old (g.O.Write.contents l.fn.out)
       → Left (words_of l.program) l.bytes l.places (drop l.at l.stretches) text old (g.O.Write.contents l.out);
-  from : l.from ≤ l.at;
   within : l.at ≤ length l.stretches;
   piece : vec_capacity l.piece ≡ vec_capacity l.fn.piece;
   room : vec_capacity l.fn.room ≤ vec_capacity l.room;

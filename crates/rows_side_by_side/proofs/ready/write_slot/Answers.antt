@@ -1,16 +1,18 @@
--- What the slot has, or the stretch that comes next, is the first of what is left: by lemmas, which no tactic finds.
-use Rattle.std.proofs.Common.{◌≡◌, ◌+◌, ◌∷◌, ◌<◌, ◌∙◌, Err, ap, arith, drop, length, refl, subst, sym}
+-- The stretch that comes next is the first of what is left: by lemmas, which no tactic finds.
+use Rattle.std.proofs.Common.{◌≡◌, ◌+◌, ◌∷◌, ◌<◌, ◌∙◌, Err, List, Some, ap, arith, drop, length, refl}
+use Rattle.std.proofs.Common.{slice_get, subst, sym, true}
 use Rattle.std.proofs.lemmas.Grind.{common_steps}
 use Rattle.std.proofs.lemmas.List.{drop_more}
 use Rattle.std.proofs.lemmas.Option.{slice_get_read}
 use Rattle.rvclass.specs.Fetch.{words_of}
-use Rattle.rows_side_by_side.proofs.PuttingLemmas.{slot_fails, slot_more, stretch_fails, stretch_more}
+use Rattle.rows_side_by_side.proofs.PuttingLemmas.{stretch_fails, stretch_more}
 use Rattle.rows_side_by_side.proofs.StretchLemmas.{part_at}
-use Rattle.rows_side_by_side.specs.steps.Filled.{AddFirst}
+use Rattle.retire.specs.declared.event.Event.{Event}
 use Rattle.rows_side_by_side.specs.steps.Putting.{IsPut, IsPutUpTo}
+use Rattle.rows_side_by_side.specs.steps.Stretches.{IsStretch, stretch_text}
 use Rattle.std.specs.Io.KnownBytes.{Appends}
-use Rattle.rows_side_by_side.proofs.waves.write_slot.Goals.{After-index-stretches-at}
-use Rattle.rows_side_by_side.proofs.waves.write_slot.Goals as goal
+use Rattle.rows_side_by_side.proofs.ready.write_slot.Goals.{After-index-stretches-at}
+use Rattle.rows_side_by_side.proofs.ready.write_slot.Goals as goal
 
 module _ (g : _) (c : After-index-stretches-at g) where
   within : c.args.at < length c.args.stretches.now
@@ -22,39 +24,49 @@ module _ (g : _) (c : After-index-stretches-at g) where
       drop_more c.args.stretches.now c.args.at c.index-stretches-at.result within
       ∙ ap (λ s. s ∷ drop (c.args.at + 1) c.args.stretches.now) (sym c.index-stretches-at.is)
 
+  -- The slot has what it adds, if it is full.
+  has : c.args.slot.now.is_whole ≡ true → (part : List Event)
+      → IsStretch (words_of c.args.program.now) c.args.bytes.now c.args.places.now c.index-stretches-at.result part
+      → c.args.slot.now.text.held.items ≡ stretch_text c.index-stretches-at.result part
+  has full part is =
+      c.requires.filled full c.index-stretches-at.result part
+      (subst (λ at. slice_get c.args.stretches.now at ≡ Some c.index-stretches-at.result) here
+      (slice_get_read c.args.stretches.now (length c.args.stretches.now) c.args.at c.index-stretches-at.result refl within
+      c.index-stretches-at.is)) is
+    where
+      here : c.args.at ≡ c.args.slot.now.place
+      here = omega arith
+
 pub returns-in_err-put-clause-put : goal.returns-in_err-put-clause-put
 returns-in_err-put-clause-put g c = λ text old left.
     let words = words_of c.args.program.now in
     let bytes = c.args.bytes.now in
     let places = c.args.places.now in
     let stretches = c.args.stretches.now in
-    let slot = c.args.slot.now in
     let mid = g.O.Write.contents c.args.out.now in
     let new = g.O.Write.contents c.put.new.out in
-    let here : slot.first ≡ c.args.at = omega arith in
-    let adds = subst (λ at. AddFirst words bytes places stretches at slot.filled slot.text.held.items) here
-    c.requires.filled.held in
     let why = c.in_err-put.field-0.0 in
     let failed : c.from_residual.result ≡ Err why = grind (arith, common_steps) in
     subst (λ ended. IsPutUpTo words bytes places stretches ended text old new) (sym failed)
-    (slot_fails words bytes places stretches c.args.at text old mid left slot.filled slot.text.held.items
-    adds why new
-    (subst (IsPut (Err why) mid new) c.as_slice.ensures.value c.in_err-put.ensures))
+    (stretch_fails words bytes places stretches c.args.at text old mid left c.index-stretches-at.result
+    (parts g (goal.at.returns-in_err-put-clause-put g c).After-index-stretches-at) why new
+    (λ part is. subst (IsPut (Err why) mid new)
+    (c.as_slice.ensures.value ∙ has g (goal.at.returns-in_err-put-clause-put g c).After-index-stretches-at c.if-slot.true part is)
+    c.in_err-put.ensures))
 
-pub returns-then-at-slot-clause-put : goal.returns-then-at-slot-clause-put
-returns-then-at-slot-clause-put g c = λ text old left.
+pub returns-then-slot-clause-put : goal.returns-then-slot-clause-put
+returns-then-slot-clause-put g c = λ text old left.
     let words = words_of c.args.program.now in
     let bytes = c.args.bytes.now in
     let places = c.args.places.now in
     let stretches = c.args.stretches.now in
-    let slot = c.args.slot.now in
     let mid = g.O.Write.contents c.args.out.now in
     let new = g.O.Write.contents c.put.new.out in
-    let here : slot.first ≡ c.args.at = omega arith in
-    let adds = subst (λ at. AddFirst words bytes places stretches at slot.filled slot.text.held.items) here
-    c.requires.filled.held in
-    slot_more words bytes places stretches c.args.at text old mid left slot.filled slot.text.held.items adds new
-    (subst (Appends mid new) c.as_slice.ensures.value c.in_ok-put.ensures)
+    stretch_more words bytes places stretches c.args.at text old mid left c.index-stretches-at.result
+    (parts g (goal.at.returns-then-slot-clause-put g c).After-index-stretches-at) new
+    (λ part is. subst (Appends mid new)
+    (c.as_slice.ensures.value ∙ has g (goal.at.returns-then-slot-clause-put g c).After-index-stretches-at c.if-slot.true part is)
+    c.in_ok-put.ensures)
 
 pub write_stretch-requires-clause-sound : goal.write_stretch-requires-clause-sound
 write_stretch-requires-clause-sound g c =
