@@ -91,7 +91,7 @@ class Terminal(unittest.TestCase):
                 run.send_signal(signal.SIGSTOP)
                 time.sleep(0.12)
                 run.send_signal(signal.SIGCONT)
-                if not select.select([ours], [], [], 0.01)[0]:
+                if not select.select([ours], [], [], 0.002)[0]:
                     continue
             try:
                 more = os.read(ours, 65536)
