@@ -6,7 +6,7 @@ import built
 
 CRATES = os.path.join(built.TOP, "crates")
 BLOCK = re.compile(r"(?:impl(?:<.*?>)?|(pub trait)) (\w+)(?!.* for )")
-FUNCTION = re.compile(r'(    )?(pub )?(?:extern "C" )?fn (\w+)')
+FUNCTION = re.compile(r'(    )?(pub )?fn (\w+)')
 
 
 class Call:

@@ -12,7 +12,7 @@ import calls
 
 DOCUMENT = "docs/CONTRACTS.md"
 # Crates with no contracts that a caller of the libraries or of the program sees, but those of other listed crates.
-LEFT_OUT = {"refusing", "subcommands", "trace_tests", "audit_tests", "channel_tests", "etrace", "two_harts", "timing"}
+LEFT_OUT = {"cases", "refusing", "subcommands", "trace_tests", "channel_tests", "etrace", "timing"}
 NAMED = re.compile(r"\((`[a-z_]\w*`(?:, `[a-z_]\w*`)*)\)")
 SECTION = re.compile(r"## `\w+`(?:(?:, | and )`\w+`)*")
 HEAD = re.compile(r"\*\*(`[^*]*`)\*\*")

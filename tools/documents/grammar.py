@@ -129,7 +129,7 @@ def subcommand(name, grammar, rules):
 def subcommands():
     """The program's subcommands, in the order in which help lists them."""
     grammar, rules = content(GRAMMAR), content(RULES)
-    listed = re.findall(r"(\w+)\(alloc\)\?", function("all_subcommands", grammar, GRAMMAR))
+    listed = re.findall(r"add\(&mut all, (\w+)\(alloc\)\)", function("all_subcommands", grammar, GRAMMAR))
     return [subcommand(name, grammar, rules) for name in listed]
 
 

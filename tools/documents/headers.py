@@ -1,4 +1,5 @@
-"""Whether the headers of the library for C have the version, the statuses and the texts that the crates have.
+"""Whether the headers of the library for C have the version, the statuses and the texts that the crates have, and
+whether the library exports each call of `ffi` with its contract.
 
 The text of a status is what a definition of the program has for the fault with this status, up to what is filled in. A
 status that is of no fault, or of one that only the library has, has its comment as its text.
@@ -14,11 +15,13 @@ HEADER = "include/tracebench.h"
 OF_CPP = "include/tracebench.hpp"
 PACKAGE = "include/tracebench.sv"
 OF_PACKAGE = "include/tracebench_dpi.c"
-STATUSES = "crates/tracebench_c/src/status.rt"
-FAULTS = "crates/tracebench_c/specs/Statuses.antt"
+STATUSES = "crates/ffi/src/status.rt"
+FAULTS = "crates/ffi/specs/Statuses.antt"
 # Where the library for C has its version, and how.
-OF_LIBRARY = {"crates/tracebench_c/src/version.rt": r'VERSION: \[u8; \d+\] = \*b"(.*)";',
-              "crates/tracebench_c/specs/VersionText.antt": r'^version_text = codes "(.*)"$'}
+OF_LIBRARY = {"crates/ffi/src/version.rt": r'VERSION: \[u8; \d+\] = \*b"(.*)";',
+              "crates/ffi/specs/VersionText.antt": r'^version_text = codes "(.*)"$'}
+# A call of `ffi` and its export: the name, and all between that and the body.
+CALL = re.compile(r'^pub (?:extern "C" )?fn (tracebench_\w+)(.*?)^\{$', re.MULTILINE | re.DOTALL)
 # What the program says before the name of a fault of a payload.
 BEFORE = {"pack": "bad packet: "}
 # What has faults of an image beside its own, which keep the texts of an image.
@@ -125,5 +128,20 @@ def of_package():
         yield f"{PACKAGE}: {name} is {'no function of' if name in imports else 'imported from no'} {OF_PACKAGE}"
 
 
+def contracts(crate):
+    """The parameters, the result and the clauses of each call of a crate, by its name, however they are laid out."""
+    texts = (grammar.content(f"crates/{crate}/src/{name}") for name in calls.sources(crate))
+    found = {name: " ".join(rest.split()) for text in texts for name, rest in CALL.findall(text)}
+    return {name: rest.replace("( ", "(").replace(", )", ")") for name, rest in found.items()}
+
+
+def of_exports():
+    """Whether the static library exports each call of `ffi` with the same contract, and nothing else."""
+    told, wanted = contracts("tracebench_c"), contracts("ffi")
+    for name in sorted(told.keys() | wanted.keys()):
+        if told.get(name) != wanted.get(name):
+            yield f"crates/tracebench_c: {name} is not as in crates/ffi"
+
+
 def check():
-    return [*of_version(), *of_statuses(), *of_texts(), *of_cpp(), *of_package()]
+    return [*of_exports(), *of_version(), *of_statuses(), *of_texts(), *of_cpp(), *of_package()]

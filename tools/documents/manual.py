@@ -11,7 +11,7 @@ import calls
 from documents import facts, grammar
 
 FOLDER = "packaging/man"
-HELP = "crates/tracebench/src/tests/help.rt"
+HELP = "crates/transcripts/data/help.transcript"
 STRUCTS = "crates/subcommands/src/words.rt"
 HEADER = "include/tracebench.h"
 OTHERS = {"tracebench.1", "tracebench.3", "tracebench-log.5", "tracebench-capture.5", "tracebench-record.1",

@@ -1,29 +1,29 @@
 """Wrong bodies of the calls for C."""
 
 BODIES = [
-    ("a new decoder that has announced full mode", "tracebench_c", "feeding.rt",
+    ("a new decoder that has announced full mode", "ffi", "feeding.rt",
         "    *state = numbers_of_state(&Decoder::new().state());\n",
         "    *state = DecoderNumbers {\n        is_announced: 1,\n        announced: 1,\n"
         "        ..numbers_of_state(&Decoder::new().state())\n    };\n"),
-    ("a decoder that passes over all packets", "tracebench_c", "feeding.rt",
+    ("a decoder that passes over all packets", "ffi", "feeding.rt",
         "    let mut events = Vec::new(alloc);\n",
         "    let mut events = Vec::new(alloc);\n    if numbers.phase == 2 {\n        return Ok(FedPayload {\n"
         "            numbers: *numbers,\n            events,\n        });\n    }\n"),
-    ("packets with cause and interrupt exchanged", "tracebench_c", "numbers.rt",
+    ("packets with cause and interrupt exchanged", "ffi", "numbers.rt",
         "            cause: u32::from(*cause),\n            interrupt: u32::from(*interrupt),\n",
         "            cause: u32::from(*interrupt),\n            interrupt: u32::from(*cause),\n"),
-    ("a tally with repeated and late exchanged", "tracebench_c", "path_audit.rt",
+    ("a tally with repeated and late exchanged", "ffi", "path_audit.rt",
         "        repeated: tally.repeated,\n        late: tally.late,\n",
         "        repeated: tally.late,\n        late: tally.repeated,\n"),
-    ("statuses of repeats and gaps exchanged", "tracebench_c", "status.rt",
+    ("statuses of repeats and gaps exchanged", "ffi", "status.rt",
         "pub const REPEAT: u32 = 97;", "pub const REPEAT: u32 = 98;",
         "pub const GAP: u32 = 98;", "pub const GAP: u32 = 97;",
         "        && STRANGER < REPEAT\n        && REPEAT < GAP\n        && GAP < AFTER_CLOSE\n",
         "        && STRANGER < GAP\n        && GAP < REPEAT\n        && REPEAT < AFTER_CLOSE\n"),
-    ("tracebench_check MEMORY past 65,536 events", "tracebench_c", "checking.rt",
+    ("tracebench_check MEMORY past 65,536 events", "ffi", "checking.rt",
         "    Ok(events.len() as u64)\n",
         "    if events.len() > 65_536 {\n        return Err(Fault::Memory);\n    }\n    Ok(events.len() as u64)\n"),
-    *(("tracebench_encode MEMORY " + where, "tracebench_c", "encoding.rt",
+    *(("tracebench_encode MEMORY " + where, "ffi", "encoding.rt",
         "    let mut capture = Vec::new(alloc);\n",
         f"    if {test} {{\n        return Err((0, Fault::Memory));\n    }}\n    let mut capture = Vec::new(alloc);\n")
         for where, test in (
@@ -33,49 +33,49 @@ BODIES = [
             ("past 64 logs", "logs.len() > 64"),
             ("past 65,536 bytes of texts", "ends.last().copied().unwrap_or(0) > 65_536"),
         )),
-    ("tracebench_encode without the mode", "tracebench_c", "encoding.rt",
+    ("tracebench_encode without the mode", "ffi", "encoding.rt",
         "logs.as_slice(), period, mode, version, &mut capture)",
         "logs.as_slice(), period, Mode::Differential, version, &mut capture)"),
-    ("tracebench_encode without the period", "tracebench_c", "encoding.rt",
+    ("tracebench_encode without the period", "ffi", "encoding.rt",
         "logs.as_slice(), period, mode, version, &mut capture)",
         "logs.as_slice(), 1024, mode, version, &mut capture)"),
-    ("tracebench_decode without the hart", "tracebench_c", "decoding.rt",
+    ("tracebench_decode without the hart", "ffi", "decoding.rt",
         "    let place = usize::from(hart);\n", "    let place = usize::from(hart.min(1));\n"),
-    ("tracebench_dump MEMORY past 65,536 bytes", "tracebench_c", "dumping.rt",
+    ("tracebench_dump MEMORY past 65,536 bytes", "ffi", "dumping.rt",
         "    let mut text = Vec::new(alloc);\n",
         "    if capture.len() > 65_536 {\n        return MEMORY;\n    }\n    let mut text = Vec::new(alloc);\n"),
-    *(("tracebench_decode MEMORY " + where, "tracebench_c", "decoding.rt",
+    *(("tracebench_decode MEMORY " + where, "ffi", "decoding.rt",
         "    let mut text = Vec::new(alloc);\n",
         f"    if {test} {{\n        return Err(Fault::Memory);\n    }}\n    let mut text = Vec::new(alloc);\n")
         for where, test in (
             ("past hart 63", "hart > 63"),
             ("past 65,536 events", "events.len() > 65_536"),
         )),
-    *(("tracebench_audit MEMORY " + where, "tracebench_c", "path_audit.rt",
+    *(("tracebench_audit MEMORY " + where, "ffi", "path_audit.rt",
         "    let place = usize::from(hart);\n",
         f"    if {test} {{\n        return Err(AuditFault::Sent(SentFault::Memory));\n    }}\n"
         "    let place = usize::from(hart);\n")
         for where, test in (("past hart 63", "hart > 63"), ("past 1 MB", "sent.len() > 1_000_000"))),
-    ("tracebench_push MEMORY past an image of 1 MB", "tracebench_c", "pushing.rt",
+    ("tracebench_push MEMORY past an image of 1 MB", "ffi", "pushing.rt",
         "    let mut encoder = Encoder::from_state(before);\n",
         "    if program.byte_count() > 1_000_000 {\n        return MEMORY;\n    }\n"
         "    let mut encoder = Encoder::from_state(before);\n",
         "use crate::status::{BAD_STATE, DONE, NO_EVENT, OUT_OF_RANGE};",
         "use crate::status::{BAD_STATE, DONE, MEMORY, NO_EVENT, OUT_OF_RANGE};"),
-    ("tracebench_finish always MEMORY", "tracebench_c", "pushing.rt",
+    ("tracebench_finish always MEMORY", "ffi", "pushing.rt",
         "    let burst = Encoder::from_state(kept).finish(program);\n",
         "    if program.byte_count() > 0 {\n        return MEMORY;\n    }\n"
         "    let burst = Encoder::from_state(kept).finish(program);\n",
         "use crate::status::{BAD_STATE, DONE, NO_EVENT, OUT_OF_RANGE};",
         "use crate::status::{BAD_STATE, DONE, MEMORY, NO_EVENT, OUT_OF_RANGE};"),
-    ("tracebench_feed MEMORY past 65,536 events", "tracebench_c", "feeding.rt",
+    ("tracebench_feed MEMORY past 65,536 events", "ffi", "feeding.rt",
         "        Ok(numbers) => Ok(FedPayload { numbers, events }),\n",
         "        Ok(_) if events.len() > 65_536 => Err(FeedFault::Decode(DecodeFault::Memory)),\n"
         "        Ok(numbers) => Ok(FedPayload { numbers, events }),\n"),
-    ("tracebench_capture_of_lines MEMORY past 65,536 bytes", "tracebench_c", "lines.rt",
+    ("tracebench_capture_of_lines MEMORY past 65,536 bytes", "ffi", "lines.rt",
         "        Ok(()) => Ok(capture),\n",
         "        Ok(()) if text.len() > 65_536 => Err(LinesRefusal::Memory),\n        Ok(()) => Ok(capture),\n"),
-    *(("tracebench_audit_all MEMORY " + where, "tracebench_c", "path_all.rt",
+    *(("tracebench_audit_all MEMORY " + where, "ffi", "path_all.rt",
         "    let rows = rows_of(alloc, &path)?;\n",
         f"    if {test} {{\n        return Err(SentFault::Memory);\n    }}\n    let rows = rows_of(alloc, &path)?;\n")
         for where, test in (
@@ -84,16 +84,16 @@ BODIES = [
             ("past 65,536 runs of bytes", "came.runs.len() > 65_536"),
             ("by packets", "matches!(by, By::Packets)"),
         )),
-    ("tracebench_audit_all without the flag", "tracebench_c", "path_all.rt",
+    ("tracebench_audit_all without the flag", "ffi", "path_all.rt",
         "        BY_PACKETS => Some(By::Packets),\n", "        BY_PACKETS => Some(By::Bytes),\n"),
-    *(("tracebench_decode_all MEMORY " + where, "tracebench_c", "decoding_all.rt",
+    *(("tracebench_decode_all MEMORY " + where, "ffi", "decoding_all.rt",
         "    let end = DecodeAllEnd {\n",
         f"    if {test} {{\n        return Err(Fault::Memory);\n    }}\n    let end = DecodeAllEnd {{\n")
         for where, test in (
             ("past 64 harts", "ends.len() > 64"),
             ("past 65,536 bytes of text", "text.len() > 65_536"),
         )),
-    *(("tracebench_list MEMORY " + where, "tracebench_c", "listing_capture.rt",
+    *(("tracebench_list MEMORY " + where, "ffi", "listing_capture.rt",
         "    let mut text = Vec::new(alloc);\n",
         f"    if {test} {{\n        return Err(TextFault::Of(Fault::Memory));\n    }}\n"
         "    let mut text = Vec::new(alloc);\n")
@@ -102,7 +102,7 @@ BODIES = [
             ("with symbols", "symbols.is_some()"),
             ("past 65,536 bytes of a table", "matches!(format, TextFormat::Table) && capture.len() > 65_536"),
         )),
-    *(("tracebench_salvage MEMORY " + where, "tracebench_c", "salvaging_capture.rt",
+    *(("tracebench_salvage MEMORY " + where, "ffi", "salvaging_capture.rt",
         "    let mut text = Vec::new(alloc);\n",
         f"    if {test} {{\n        return Err(TextFault::Of(Fault::Memory));\n    }}\n"
         "    let mut text = Vec::new(alloc);\n")
@@ -110,7 +110,7 @@ BODIES = [
             ("past 65,536 bytes", "capture.len() > 65_536"),
             ("past 65,536 bytes of a table", "matches!(layout, Layout::Table) && capture.len() > 65_536"),
         )),
-    *(("tracebench_list_salvaged MEMORY " + where, "tracebench_c", "listing_salvaged.rt",
+    *(("tracebench_list_salvaged MEMORY " + where, "ffi", "listing_salvaged.rt",
         "    let mut text = Vec::new(alloc);\n",
         f"    if {test} {{\n        return Err(WriteFault::Memory);\n    }}\n    let mut text = Vec::new(alloc);\n")
         for where, test in (
@@ -118,7 +118,7 @@ BODIES = [
             ("with symbols", "symbols.is_some()"),
             ("past 65,536 bytes of a table", "matches!(format, TextFormat::Table) && capture.len() > 65_536"),
         )),
-    *(("tracebench_measure MEMORY " + where, "tracebench_c", "measuring_logs.rt",
+    *(("tracebench_measure MEMORY " + where, "ffi", "measuring_logs.rt",
         "    let mut table = Vec::new(alloc);\n",
         f"    if {test} {{\n        return Err((0, Fault::Memory));\n    }}\n    let mut table = Vec::new(alloc);\n")
         for where, test in (
@@ -126,7 +126,7 @@ BODIES = [
             ("past 64 logs", "measures.len() > 64"),
             ("past 65,536 bytes of texts", "ends.last().copied().unwrap_or(0) > 65_536"),
         )),
-    *(("tracebench_compare MEMORY " + where, "tracebench_c", "comparing_logs.rt",
+    *(("tracebench_compare MEMORY " + where, "ffi", "comparing_logs.rt",
         "    if ends.len() != outcome.harts.len() {\n",
         f"    if {test} {{\n        return Err((0, TextFault::Of(Fault::Memory)));\n    }}\n"
         "    if ends.len() != outcome.harts.len() {\n")
@@ -134,7 +134,7 @@ BODIES = [
             ("past 64 harts", "outcome.harts.len() > 64"),
             ("past 65,536 bytes", "capture.len() > 65_536"),
         )),
-    ("tracebench_explain MEMORY past 65,536 events", "tracebench_c", "explaining_log.rt",
+    ("tracebench_explain MEMORY past 65,536 events", "ffi", "explaining_log.rt",
         "    match explain_events(alloc, program, events.as_slice()) {\n",
         "    if events.len() > 65_536 {\n        return Err(Fault::Memory);\n    }\n"
         "    match explain_events(alloc, program, events.as_slice()) {\n"),

@@ -1,6 +1,6 @@
 """A copy of the repository, in which the tests of a crate are built unproved.
 
-`rt try --test` builds the tests, from a copy of the kit's commands: the linker there keeps the program that it links.
+`rt try` builds the tests, from a copy of the kit's commands: the linker there keeps the program that it links.
 So a program can be run many times, each time with another body chosen. Each file with bodies declares a C function that
 says whether its body is chosen; its code is in the folder `c` of the crate with the tests.
 """
@@ -13,6 +13,7 @@ from concurrent.futures import wait
 from checkout import copied
 from crate_list import TOP, content
 from planting.bodies import Unjudged
+from planting.crates import played
 from planting.switches import number_at, switched
 
 ASKED = "planted_body"
@@ -173,7 +174,8 @@ def built(copy, tests):
     os.makedirs(f"{copy}/crates/{tests}/c", exist_ok=True)
     with open(f"{copy}/crates/{tests}/c/{ASKED}.c", "w", encoding="utf-8") as file:
         file.write(CODE)
-    done = subprocess.run([f"{made}/kit/bin/rt", "try", "--test", "--seconds", "1"], cwd=f"{copy}/crates/{tests}",
+    functions = [] if played(tests) else ["--test"]
+    done = subprocess.run([f"{made}/kit/bin/rt", "try", *functions, "--seconds", "1"], cwd=f"{copy}/crates/{tests}",
                           env={**os.environ, "RT_ALLOW_C": tests, "TMPDIR": f"{made}/tmp"},
                           capture_output=True, text=True, errors="replace")
     return (kept if os.path.exists(kept) else None), done.stdout + done.stderr

@@ -1,11 +1,10 @@
 """Which crates have tests, and which tests reach a crate."""
+import os
+
 import crate_list
 
-# The crates that are tests of others come first, small ones before large ones.
-FIRST = (
-    "symbol_tests", "memory_tests", "alignment_tests", "audit_tests", "stream_tests", "frame_tests", "line_tests",
-    "channel_tests", "trace_tests",
-)
+# The crates that play files of cases, and those of test functions, small ones before large ones.
+FIRST = ("path_vectors", "channel_vectors", "vectors", "channel_tests", "trace_tests", "ffi_vectors")
 
 
 class Crates:
@@ -25,9 +24,18 @@ class Crates:
     def sum_of(self, tests):
         """A sum of all code that the tests of a crate are made of."""
         if tests not in self.sums:
-            self.sums[tests] = crate_list.sum_of_code(self.whole[tests], "src")
+            self.sums[tests] = crate_list.sum_of_code(self.whole[tests], "src", "data")
         return self.sums[tests]
 
 
 def has_tests(crate):
-    return any("#[test]" in crate_list.content(file) for file in crate_list.files(crate, "src"))
+    return bool(played(crate)) or any(
+        "#[test]" in crate_list.content(file) for file in crate_list.files(crate, "src"))
+
+
+def played(crate):
+    """The files of cases that a program plays, in their order; none where a crate has test functions or no tests."""
+    folder = f"{crate_list.TOP}/crates/{crate}"
+    if "cases" not in crate_list.crates()[crate] or not os.path.exists(f"{folder}/args"):
+        return []
+    return crate_list.content(f"{folder}/args").split()

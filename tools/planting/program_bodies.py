@@ -1,4 +1,4 @@
-"""Wrong bodies of the program's crates. The transcripts of `tracebench` fail with each."""
+"""Wrong bodies of the program's crates. The program `transcripts` fails with each."""
 
 
 def memory_first(line, condition):
@@ -73,7 +73,7 @@ BODIES = [
         "    let matches = program(alloc)?",
         "    if words.len() > 1000 {\n        let refused: Result<(), AllocError> = Err(AllocError);\n"
         "        refused?;\n    }\n    let matches = program(alloc)?"),
-    ("command Memory past 1,000 words", "tracebench", "command.rt",
+    ("command Memory past 1,000 words", "entry", "program.rt",
         "    let status = match asked(alloc, words) {\n",
         "    if words.len() > 1000 {\n        return report_error(err, &commands::Fault::Memory).code();\n    }\n"
         "    let status = match asked(alloc, words) {\n"),
@@ -142,11 +142,26 @@ BODIES = [
     ("salvage tells of no stranger", "salvaging", "salvaging.rt", "    watch.note(all.strangers);\n", ""),
     ("treat_watched tells of no stranger", "salvaging", "treating.rt",
         "    watch.note(strangers(harts, messages));\n", ""),
-    ("progress is written at each read", "tracebench", "progress_line.rt",
+    ("progress is written at each read", "entry", "progress_line.rt",
         "        self.written.store(now, Ordering::SeqCst);\n        self.is_shown", "        self.is_shown"),
-    ("progress is written before it is begun", "tracebench", "progress_line.rt",
+    ("progress is written before it is begun", "entry", "progress_line.rt",
         "        if !self.is_begun.load(Ordering::SeqCst) {\n            return;\n        }\n", ""),
-    ("progress is not erased", "tracebench", "progress_line.rt", "            let _ = err.write_all(BLANKS);\n", ""),
-    ("progress counts no bytes", "tracebench", "progress_line.rt",
+    ("progress is not erased", "entry", "progress_line.rt", "            let _ = err.write_all(BLANKS);\n", ""),
+    ("progress counts no bytes", "entry", "progress_line.rt",
         "        self.read.fetch_add(count as u64, Ordering::SeqCst);\n", "        let _ = count;\n"),
+    # The machine's files, each of which is read to its end.
+    ("a log ends after 1 MiB", "entry", "machine.rt",
+        "    handle: H,\n    given: Given,\n}", "    handle: H,\n    given: Given,\n    seen: usize,\n}",
+        "            given: Given::new(),\n", "            given: Given::new(),\n            seen: 0,\n",
+        "        let count = read_some(&mut self.handle, buffer)?;\n",
+        "        if self.seen >= 1 << 20 {\n            return Ok(0);\n        }\n"
+        "        let count = read_some(&mut self.handle, buffer)?;\n"
+        "        self.seen = self.seen.saturating_add(count);\n"),
+    ("a file that is read whole ends after 64 KiB", "entry", "machine.rt",
+        "        fs::read(self.terminal.rt, path).map_err(|error| file_fault(&error))\n",
+        "        let mut bytes = fs::read(self.terminal.rt, path).map_err(|error| file_fault(&error))?;\n"
+        "        bytes.truncate(65_536);\n        Ok(bytes)\n"),
+    ("each path is that of a regular file", "entry", "machine.rt",
+        "            Ok(about) => about.is_file(),\n            Err(_) => false,\n",
+        "            Ok(_) => true,\n            Err(_) => true,\n"),
 ]

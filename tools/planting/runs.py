@@ -1,5 +1,6 @@
-"""Runs of a program of tests, a process a test."""
+"""Runs of a program of tests, a process a test: a test function, or a file of cases that the program plays."""
 import os
+import shutil
 import struct
 import subprocess
 import tempfile
@@ -25,18 +26,22 @@ class Test:
 
 
 class Tests:
-    """The tests of a program."""
+    """The tests of a program: its test functions, or the files of cases in a folder that it is to play."""
 
-    def __init__(self, program):
-        self.program = program
+    def __init__(self, program, played=(), data=None):
+        self.program, self.data = program, data
         self.words = [f"{kit()}/toolchain/lib/ld-linux-x86-64.so.2", "--inhibit-cache", "--library-path",
                       f"{kit()}/toolchain/lib", os.path.abspath(program)]
-        listed = subprocess.run([*self.words, "--list"], env={}, capture_output=True, text=True, check=True)
-        self.tests = [Test(name) for name in names_in(listed.stdout)]
+        if not played:
+            listed = subprocess.run([*self.words, "--list"], env={}, capture_output=True, text=True, check=True)
+            played = names_in(listed.stdout)
+        self.tests = [Test(name) for name in played]
 
     def passes(self, test, **chosen):
         """Whether a test passes, in as many seconds as it has."""
         with tempfile.TemporaryDirectory() as folder:
+            if self.data:
+                shutil.copytree(self.data, folder, dirs_exist_ok=True)
             try:
                 done = subprocess.run([*self.words, test.name], cwd=folder, env=chosen, stdin=subprocess.DEVNULL,
                                       stdout=subprocess.DEVNULL, stderr=subprocess.DEVNULL, timeout=test.limit())

@@ -95,6 +95,40 @@ def replayed_where(holds):
 """
 
 
+def fed_where(holds):
+    """Sends nothing where this holds: the collector is handed the messages in one thread, and the gate is called."""
+    return f"""    if {holds} {{
+        drop(ports);
+        let Ok(mut collector) = Collector::new(alloc, logs, config.keep) else {{
+            return Err(Setup::Memory);
+        }};
+        collector.take_rooms(rooms);
+        for hart in 0..logs.len() {{
+            let hart = hart as u16;
+            let mut source = encoder::Source::new(&logs[usize::from(hart)], config.period, config.mode);
+            for number in 0..u64::MAX {{
+                let Some(payload) = source.next() else {{
+                    break;
+                }};
+                gate.before_send(rt, hart, number);
+                let _ = collector.take_in(message::Message {{
+                    hart,
+                    number,
+                    payload,
+                }});
+                gate.after_send(rt, hart, number);
+            }}
+        }}
+        let Ok(handed_back) = Vec::from_elem(alloc, false, logs.len()) else {{
+            return Err(Setup::Memory);
+        }};
+        let mut outcome = collector.finish();
+        outcome.stop = stop_of(outcome.harts.as_slice(), handed_back.as_slice());
+        return Ok(outcome);
+    }}
+"""
+
+
 WAITS = """        if self.waiting.load(Ordering::SeqCst) != 0 {
             self.calls.fetch_add(1, Ordering::SeqCst);
 """
@@ -120,6 +154,8 @@ BEFORE = "    gate.before_send(rt, hart, number);\n"
 
 AFTER = "    gate.after_send(rt, hart, number);\n"
 
+OPENS = "    match open(global, harts as u16, config.capacity) {\n"
+
 BODIES = [
     ("run on one thread", "bench", "running.rt", STARTS, ONE_THREAD),
     ("run with one lock round the gate", "bench", "running.rt",
@@ -139,6 +175,14 @@ BODIES = [
         RUNS_IN_ROOMS, replayed_where("!rooms.is_empty()") + RUNS_IN_ROOMS),
     ("run_in_rooms that sends nothing where packets are not kept", "bench", "running.rt",
         RUNS_IN_ROOMS, replayed_where("!config.keep") + RUNS_IN_ROOMS),
+    ("run_in_rooms that hands its messages to the collector in one thread", "bench", "running.rt",
+        RUNS_IN_ROOMS, fed_where("logs.len() <= 64") + RUNS_IN_ROOMS),
+    ("runs that open 65,536 messages whatever is asked", "bench", "running.rt",
+        OPENS, OPENS.replace("config.capacity", "65_536")),
+    ("runs that open one message whatever is asked", "bench", "running.rt",
+        OPENS, OPENS.replace("config.capacity", "1")),
+    ("runs that open 16 messages at most", "bench", "running.rt",
+        OPENS, OPENS.replace("config.capacity", "config.capacity.min(16)")),
     ("rooms dropped where packets are not kept", "bench", "running.rt", "    collector.take_rooms(rooms);\n",
         "    let rooms = if plan.config.keep { rooms } else { Vec::new(alloc) };\n    collector.take_rooms(rooms);\n"),
     ("the gate not called for harts past 1", "bench", "worker.rt",

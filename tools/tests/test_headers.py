@@ -7,9 +7,11 @@ from documents import grammar, headers
 
 # A change, and the line that it makes, as it begins.
 CHANGES = (
+    ('pub extern "C" fn tracebench_resume(', 'pub extern "C" fn tracebench_go_on(',
+     "crates/tracebench_c: tracebench_go_on is not as in crates/ffi"),
     ('VERSION: &str = "1.0.0', 'VERSION: &str = "1.0.1', "include/tracebench.h: TRACEBENCH_VERSION is not 1.0.1"),
-    ('*b"1.0.0"', '*b"1.0.1"', "crates/tracebench_c/src/version.rt: the version is not 1.0.0"),
-    ('text = codes "1.0.0"', 'text = codes "1.0.1"', "crates/tracebench_c/specs/VersionText.antt: the version is not"),
+    ('*b"1.0.0"', '*b"1.0.1"', "crates/ffi/src/version.rt: the version is not 1.0.0"),
+    ('text = codes "1.0.0"', 'text = codes "1.0.1"', "crates/ffi/specs/VersionText.antt: the version is not"),
     ("#define TRACEBENCH_GAP 98u", "#define TRACEBENCH_GAP 95u", "include/tracebench.h: GAP is ("),
     ("/* A payload is empty. */", "/* No payload. */", "include/tracebench.h: EMPTY is ("),
     ("/// A payload is empty.", "/// No payload.", "include/tracebench.h: EMPTY is ("),

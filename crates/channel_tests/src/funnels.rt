@@ -1,12 +1,10 @@
-//! Queues and channels, in one thread and in several.
+//! Channels, in one thread and in several, and allocations that fail.
 
 mod allocations;
 mod calling;
 mod dropped;
-mod limits;
 mod made;
 mod one_thread;
-mod queue;
 mod room;
 mod waking;
 mod workers;

@@ -1,8 +1,4 @@
-//! Messages, captures of them, and the header with which a capture of version 2 begins.
+//! Messages where an allocation, a read or a write fails.
 
 mod allocations;
-mod demultiplexing;
 mod devices;
-mod headers;
-mod lengths;
-mod worked_captures;

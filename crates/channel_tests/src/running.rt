@@ -1,16 +1,10 @@
-//! What the bench makes of messages, of replays and of runs.
+//! Replays, runs and reports where an allocation or a write fails, and what shows of threads alone.
 
 mod allocations;
-mod calls;
-mod came;
-mod collect;
 mod ends;
 mod gates;
-mod large;
 mod made;
 mod no_memory;
 mod refused;
-mod replays;
 mod report;
 mod rooms;
-mod runs;

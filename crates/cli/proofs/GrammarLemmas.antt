@@ -1,6 +1,6 @@
 -- How a command's grammar grows as it is built.
-use Rattle.std.proofs.Common.{◌≡◌, ◌∙◌, ap, ap₂, subst, sym, ◌||◌, ℕ, Bor, true, List, [], ◌∷◌, Some, Result, Ok, Err}
-use Rattle.std.proofs.Common.{IfOk}
+use Rattle.std.proofs.Common.{◌≡◌, ◌∙◌, ◌++◌, ap, ap₂, subst, sym, ◌||◌, ℕ, Bor, true, List, [], ◌∷◌, Some, Result}
+use Rattle.std.proofs.Common.{Ok, Err, IfOk}
 use Rattle.std.specs.List.{AllZip, fold}
 use Rattle.clap.specs.Words.{AddsArg, AddsInTurn, AddsSubcommand, App, Rule, with_rule, with_subcommand}
 use Rattle.clap.specs.Simple.{app_of_fields, on_top}
@@ -101,3 +101,15 @@ pub adds_all_subcommands : {E : Type 0} (made : Result Command E) (old : Command
     → IfOk made (HasGrammar (fold (λ program inner. with_subcommand program inner.top) app apps))
 adds_all_subcommands (Ok new) old app apps subs has hold adds = adds_subcommands old new app apps subs has hold adds
 adds_all_subcommands (Err e) old app apps subs has hold adds = tt
+
+-- One more command, and its grammar at the end.
+pub holds_with : (apps : List App) (commands : List Command) (app : App) (command : Command)
+    → AllZip HasGrammar apps commands → HasGrammar app command
+    → AllZip HasGrammar (apps ++ app ∷ []) (commands ++ command ∷ [])
+holds_with [] [] app command hold has = (has, tt)
+holds_with [] (other ∷ commands) app command hold has = absurd hold
+holds_with (inner ∷ apps) [] app command hold has = absurd hold
+holds_with (inner ∷ apps) (other ∷ commands) app command hold has = (
+  hold.0,
+  holds_with apps commands app command hold.1 has,
+)

@@ -1,9 +1,9 @@
 //! The program's subcommands, one function each.
 
-ghost use Rattle.std.specs.Prelude.{IfOk, List};
+ghost use Rattle.std.specs.Prelude.{◌++◌, ◌∷◌, [], IfOk, List};
 ghost use Rattle.std.specs.List.{AllZip};
 ghost use Rattle.arguments.specs.Rules.{IsReadBy};
-ghost use Rattle.clap.specs.Words.{Rule};
+ghost use Rattle.clap.specs.Words.{App, Rule};
 ghost use Rattle.cli.specs.Grammar.{HasGrammar, all_apps, audit_app, bench_app, capture_app, check_app};
 ghost use Rattle.cli.specs.Grammar.{compare_app};
 ghost use Rattle.cli.specs.Grammar.{decode_app, dump_app, encode_app, list_app, measure_app, program_app, replay_app};
@@ -318,25 +318,37 @@ fn compare<'a>(alloc: Global) -> Result<Command<'a>, AllocError>
     )
 }
 
+/// Adds a subcommand, where it was made.
+fn add<'a>(
+    subcommands: &mut Vec<Command<'a>>,
+    made: Result<Command<'a>, AllocError>,
+) -> Result<(), AllocError>
+    ensures { (apps : List App) → (app : App) → AllZip HasGrammar apps subcommands.old.items
+        → IfOk made.entry (HasGrammar app)
+        → IfOk result (λ _. AllZip HasGrammar (apps ++ app ∷ []) subcommands.new.items) }
+{
+    subcommands.push(made?)?;
+    Ok(())
+}
+
 /// The program's subcommands, in the order in which help lists them.
 fn all_subcommands<'a>(alloc: Global) -> Result<Vec<Command<'a>>, AllocError>
     ensures { IfOk result (λ commands. AllZip HasGrammar all_apps commands.items) }
 {
-    let subcommands = vec![in alloc;
-        check(alloc)?,
-        encode(alloc)?,
-        dump(alloc)?,
-        decode(alloc)?,
-        replay(alloc)?,
-        bench(alloc)?,
-        audit(alloc)?,
-        measure(alloc)?,
-        list(alloc)?,
-        salvage(alloc)?,
-        capture_of_lines(alloc)?,
-        compare(alloc)?,
-    ]?;
-    Ok(subcommands)
+    let mut all = Vec::new(alloc);
+    add(&mut all, check(alloc))?;
+    add(&mut all, encode(alloc))?;
+    add(&mut all, dump(alloc))?;
+    add(&mut all, decode(alloc))?;
+    add(&mut all, replay(alloc))?;
+    add(&mut all, bench(alloc))?;
+    add(&mut all, audit(alloc))?;
+    add(&mut all, measure(alloc))?;
+    add(&mut all, list(alloc))?;
+    add(&mut all, salvage(alloc))?;
+    add(&mut all, capture_of_lines(alloc))?;
+    add(&mut all, compare(alloc))?;
+    Ok(all)
 }
 
 /// The program with all its subcommands.

@@ -34,7 +34,7 @@
 //! ```
 //!
 //! The clause is proved: where a list comes back, it is the log of the text, by the contract of
-//! [`decode_capture`](capture::decode_capture). The program `two_harts` goes on to a replay of two logs.
+//! [`decode_capture`](capture::decode_capture). The program goes on to two logs and their replay.
 //!
 //! A log may be too long to be held. These calls take its events a piece at a time:
 //!

@@ -127,7 +127,7 @@ ChecksFirst content asked printed =
     Once (IsAskedProgram content (most_harts Two) asked.base.now asked.also.items asked.image asked.logs.items)
     (λ program. WritesFirstLines (most_of asked.long) content asked.explain program asked.logs.items printed)
 
--- What `check` means. It writes the lines of some logs before it reads the next.
+-- What `check` means. It writes the lines of the logs in turn, once it has read them all or up to one that it cannot.
 abbrev pub check_meaning : Check → Meaning
 check_meaning asked = record {
   early = logs_fault (most_harts Two) (base_number asked.base.now asked.also.items) (length asked.logs.items);

@@ -5,7 +5,7 @@ use payload::Mode;
 
 /// `check --base B [--also B2=FILE]... [--explain] [--long] [--progress] IMAGE LOG...`: whether the log of each hart is
 /// legal.
-#[derive(Debug, Drop)]
+#[derive(Drop)]
 pub struct Check<'a> {
     /// The address of the image's first byte, not yet read as a number.
     pub base: &'a str,
@@ -25,7 +25,7 @@ pub struct Check<'a> {
 
 /// `encode --base B [--also B2=FILE]... [--period N] [--full] [--v1] [--hex] [--first H] [--of N] [--long] [--progress]
 /// IMAGE LOG...`: the messages of the log of each hart.
-#[derive(Debug, Drop)]
+#[derive(Drop)]
 pub struct Encode<'a> {
     /// The address of the image's first byte, not yet read as a number.
     pub base: &'a str,
@@ -54,7 +54,7 @@ pub struct Encode<'a> {
 }
 
 /// `dump [--search] [--only A-B] [--progress] CAPTURE`: the messages of a capture, as text.
-#[derive(Debug, Drop)]
+#[derive(Drop)]
 pub struct Dump<'a> {
     /// Whether messages are looked for where bytes are none.
     pub search: bool,
@@ -68,7 +68,7 @@ pub struct Dump<'a> {
 
 /// `decode --base B [--also B2=FILE]... [--harts N] [--only A-B] [--lossy] [--progress] IMAGE CAPTURE`: the logs that the
 /// messages of a capture describe.
-#[derive(Debug, Drop)]
+#[derive(Drop)]
 pub struct Decode<'a> {
     /// The address of the image's first byte, not yet read as a number.
     pub base: &'a str,
@@ -90,7 +90,7 @@ pub struct Decode<'a> {
 
 /// `replay --base B [--also B2=FILE]... [--period N] [--full] [--capacity N] [--progress] IMAGE SCHEDULE LOG...`: what
 /// is decoded of the log of each hart that is sent through the funnel.
-#[derive(Debug, Drop)]
+#[derive(Drop)]
 pub struct Replay<'a> {
     /// The address of the image's first byte, not yet read as a number.
     pub base: &'a str,
@@ -114,7 +114,7 @@ pub struct Replay<'a> {
 
 /// `bench --base B [--also B2=FILE]... [--period N] [--full] [--capacity N] [--progress] IMAGE LOG...`: what is decoded
 /// of the log of each hart that is sent through the funnel from a thread of its own.
-#[derive(Debug, Drop)]
+#[derive(Drop)]
 pub struct Bench<'a> {
     /// The address of the image's first byte, not yet read as a number.
     pub base: &'a str,
@@ -135,7 +135,7 @@ pub struct Bench<'a> {
 }
 
 /// The form in which a subcommand prints what it found.
-#[derive(Clone, Copy, Debug, PartialEq, Eq)]
+#[derive(Clone, Copy)]
 pub enum Format {
     /// Lines of text.
     Text,
@@ -147,7 +147,7 @@ pub enum Format {
 
 /// `audit [--packets] [--unnumbered] [--only A-B] [--summary] [--format FORMAT] [--progress] SENT RECEIVED`: what became
 /// of the messages of one capture, by another capture of what arrived.
-#[derive(Debug, Drop)]
+#[derive(Drop)]
 pub struct Audit<'a> {
     /// Whether a message is compared by the packet that its payload unpacks to, and not by its bytes.
     pub packets: bool,
@@ -169,7 +169,7 @@ pub struct Audit<'a> {
 
 /// `measure --base B [--also B2=FILE]... [--period N] [--full] [--long] [--progress] IMAGE LOG...`: how many packets
 /// and bytes the log of each hart takes.
-#[derive(Debug, Drop)]
+#[derive(Drop)]
 pub struct Measure<'a> {
     /// The address of the image's first byte, not yet read as a number.
     pub base: &'a str,
@@ -191,7 +191,7 @@ pub struct Measure<'a> {
 
 /// `list --base B [--also B2=FILE]... [--harts N] [--only A-B] [--symbols FILE] [--salvage] [--format FORMAT] [--progress]
 /// IMAGE CAPTURE`: what each message of a capture says and settles.
-#[derive(Debug, Drop)]
+#[derive(Drop)]
 pub struct Listing<'a> {
     /// The address of the image's first byte, not yet read as a number.
     pub base: &'a str,
@@ -217,7 +217,7 @@ pub struct Listing<'a> {
 
 /// `salvage --base B [--also B2=FILE]... [--harts N] [--only A-B] [--summary] [--format FORMAT] [--progress] IMAGE
 /// CAPTURE`: what is left of the log of each hart after any damage to a capture.
-#[derive(Debug, Drop)]
+#[derive(Drop)]
 pub struct Salvage<'a> {
     /// The address of the image's first byte, not yet read as a number.
     pub base: &'a str,
@@ -240,7 +240,7 @@ pub struct Salvage<'a> {
 }
 
 /// `capture [--v1] [--full] [--period N] [--harts N] LINES`: the capture of a text of lines, each of one message.
-#[derive(Debug, Drop)]
+#[derive(Drop)]
 pub struct Capture<'a> {
     /// The version of the capture. It limits the count of harts.
     pub version: Version,
@@ -257,7 +257,7 @@ pub struct Capture<'a> {
 
 /// `compare --base B [--also B2=FILE]... [--harts N] [--only A-B] [--long] [--progress] IMAGE CAPTURE LOG...`: whether a
 /// capture describes just these logs.
-#[derive(Debug, Drop)]
+#[derive(Drop)]
 pub struct Compare<'a> {
     /// The address of the image's first byte, not yet read as a number.
     pub base: &'a str,
@@ -280,7 +280,7 @@ pub struct Compare<'a> {
 }
 
 /// A subcommand with its files and options, as texts of the arguments.
-#[derive(Debug, Drop)]
+#[derive(Drop)]
 pub enum Asked<'a> {
     /// A run of `check`.
     Check(Check<'a>),

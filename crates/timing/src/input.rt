@@ -31,13 +31,19 @@ impl Input {
         }
         let base = number(base.as_bytes()).ok_or(Fault::Words)?;
         let program = Program::new(base, fs::read(rt, image.as_str())?)?;
-        let mut texts = Vec::new(rt.alloc());
-        for path in logs {
-            let text = fs::read(rt, path.as_str())?;
-            if texts.push(text).is_err() {
-                return Err(Fault::Memory);
-            }
-        }
+        let texts = texts_at(rt, logs)?;
         Ok(Input { program, texts })
     }
+}
+
+/// The texts at these paths.
+fn texts_at<R: Files + AllocGlobal>(rt: &R, paths: &[String]) -> Result<Vec<Vec<u8>>, Fault> {
+    let mut texts = Vec::new(rt.alloc());
+    for path in paths {
+        let text = fs::read(rt, path.as_str())?;
+        if texts.push(text).is_err() {
+            return Err(Fault::Memory);
+        }
+    }
+    Ok(texts)
 }

@@ -12,6 +12,7 @@ use crate::sending::{Bare, IN_ONE_THREAD, OneThread, Senders, measure_senders};
 use crate::whole_captures::{CaptureDecoding, CaptureWriting, LossyDecoding};
 use captures::encode_capture;
 use legalpath::LegalLog;
+use payload::{Packet, Payload};
 use std::alloc::Global;
 use std::env::Env;
 use std::io::Write;
@@ -132,16 +133,24 @@ fn measure_packets<'a, R: Clock + AllocGlobal, E: Write>(
     log: &'a LegalLog<'a>,
 ) -> Result<(), Fault> {
     let alloc = rt.alloc();
-    let program = log.program();
+    let packets = packets_of(alloc, log.program(), log.events())?;
+    let payloads = payloads_of(alloc, packets.as_slice())?;
+    measure_both_ways(rt, err, log, packets.as_slice(), payloads.as_slice())
+}
+
+/// Measures the phases from a log to these packets and payloads of it, and back.
+fn measure_both_ways<'a, R: Clock + AllocGlobal, E: Write>(
+    rt: &R,
+    err: &mut E,
+    log: &'a LegalLog<'a>,
+    packets: &[Packet],
+    payloads: &[Payload],
+) -> Result<(), Fault> {
     let count = log.events().len();
-    let packets = packets_of(alloc, program, log.events())?;
-    let packets = packets.as_slice();
-    let payloads = payloads_of(alloc, packets)?;
-    let payloads = payloads.as_slice();
     measure(rt, err, "encode and pack", count, Encoding { log })?;
     let decoding = Decoding {
-        alloc,
-        program,
+        alloc: rt.alloc(),
+        program: log.program(),
         payloads,
     };
     measure(rt, err, "unpack and decode", count, decoding)?;
@@ -155,13 +164,24 @@ fn measure_captures<'a, 'p, R: Clock + AllocGlobal, E: Write>(
     err: &mut E,
     logs: &'a [LegalLog<'p>; 1],
 ) -> Result<(), Fault> {
-    let alloc = rt.alloc();
-    let program = logs[0].program();
-    let count = logs[0].events().len();
-    let mut capture = Vec::new(alloc);
+    let mut capture = Vec::new(rt.alloc());
     if encode_capture(logs, PERIOD, MODE, VERSION, &mut capture).is_err() {
         return Err(Fault::Log);
     }
+    measure_capture(rt, err, logs, capture.as_slice())?;
+    measure_audit(rt, err, logs)
+}
+
+/// Measures the phases from a log to this capture of it, and back.
+fn measure_capture<'a, 'p, R: Clock + AllocGlobal, E: Write>(
+    rt: &R,
+    err: &mut E,
+    logs: &'a [LegalLog<'p>; 1],
+    capture: &[u8],
+) -> Result<(), Fault> {
+    let alloc = rt.alloc();
+    let program = logs[0].program();
+    let count = logs[0].events().len();
     let writing = CaptureWriting {
         logs,
         capture: Vec::with_capacity(alloc, capture.len())?,
@@ -170,16 +190,15 @@ fn measure_captures<'a, 'p, R: Clock + AllocGlobal, E: Write>(
     let decoding = CaptureDecoding {
         alloc,
         program,
-        capture: capture.as_slice(),
+        capture,
     };
     measure(rt, err, "capture decoding", count, decoding)?;
     let lossy = LossyDecoding {
         alloc,
         program,
-        capture: capture.as_slice(),
+        capture,
     };
-    measure(rt, err, "lossy decoding", count, lossy)?;
-    measure_audit(rt, err, logs)
+    measure(rt, err, "lossy decoding", count, lossy)
 }
 
 /// Measures the audit of a log's capture with many synchronisations, where just its messages came.

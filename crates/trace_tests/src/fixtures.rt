@@ -1,6 +1,5 @@
-//! Small programs, logs of them, and outcomes of branches.
+//! Small programs, and logs of them.
 
-use payload::Outcomes;
 use retire::Event;
 use rvclass::Program;
 use std::process::Abort;
@@ -8,11 +7,9 @@ use std::process::Abort;
 /// Where programs begin.
 pub(crate) const BASE: u64 = 0x8000_0000;
 
-// Words, as the RISC-V Unprivileged ISA and the Privileged Architecture encode them. The jump and the branch are to 8
-// bytes on, the loops are to themselves.
+// Words, as the RISC-V Unprivileged ISA and the Privileged Architecture encode them. The branch is to 8 bytes on, the loops
+// are to themselves.
 pub(crate) const NOP: u32 = 0x0000_0013;
-
-pub(crate) const JAL: u32 = 0x0080_006f;
 
 pub(crate) const JUMP_LOOP: u32 = 0x0000_006f;
 
@@ -31,35 +28,20 @@ pub(crate) const RET: u32 = 0x0000_8067;
 
 pub(crate) const MRET: u32 = 0x3020_0073;
 
-pub(crate) const SRET: u32 = 0x1020_0073;
-
 pub(crate) const ECALL: u32 = 0x0000_0073;
-
-/// An ECALL, and its handler 256 bytes after the base.
-pub(crate) const FAR: [u32; 65] = [
-    NOP, ECALL, 0, 0, 0, 0, 0, 0, 0, 0, 0, 0, 0, 0, 0, 0, 0, 0, 0, 0, 0, 0, 0, 0, 0, 0, 0, 0, 0, 0,
-    0, 0, 0, 0, 0, 0, 0, 0, 0, 0, 0, 0, 0, 0, 0, 0, 0, 0, 0, 0, 0, 0, 0, 0, 0, 0, 0, 0, 0, 0, 0, 0,
-    0, 0, NOP,
-];
 
 /// Appends the bytes.
 pub(crate) fn add<R: Abort>(rt: &R, text: &mut Vec<u8>, bytes: &[u8]) {
     text.extend_from_slice(bytes).expect(rt, "memory");
 }
 
-/// The program of these instructions and of the bytes after them, from the base on.
-pub(crate) fn program_with<R: Abort + AllocGlobal>(rt: &R, words: &[u32], bytes: &[u8]) -> Program {
+/// The program of these instructions, from the base on.
+pub(crate) fn program_of<R: Abort + AllocGlobal>(rt: &R, words: &[u32]) -> Program {
     let mut image = Vec::new(rt.alloc());
     for word in words {
         add(rt, &mut image, &word.to_le_bytes());
     }
-    add(rt, &mut image, bytes);
     Program::new(BASE, image).expect(rt, "a program")
-}
-
-/// The program of these instructions, from the base on.
-pub(crate) fn program_of<R: Abort + AllocGlobal>(rt: &R, words: &[u32]) -> Program {
-    program_with(rt, words, &[])
 }
 
 /// The program of this many instructions C.NOP, from the base on.
@@ -110,7 +92,7 @@ pub(crate) enum Step {
 }
 
 /// The event that a step is.
-pub(crate) fn event_of(step: Step) -> Event {
+fn event_of(step: Step) -> Event {
     match step {
         Step::Retires(offset, itype, privilege) => retired(offset, itype, privilege),
         Step::Traps(epc, privilege, interrupt, cause, tval) => {
@@ -126,15 +108,4 @@ pub(crate) fn log_of<R: Abort + AllocGlobal>(rt: &R, steps: &[Step]) -> Vec<Even
         log.push(event_of(*step)).expect(rt, "memory");
     }
     log
-}
-
-/// The first 31 of these outcomes, the oldest first.
-pub(crate) fn outcomes_of(taken: &[bool]) -> Outcomes {
-    let mut outcomes = Outcomes::new();
-    for outcome in taken {
-        if outcomes.len() < 31 {
-            outcomes.push(*outcome);
-        }
-    }
-    outcomes
 }

@@ -1,5 +1,7 @@
-//! Tests of logs, of logs that come in pieces, of their packets, of their captures and of what is decoded of them, also after
-//! losses; of listings, symbols, measures and explanations; of jobs side by side; and of long texts.
+//! Tests of logs, of logs that come in pieces or side by side, of their captures and of what is decoded of them, also after
+//! losses; of listings, symbols, measures and explanations; of jobs side by side; of memories of many pieces; and of long
+//! texts: where a device or an allocation fails, where threads work, and at sizes and cuts without number. Single cases
+//! are lines of `vectors`.
 //!
 //! They are in a crate of their own: the gate proves a crate that has tests once more with them.
 #![tactic(auto)]
@@ -27,6 +29,8 @@ mod lossy;
 #[cfg(test)]
 mod measured;
 #[cfg(test)]
+mod memories;
+#[cfg(test)]
 mod named;
 #[cfg(test)]
 mod packets;
@@ -36,5 +40,7 @@ mod refused_captures;
 mod salvaged;
 #[cfg(test)]
 mod same;
+#[cfg(test)]
+mod side_by_side_logs;
 #[cfg(test)]
 mod whole_captures;

@@ -1,8 +1,6 @@
-//! What is below the packets: the instructions of programs (`rvclass`), logs read and written (`retire`), which logs
-//! are legal (`legalpath`), and schedules (`schedule`).
+//! What is below the packets: logs read and written (`retire`) by devices and memory that fail, and a schedule
+//! (`schedule`) without memory. Instructions, legal logs, texts and schedules are cases of `vectors`.
 
-mod legal_paths;
-mod programs;
 mod refused;
 mod schedules;
 mod streams;

@@ -1,10 +1,9 @@
-//! What is left of logs where some of their messages are lost (`losses`).
+//! What is left of logs where some of their messages are lost (`losses`): after gaps of each size, and without memory. The
+//! losses of worked logs are cases of `vectors`.
 
 mod collected;
 mod faults;
 mod gaps;
-mod many;
 mod small_logs;
-mod worked_logs;
 
 pub(crate) use self::collected::add;

@@ -1,63 +1,16 @@
-//! Packets: their bits (`payload`), and which packets a log has (`encoder`).
+//! Outcomes of branches, a reading of payloads bit by bit, and the payloads of logs for other tests. Packets, their
+//! payloads and the packets of logs are cases of `vectors`.
 
 mod faults_by_bits;
-mod forms;
 mod outcomes;
-mod payloads;
-mod refusals;
-mod rows;
-mod until_packet;
-mod vectors;
 
 pub(crate) use self::faults_by_bits::fault_of;
-use self::forms::payload_of;
-use encoder::{Encoder, Source};
+use encoder::Source;
 use legalpath::LegalLog;
-use payload::{Mode, Packet, Payload};
+use payload::{Mode, Payload};
 use retire::Event;
 use rvclass::Program;
 use std::process::Abort;
-
-/// An encoder, and the packet that opens its trace.
-fn opened<R: Abort + AllocGlobal>(rt: &R, period: u16, mode: Mode) -> (Encoder, Vec<Packet>) {
-    assert!(rt; period != 0, "a period is 0");
-    let mut encoder = Encoder::new(period, mode);
-    let mut packets = Vec::new(rt.alloc());
-    packets.push(encoder.open()).expect(rt, "memory");
-    (encoder, packets)
-}
-
-/// Adds packets to a list.
-fn add_packets(rt: &impl Abort, packets: &mut Vec<Packet>, more: &[Packet]) {
-    packets.extend_from_slice(more).expect(rt, "memory");
-}
-
-/// The packets of a log.
-pub(crate) fn packets_of<R: Abort + AllocGlobal>(
-    rt: &R,
-    program: &Program,
-    period: u16,
-    mode: Mode,
-    log: &[Event],
-) -> Vec<Packet> {
-    let (mut encoder, mut packets) = opened(rt, period, mode);
-    for event in log {
-        let pushed = encoder.push(program, *event);
-        add_packets(rt, &mut packets, pushed.as_slice());
-    }
-    let last = encoder.finish(program);
-    add_packets(rt, &mut packets, last.as_slice());
-    packets
-}
-
-/// The payloads of packets, which all have to be of the profile.
-pub(crate) fn payloads_of<R: Abort + AllocGlobal>(rt: &R, packets: &[Packet]) -> Vec<Payload> {
-    let mut payloads = Vec::new(rt.alloc());
-    for packet in packets {
-        payloads.push(payload_of(rt, packet)).expect(rt, "memory");
-    }
-    payloads
-}
 
 /// The legal log of these events.
 pub(crate) fn legal_log<'p, R: Abort + AllocGlobal>(

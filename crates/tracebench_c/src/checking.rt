@@ -1,20 +1,15 @@
-//! Programs and logs from bytes, and which logs are legal.
+//! Logs and events that are checked.
 
-ghost use Rattle.tracebench_c.specs.Checked.{ReportsCheck, IsChecked};
-ghost use Rattle.tracebench_c.specs.Images.{judged_image};
+ghost use Rattle.ffi.specs.Checked.{ReportsCheck};
+ghost use Rattle.ffi.specs.EventsChecked.{EndsCheckEvents};
+ghost use Rattle.ffi.specs.Followed.{EndsFollow};
+ghost use Rattle.ffi.specs.Images.{OfPieces, judged_image};
 
-use crate::fault::Fault;
-use crate::images::{Judged, judge_image};
-use crate::status::DONE;
-use legalpath::check;
-use retire::read_log_from_slice;
+use ffi::{EventNumbers, ImagePiece};
 use std::alloc::Global;
 
-/// Checks that the text of a log is that of a legal log of a program, whose image has its first byte at `base`.
-///
-/// The status is [`DONE`] where it is; then `row` is the count of events. Or it says why it is not: what is wrong with
-/// the image, with the text, or with the log; then `row` is the row that is at fault, counted from 1, or 0. Or it is
-/// [`MEMORY`](crate::status::MEMORY).
+/// Checks that the text of a log is that of a legal log of a program, whose image has its first byte at `base`. See
+/// [`ffi::tracebench_check`].
 #[unsafe(no_mangle)]
 pub extern "C" fn tracebench_check(
     alloc: Global,
@@ -25,35 +20,77 @@ pub extern "C" fn tracebench_check(
 ) -> u32
     ensures { ReportsCheck (judged_image base image.now) log.now result row.new }
 {
-    let judged = judge_image(base, image);
-    report_check(alloc, &judged, log, row)
+    ffi::tracebench_check(alloc, base, image, log, row)
 }
 
-/// Checks the text of a log, and reports the result.
-pub(crate) fn report_check(alloc: Global, image: &Judged<'_>, log: &[u8], row: &mut u64) -> u32
-    ensures { ReportsCheck image.now log.now result row.new }
+/// Checks the text of a log as [`tracebench_check`](ffi::tracebench_check) does, over pieces. See
+/// [`ffi::tracebench_check_over_pieces`].
+#[unsafe(no_mangle)]
+pub extern "C" fn tracebench_check_over_pieces(
+    alloc: Global,
+    pieces: &[ImagePiece<'_>],
+    log: &[u8],
+    row: &mut u64,
+) -> u32
+    ensures { OfPieces pieces.now (λ image. ReportsCheck image log.now result row.new) }
 {
-    match check_log(alloc, image, log) {
-        Ok(count) => {
-            *row = count;
-            DONE
-        }
-        Err(fault) => {
-            *row = fault.row();
-            fault.status()
-        }
-    }
+    ffi::tracebench_check_over_pieces(alloc, pieces, log, row)
 }
 
-/// How many events a legal log has.
-fn check_log(alloc: Global, image: &Judged<'_>, log: &[u8]) -> Result<u64, Fault>
-    ensures { IsChecked image.now log.now result }
+/// Checks that events are a legal log of a program, whose image has its first byte at `base`. See
+/// [`ffi::tracebench_check_events`].
+#[unsafe(no_mangle)]
+pub extern "C" fn tracebench_check_events(
+    base: u64,
+    image: &[u8],
+    events: &[EventNumbers],
+    row: &mut u64,
+) -> u32
+    ensures { EndsCheckEvents (judged_image base image.now) events.now result row.new }
 {
-    let program = match image {
-        Ok(program) => program,
-        Err(why) => return Err(Fault::NoProgram(*why)),
-    };
-    let events = read_log_from_slice(alloc, alloc, log)?;
-    check(program, events.as_slice())?;
-    Ok(events.len() as u64)
+    ffi::tracebench_check_events(base, image, events, row)
+}
+
+/// Checks events as [`tracebench_check_events`](ffi::tracebench_check_events) does, over pieces. See
+/// [`ffi::tracebench_check_events_over_pieces`].
+#[unsafe(no_mangle)]
+pub extern "C" fn tracebench_check_events_over_pieces(
+    alloc: Global,
+    pieces: &[ImagePiece<'_>],
+    events: &[EventNumbers],
+    row: &mut u64,
+) -> u32
+    ensures { OfPieces pieces.now (λ image. EndsCheckEvents image events.now result row.new) }
+{
+    ffi::tracebench_check_events_over_pieces(alloc, pieces, events, row)
+}
+
+/// Checks that an event is legal after the event before it, or as the first event of a log. See
+/// [`ffi::tracebench_follow`].
+#[unsafe(no_mangle)]
+pub extern "C" fn tracebench_follow(
+    base: u64,
+    image: &[u8],
+    has_before: u32,
+    before: &EventNumbers,
+    event: &EventNumbers,
+) -> u32
+    ensures { EndsFollow (judged_image base image.now) has_before before.now event.now result }
+{
+    ffi::tracebench_follow(base, image, has_before, before, event)
+}
+
+/// Checks an event after the one before it as [`tracebench_follow`](ffi::tracebench_follow) does, over pieces. See
+/// [`ffi::tracebench_follow_over_pieces`].
+#[unsafe(no_mangle)]
+pub extern "C" fn tracebench_follow_over_pieces(
+    alloc: Global,
+    pieces: &[ImagePiece<'_>],
+    has_before: u32,
+    before: &EventNumbers,
+    event: &EventNumbers,
+) -> u32
+    ensures { OfPieces pieces.now (λ image. EndsFollow image has_before before.now event.now result) }
+{
+    ffi::tracebench_follow_over_pieces(alloc, pieces, has_before, before, event)
 }

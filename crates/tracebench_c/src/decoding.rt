@@ -1,51 +1,22 @@
-//! The log of a hart, from a capture.
+//! Captures that become logs, and payloads that become events.
 
-ghost use Rattle.std.specs.Prelude.{◌≡◌};
-ghost use Rattle.tracebench_c.specs.Decoded.{ReportsDecode, IsHartDecoded, closed_at, stop_fault, stop_place};
-ghost use Rattle.tracebench_c.specs.Images.{judged_image};
-ghost use Rattle.tracebench_c.specs.Statuses.{capture_status, decode_status, demux_status};
+ghost use Rattle.std.specs.Prelude.{[], None};
+ghost use Rattle.ffi.specs.Decoded.{ReportsDecode};
+ghost use Rattle.ffi.specs.DecodedAll.{ReportsDecodeAll};
+ghost use Rattle.ffi.specs.DecoderKept.{HaveMode, NumbersStand};
+ghost use Rattle.ffi.specs.Fed.{ReportsFeed};
+ghost use Rattle.ffi.specs.FedAll.{ReportsFeedAll};
+ghost use Rattle.ffi.specs.Images.{OfPieces, judged_image};
+ghost use Rattle.ffi.specs.Received.{ReportsReceive, ReportsResume};
+ghost use Rattle.rvclass.specs.Words.{Words};
 
-use crate::dumping::message_status;
-use crate::fault::Fault;
-use crate::handing::hand_out;
-use crate::images::{Judged, judge_image};
-use crate::packing::pack_status;
-use crate::status::*;
-use captures::{CaptureFault, decode_capture};
-use decoder::DecodeFault;
-use message::DemuxFault;
-use retire::write_log;
+use ffi::{
+    DecodeAllEnd, DecodeEnd, DecoderNumbers, EventNumbers, HartEnd, HartNumbers, ImagePiece,
+};
 use std::alloc::Global;
 
-/// How decoding a capture ends.
-#[repr(C)]
-#[derive(Clone, Copy)]
-pub struct DecodeEnd {
-    /// How many harts the capture has.
-    pub harts: u64,
-    /// The message, counted from 0 over all harts, at which decoding stops before the end. It is 0 where `fault` is 0,
-    /// and at a header that is cut short or bad.
-    pub place: u64,
-    /// Why it stops there, as a status; 0 where it comes to the end.
-    pub fault: u32,
-    /// 1 where the closing packet of the hart was decoded, and else 0.
-    pub closed: u32,
-}
-
-/// The text of a hart's log, and how decoding ended.
-#[derive(Drop)]
-pub struct HartText {
-    /// The log, as text.
-    pub text: Vec<u8>,
-    /// How decoding the capture ended.
-    pub end: DecodeEnd,
-}
-
 /// Decodes a capture, and writes the log of one of its harts as text to a buffer, as far as the hart's messages settle
-/// it. The harts are those that the header counts, or without a header those below `harts`.
-///
-/// The status is [`DONE`], [`TOO_SMALL`], [`NO_HART`] where the capture has no hart of this number, [`MEMORY`], or says
-/// what is wrong with the image. The last three write nothing.
+/// it. See [`ffi::tracebench_decode`].
 #[unsafe(no_mangle)]
 pub extern "C" fn tracebench_decode(
     alloc: Global,
@@ -61,14 +32,17 @@ pub extern "C" fn tracebench_decode(
     ensures { ReportsDecode (judged_image base image.now) harts capture.now hart result wanted.old wanted.new ended.old
         ended.new buffer.old buffer.new }
 {
-    let judged = judge_image(base, image);
-    report_decode(alloc, &judged, harts, capture, hart, buffer, wanted, ended)
+    ffi::tracebench_decode(
+        alloc, base, image, harts, capture, hart, buffer, wanted, ended,
+    )
 }
 
-/// Decodes a capture, and reports the log of a hart.
-pub(crate) fn report_decode(
+/// Decodes a capture as [`tracebench_decode`](ffi::tracebench_decode) does, over pieces. See
+/// [`ffi::tracebench_decode_over_pieces`].
+#[unsafe(no_mangle)]
+pub extern "C" fn tracebench_decode_over_pieces(
     alloc: Global,
-    image: &Judged<'_>,
+    pieces: &[ImagePiece<'_>],
     harts: u16,
     capture: &[u8],
     hart: u16,
@@ -76,118 +50,186 @@ pub(crate) fn report_decode(
     wanted: &mut u64,
     ended: &mut DecodeEnd,
 ) -> u32
-    ensures { ReportsDecode image.now harts capture.now hart result wanted.old wanted.new ended.old ended.new buffer.old
-        buffer.new }
+    ensures { OfPieces pieces.now (λ image. ReportsDecode image harts capture.now hart result wanted.old wanted.new
+        ended.old ended.new buffer.old buffer.new) }
 {
-    match decode_hart(alloc, image, harts, capture, hart) {
-        Ok(decoded) => {
-            *ended = decoded.end;
-            hand_out(decoded.text.as_slice(), buffer, wanted)
-        }
-        Err(fault) => fault.status(),
-    }
+    ffi::tracebench_decode_over_pieces(alloc, pieces, harts, capture, hart, buffer, wanted, ended)
 }
 
-/// The log of a hart of a capture, as text.
-fn decode_hart(
+/// Decodes a capture once, and writes the logs of all its harts as text to a buffer, one after the other, as far as the
+/// harts' messages settle them. See [`ffi::tracebench_decode_all`].
+#[unsafe(no_mangle)]
+pub extern "C" fn tracebench_decode_all(
     alloc: Global,
-    image: &Judged<'_>,
+    base: u64,
+    image: &[u8],
     harts: u16,
     capture: &[u8],
-    hart: u16,
-) -> Result<HartText, Fault>
-    ensures { IsHartDecoded image.now harts capture.now hart result }
+    buffer: &mut [u8],
+    wanted: &mut u64,
+    ends: &mut [HartEnd],
+    ended: &mut DecodeAllEnd,
+) -> u32
+    ensures { ReportsDecodeAll (judged_image base image.now) harts capture.now result wanted.old wanted.new ended.old
+        ended.new buffer.old buffer.new ends.old ends.new }
 {
-    let program = match image {
-        Ok(program) => program,
-        Err(why) => return Err(Fault::NoProgram(*why)),
-    };
-    let outcome = decode_capture(alloc, program, harts, capture)?;
-    let place = usize::from(hart);
-    let Some(events) = outcome.harts.get(place) else {
-        return Err(Fault::NoHart);
-    };
-    let mut text = Vec::new(alloc);
-    match write_log(alloc, &mut text, events.as_slice()) {
-        Ok(()) => {}
-        Err(_) => return Err(Fault::Memory),
-    }
-    let end = DecodeEnd {
-        harts: outcome.harts.len() as u64,
-        place: stop_place(outcome.fault),
-        fault: stop_fault(outcome.fault),
-        closed: closed_at(outcome.closed.as_slice(), place),
-    };
-    Ok(HartText { text, end })
+    ffi::tracebench_decode_all(
+        alloc, base, image, harts, capture, buffer, wanted, ends, ended,
+    )
 }
 
-/// Where decoding stops.
-pub(crate) fn stop_place(stop: Option<(u64, CaptureFault)>) -> u64
-    ensures { result ≡ stop_place stop }
+/// Decodes a capture as [`tracebench_decode_all`] does, over pieces. See [`ffi::tracebench_decode_all_over_pieces`].
+#[unsafe(no_mangle)]
+pub extern "C" fn tracebench_decode_all_over_pieces(
+    alloc: Global,
+    pieces: &[ImagePiece<'_>],
+    harts: u16,
+    capture: &[u8],
+    buffer: &mut [u8],
+    wanted: &mut u64,
+    ends: &mut [HartEnd],
+    ended: &mut DecodeAllEnd,
+) -> u32
+    ensures { OfPieces pieces.now (λ image. ReportsDecodeAll image harts capture.now result wanted.old wanted.new
+        ended.old ended.new buffer.old buffer.new ends.old ends.new) }
 {
-    match stop {
-        Some((place, _)) => place,
-        None => 0,
-    }
+    ffi::tracebench_decode_all_over_pieces(
+        alloc, pieces, harts, capture, buffer, wanted, ends, ended,
+    )
 }
 
-/// Why decoding stops, as a status.
-pub(crate) fn stop_fault(stop: Option<(u64, CaptureFault)>) -> u32
-    ensures { result ≡ stop_fault stop }
+/// Writes the numbers of a decoder before the first packet. See [`ffi::tracebench_decoder`].
+#[unsafe(no_mangle)]
+pub extern "C" fn tracebench_decoder(state: &mut DecoderNumbers)
+    ensures stands { (words : Words) → NumbersStand words [] [] state.new }
+    ensures unannounced { HaveMode None state.new }
 {
-    match stop {
-        Some((_, why)) => capture_status(why),
-        None => DONE,
-    }
+    ffi::tracebench_decoder(state)
 }
 
-/// Whether the closing packet of a hart was decoded.
-pub(crate) fn closed_at(closed: &[bool], hart: usize) -> u32
-    ensures { result ≡ closed_at closed.now hart }
+/// Feeds a payload to the decoder with these numbers, and writes the events that it settles, oldest first, and the
+/// decoder's new numbers. See [`ffi::tracebench_feed`].
+#[unsafe(no_mangle)]
+pub extern "C" fn tracebench_feed(
+    alloc: Global,
+    base: u64,
+    image: &[u8],
+    state: &mut DecoderNumbers,
+    payload: &[u8],
+    events: &mut [EventNumbers],
+    count: &mut u64,
+) -> u32
+    ensures { ReportsFeed (judged_image base image.now) payload.now result state.old state.new count.old count.new
+        events.old events.new }
 {
-    match closed.get(hart) {
-        Some(closed) => u32::from(*closed),
-        None => 0,
-    }
+    ffi::tracebench_feed(alloc, base, image, state, payload, events, count)
 }
 
-/// Why decoding a capture stops.
-fn capture_status(why: CaptureFault) -> u32
-    ensures { result ≡ capture_status why }
+/// Feeds a payload as [`tracebench_feed`](ffi::tracebench_feed) does, over pieces. See
+/// [`ffi::tracebench_feed_over_pieces`].
+#[unsafe(no_mangle)]
+pub extern "C" fn tracebench_feed_over_pieces(
+    alloc: Global,
+    pieces: &[ImagePiece<'_>],
+    state: &mut DecoderNumbers,
+    payload: &[u8],
+    events: &mut [EventNumbers],
+    count: &mut u64,
+) -> u32
+    ensures { OfPieces pieces.now (λ image. ReportsFeed image payload.now result state.old state.new count.old
+        count.new events.old events.new) }
 {
-    match why {
-        CaptureFault::Message(why) => message_status(why),
-        CaptureFault::Demux(why) => demux_status(why),
-        CaptureFault::Decode(why) => decode_status(why),
-        CaptureFault::Mode => OTHER_MODE,
-    }
+    ffi::tracebench_feed_over_pieces(alloc, pieces, state, payload, events, count)
 }
 
-/// Why a message is not accepted.
-pub(crate) fn demux_status(why: DemuxFault) -> u32
-    ensures { result ≡ demux_status why }
+/// Feeds payloads to the decoder with these numbers, one after the other as [`tracebench_feed`](ffi::tracebench_feed)
+/// each, and writes the events that they settle, oldest first. See [`ffi::tracebench_feed_all`].
+#[unsafe(no_mangle)]
+pub extern "C" fn tracebench_feed_all(
+    alloc: Global,
+    base: u64,
+    image: &[u8],
+    state: &mut DecoderNumbers,
+    payloads: &[u8],
+    ends: &[u64],
+    events: &mut [EventNumbers],
+    taken: &mut u64,
+    count: &mut u64,
+) -> u32
+    ensures { ReportsFeedAll (judged_image base image.now) payloads.now ends.now result state.old state.new taken.new
+        count.new events.old events.new }
 {
-    match why {
-        DemuxFault::Stranger => STRANGER,
-        DemuxFault::Repeat => REPEAT,
-        DemuxFault::Gap { .. } => GAP,
-        DemuxFault::AfterClose => AFTER_CLOSE,
-        DemuxFault::Packet(why) => pack_status(why),
-    }
+    ffi::tracebench_feed_all(
+        alloc, base, image, state, payloads, ends, events, taken, count,
+    )
 }
 
-/// Why a packet is not decoded.
-pub(crate) fn decode_status(why: DecodeFault) -> u32
-    ensures { result ≡ decode_status why }
+/// Feeds payloads as [`tracebench_feed_all`](ffi::tracebench_feed_all) does, over pieces. See
+/// [`ffi::tracebench_feed_all_over_pieces`].
+#[unsafe(no_mangle)]
+pub extern "C" fn tracebench_feed_all_over_pieces(
+    alloc: Global,
+    pieces: &[ImagePiece<'_>],
+    state: &mut DecoderNumbers,
+    payloads: &[u8],
+    ends: &[u64],
+    events: &mut [EventNumbers],
+    taken: &mut u64,
+    count: &mut u64,
+) -> u32
+    ensures { OfPieces pieces.now (λ image. ReportsFeedAll image payloads.now ends.now result state.old state.new
+        taken.new count.new events.old events.new) }
 {
-    match why {
-        DecodeFault::NotOpened => NOT_OPENED,
-        DecodeFault::OffProgram => WALKS_OFF_PROGRAM,
-        DecodeFault::MissedNotify => MISSED_NOTIFY,
-        DecodeFault::Branches => WRONG_BRANCHES,
-        DecodeFault::WrongPlace => WRONG_PLACE,
-        DecodeFault::WrongPrivilege => WALKS_AT_WRONG_PRIVILEGE,
-        DecodeFault::AfterClose => AFTER_CLOSING_PACKET,
-        DecodeFault::Memory => MEMORY,
-    }
+    ffi::tracebench_feed_all_over_pieces(alloc, pieces, state, payloads, ends, events, taken, count)
+}
+
+/// Takes the next message of a hart, where messages before it may be lost, and writes the events that it settles and
+/// how many they are. See [`ffi::tracebench_receive`].
+#[unsafe(no_mangle)]
+pub extern "C" fn tracebench_receive(
+    alloc: Global,
+    base: u64,
+    image: &[u8],
+    hart: &mut HartNumbers,
+    number: u64,
+    payload: &[u8],
+    events: &mut [EventNumbers],
+    count: &mut u64,
+    missing: &mut u64,
+) -> u32
+    ensures { ReportsReceive (judged_image base image.now) number payload.now result hart.old hart.new count.old
+        count.new missing.old missing.new events.old events.new }
+{
+    ffi::tracebench_receive(
+        alloc, base, image, hart, number, payload, events, count, missing,
+    )
+}
+
+/// Takes the next message of a hart as [`tracebench_receive`](ffi::tracebench_receive) does, over pieces. See
+/// [`ffi::tracebench_receive_over_pieces`].
+#[unsafe(no_mangle)]
+pub extern "C" fn tracebench_receive_over_pieces(
+    alloc: Global,
+    pieces: &[ImagePiece<'_>],
+    hart: &mut HartNumbers,
+    number: u64,
+    payload: &[u8],
+    events: &mut [EventNumbers],
+    count: &mut u64,
+    missing: &mut u64,
+) -> u32
+    ensures { OfPieces pieces.now (λ image. ReportsReceive image number payload.now result hart.old hart.new count.old
+        count.new missing.old missing.new events.old events.new) }
+{
+    ffi::tracebench_receive_over_pieces(
+        alloc, pieces, hart, number, payload, events, count, missing,
+    )
+}
+
+/// Lets a hart go on at a message before which others are lost. See [`ffi::tracebench_resume`].
+#[unsafe(no_mangle)]
+pub extern "C" fn tracebench_resume(hart: &mut HartNumbers, number: u64, mode: u32) -> u32
+    ensures { ReportsResume number mode result hart.old hart.new }
+{
+    ffi::tracebench_resume(hart, number, mode)
 }

@@ -1,51 +1,26 @@
-//! From the texts of logs to a capture.
+//! Logs that become captures and packets, at once or step by step.
 
-ghost use Rattle.std.specs.Prelude.{◌≡◌, ◌≤◌, Err, IfErr, IfOk, IfSome, None, length, option_map};
-ghost use Rattle.message.specs.Version.{most_harts};
-ghost use Rattle.tracebench_c.specs.Encoded.{AreInRange, AreLogs, IsEncoded, IsLegalText, IsMade, IsNoLegalText};
-ghost use Rattle.tracebench_c.specs.Encoded.{IsOutOfRange, IsRefusedLog, ReportsEncode, ReportsMade, mode_of};
-ghost use Rattle.tracebench_c.specs.Encoded.{text_between, version_of};
-ghost use Rattle.tracebench_c.specs.Images.{judged_image};
-ghost use Rattle.tracebench_c.specs.declared.fault.Fault.TheVariants.{Memory};
-ghost use Rattle.tracebench_c.specs.declared.fault.ImageFault.TheVariants as ImageFault;
+ghost use Rattle.std.specs.Prelude.{[], ◌++◌, ◌+◌, ◌<◌, ◌∷◌, ◌≡◌, ◌≢◌, ◌≤◌, ◌⊎◌, ℕ, List, Some, length, map, take};
+ghost use Rattle.encoder.specs.Packets.{packets as packets_of};
+ghost use Rattle.encoder.specs.PacketsSoFar.{packets_so_far};
+ghost use Rattle.ffi.specs.Encoded.{ReportsEncode, mode_of};
+ghost use Rattle.ffi.specs.EncoderKept.{AreOfEncoder, NumbersStand};
+ghost use Rattle.ffi.specs.Images.{OfPieces, judged_image, judged_pieces};
+ghost use Rattle.ffi.specs.Numbers.{numbers_of};
+ghost use Rattle.ffi.specs.Pushed.{AreFew, AreMore, EndsFinish, EndsPush, IsNext, IsOn, new_status};
+ghost use Rattle.ffi.specs.PushedAll.{AreNext, AreWritten, AreWrittenFirst, EndsPushAll, FillRoom, HaveNoRoom};
+ghost use Rattle.ffi.specs.PushedChecked.{EndsPushChecked, JudgesNext, MayBeNext};
+ghost use Rattle.ffi.specs.declared.status.TheConstants.{DONE, MEMORY, TOO_SMALL};
+ghost use Rattle.payload.specs.declared.mode.Mode.{Mode};
+ghost use Rattle.retire.specs.declared.event.Event.{Event as AnyEvent};
+ghost use Rattle.rvclass.specs.Fetch.{words_of};
+ghost use Rattle.rvclass.specs.Image.{Image};
+ghost use Rattle.rvclass.specs.Words.{Words};
 
-use crate::copying::{Copied, copy_image};
-use crate::fault::{Fault, ImageFault};
-use crate::handing::hand_out;
-use crate::numbers::{DIFFERENTIAL, FULL};
-use captures::encode_capture;
-use legalpath::LegalLog;
-use message::Version;
-use payload::Mode;
-use retire::read_log_from_slice;
-use rvclass::Program;
+use ffi::{EncoderNumbers, EventNumbers, ImagePiece, LogPlace, PacketNumbers};
 use std::alloc::Global;
 
-/// A capture without a header.
-pub const VERSION_ONE: u32 = 1;
-/// A capture with a header.
-pub const VERSION_TWO: u32 = 2;
-
-/// The log and its row that a fault names.
-#[repr(C)]
-#[derive(Clone, Copy)]
-pub struct LogPlace {
-    /// The log, counted from 0; 0 where none is named.
-    pub log: u64,
-    /// The row, counted from 1; 0 where none is named.
-    pub row: u64,
-}
-
-/// Writes the capture of harts' logs to a buffer, hart 0 first. `logs` holds the texts of the logs, one after the
-/// other, and `ends` where each ends; what is after the last end is not looked at. There are 1 to 1,024 logs, in
-/// version 1 at most 64, the period is 1 or more, the mode is [`DIFFERENTIAL`] or [`FULL`], and the version
-/// [`VERSION_ONE`] or [`VERSION_TWO`].
-///
-/// The status is [`DONE`](crate::status::DONE), [`TOO_SMALL`](crate::status::TOO_SMALL),
-/// [`OUT_OF_RANGE`](crate::status::OUT_OF_RANGE) where one of these numbers is out of its range,
-/// [`MEMORY`](crate::status::MEMORY), or says what is wrong with the image or with the first log that is no legal log.
-/// [`BAD_ENDS`](crate::status::BAD_ENDS) says that the log's end is before its start or past the texts. Where there is
-/// no capture, `place` names the log and its row; both are 0 where no log is at fault.
+/// Writes the capture of harts' logs to a buffer, hart 0 first. See [`ffi::tracebench_encode`].
 #[unsafe(no_mangle)]
 pub extern "C" fn tracebench_encode(
     alloc: Global,
@@ -63,175 +38,299 @@ pub extern "C" fn tracebench_encode(
     ensures { ReportsEncode (judged_image base image.now) logs.now ends.now period mode version result wanted.old
         wanted.new place.old place.new buffer.old buffer.new }
 {
-    let made = encode_logs(alloc, base, image, logs, ends, period, mode, version);
-    report_made(made, buffer, wanted, place)
+    ffi::tracebench_encode(
+        alloc, base, image, logs, ends, period, mode, version, buffer, wanted, place,
+    )
 }
 
-/// Hands out a capture, or reports why there is none.
-pub(crate) fn report_made(
-    made: Result<Vec<u8>, (u64, Fault)>,
+/// Writes the capture of harts' logs as [`tracebench_encode`](ffi::tracebench_encode) does, over pieces. See
+/// [`ffi::tracebench_encode_over_pieces`].
+#[unsafe(no_mangle)]
+pub extern "C" fn tracebench_encode_over_pieces(
+    alloc: Global,
+    pieces: &[ImagePiece<'_>],
+    logs: &[u8],
+    ends: &[u64],
+    period: u16,
+    mode: u32,
+    version: u32,
     buffer: &mut [u8],
     wanted: &mut u64,
     place: &mut LogPlace,
 ) -> u32
-    ensures { ReportsMade made result wanted.old wanted.new place.old place.new buffer.old buffer.new }
+    ensures { ReportsEncode (judged_pieces pieces.now) logs.now ends.now period mode version result wanted.old
+        wanted.new place.old place.new buffer.old buffer.new }
 {
-    match made {
-        Ok(capture) => hand_out(capture.as_slice(), buffer, wanted),
-        Err((log, fault)) => {
-            *place = LogPlace {
-                log,
-                row: fault.row(),
-            };
-            fault.status()
-        }
-    }
+    ffi::tracebench_encode_over_pieces(
+        alloc, pieces, logs, ends, period, mode, version, buffer, wanted, place,
+    )
 }
 
-/// The capture of logs, or the log that is at fault and why.
-fn encode_logs(
-    alloc: Global,
+/// Writes the state of an encoder before the first event of a log, and the packet that opens the trace. See
+/// [`ffi::tracebench_encoder`].
+#[unsafe(no_mangle)]
+pub extern "C" fn tracebench_encoder(
+    period: u16,
+    mode: u32,
+    state: &mut EncoderNumbers,
+    opening: &mut PacketNumbers,
+) -> u32
+    ensures status { result ≡ new_status period mode }
+    ensures stands { (words : Words) (named : Mode) → result ≡ DONE → mode_of mode ≡ Some named →
+        NumbersStand words period named [] state.new }
+    ensures opens { (words : Words) (named : Mode) → result ≡ DONE → mode_of mode ≡ Some named →
+        map numbers_of (packets_so_far words period named []) ≡ opening.new ∷ [] }
+    ensures refused { result ≢ DONE → (state.new ≡ state.old) × (opening.new ≡ opening.old) }
+{
+    ffi::tracebench_encoder(period, mode, state, opening)
+}
+
+/// Takes the next event of a log, and writes the packets that it makes due, 0 to 2, and how many they are. See
+/// [`ffi::tracebench_push`].
+#[unsafe(no_mangle)]
+pub extern "C" fn tracebench_push(
     base: u64,
     image: &[u8],
-    logs: &[u8],
-    ends: &[u64],
-    period: u16,
-    mode: u32,
-    version: u32,
-) -> Result<Vec<u8>, (u64, Fault)>
-    ensures { IsEncoded (judged_image base image.now) logs.now ends.now period mode version result }
+    state: &mut EncoderNumbers,
+    event: &EventNumbers,
+    packets: &mut [PacketNumbers],
+    count: &mut u64,
+) -> u32
+    ensures ends { EndsPush (judged_image base image.now) state.old event.now result }
+    ensures stands { (program : Image) (period : ℕ) (mode : Mode) (log : List AnyEvent) (next : AnyEvent) →
+        IsNext (judged_image base image.now) program period mode log next state.old event.now → result ≡ DONE →
+        NumbersStand (words_of program) period mode (log ++ next ∷ []) state.new }
+    ensures packets { (program : Image) (period : ℕ) (mode : Mode) (log : List AnyEvent) (next : AnyEvent) →
+        IsNext (judged_image base image.now) program period mode log next state.old event.now →
+        AreMore (packets_so_far (words_of program) period mode log)
+        (packets_so_far (words_of program) period mode (log ++ next ∷ [])) result count.new packets.old packets.new }
+    ensures refused { result ≢ DONE → (state.new ≡ state.old) × (packets.new ≡ packets.old) }
+    ensures counted { result ≢ DONE → result ≢ TOO_SMALL → count.new ≡ count.old }
+    ensures two { result ≡ TOO_SMALL → length packets.old < 2 }
+    ensures few { (result ≡ DONE) ⊎ (result ≡ TOO_SMALL) → AreFew result count.new packets.old packets.new }
+    ensures again { result ≡ DONE → AreOfEncoder state.new }
 {
-    match settings_of(ends, period, mode, version) {
-        Some((mode, version)) => {
-            let copied = copy_image(alloc, base, image);
-            capture_of_texts(alloc, &copied, logs, ends, period, mode, version)
-        }
-        None => Err((0, Fault::Range)),
-    }
+    ffi::tracebench_push(base, image, state, event, packets, count)
 }
 
-/// The mode and the version that numbers name, where all are within their ranges.
-pub(crate) fn settings_of(
-    ends: &[u64],
-    period: u16,
-    mode: u32,
-    version: u32,
-) -> Option<(Mode, Version)>
-    ensures within { IfSome result (λ named. AreInRange ends.now period mode version named.0 named.1) }
-    ensures out { result ≡ None → IsOutOfRange ends.now period mode version }
-{
-    let Some(mode) = mode_of(mode) else {
-        return None;
-    };
-    let Some(version) = version_of(version) else {
-        return None;
-    };
-    if period == 0 || ends.is_empty() || ends.len() > usize::from(version.most_harts()) {
-        return None;
-    }
-    Some((mode, version))
-}
-
-/// The capture of logs in this version, or the log that is at fault and why.
-pub(crate) fn capture_of_texts(
+/// Takes the next event as [`tracebench_push`](ffi::tracebench_push) does, over pieces. See
+/// [`ffi::tracebench_push_over_pieces`].
+#[unsafe(no_mangle)]
+pub extern "C" fn tracebench_push_over_pieces(
     alloc: Global,
-    copied: &Copied,
-    logs: &[u8],
-    ends: &[u64],
-    period: u16,
-    mode: Mode,
-    version: Version,
-) -> Result<Vec<u8>, (u64, Fault)>
-    requires period { 1 ≤ period }
-    requires some { 1 ≤ length ends.now }
-    requires few { length ends.now ≤ most_harts version }
-    ensures made { IsMade copied.now logs.now ends.now period mode version result }
-    ensures memory { copied.now ≡ Err ImageFault.Memory → result ≡ Err (0, Memory) }
+    pieces: &[ImagePiece<'_>],
+    state: &mut EncoderNumbers,
+    event: &EventNumbers,
+    packets: &mut [PacketNumbers],
+    count: &mut u64,
+) -> u32
+    ensures ends { OfPieces pieces.now (λ image. EndsPush image state.old event.now result) }
+    ensures stands { (program : Image) (period : ℕ) (mode : Mode) (log : List AnyEvent) (next : AnyEvent) →
+        IsNext (judged_pieces pieces.now) program period mode log next state.old event.now → result ≡ DONE →
+        NumbersStand (words_of program) period mode (log ++ next ∷ []) state.new }
+    ensures packets { (program : Image) (period : ℕ) (mode : Mode) (log : List AnyEvent) (next : AnyEvent) →
+        result ≢ MEMORY →
+        IsNext (judged_pieces pieces.now) program period mode log next state.old event.now →
+        AreMore (packets_so_far (words_of program) period mode log)
+        (packets_so_far (words_of program) period mode (log ++ next ∷ [])) result count.new packets.old packets.new }
+    ensures refused { result ≢ DONE → (state.new ≡ state.old) × (packets.new ≡ packets.old) }
+    ensures counted { result ≢ DONE → result ≢ TOO_SMALL → count.new ≡ count.old }
+    ensures two { result ≡ TOO_SMALL → length packets.old < 2 }
+    ensures few { (result ≡ DONE) ⊎ (result ≡ TOO_SMALL) → AreFew result count.new packets.old packets.new }
+    ensures again { result ≡ DONE → AreOfEncoder state.new }
 {
-    let program = match copied {
-        Ok(program) => program,
-        Err(ImageFault::Memory) => return Err((0, Fault::Memory)),
-        Err(why) => return Err((0, Fault::NoProgram(*why))),
-    };
-    let logs = read_logs(alloc, program, logs, ends)?;
-    let mut capture = Vec::new(alloc);
-    match encode_capture(logs.as_slice(), period, mode, version, &mut capture) {
-        Ok(()) => Ok(capture),
-        Err(_) => Err((0, Fault::Memory)),
-    }
+    ffi::tracebench_push_over_pieces(alloc, pieces, state, event, packets, count)
 }
 
-/// The mode of a number.
-pub(crate) fn mode_of(number: u32) -> Option<Mode>
-    ensures { result ≡ mode_of number }
+/// As [`tracebench_push`], where the event is legal after the last one of the log. See
+/// [`ffi::tracebench_push_checked`].
+#[unsafe(no_mangle)]
+pub extern "C" fn tracebench_push_checked(
+    base: u64,
+    image: &[u8],
+    state: &mut EncoderNumbers,
+    event: &EventNumbers,
+    packets: &mut [PacketNumbers],
+    count: &mut u64,
+) -> u32
+    ensures ends { EndsPushChecked (judged_image base image.now) state.old event.now result }
+    ensures judged { (program : Image) (period : ℕ) (mode : Mode) (log : List AnyEvent) (next : AnyEvent) →
+        MayBeNext (judged_image base image.now) program period mode log next state.old event.now →
+        JudgesNext (words_of program) log next result }
+    ensures stands { (program : Image) (period : ℕ) (mode : Mode) (log : List AnyEvent) (next : AnyEvent) →
+        MayBeNext (judged_image base image.now) program period mode log next state.old event.now → result ≡ DONE →
+        NumbersStand (words_of program) period mode (log ++ next ∷ []) state.new }
+    ensures packets { (program : Image) (period : ℕ) (mode : Mode) (log : List AnyEvent) (next : AnyEvent) →
+        MayBeNext (judged_image base image.now) program period mode log next state.old event.now →
+        (result ≡ DONE) ⊎ (result ≡ TOO_SMALL) →
+        AreMore (packets_so_far (words_of program) period mode log)
+        (packets_so_far (words_of program) period mode (log ++ next ∷ [])) result count.new packets.old packets.new }
+    ensures refused { result ≢ DONE → (state.new ≡ state.old) × (packets.new ≡ packets.old) }
+    ensures counted { result ≢ DONE → result ≢ TOO_SMALL → count.new ≡ count.old }
+    ensures two { result ≡ TOO_SMALL → length packets.old < 2 }
+    ensures few { (result ≡ DONE) ⊎ (result ≡ TOO_SMALL) → AreFew result count.new packets.old packets.new }
+    ensures again { result ≡ DONE → AreOfEncoder state.new }
 {
-    match number {
-        DIFFERENTIAL => Some(Mode::Differential),
-        FULL => Some(Mode::Full),
-        _ => None,
-    }
+    ffi::tracebench_push_checked(base, image, state, event, packets, count)
 }
 
-/// The version of a number.
-pub(crate) fn version_of(number: u32) -> Option<Version>
-    ensures { result ≡ version_of number }
-{
-    match number {
-        VERSION_ONE => Some(Version::One),
-        VERSION_TWO => Some(Version::Two),
-        _ => None,
-    }
-}
-
-/// The legal logs of texts, or the first that is none and why.
-fn read_logs<'p>(
+/// Takes the next event as [`tracebench_push_checked`](ffi::tracebench_push_checked) does, over pieces. See
+/// [`ffi::tracebench_push_checked_over_pieces`].
+#[unsafe(no_mangle)]
+pub extern "C" fn tracebench_push_checked_over_pieces(
     alloc: Global,
-    program: &'p Program,
-    logs: &[u8],
-    ends: &[u64],
-) -> Result<Vec<LegalLog<'p>>, (u64, Fault)>
-    ensures read { IfOk result (λ read. AreLogs program.now logs.now 0 ends.now read.items) }
-    ensures refused { IfErr result (λ why. IsRefusedLog program.now logs.now ends.now why.0 why.1) }
+    pieces: &[ImagePiece<'_>],
+    state: &mut EncoderNumbers,
+    event: &EventNumbers,
+    packets: &mut [PacketNumbers],
+    count: &mut u64,
+) -> u32
+    ensures ends { OfPieces pieces.now (λ image. EndsPushChecked image state.old event.now result) }
+    ensures judged { (program : Image) (period : ℕ) (mode : Mode) (log : List AnyEvent) (next : AnyEvent) →
+        result ≢ MEMORY →
+        MayBeNext (judged_pieces pieces.now) program period mode log next state.old event.now →
+        JudgesNext (words_of program) log next result }
+    ensures stands { (program : Image) (period : ℕ) (mode : Mode) (log : List AnyEvent) (next : AnyEvent) →
+        MayBeNext (judged_pieces pieces.now) program period mode log next state.old event.now → result ≡ DONE →
+        NumbersStand (words_of program) period mode (log ++ next ∷ []) state.new }
+    ensures packets { (program : Image) (period : ℕ) (mode : Mode) (log : List AnyEvent) (next : AnyEvent) →
+        MayBeNext (judged_pieces pieces.now) program period mode log next state.old event.now →
+        (result ≡ DONE) ⊎ (result ≡ TOO_SMALL) →
+        AreMore (packets_so_far (words_of program) period mode log)
+        (packets_so_far (words_of program) period mode (log ++ next ∷ [])) result count.new packets.old packets.new }
+    ensures refused { result ≢ DONE → (state.new ≡ state.old) × (packets.new ≡ packets.old) }
+    ensures counted { result ≢ DONE → result ≢ TOO_SMALL → count.new ≡ count.old }
+    ensures two { result ≡ TOO_SMALL → length packets.old < 2 }
+    ensures few { (result ≡ DONE) ⊎ (result ≡ TOO_SMALL) → AreFew result count.new packets.old packets.new }
+    ensures again { result ≡ DONE → AreOfEncoder state.new }
 {
-    let mut read = Vec::new(alloc);
-    let mut from = 0;
-    for place in 0..ends.len() {
-        let end = ends[place];
-        let log = match read_legal_log(alloc, program, text_between(logs, from, end)) {
-            Ok(log) => log,
-            Err(fault) => return Err((place as u64, fault)),
-        };
-        match read.push(log) {
-            Ok(()) => {}
-            Err(_) => return Err((place as u64, Fault::Memory)),
-        }
-        from = end;
-    }
-    Ok(read)
+    ffi::tracebench_push_checked_over_pieces(alloc, pieces, state, event, packets, count)
 }
 
-/// The bytes from one place up to another.
-pub(crate) fn text_between(logs: &[u8], from: u64, end: u64) -> Option<&[u8]>
-    ensures { option_map (λ text. text.now) result ≡ text_between logs.now from end }
+/// Takes the next events of a log, one after the other as [`tracebench_push`](ffi::tracebench_push) takes each, and
+/// writes the packets that they make due. See [`ffi::tracebench_push_all`].
+#[unsafe(no_mangle)]
+pub extern "C" fn tracebench_push_all(
+    base: u64,
+    image: &[u8],
+    state: &mut EncoderNumbers,
+    events: &[EventNumbers],
+    packets: &mut [PacketNumbers],
+    taken: &mut u64,
+    count: &mut u64,
+) -> u32
+    ensures ends { EndsPushAll (judged_image base image.now) state.old events.now taken.new result }
+    ensures stands { (program : Image) (period : ℕ) (mode : Mode) (log nexts : List AnyEvent) →
+        AreNext (judged_image base image.now) program period mode log nexts state.old (take taken.new events.now) →
+        NumbersStand (words_of program) period mode (log ++ nexts) state.new }
+    ensures packets { (program : Image) (period : ℕ) (mode : Mode) (log nexts : List AnyEvent) →
+        AreNext (judged_image base image.now) program period mode log nexts state.old (take taken.new events.now) →
+        AreWritten (packets_so_far (words_of program) period mode log)
+        (packets_so_far (words_of program) period mode (log ++ nexts)) count.new packets.old packets.new }
+    // The packets of the first events are written, as long as these are legal, whatever comes after them.
+    ensures front { (program : Image) (period n : ℕ) (mode : Mode) (log nexts : List AnyEvent) → n ≤ taken.new →
+        AreNext (judged_image base image.now) program period mode log nexts state.old (take n events.now) →
+        AreWrittenFirst (packets_so_far (words_of program) period mode log)
+        (packets_so_far (words_of program) period mode (log ++ nexts)) count.new packets.new }
+    ensures no_room { (program : Image) (period : ℕ) (mode : Mode) (log nexts : List AnyEvent) (next : AnyEvent) →
+        result ≡ TOO_SMALL →
+        AreNext (judged_image base image.now) program period mode log (nexts ++ next ∷ []) state.old
+        (take (taken.new + 1) events.now) →
+        HaveNoRoom (packets_so_far (words_of program) period mode (log ++ nexts))
+        (packets_so_far (words_of program) period mode (log ++ nexts ++ next ∷ [])) count.new packets.old }
+    ensures two { result ≡ TOO_SMALL → length packets.old < count.new + 2 }
+    ensures fill { FillRoom taken.new count.new packets.old packets.new }
+    ensures untaken { taken.new ≡ 0 → (state.new ≡ state.old) × (packets.new ≡ packets.old) }
+    ensures again { AreOfEncoder state.old → AreOfEncoder state.new }
 {
-    logs.get(from as usize..end as usize)
+    ffi::tracebench_push_all(base, image, state, events, packets, taken, count)
 }
 
-/// The legal log of a text.
-fn read_legal_log<'p>(
+/// Takes the next events as [`tracebench_push_all`](ffi::tracebench_push_all) does, over pieces. See
+/// [`ffi::tracebench_push_all_over_pieces`].
+#[unsafe(no_mangle)]
+pub extern "C" fn tracebench_push_all_over_pieces(
     alloc: Global,
-    program: &'p Program,
-    text: Option<&[u8]>,
-) -> Result<LegalLog<'p>, Fault>
-    ensures log { IfOk result (λ log. IsLegalText program.now (option_map (λ own. own.now) text.entry) log) }
-    ensures fault { IfErr result (IsNoLegalText program.now (option_map (λ own. own.now) text.entry)) }
+    pieces: &[ImagePiece<'_>],
+    state: &mut EncoderNumbers,
+    events: &[EventNumbers],
+    packets: &mut [PacketNumbers],
+    taken: &mut u64,
+    count: &mut u64,
+) -> u32
+    ensures ends { OfPieces pieces.now (λ image. EndsPushAll image state.old events.now taken.new result) }
+    ensures stands { (program : Image) (period : ℕ) (mode : Mode) (log nexts : List AnyEvent) →
+        result ≢ MEMORY →
+        AreNext (judged_pieces pieces.now) program period mode log nexts state.old (take taken.new events.now) →
+        NumbersStand (words_of program) period mode (log ++ nexts) state.new }
+    ensures packets { (program : Image) (period : ℕ) (mode : Mode) (log nexts : List AnyEvent) →
+        result ≢ MEMORY →
+        AreNext (judged_pieces pieces.now) program period mode log nexts state.old (take taken.new events.now) →
+        AreWritten (packets_so_far (words_of program) period mode log)
+        (packets_so_far (words_of program) period mode (log ++ nexts)) count.new packets.old packets.new }
+    // The packets of the first events are written, as long as these are legal, whatever comes after them.
+    ensures front { (program : Image) (period n : ℕ) (mode : Mode) (log nexts : List AnyEvent) → n ≤ taken.new →
+        result ≢ MEMORY →
+        AreNext (judged_pieces pieces.now) program period mode log nexts state.old (take n events.now) →
+        AreWrittenFirst (packets_so_far (words_of program) period mode log)
+        (packets_so_far (words_of program) period mode (log ++ nexts)) count.new packets.new }
+    ensures no_room { (program : Image) (period : ℕ) (mode : Mode) (log nexts : List AnyEvent) (next : AnyEvent) →
+        result ≡ TOO_SMALL →
+        AreNext (judged_pieces pieces.now) program period mode log (nexts ++ next ∷ []) state.old
+        (take (taken.new + 1) events.now) →
+        HaveNoRoom (packets_so_far (words_of program) period mode (log ++ nexts))
+        (packets_so_far (words_of program) period mode (log ++ nexts ++ next ∷ [])) count.new packets.old }
+    ensures two { result ≡ TOO_SMALL → length packets.old < count.new + 2 }
+    ensures fill { FillRoom taken.new count.new packets.old packets.new }
+    ensures untaken { taken.new ≡ 0 → (state.new ≡ state.old) × (packets.new ≡ packets.old) }
+    ensures again { AreOfEncoder state.old → AreOfEncoder state.new }
 {
-    let Some(text) = text else {
-        return Err(Fault::Ends);
-    };
-    let events = read_log_from_slice(alloc, alloc, text)?;
-    match LegalLog::new(program, events) {
-        Ok(log) => Ok(log),
-        Err((why, _)) => Err(Fault::Illegal(why)),
-    }
+    ffi::tracebench_push_all_over_pieces(alloc, pieces, state, events, packets, taken, count)
+}
+
+/// Takes the end of a log, and writes the packets that are left, 1 or 2, and how many they are. See
+/// [`ffi::tracebench_finish`].
+#[unsafe(no_mangle)]
+pub extern "C" fn tracebench_finish(
+    base: u64,
+    image: &[u8],
+    state: &EncoderNumbers,
+    packets: &mut [PacketNumbers],
+    count: &mut u64,
+) -> u32
+    ensures ends { EndsFinish (judged_image base image.now) state.now result }
+    ensures packets { (program : Image) (period : ℕ) (mode : Mode) (log : List AnyEvent) →
+        IsOn (judged_image base image.now) program period mode log state.now →
+        AreMore (packets_so_far (words_of program) period mode log) (packets_of (words_of program) period mode log)
+        result count.new packets.old packets.new }
+    ensures refused { result ≢ DONE → packets.new ≡ packets.old }
+    ensures counted { result ≢ DONE → result ≢ TOO_SMALL → count.new ≡ count.old }
+    ensures two { result ≡ TOO_SMALL → length packets.old < 2 }
+    ensures few { (result ≡ DONE) ⊎ (result ≡ TOO_SMALL) → AreFew result count.new packets.old packets.new }
+{
+    ffi::tracebench_finish(base, image, state, packets, count)
+}
+
+/// Takes the end of a log as [`tracebench_finish`](ffi::tracebench_finish) does, over pieces. See
+/// [`ffi::tracebench_finish_over_pieces`].
+#[unsafe(no_mangle)]
+pub extern "C" fn tracebench_finish_over_pieces(
+    alloc: Global,
+    pieces: &[ImagePiece<'_>],
+    state: &EncoderNumbers,
+    packets: &mut [PacketNumbers],
+    count: &mut u64,
+) -> u32
+    ensures ends { OfPieces pieces.now (λ image. EndsFinish image state.now result) }
+    ensures packets { (program : Image) (period : ℕ) (mode : Mode) (log : List AnyEvent) →
+        result ≢ MEMORY →
+        IsOn (judged_pieces pieces.now) program period mode log state.now →
+        AreMore (packets_so_far (words_of program) period mode log) (packets_of (words_of program) period mode log)
+        result count.new packets.old packets.new }
+    ensures refused { result ≢ DONE → packets.new ≡ packets.old }
+    ensures counted { result ≢ DONE → result ≢ TOO_SMALL → count.new ≡ count.old }
+    ensures two { result ≡ TOO_SMALL → length packets.old < 2 }
+    ensures few { (result ≡ DONE) ⊎ (result ≡ TOO_SMALL) → AreFew result count.new packets.old packets.new }
+{
+    ffi::tracebench_finish_over_pieces(alloc, pieces, state, packets, count)
 }

@@ -1,40 +1,57 @@
-//! Messages and their bytes.
+//! The parts of a capture: headers, messages and packets, and the version of the library.
 
-ghost use Rattle.std.specs.Prelude.{◌≡◌, ◌<◌, ◌≤◌, ◌++◌, ◌∷◌, [], ℕ, List, length};
-ghost use Rattle.byteorder.specs.Endian.{little_bytes};
+ghost use Rattle.std.specs.Prelude.{◌++◌, ◌<◌, ◌≡◌, ◌≢◌, ◌≤◌, ℕ, List, length};
+ghost use Rattle.ffi.specs.Handed.{IsHandedOut};
+ghost use Rattle.ffi.specs.Numbers.{numbers_of};
+ghost use Rattle.ffi.specs.OfLines.{ReportsOfLines, settings_named};
+ghost use Rattle.ffi.specs.Packed.{IsUnpacked};
+ghost use Rattle.ffi.specs.Sending.{IsHeaderRead, IsMessageRead, numbers_of_header, numbers_of_message};
+ghost use Rattle.ffi.specs.VersionText.{version_text};
+ghost use Rattle.ffi.specs.declared.status.TheConstants.{DONE, EMPTY, NO_PACKET, OUT_OF_RANGE, TOO_LONG};
 ghost use Rattle.message.specs.Capture.{message_bytes};
 ghost use Rattle.message.specs.Cut.{IsMessage};
+ghost use Rattle.message.specs.Header.{IsHeader, header_bytes};
+ghost use Rattle.message.specs.declared.header.Header.{Header as AnyHeader};
 ghost use Rattle.message.specs.declared.message.Message.{Message as AnyMessage};
 ghost use Rattle.payload.specs.Limits.{most_bytes};
-ghost use Rattle.tracebench_c.specs.Handed.{IsHandedOut};
-ghost use Rattle.tracebench_c.specs.Sending.{IsMessageRead, numbers_of_message, padded};
-ghost use Rattle.tracebench_c.specs.declared.status.TheConstants.{DONE, EMPTY, TOO_LONG};
+ghost use Rattle.payload.specs.Profile.{InProfile};
+ghost use Rattle.payload.specs.Reading.{reading};
+ghost use Rattle.payload.specs.Spelling.{payload_of};
+ghost use Rattle.payload.specs.declared.packet.Packet.{Packet as AnyPacket};
 
-use crate::dumping::message_status;
-use crate::handing::hand_out_both;
-use crate::status::{DONE, EMPTY, TOO_LONG};
-use byteorder::{ByteOrder, LittleEndian};
-use message::{HEAD, Message, Messages};
-use payload::MOST_BYTES;
+use ffi::{HeaderNumbers, MessageNumbers, PacketNumbers};
+use std::alloc::Global;
 
-/// A message in numbers.
-#[repr(C)]
-#[derive(Clone, Copy)]
-pub struct MessageNumbers {
-    /// How many messages of its hart come before it.
-    pub number: u64,
-    /// How many bytes its payload has, 1 to 18.
-    pub payload_length: u64,
-    /// The hart whose trace the payload belongs to.
-    pub hart: u16,
-    /// The bytes of its payload, and then 0.
-    pub payload: [u8; MOST_BYTES],
+/// Writes the 16 bytes of a header to a buffer. See [`ffi::tracebench_write_header`].
+#[unsafe(no_mangle)]
+pub extern "C" fn tracebench_write_header(
+    header: &HeaderNumbers,
+    buffer: &mut [u8],
+    wanted: &mut u64,
+) -> u32
+    ensures written { (own : AnyHeader) → IsHeader own → header.now ≡ numbers_of_header own
+        → IsHandedOut (header_bytes own) result wanted.new buffer.old buffer.new }
+    ensures refused { ((own : AnyHeader) → IsHeader own → header.now ≢ numbers_of_header own)
+        → (result ≡ OUT_OF_RANGE) × (wanted.new ≡ wanted.old) × (buffer.new ≡ buffer.old) }
+{
+    ffi::tracebench_write_header(header, buffer, wanted)
 }
 
-/// Writes the bytes of a message to a buffer: at most 29 are wanted. The hart and the number may be any.
-///
-/// The status is [`DONE`], [`TOO_SMALL`](crate::status::TOO_SMALL), [`EMPTY`] where the payload has no byte, or
-/// [`TOO_LONG`] where it has more than 18. The last two write nothing. No memory is taken.
+/// Writes the numbers of the header that bytes begin with. See [`ffi::tracebench_read_header`].
+#[unsafe(no_mangle)]
+pub extern "C" fn tracebench_read_header(
+    bytes: &[u8],
+    header: &mut HeaderNumbers,
+    taken: &mut u64,
+) -> u32
+    ensures read { IsHeaderRead bytes.now result taken.new header.old header.new }
+    ensures reads_back { (sent : AnyHeader) (rest : List ℕ) → IsHeader sent → bytes.now ≡ header_bytes sent ++ rest
+        → (result ≡ DONE) × (taken.new ≡ length (header_bytes sent)) × (header.new ≡ numbers_of_header sent) }
+{
+    ffi::tracebench_read_header(bytes, header, taken)
+}
+
+/// Writes the bytes of a message to a buffer: at most 29 are wanted. See [`ffi::tracebench_write_message`].
 #[unsafe(no_mangle)]
 pub extern "C" fn tracebench_write_message(
     hart: u16,
@@ -51,33 +68,10 @@ pub extern "C" fn tracebench_write_message(
     ensures too_long { most_bytes < length payload.now
         → (result ≡ TOO_LONG) × (wanted.new ≡ wanted.old) × (buffer.new ≡ buffer.old) }
 {
-    if payload.is_empty() {
-        return EMPTY;
-    }
-    if payload.len() > MOST_BYTES {
-        return TOO_LONG;
-    }
-    let head = head_of(hart, number, payload.len() as u8);
-    hand_out_both(&head, payload, buffer, wanted)
+    ffi::tracebench_write_message(hart, number, payload, buffer, wanted)
 }
 
-/// The bytes of a message before its payload, which has so many bytes.
-fn head_of(hart: u16, number: u64, count: u8) -> [u8; HEAD]
-    ensures { result ≡ little_bytes 2 hart ++ (little_bytes 8 number ++ (count ∷ [])) }
-{
-    let mut head = [0; HEAD];
-    LittleEndian::write_u16(&mut head, hart);
-    LittleEndian::write_u64(&mut head[2..], number);
-    head[10] = count;
-    head
-}
-
-/// Writes the numbers of the message that bytes begin with. `taken` is how many of the bytes are the message's, 0 where
-/// there is none.
-///
-/// The status is [`DONE`], also where there is no byte at all, [`SHORT`](crate::status::SHORT) where the bytes end
-/// inside the message, or [`BAD_LENGTH`](crate::status::BAD_LENGTH) where the byte for its payload's length is 0 or
-/// above 18. Only a message is written. No memory is taken.
+/// Writes the numbers of the message that bytes begin with. See [`ffi::tracebench_read_message`].
 #[unsafe(no_mangle)]
 pub extern "C" fn tracebench_read_message(
     bytes: &[u8],
@@ -89,37 +83,60 @@ pub extern "C" fn tracebench_read_message(
         → bytes.now ≡ message_bytes sent ++ rest
         → (result ≡ DONE) × (taken.new ≡ length (message_bytes sent)) × (message.new ≡ numbers_of_message sent) }
 {
-    *taken = 0;
-    match Messages::new(bytes).next() {
-        Ok(Some(found)) => {
-            *taken = found.size() as u64;
-            *message = numbers_of_message(&found);
-            DONE
-        }
-        Ok(None) => DONE,
-        Err(why) => message_status(why),
-    }
+    ffi::tracebench_read_message(bytes, message, taken)
 }
 
-/// The numbers of a message.
-fn numbers_of_message(message: &Message) -> MessageNumbers
-    ensures { result ≡ numbers_of_message message.now }
+/// Writes the shortest payload of the packet that has these numbers to a buffer; at most 18 bytes are wanted. See
+/// [`ffi::tracebench_pack`].
+#[unsafe(no_mangle)]
+pub extern "C" fn tracebench_pack(
+    numbers: &PacketNumbers,
+    buffer: &mut [u8],
+    wanted: &mut u64,
+) -> u32
+    ensures packed { (packet : AnyPacket) → InProfile packet → numbers.now ≡ numbers_of packet
+        → IsHandedOut (payload_of packet) result wanted.new buffer.old buffer.new }
+    ensures refused { ((packet : AnyPacket) → InProfile packet → numbers.now ≢ numbers_of packet)
+        → (result ≡ NO_PACKET) × (wanted.new ≡ wanted.old) × (buffer.new ≡ buffer.old) }
 {
-    let bytes = message.payload.bytes();
-    MessageNumbers {
-        number: message.number,
-        payload_length: bytes.len() as u64,
-        hart: message.hart,
-        payload: padded(bytes),
-    }
+    ffi::tracebench_pack(numbers, buffer, wanted)
 }
 
-/// The bytes of a payload, and then 0.
-fn padded(bytes: &[u8]) -> [u8; MOST_BYTES]
-    requires { length bytes.now ≤ most_bytes }
-    ensures { result ≡ padded bytes.now }
+/// Writes the numbers of a payload's packet, whether it is the packet's shortest payload or longer. See
+/// [`ffi::tracebench_unpack`].
+#[unsafe(no_mangle)]
+pub extern "C" fn tracebench_unpack(payload: &[u8], numbers: &mut PacketNumbers) -> u32
+    ensures { IsUnpacked (reading payload.now) result numbers.old numbers.new }
 {
-    let mut all = [0; MOST_BYTES];
-    all[..bytes.len()].copy_from_slice(bytes);
-    all
+    ffi::tracebench_unpack(payload, numbers)
+}
+
+/// Writes the capture of the lines of a text to a buffer, one message a line, in the order of the lines: what
+/// `tracebench capture` writes. See [`ffi::tracebench_capture_of_lines`].
+#[unsafe(no_mangle)]
+pub extern "C" fn tracebench_capture_of_lines(
+    alloc: Global,
+    text: &[u8],
+    version: u32,
+    mode: u32,
+    period: u16,
+    harts: u16,
+    buffer: &mut [u8],
+    wanted: &mut u64,
+    line: &mut u64,
+) -> u32
+    ensures { ReportsOfLines (settings_named version mode period harts) text.now result line.new wanted.old wanted.new
+        buffer.old buffer.new }
+{
+    ffi::tracebench_capture_of_lines(
+        alloc, text, version, mode, period, harts, buffer, wanted, line,
+    )
+}
+
+/// Writes the version of the library as text, as 5 letters and with no 0 after them. See [`ffi::tracebench_version`].
+#[unsafe(no_mangle)]
+pub extern "C" fn tracebench_version(buffer: &mut [u8], wanted: &mut u64) -> u32
+    ensures { IsHandedOut version_text result wanted.new buffer.old buffer.new }
+{
+    ffi::tracebench_version(buffer, wanted)
 }

@@ -1,8 +1,7 @@
-//! The gate round each send of a run: of 2, 5 and 64 harts, at each period, in each mode, with packets kept and not,
-//! with lists for the events of no hart, of one and of all, and at two capacities.
+//! Threads of a run that wait for one another: of 2, 5 and 64 harts, at each period, in each mode, with packets kept and
+//! not, with lists for the events of no hart, of one and of all, and at two capacities.
 
-use super::calls::Calls;
-use super::made::{MESSAGES, came_back, kinds, program};
+use super::made::{came_back, kinds, program};
 use super::rooms::rooms_of;
 use crate::same::same_at;
 use bench::{Config, Gate, Outcome, Setup, run, run_in_rooms};
@@ -15,12 +14,10 @@ use std::thread;
 use std::thread::Threads;
 use std::time::Duration;
 
-/// How many harts run, the row of their period, how they do, and how many are handed a list; `None` where the run is
-/// one without lists.
+/// How many harts run, how they do, and how many are handed a list; `None` where the run is one without lists.
 #[derive(Clone, Copy, Debug)]
 struct Setting {
     harts: u16,
-    row: usize,
     config: Config,
     rooms: Option<usize>,
 }
@@ -31,12 +28,10 @@ const SETTINGS: usize = 192;
 
 /// The setting of this number.
 fn setting_at(number: usize) -> Setting {
-    let row = number / 3 % 4;
     Setting {
         harts: [2, 5, 64][number % 3],
-        row,
         config: Config {
-            period: MESSAGES[row].0,
+            period: [1, 2, 3, 1024][number / 3 % 4],
             mode: [Mode::Differential, Mode::Full][number / 12 % 2],
             capacity: [1, 16][(number / 3 + number / 12 + number / 24 + number / 48) % 2],
             keep: number / 24 % 2 == 1,
@@ -75,31 +70,6 @@ fn runs_through<G: Gate, R: Abort + AllocGlobal + Threads + Wait + Sync>(
     let outcome = run_of(rt, logs, setting, gate).expect(rt, "a run");
     same_at(rt, setting, outcome.stop, None);
     assert!(rt; came_back(&outcome, logs), "{setting:?}");
-}
-
-/// Ends the test unless each message of every hart passes the gate, which is called before it is sent and after.
-fn passes_the_gate<R: Abort + AllocGlobal + Threads + Wait + Sync>(
-    rt: &R,
-    logs: &[LegalLog<'_>],
-    setting: Setting,
-) {
-    let gate = Calls::new(rt, setting.harts);
-    runs_through(rt, logs, setting, &gate);
-    let (_, messages) = MESSAGES[setting.row.min(3)];
-    for hart in 0..usize::from(setting.harts) {
-        let calls = messages[hart % 4].saturating_mul(2);
-        same_at(rt, (setting, hart), gate.made(hart), Some(calls));
-    }
-}
-
-#[test]
-fn each_send_passes_the_gate(rt: HostRuntime) {
-    let program = program(&rt);
-    for number in 0..SETTINGS {
-        let setting = setting_at(number);
-        let logs = kinds(&rt, &program, setting.harts);
-        passes_the_gate(&rt, &logs, setting);
-    }
 }
 
 /// Two harts that wait for one another before they send.

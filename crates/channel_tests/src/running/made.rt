@@ -1,7 +1,7 @@
 //! A program of five instructions, the logs of harts that run it, and the report of the outcomes.
 
 use crate::same::same_at;
-use bench::{Outcome, Turn, is_whole, report};
+use bench::{Config, Outcome, Turn, is_whole, report};
 use legalpath::LegalLog;
 use payload::Mode;
 use retire::Event;
@@ -22,67 +22,21 @@ const WORDS: [u32; 5] = [
     0x0000_006f,
 ];
 
-/// The report of both harts in each mode, where each log comes back whole. In full mode Open takes one byte more, and
-/// an address packet four.
-pub(crate) const WHOLE: [(Mode, &str); 2] = [
-    (
-        Mode::Differential,
-        "hart 0: 33 events, 5 packets, 9 payload bytes, decoded 33, whole\n\
-         hart 1: 4 events, 4 packets, 9 payload bytes, decoded 4, whole\n\
-         result: whole\n",
-    ),
-    (
-        Mode::Full,
-        "hart 0: 33 events, 5 packets, 14 payload bytes, decoded 33, whole\n\
-         hart 1: 4 events, 4 packets, 14 payload bytes, decoded 4, whole\n\
-         result: whole\n",
-    ),
-];
+/// One message at a time.
+pub(crate) const CONFIG: Config = Config {
+    period: 1024,
+    mode: Mode::Differential,
+    capacity: 1,
+    keep: true,
+};
+
+/// The report of both harts where each log comes back whole.
+pub(crate) const WHOLE: &str = "hart 0: 33 events, 5 packets, 9 payload bytes, decoded 33, whole\n\
+    hart 1: 4 events, 4 packets, 9 payload bytes, decoded 4, whole\n\
+    result: whole\n";
 
 /// How many kinds of log there are.
 pub(crate) const KINDS: u16 = 4;
-
-/// The report of a hart of each kind in each mode, where each log comes back whole.
-pub(crate) const FOUR: [(Mode, &str); 2] = [
-    (
-        Mode::Differential,
-        "hart 0: 33 events, 5 packets, 9 payload bytes, decoded 33, whole\n\
-         hart 1: 4 events, 4 packets, 9 payload bytes, decoded 4, whole\n\
-         hart 2: 4 events, 5 packets, 20 payload bytes, decoded 4, whole\n\
-         hart 3: 3 events, 5 packets, 17 payload bytes, decoded 3, whole\n\
-         result: whole\n",
-    ),
-    (
-        Mode::Full,
-        "hart 0: 33 events, 5 packets, 14 payload bytes, decoded 33, whole\n\
-         hart 1: 4 events, 4 packets, 14 payload bytes, decoded 4, whole\n\
-         hart 2: 4 events, 5 packets, 21 payload bytes, decoded 4, whole\n\
-         hart 3: 3 events, 5 packets, 22 payload bytes, decoded 3, whole\n\
-         result: whole\n",
-    ),
-];
-
-/// The bytes of all payloads of a log of each kind, in each mode, at a period that is longer than the logs. In full
-/// mode Open takes one byte more, and an address packet four where it is not a notify packet.
-pub(crate) const BYTES: [(Mode, [u64; 4]); 2] = [
-    (Mode::Differential, [9, 9, 20, 17]),
-    (Mode::Full, [14, 14, 21, 22]),
-];
-
-/// How many messages a log of each kind gives, at each period.
-///
-/// Each log opens, synchronises at its first event, and closes. Then the branches give a map packet at the 32nd and an
-/// address packet at the last; the jump to `ra` gives the address where it leads; a trap gives a packet, which reports
-/// the handler's first instruction too; the jump to itself gives a notify packet and an address packet at the last. At
-/// period 1 each retirement but a handler's first one synchronises. At period 2 every second one does, and the one
-/// before it reports its address. At period 3 one of three branches reports nothing, and so does one retirement before
-/// the jump to `ra`.
-pub(crate) const MESSAGES: [(u16, [u64; 4]); 4] = [
-    (1, [35, 6, 5, 5]),
-    (2, [35, 6, 5, 5]),
-    (3, [24, 5, 5, 5]),
-    (1024, [5, 4, 5, 5]),
-];
 
 /// The retirement of an instruction at an offset, at machine level.
 pub(crate) fn retired(offset: u64, itype: u8) -> Event {
@@ -198,24 +152,6 @@ pub(crate) const TURNS: [Turn; 18] = [
     Turn::Hart(1),
     Turn::Collect,
 ];
-
-/// Turns by which each message is taken at once: so many of the first hart, then of the second, and so on.
-pub(crate) fn turns_of<R: Abort + AllocGlobal>(rt: &R, messages: &[u64]) -> Vec<Turn> {
-    let mut turns = Vec::new(rt.alloc());
-    for (hart, count) in messages.iter().enumerate() {
-        add_turns(rt, &mut turns, hart, *count);
-    }
-    turns
-}
-
-/// Adds turns by which a hart sends this many messages and each is taken at once.
-pub(crate) fn add_turns<R: Abort>(rt: &R, turns: &mut Vec<Turn>, hart: usize, count: u64) {
-    let hart = u16::try_from(hart).expect(rt, "a hart");
-    for _ in 0..count {
-        let added = turns.extend_from_slice(&[Turn::Hart(hart), Turn::Collect]);
-        added.expect(rt, "memory");
-    }
-}
 
 /// The report of an outcome that has as many harts as there are logs.
 pub(crate) fn text_of<R: Abort + AllocGlobal, A: Allocator>(

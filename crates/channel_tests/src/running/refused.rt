@@ -2,8 +2,7 @@
 //! written into.
 
 use super::allocations::FIRST_REFUSED;
-use super::made::{TURNS, WHOLE, logs, program, reports_at};
-use super::runs::CONFIG;
+use super::made::{CONFIG, TURNS, WHOLE, logs, program, reports_at};
 use crate::same::same_at;
 use bench::{Gate, Outcome, Setup, replay, report, run};
 use legalpath::LegalLog;
@@ -61,7 +60,7 @@ fn ends_at<R: Abort + AllocGlobal>(
         Err(fault) => same_at(rt, place, (fault, place < before), (Setup::Memory, true)),
         Ok(outcome) => {
             assert!(rt; before <= place, "{place}: an outcome");
-            let wanted = REFUSED.get(place - before).unwrap_or(&WHOLE[0].1);
+            let wanted = REFUSED.get(place - before).unwrap_or(&WHOLE);
             let requests = heap.requests();
             reports_at(rt, place, &outcome, logs, wanted);
             same_at(rt, (place, "report"), heap.requests(), requests);
@@ -138,7 +137,7 @@ fn each_request_of_a_report(rt: HostRuntime) {
         let fault = report(&outcome, &logs, &mut sink).err();
         let (fault_wanted, wanted) = match BEGINNINGS.get(place) {
             Some(beginning) => (Some(WriteFault::Write), *beginning),
-            None => (None, WHOLE[0].1),
+            None => (None, WHOLE),
         };
         same_at(&rt, place, fault, fault_wanted);
         same_at(&rt, place, sink.as_slice(), wanted.as_bytes());

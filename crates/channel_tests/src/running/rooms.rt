@@ -1,10 +1,10 @@
-//! Runs that are handed lists for the events.
+//! How much memory runs take that are handed lists for the events.
 
-use super::made::{WHOLE, logs, program, reports_at, retired};
-use super::runs::CONFIG;
+use super::made::{CONFIG, logs, program, retired};
 use crate::same::same_at;
 use bench::{Config, Open, run, run_in_rooms};
 use legalpath::LegalLog;
+use payload::Mode;
 use refusing::Refusing;
 use retire::Event;
 use std::alloc::Allocator;
@@ -29,21 +29,6 @@ pub(crate) fn rooms_of<R: Abort, A: Allocator + Copy>(
 /// The sizes of lists for two harts, of 33 and 4 events: for none, for one alone, just enough, too small, with none for
 /// the first, and for more harts than there are.
 const SIZES: [&[usize]; 6] = [&[], &[40], &[33, 4], &[1, 1], &[0, 4], &[33, 4, 7, 2]];
-
-#[test]
-fn what_comes_is_the_same_in_any_rooms(rt: HostRuntime) {
-    let program = program(&rt);
-    let logs = logs(&rt, &program);
-    for (mode, wanted) in WHOLE {
-        let config = Config { mode, ..CONFIG };
-        for (place, sizes) in SIZES.iter().enumerate() {
-            let rooms = rooms_of(&rt, rt.alloc(), *sizes);
-            let outcome = run_in_rooms(rt.alloc(), rt.alloc(), &logs, config, &Open, &rt, rooms);
-            let outcome = outcome.expect(&rt, "a run");
-            reports_at(&rt, (mode, place), &outcome, &logs, wanted);
-        }
-    }
-}
 
 /// How many requests a run makes without lists.
 fn requests_of<R: Abort + AllocGlobal + Threads + Wait + Sync>(
@@ -83,7 +68,7 @@ fn a_room_is_what_a_run_would_take(rt: HostRuntime) {
     let logs = logs(&rt, &program);
     for number in 0..24 {
         let config = Config {
-            mode: WHOLE[number / 12].0,
+            mode: [Mode::Differential, Mode::Full][number / 12 % 2],
             keep: number / 6 % 2 == 1,
             ..CONFIG
         };

@@ -1,10 +1,10 @@
 //! Walks along leaps: with them a packet gives what it gives without.
 
-use super::traces::{ENDED_REP, OPEN, START, Sent, packet_of};
+use super::{ENDED_REP, OPEN, START, address};
 use crate::fixtures::{BASE, add};
 use crate::same::same_at;
 use decoder::{Decoder, Lines};
-use payload::Report;
+use payload::{Packet, Report};
 use rvclass::{Program, ProgramOver};
 use std::alloc::Global;
 use std::process::Abort;
@@ -31,18 +31,17 @@ fn take_alike<R: Abort + AllocGlobal>(
     row: usize,
     program: &ProgramOver,
     lines: &Lines<'_, Global>,
-    packets: &[Sent],
+    packets: &[Packet],
 ) {
     let (mut decoder, mut twin) = (Decoder::new(), Decoder::new());
     let mut log = Vec::new(rt.alloc());
     let mut copy = Vec::new(rt.alloc());
-    for sent in packets {
-        let packet = packet_of(*sent);
-        let wanted = decoder.feed(program, &packet, &mut log);
+    for packet in packets {
+        let wanted = decoder.feed(program, packet, &mut log);
         same_at(
             rt,
             ("leaps", row),
-            twin.feed_by(lines.paths(), &packet, &mut copy),
+            twin.feed_by(lines.paths(), packet, &mut copy),
             wanted,
         );
     }
@@ -56,11 +55,11 @@ fn walk_to_each<R: Abort + AllocGlobal>(rt: &R, program: &ProgramOver) {
     for place in 0..1_100u16 {
         let offset = 2 * u64::from(place);
         for sent in [
-            Sent::Plain(offset),
-            Sent::Updiscon(offset),
-            Sent::Notify(offset),
-            Sent::Walk(&[false], offset, Report::Notify),
-            Sent::Walk(&[true, false], offset, Report::Notify),
+            address(&[], offset, Report::Plain),
+            address(&[], offset, Report::Updiscon),
+            address(&[], offset, Report::Notify),
+            address(&[false], offset, Report::Notify),
+            address(&[true, false], offset, Report::Notify),
         ] {
             take_alike(
                 rt,

@@ -3,9 +3,6 @@
 mod definitions;
 mod failing;
 mod faults;
-mod many_rows;
-mod reading;
-mod writing;
 
 use crate::fixtures::add;
 use retire::Event;

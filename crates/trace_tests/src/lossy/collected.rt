@@ -47,41 +47,6 @@ pub(crate) enum Wanted {
     Events(usize, usize),
 }
 
-/// The number of a digit.
-fn number_of(digit: u8) -> u8 {
-    digit.wrapping_sub(b'0')
-}
-
-/// The number of two digits.
-fn position_of(tens: u8, ones: u8) -> usize {
-    10 * usize::from(number_of(tens)) + usize::from(number_of(ones))
-}
-
-/// The part with this text.
-fn part_of(text: &[u8]) -> Option<Wanted> {
-    match text {
-        [b'g', b'a', b'p', b' ', missing, ..] => {
-            Some(Wanted::Gap(u64::from(number_of(*missing))))
-        }
-        [from, from_ones, b'-', to, to_ones, ..] => Some(Wanted::Events(
-            position_of(*from, *from_ones),
-            position_of(*to, *to_ones),
-        )),
-        _ => None,
-    }
-}
-
-/// The parts with this text: `gap 1` for a gap of this many messages, and `00-11` for the events from a position on up
-/// to another, with a space between each two.
-pub(crate) fn parts_of<R: Abort + AllocGlobal>(rt: &R, text: &[u8]) -> Vec<Wanted> {
-    let mut parts = Vec::new(rt.alloc());
-    for part in text.chunks(6) {
-        let wanted = part_of(part).expect(rt, "a part");
-        parts.push(wanted).expect(rt, "memory");
-    }
-    parts
-}
-
 /// Whether a part is the one that is wanted of a log.
 fn is_wanted(log: &[Event], part: &Part, wanted: Wanted) -> bool {
     match (part, wanted) {

@@ -1,0 +1,23 @@
+//! The files of cases that a program is given.
+
+use std::rt::{Env, Files};
+use std::{env, fs, io};
+
+/// A file of cases.
+#[derive(Drop)]
+pub struct DataFile {
+    pub name: String,
+    pub text: String,
+}
+
+/// The files that the program's arguments name, in their order.
+///
+/// It is an error where an argument or a file is not read, or where allocation fails.
+pub fn data_files<R: Env + Files + AllocGlobal>(rt: &R) -> io::Result<Vec<DataFile>> {
+    let mut files = Vec::new(rt.alloc());
+    for name in env::args(rt)?.skip(1) {
+        let text = fs::read_to_string(rt, name.as_str())?;
+        files.push(DataFile { name, text })?;
+    }
+    Ok(files)
+}

@@ -1,0 +1,103 @@
+-- What a capture decodes to is compared with the legal logs of texts.
+use Rattle.std.proofs.Common.{◌≡◌, ◌≢◌, ◌∙◌, ◌+◌, ℕ, Bool, List, [], ◌∷◌, Option, Ok, Err, Vec, Global, ap, arith}
+use Rattle.std.proofs.Common.{inr, length, refl, sym, subst}
+use Rattle.std.specs.Prelude.{is_none}
+use Rattle.bench.specs.Got.{Got}
+use Rattle.captures.specs.Decoded.{IsDecoded}
+use Rattle.captures.specs.declared.outcome.CaptureFault.{CaptureFault}
+use Rattle.comparing.proofs.DecodedHarts.{flags_many}
+use Rattle.comparing.proofs.HeldHarts.{held}
+use Rattle.comparing.proofs.LineTexts.{lines_whole, lines_written}
+use Rattle.comparing.specs.Compared.{gots_by, is_compared_whole}
+use Rattle.comparing.specs.Counts.{AreCounted}
+use Rattle.comparing.specs.Lines.{are_whole_lines, lines_text}
+use Rattle.comparing.specs.declared.hart_count.HartCount.{HartCount}
+use Rattle.comparing.specs.declared.hart_line.ComparedHart.{ComparedHart}
+use Rattle.comparing.specs.steps.Held.{count_in}
+use Rattle.receiver.specs.Received.{events_in}
+use Rattle.retire.specs.declared.event.Event.{Event}
+use Rattle.rvclass.specs.Fetch.{words_of}
+use Rattle.rvclass.specs.Image.{Image}
+use Rattle.ffi.specs.Compared.{HasAsMany, HasComparison, HoldsFor, IsCompared, closed_in, compare_end}
+use Rattle.ffi.specs.Decoded.{stop_fault}
+use Rattle.ffi.specs.Encoded.{IsRefusedLog}
+use Rattle.ffi.specs.Images.{Judged}
+use Rattle.ffi.specs.declared.fault.Fault.{Fault}
+use Rattle.ffi.specs.declared.fault.Fault.TheVariants.{Memory, NoProgram, Log, Illegal, NoHart, Range, Ends}
+use Rattle.ffi.specs.declared.status.TheConstants.{MEMORY}
+use Rattle.ffi.specs.declared.texts.TextFault.TheVariants as text
+use Rattle.ffi.specs.declared.texts.Written.{Written}
+use Rattle.ffi.specs.steps.Comparing.{AreCompared, Writes}
+use Rattle.ffi.proofs.HartsListed.{lists_many}
+
+-- The flags are those of what is held.
+pub flags_held : (count : ℕ → HartCount) (hart : ℕ) (lists : List (List Event)) (closed : List Bool)
+    → length closed ≡ length lists → closed_in (gots_by count hart lists closed) ≡ closed
+flags_held count hart [] [] same = refl
+flags_held count hart [] (flag ∷ closed) same = absurd (omega (arith, same))
+flags_held count hart (list ∷ lists) [] same = absurd (omega (arith, same))
+flags_held count hart (list ∷ lists) (flag ∷ closed) same =
+    ap (λ flags. flag ∷ flags) (flags_held count (hart + 1) lists closed (omega (arith, same)))
+
+-- The same is held by lists that are the same.
+pub same_held : (counts counts_too : List HartCount) (lists lists_too : List (Vec Event Global))
+    (closed closed_too : List Bool) → counts ≡ counts_too → lists ≡ lists_too → closed ≡ closed_too
+    → gots_by (count_in counts) 0 (events_in lists) closed
+    ≡ gots_by (count_in counts_too) 0 (events_in lists_too) closed_too
+same_held counts counts_too lists lists_too closed closed_too a b c =
+    ap (λ x. gots_by (count_in x) 0 (events_in lists) closed) a
+    ∙ ap (λ x. gots_by (count_in counts_too) 0 (events_in x) closed) b
+    ∙ ap (λ x. gots_by (count_in counts_too) 0 (events_in lists_too) x) c
+
+module _ (image : Judged) (harts : ℕ) (capture : List ℕ) (program : Image) (made : image ≡ Ok program)
+    (lists : List (Vec Event Global)) (closed : List Bool) (counts : List HartCount)
+    (stop : Option (ℕ × CaptureFault))
+    (decoded : IsDecoded (words_of program) harts capture (events_in lists) closed stop) where
+  -- There is a flag for each list.
+  pub flags_for : length closed ≡ length lists
+  flags_for = flags_many (words_of program) harts capture (events_in lists) closed stop decoded ∙ lists_many [] lists closed
+
+  -- What is held is what the capture decodes to.
+  pub held_for : (many : ℕ) → many ≡ length lists → AreCounted capture many stop counts → (why : ℕ)
+      → why ≡ stop_fault stop → why ≢ MEMORY
+      → HoldsFor image harts capture program (gots_by (count_in counts) 0 (events_in lists) closed) stop
+  held_for many count counted why is other = record {
+    made = made;
+    got = held (words_of program) harts capture (events_in lists) closed counts stop decoded
+        (subst (λ n. AreCounted capture n stop counts) (count ∙ sym (lists_many [] lists closed)) counted);
+    memory = λ e. other (is ∙ e);
+  }
+
+-- A log is refused.
+pub log_refused : (image : Judged) (harts : ℕ) (capture bytes ends : List ℕ) (program : Image) (place : ℕ) (why : Fault)
+    → image ≡ Ok program → HasAsMany image harts capture ends → IsRefusedLog program bytes ends place why
+    → IsCompared image harts capture bytes ends (Err (place, text.Of why))
+log_refused image harts capture bytes ends program place Memory made many refused = inr (program, made, refused)
+log_refused image harts capture bytes ends program place (NoProgram why) made many refused = absurd refused.refused
+log_refused image harts capture bytes ends program place (Log why) made many refused = (many, (program, made, refused))
+log_refused image harts capture bytes ends program place (Illegal why) made many refused =
+    (many, (program, made, refused))
+log_refused image harts capture bytes ends program place NoHart made many refused = (many, (program, made, refused))
+log_refused image harts capture bytes ends program place Range made many refused = (many, (program, made, refused))
+log_refused image harts capture bytes ends program place Ends made many refused = (many, (program, made, refused))
+
+-- The report that is written is that of the comparison.
+pub comparison_found : (image : Judged) (harts : ℕ) (capture bytes ends : List ℕ) (program : Image) (gots : List Got)
+    (stop : Option (ℕ × CaptureFault)) → HoldsFor image harts capture program gots stop → (closed : List Bool)
+    → closed_in gots ≡ closed → (lines : List ComparedHart) → AreCompared program bytes ends gots lines
+    → (found : Written) → Writes lines closed stop found
+    → HasComparison image harts capture bytes ends found.text.items found.end
+comparison_found image harts capture bytes ends program gots stop held closed flags lines are found writes = record {
+  program = program;
+  gots = gots;
+  stop = stop;
+  held = held;
+  logs = are.logs;
+  many = are.many;
+  are = are.are;
+  written = writes.written ∙ ap (lines_text (is_none stop)) are.each ∙ lines_written stop gots are.logs are.many;
+  ended = writes.ended
+      ∙ ap (compare_end closed stop)
+      (ap (are_whole_lines (is_none stop)) are.each ∙ lines_whole stop gots are.logs are.many)
+      ∙ ap (λ c. compare_end c stop (is_compared_whole stop gots are.logs)) (sym flags);
+}

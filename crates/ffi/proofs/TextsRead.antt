@@ -1,0 +1,85 @@
+-- Logs are read from their texts one after the other.
+use Rattle.std.proofs.Common.{◌≡◌, ℕ, suc, ◌+◌, ◌<◌, ◌≤◌, List, [], ◌∷◌, ◌++◌, drop, length, slice_index_or, take, refl, sym}
+use Rattle.std.proofs.Common.{ap, subst, ◌∙◌, arith}
+use Rattle.std.proofs.lemmas.List.{append_assoc, length-take-le, take-append-drop, take_all, take_more}
+use Rattle.legalpath.specs.ProgramLog.{ProgramLog}
+use Rattle.rvclass.specs.Image.{Image}
+use Rattle.ffi.specs.Encoded.{AreLogs, IsLegalText, IsNoLegalText, IsRefusedLog, last_end, text_between}
+use Rattle.ffi.specs.declared.fault.Fault.{Fault}
+
+-- One text more ends where it ends.
+last_end_more : (from : ℕ) (front : List ℕ) (end : ℕ) → last_end from (front ++ end ∷ []) ≡ end
+last_end_more from [] end = refl
+last_end_more from (first ∷ front) end = last_end_more first front end
+
+-- One legal log more is read.
+are_more : (program : Image) (bytes : List ℕ) (from : ℕ) (front : List ℕ) (logs : List ProgramLog) (end : ℕ)
+    (log : ProgramLog) → AreLogs program bytes from front logs
+    → IsLegalText program (text_between bytes (last_end from front) end) log
+    → AreLogs program bytes from (front ++ end ∷ []) (logs ++ log ∷ [])
+are_more program bytes from [] [] end log are legal = (legal, tt)
+are_more program bytes from [] (first ∷ logs) end log are legal = absurd are
+are_more program bytes from (next ∷ front) [] end log are legal = absurd are
+are_more program bytes from (next ∷ front) (first ∷ logs) end log are legal =
+    (are.0, are_more program bytes next front logs end log are.1 legal)
+
+-- There are as many logs as texts.
+pub as_many : (program : Image) (bytes : List ℕ) (from : ℕ) (ends : List ℕ) (logs : List ProgramLog)
+    → AreLogs program bytes from ends logs → length logs ≡ length ends
+as_many program bytes from [] [] are = refl
+as_many program bytes from [] (log ∷ logs) are = absurd are
+as_many program bytes from (end ∷ ends) [] are = absurd are
+as_many program bytes from (end ∷ ends) (log ∷ logs) are = ap suc (as_many program bytes end ends logs are.1)
+
+-- The first texts were read, up to this place in the bytes.
+pub record AreRead (program : Image) (bytes ends : List ℕ) (place from : ℕ) (logs : List ProgramLog) : Type 0 where
+  pub are : AreLogs program bytes 0 (take place ends) logs
+  pub at : from ≡ last_end 0 (take place ends)
+
+-- None was.
+pub read_none : (program : Image) (bytes ends : List ℕ) → AreRead program bytes ends 0 0 []
+read_none program bytes ends = record { are = tt; at = refl }
+
+-- One more was.
+pub read_more : (program : Image) (bytes ends : List ℕ) (place from : ℕ) (logs : List ProgramLog) (end : ℕ)
+    (log : ProgramLog) → place < length ends → end ≡ slice_index_or ends place 0
+    → AreRead program bytes ends place from logs → IsLegalText program (text_between bytes from end) log
+    → AreRead program bytes ends (place + 1) end (logs ++ log ∷ [])
+read_more program bytes ends place from logs end log within is read legal =
+    let next = take_more ends place 0 within ∙ ap (λ e. take place ends ++ e ∷ []) (sym is) in
+    record {
+      are = subst (λ front. AreLogs program bytes 0 front (logs ++ log ∷ [])) (sym next)
+          (are_more program bytes 0 (take place ends) logs end log read.are
+          (subst (λ n. IsLegalText program (text_between bytes n end) log) read.at legal));
+      at = sym (ap (last_end 0) next ∙ last_end_more 0 (take place ends) end);
+    }
+
+-- All were.
+pub read_all : (program : Image) (bytes ends : List ℕ) (place from : ℕ) (logs : List ProgramLog) → length ends ≤ place
+    → AreRead program bytes ends place from logs → AreLogs program bytes 0 ends logs
+read_all program bytes ends place from logs past read =
+    subst (λ front. AreLogs program bytes 0 front logs) (take_all place ends past) read.are
+
+-- One is refused.
+pub read_refused : (program : Image) (bytes ends : List ℕ) (place from : ℕ) (logs : List ProgramLog) (end : ℕ)
+    (fault : Fault) → place < length ends → end ≡ slice_index_or ends place 0
+    → AreRead program bytes ends place from logs → IsNoLegalText program (text_between bytes from end) fault
+    → IsRefusedLog program bytes ends place fault
+read_refused program bytes ends place from logs end fault within is read refused = record {
+  front = take place ends;
+  end = end;
+  rest = drop (place + 1) ends;
+  logs = logs;
+  whole = parted;
+  before = read.are;
+  counted = sym (length-take-le place ends (omega arith));
+  refused = subst (λ n. IsNoLegalText program (text_between bytes n end) fault) read.at refused;
+}
+  where
+    one : take (place + 1) ends ≡ take place ends ++ end ∷ []
+    one = take_more ends place 0 within ∙ ap (λ e. take place ends ++ e ∷ []) (sym is)
+
+    parted : ends ≡ take place ends ++ end ∷ drop (place + 1) ends
+    parted =
+        sym (take-append-drop (place + 1) ends) ∙ ap (λ front. front ++ drop (place + 1) ends) one
+        ∙ append_assoc (take place ends) (end ∷ []) (drop (place + 1) ends)

@@ -1,0 +1,14 @@
+-- What is found is handed out, or it is reported why SENT is refused.
+use Rattle.std.proofs.Common.{◌∙◌, refl, sym}
+use Rattle.ffi.specs.AuditedUnnumbered.{Found, Refused}
+use Rattle.ffi.proofs.aligned_audit.tracebench_audit_unnumbered.Goals as goal
+
+pub returns-in-Ok : goal.returns-in-Ok
+returns-in-Ok c =
+    Found c.in-Some.by (sym c.compared_by.ensures ∙ c.in-Some.is) c.in-Ok.found.rows.items c.in-Ok.found.singles.items
+    c.in-Ok.found.lost.items c.in-Ok.ensures.found c.hand_out_aligned.ensures refl
+
+pub returns-in-Err : goal.returns-in-Err
+returns-in-Err c =
+    Refused c.in-Some.by (sym c.compared_by.ensures ∙ c.in-Some.is) c.in-Err.why c.in-Err.ensures.refused
+    c.sent_status.ensures c.sent_place.ensures refl refl

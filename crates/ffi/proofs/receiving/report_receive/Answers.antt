@@ -1,0 +1,36 @@
+-- What came of a message is reported: by the constructor for each.
+use Rattle.std.proofs.Common.{refl, sym, ◌∙◌, arith}
+use Rattle.ffi.specs.Received.{Missing, NoPacket, Received}
+use Rattle.ffi.proofs.receiving.report_receive.Goals as goal
+
+pub returns-in-Err : goal.returns-in-Err
+returns-in-Err c =
+    NoPacket (sym c.number_status-said.ensures.value ∙ c.if-said-ne-DONE.false) c.in-Err.why
+    (sym c.in-Err.ensures.value) c.pack_status.ensures refl refl refl refl
+
+pub returns-then-number-hart : goal.returns-then-number-hart
+returns-then-number-hart c =
+    Missing (sym c.number_status-said.ensures.value ∙ c.if-said-ne-DONE.false) c.in-Ok.field-0
+    (sym c.in-Ok.ensures.value) c.if-number-hart.true refl refl refl refl refl
+
+pub overflow_add-hart : goal.overflow_add-hart
+overflow_add-hart c =
+    let within = (c.number_status-said.ensures.within c.if-said-ne-DONE.false).1 in omega (arith, within)
+
+pub returns-then-status-eq-DONE : goal.returns-then-status-eq-DONE
+returns-then-status-eq-DONE c =
+    let least = (c.number_status-said.ensures.within c.if-said-ne-DONE.false).0 in
+    let most = c.if-number-hart.false in
+    Received (sym c.number_status-said.ensures.value ∙ c.if-said-ne-DONE.false) c.in-Ok.field-0
+    (sym c.in-Ok.ensures.value) (omega (arith, least, most))
+    c.report_feed-status.new.state c.report_feed-status.ensures (λ is. refl)
+    (λ no. absurd (no c.if-status-eq-DONE.true)) refl
+
+pub returns-else-status-eq-DONE : goal.returns-else-status-eq-DONE
+returns-else-status-eq-DONE c =
+    let least = (c.number_status-said.ensures.within c.if-said-ne-DONE.false).0 in
+    let most = c.if-number-hart.false in
+    Received (sym c.number_status-said.ensures.value ∙ c.if-said-ne-DONE.false) c.in-Ok.field-0
+    (sym c.in-Ok.ensures.value) (omega (arith, least, most))
+    c.report_feed-status.new.state c.report_feed-status.ensures
+    (λ is. absurd (c.if-status-eq-DONE.false is)) (λ no. refl) refl

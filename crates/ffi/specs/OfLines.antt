@@ -1,0 +1,68 @@
+-- What a call reports of a capture of lines.
+use Rattle.std.specs.Prelude.{ℕ, ◌≡◌, ◌==◌, ◌&&◌, nat_le, if◌then◌else◌, List, Option, Some, None, Result, Ok, Err}
+use Rattle.std.specs.declared.alloc.Global.{Global}
+use Rattle.std.specs.declared.vec.Vec.{Vec}
+use Rattle.capture_lines.specs.Capture.{capture_of_text}
+use Rattle.capture_lines.specs.declared.fault.LineFault.{LineFault}
+use Rattle.capture_lines.specs.declared.fault.LinesFault.TheVariants as fault
+use Rattle.capture_lines.specs.declared.settings.Settings.{Settings}
+use Rattle.message.specs.Version.{most_harts}
+use Rattle.message.specs.declared.header.Version.{Version}
+use Rattle.payload.specs.declared.mode.Mode.{Mode}
+use Rattle.ffi.specs.Encoded.{mode_of, version_of}
+use Rattle.ffi.specs.Handed.{IsHandedOut}
+use Rattle.ffi.specs.Statuses.{line_status}
+use Rattle.ffi.specs.declared.lines.LinesRefusal.{LinesRefusal}
+use Rattle.ffi.specs.declared.lines.LinesRefusal.TheVariants.{Range, Line, Memory}
+use Rattle.ffi.specs.declared.status.TheConstants.{MEMORY, OUT_OF_RANGE}
+
+-- The count of harts that is asked for: none with 0.
+abbrev pub harts_asked : ℕ → Option ℕ
+harts_asked harts = if harts == 0 then None else Some harts
+
+-- The settings in this version and mode, where the period is 1 or more, and no more harts are asked for than a capture
+-- of the version has.
+abbrev pub settings_with : Option Version → Option Mode → ℕ → ℕ → Option Settings
+settings_with None mode period harts = None
+settings_with (Some version) None period harts = None
+settings_with (Some version) (Some mode) period harts =
+    if nat_le 1 period && nat_le harts (most_harts version)
+    then Some (record { version = version; mode = mode; period = period; harts = harts_asked harts }) else None
+
+-- The settings that numbers name, where all are in their ranges.
+abbrev pub settings_named : ℕ → ℕ → ℕ → ℕ → Option Settings
+settings_named version mode period harts = settings_with (version_of version) (mode_of mode) period harts
+
+-- The result for lines: their capture; or a number is out of its range, a line has a fault, of which it is the first, or
+-- an allocation failed for the capture.
+abbrev pub IsOfLines : Option Settings → List ℕ → Result (Vec ℕ Global) LinesRefusal → Type 0
+IsOfLines settings text (Ok capture) =
+    (own : Settings) × (settings ≡ Some own) × (capture_of_text own text ≡ Ok capture.items)
+IsOfLines settings text (Err Range) = settings ≡ None
+IsOfLines settings text (Err (Line number why)) =
+    (own : Settings) × (settings ≡ Some own) × (capture_of_text own text ≡ Err (fault.Line number why))
+IsOfLines settings text (Err Memory) =
+    (own : Settings) × (settings ≡ Some own)
+    × ((capture : List ℕ) × (capture_of_text own text ≡ Ok capture))
+
+-- Why there is no capture of lines, as a status.
+abbrev pub lines_status : LinesRefusal → ℕ
+lines_status Range = OUT_OF_RANGE
+lines_status (Line number why) = line_status why
+lines_status Memory = MEMORY
+
+-- The line at fault, counted from 1; 0 where none is.
+abbrev pub line_at_fault : LinesRefusal → ℕ
+line_at_fault Range = 0
+line_at_fault (Line number why) = number
+line_at_fault Memory = 0
+
+-- The capture of lines was handed out, and no line was reported; or there is none, and the status and the line say why.
+pub data ReportsOfLines (settings : Option Settings) (text : List ℕ) (status line wanted_before wanted : ℕ)
+    (old new : List ℕ) : Type 0 where
+  Made : (capture : Vec ℕ Global) → IsOfLines settings text (Ok capture)
+      → IsHandedOut capture.items status wanted old new → line ≡ 0
+      → ReportsOfLines settings text status line wanted_before wanted old new
+  Refused : (why : LinesRefusal) → IsOfLines settings text (Err why) → status ≡ lines_status why
+      → line ≡ line_at_fault why → wanted ≡ wanted_before → new ≡ old
+      → ReportsOfLines settings text status line wanted_before wanted old new

@@ -1,0 +1,102 @@
+-- What a call reports of what is salvaged of a capture.
+use Rattle.std.specs.Prelude.{ℕ, ◌≡◌, ◌==◌, ◌&&◌, not, is_none, Bool, if◌then◌else◌, List, Option, Some, None}
+use Rattle.std.specs.Prelude.{Result, Ok, Err, length}
+use Rattle.std.specs.List.{list_any}
+use Rattle.std.specs.Option.{unwrap_or}
+use Rattle.std.specs.declared.alloc.Global.{Global}
+use Rattle.hart_range.specs.Range.{every_hart}
+use Rattle.hart_range.specs.declared.range.HartRange.{HartRange}
+use Rattle.message.specs.declared.fault.MessageFault.{MessageFault}
+use Rattle.message.specs.declared.header.Header.{Header}
+use Rattle.rvclass.specs.Image.{Image}
+use Rattle.salvaged_text.specs.Damage.{closed_harts, first_unclosed, is_damaged}
+use Rattle.salvaged_text.specs.Found.{IsSalvagedCapture}
+use Rattle.salvaged_text.specs.Frames.{is_run}
+use Rattle.salvaged_text.specs.HartItems.{items_of}
+use Rattle.salvaged_text.specs.Layouts.{salvaged_as}
+use Rattle.salvaged_text.specs.declared.found_writing.Layout.{Layout}
+use Rattle.salvaged_text.specs.declared.found_writing.Layout.TheVariants as layout
+use Rattle.salvaging.specs.declared.salvaged.Salvaged.{Salvaged}
+use Rattle.salvaging.specs.declared.salvaged.SalvagedHart.{SalvagedHart}
+use Rattle.searching.specs.Start.{spans_of}
+use Rattle.ffi.specs.Images.{Judged}
+use Rattle.ffi.specs.Numbers.{flag}
+use Rattle.ffi.specs.Statuses.{message_status}
+use Rattle.ffi.specs.Texts.{ReportsText}
+use Rattle.ffi.specs.declared.fault.Fault.TheVariants.{Memory, NoProgram, Range}
+use Rattle.ffi.specs.declared.listing_capture.TheConstants.{CSV, TEXT}
+use Rattle.ffi.specs.declared.salvaged.TheConstants.{HARTS_SHOWN, SUMMARY}
+use Rattle.ffi.specs.declared.status.TheConstants.{DONE}
+use Rattle.ffi.specs.declared.texts.TextEnd.{TextEnd}
+use Rattle.ffi.specs.declared.texts.TextFault.{TextFault}
+use Rattle.ffi.specs.declared.texts.TextFault.TheVariants as text
+use Rattle.ffi.specs.declared.texts.Written.{Written}
+
+-- The count of harts that a number asks for; one number asks for none.
+abbrev pub harts_asked : ℕ → Option ℕ
+harts_asked number = if number == HARTS_SHOWN then None else Some number
+
+-- The layout of a number.
+abbrev pub layout_of : ℕ → Option Layout
+layout_of number =
+    if number == TEXT then Some layout.Text
+    else if number == CSV then Some layout.Table
+    else if number == SUMMARY then Some layout.Summary
+    else None
+
+-- Why a capture that begins as one of version 2 does has no valid header, as a status.
+abbrev pub header_status : Option MessageFault → ℕ
+header_status None = DONE
+header_status (Some why) = message_status why
+
+-- How a text ends of what is salvaged of these harts, in numbers: how many they are; the first of them that is not
+-- closed, or where each is, how many they are; why there is no valid header; and whether nothing is damaged, and no
+-- byte belongs to no frame.
+abbrev pub own_end : HartRange → Option MessageFault → Bool → List (SalvagedHart Global) → ℕ → TextEnd
+own_end only why runs harts strangers = record {
+  harts = length harts;
+  unclosed = unwrap_or (first_unclosed only.first (closed_harts harts)) (length harts);
+  place = 0;
+  fault = header_status why;
+  whole = flag (is_none why && (is_none (first_unclosed only.first (closed_harts harts))
+      && (not (is_damaged harts strangers) && not runs)));
+}
+
+abbrev pub salvage_end : HartRange → Option MessageFault → Bool → Salvaged Global → TextEnd
+salvage_end only why runs salvaged =
+    own_end only why runs (items_of only salvaged.harts.items) salvaged.strangers
+
+-- The text is what is salvaged of a capture by the program of an image, in a layout, and how it ends.
+pub record HasSalvaged (layout : Layout) (image : Judged) (asked : Option ℕ) (capture text : List ℕ) (end : TextEnd)
+    : Type 0 where
+  pub program : Image
+  pub header : Option Header
+  pub why : Option MessageFault
+  pub salvaged : Salvaged Global
+  pub made : image ≡ Ok program
+  pub found : IsSalvagedCapture asked program capture header why salvaged
+  pub laid_out : text ≡ salvaged_as layout every_hart header (spans_of header capture) salvaged
+  pub ended : end ≡ salvage_end every_hart why (list_any is_run (spans_of header capture)) salvaged
+
+-- The result for a capture, in a layout that is named: what is salvaged of it; or the image makes no program; or an
+-- allocation failed.
+abbrev pub IsSalvagedAs : Layout → Judged → Option ℕ → List ℕ → Result Written TextFault → Type 0
+IsSalvagedAs layout image asked capture (Ok found) = HasSalvaged layout image asked capture found.text.items found.end
+IsSalvagedAs layout image asked capture (Err (text.Of Memory)) = Unit {0}
+IsSalvagedAs layout image asked capture (Err (text.Of (NoProgram why))) = image ≡ Err why
+IsSalvagedAs layout image asked capture (Err other) = ⊥
+
+-- The same, where the layout is a number: it comes first, and names none, or the layout.
+pub data IsSalvagedIn (image : Judged) (harts : ℕ) (capture : List ℕ) (format : ℕ) (written : Result Written TextFault)
+    : Type 0 where
+  NoLayout : layout_of format ≡ None → written ≡ Err (text.Of Range)
+      → IsSalvagedIn image harts capture format written
+  InLayout : (named : Layout) → layout_of format ≡ Some named
+      → IsSalvagedAs named image (harts_asked harts) capture written
+      → IsSalvagedIn image harts capture format written
+
+-- What is salvaged of a capture was written, and the result was reported.
+abbrev pub ReportsSalvage : Judged → ℕ → List ℕ → ℕ → ℕ → ℕ → ℕ → TextEnd → TextEnd → List ℕ → List ℕ → Type 0
+ReportsSalvage image harts capture format status wanted_before wanted ended_before ended old new =
+    (written : Result Written TextFault) × IsSalvagedIn image harts capture format written
+    × ReportsText written status wanted_before wanted ended_before ended old new

@@ -1,0 +1,89 @@
+-- What a call reports of what salvaging does with each message of a capture.
+use Rattle.std.specs.Prelude.{ℕ, ◌≡◌, List, Option, Some, None, Result, Ok, Err}
+use Rattle.std.specs.List.{list_any}
+use Rattle.std.specs.declared.alloc.Global.{Global}
+use Rattle.hart_range.specs.Range.{every_hart, selected}
+use Rattle.hart_range.specs.declared.range.HartRange.{HartRange}
+use Rattle.message.specs.declared.fault.MessageFault.{MessageFault}
+use Rattle.message.specs.declared.header.Header.{Header}
+use Rattle.rvclass.specs.Fetch.{words_of}
+use Rattle.rvclass.specs.Image.{Image}
+use Rattle.salvaged_lines.specs.HartLines.{treated_text_of}
+use Rattle.salvaged_text.specs.Found.{IsSalvagedCapture}
+use Rattle.salvaged_text.specs.Frames.{is_run, messages_in}
+use Rattle.salvaging.specs.Treatments.{AreTreated}
+use Rattle.salvaging.specs.declared.salvaged.Salvaged.{Salvaged}
+use Rattle.salvaging.specs.declared.treatment.Treated.{Treated}
+use Rattle.searching.specs.Harts.{harts_counted}
+use Rattle.searching.specs.Search.{mode_of}
+use Rattle.searching.specs.Start.{spans_of}
+use Rattle.symbols.specs.declared.fault.SymbolsFault.TheVariants as reading
+use Rattle.treated_table.specs.HartTable.{treated_table_of}
+use Rattle.ffi.specs.Images.{Judged}
+use Rattle.ffi.specs.Listed.{format_of, symbols_in}
+use Rattle.ffi.specs.Salvaged.{harts_asked, salvage_end}
+use Rattle.ffi.specs.Texts.{ReportsText}
+use Rattle.ffi.specs.declared.fault.Fault.TheVariants.{Memory, NoProgram, Range}
+use Rattle.ffi.specs.declared.listing_capture.TextFormat.{TextFormat}
+use Rattle.ffi.specs.declared.listing_capture.TextFormat.TheVariants as format
+use Rattle.ffi.specs.declared.texts.TextEnd.{TextEnd}
+use Rattle.ffi.specs.declared.texts.TextFault.{TextFault}
+use Rattle.ffi.specs.declared.texts.TextFault.TheVariants as text
+use Rattle.ffi.specs.declared.texts.Written.{Written}
+
+-- What salvaging does with each message of some harts, in lines or as a table.
+abbrev pub treated_in : TextFormat → HartRange → Option (List ℕ) → Option Header → List ℕ → List Treated → List ℕ
+treated_in format.Lines only file header capture treated = treated_text_of only file header capture treated
+treated_in format.Table only file header capture treated = treated_table_of only file header capture treated
+
+-- This is done with each message of all harts of a capture behind this header, or with none, where this count of harts
+-- is asked for, if one is.
+abbrev pub AreTreatedBehind : Option Header → Option ℕ → Image → List ℕ → List Treated → Type 0
+AreTreatedBehind header asked program capture treated =
+    AreTreated (words_of program) (mode_of header) (harts_counted asked header capture)
+    (selected every_hart (messages_in (spans_of header capture))) treated
+
+-- The text is what salvaging does with each message of a capture by the program of an image, with places named by
+-- symbols, and how it ends, which is how salvaging ends.
+pub record HasTreated (format : TextFormat) (image : Judged) (asked : Option ℕ) (capture symbols text : List ℕ)
+    (end : TextEnd) : Type 0 where
+  pub program : Image
+  pub file : Option (List ℕ)
+  pub header : Option Header
+  pub why : Option MessageFault
+  pub salvaged : Salvaged Global
+  pub treated : List Treated
+  pub made : image ≡ Ok program
+  pub named : symbols_in symbols ≡ Ok file
+  pub found : IsSalvagedCapture asked program capture header why salvaged
+  pub done : AreTreatedBehind header asked program capture treated
+  pub laid_out : text ≡ treated_in format every_hart file header capture treated
+  pub ended : end ≡ salvage_end every_hart why (list_any is_run (spans_of header capture)) salvaged
+
+-- The result for a capture, in a format that is named: what is done with its messages; or the image makes no program,
+-- or else the symbols are not read; or an allocation failed.
+abbrev pub IsTreatedAs : TextFormat → Judged → Option ℕ → List ℕ → List ℕ → Result Written TextFault → Type 0
+IsTreatedAs format image asked capture symbols (Ok found) =
+    HasTreated format image asked capture symbols found.text.items found.end
+IsTreatedAs format image asked capture symbols (Err (text.Of Memory)) = Unit {0}
+IsTreatedAs format image asked capture symbols (Err (text.Of (NoProgram why))) = image ≡ Err why
+IsTreatedAs format image asked capture symbols (Err (text.Symbols reading.Memory)) = Unit {0}
+IsTreatedAs format image asked capture symbols (Err (text.Symbols why)) =
+    (program : Image) × (image ≡ Ok program) × (symbols_in symbols ≡ Err why)
+IsTreatedAs format image asked capture symbols (Err other) = ⊥
+
+-- The same, where the format is a number: it comes first, and names none, or the format.
+pub data IsTreatedIn (image : Judged) (harts : ℕ) (capture symbols : List ℕ) (format : ℕ)
+    (written : Result Written TextFault) : Type 0 where
+  NoFormat : format_of format ≡ None → written ≡ Err (text.Of Range)
+      → IsTreatedIn image harts capture symbols format written
+  InFormat : (named : TextFormat) → format_of format ≡ Some named
+      → IsTreatedAs named image (harts_asked harts) capture symbols written
+      → IsTreatedIn image harts capture symbols format written
+
+-- What salvaging does with each message of a capture was written, and the result was reported.
+abbrev pub ReportsTreated : Judged → ℕ → List ℕ → List ℕ → ℕ → ℕ → ℕ → ℕ → TextEnd → TextEnd → List ℕ → List ℕ
+    → Type 0
+ReportsTreated image harts capture symbols format status wanted_before wanted ended_before ended old new =
+    (written : Result Written TextFault) × IsTreatedIn image harts capture symbols format written
+    × ReportsText written status wanted_before wanted ended_before ended old new

@@ -1,0 +1,286 @@
+//! How a capture compares with logs, as text.
+
+ghost use Rattle.std.specs.Prelude.{◌≡◌, ◌≤◌, IfErr, IfOk, length, option_map};
+ghost use Rattle.comparing.specs.Compared.{got_by, gots_by};
+ghost use Rattle.comparing.specs.Lines.{line_of};
+ghost use Rattle.comparing.specs.steps.Held.{count_in};
+ghost use Rattle.legalpath.specs.ProgramLog.{program_log};
+ghost use Rattle.receiver.specs.Received.{events_in};
+ghost use Rattle.retire.specs.Log.{most_rows};
+ghost use Rattle.rvclass.specs.Image.{Image};
+ghost use Rattle.ffi.specs.Compared.{IsCompared, ReportsCompare, ReportsCompared, text_row};
+ghost use Rattle.ffi.specs.Encoded.{IsNoLegalText, IsRefusedLog};
+ghost use Rattle.ffi.specs.Images.{OfPieces, judged_image};
+ghost use Rattle.ffi.specs.steps.Comparing.{AreCompared, IsComparedText, Writes};
+
+use crate::decoding::{stop_fault, stop_place};
+use crate::encoding::{LogPlace, text_between};
+use crate::fault::Fault;
+use crate::handing::hand_out;
+use crate::images::{ImagePiece, Judged, judge_image, judge_pieces};
+use crate::legal_texts::legal_events;
+use crate::status::MEMORY;
+use crate::texts::{TextEnd, TextFault, Written, first_unclosed};
+use captures::{CaptureFault, CaptureOutcome, decode_capture};
+use comparing::{ComparedHart, Comparing, HartCount, counts_of, write_comparison};
+use retire::{Event, WriteFault};
+use rvclass::ProgramOver;
+use std::alloc::Global;
+
+/// Writes how a capture compares with the logs of its harts to a buffer, hart 0 first, as `tracebench compare` prints it.
+/// `logs` holds the texts of the logs, one after the other, and `ends` where each ends; what is after the last end is not
+/// looked at. The harts are those that the header counts, or without a header those below `harts`, and there has to be a
+/// log for each.
+///
+/// The status is [`DONE`](crate::status::DONE), [`TOO_SMALL`](crate::status::TOO_SMALL),
+/// [`UNEQUAL_COUNTS`](crate::status::UNEQUAL_COUNTS), [`MEMORY`](crate::status::MEMORY), or says what is wrong with the
+/// image or with the first log that is no legal log. With the first two `ended` is written. With the others `place` names
+/// the log and its row, and nothing else is written; both are 0 where no log is at fault.
+pub fn tracebench_compare(
+    alloc: Global,
+    base: u64,
+    image: &[u8],
+    harts: u16,
+    capture: &[u8],
+    logs: &[u8],
+    ends: &[u64],
+    buffer: &mut [u8],
+    wanted: &mut u64,
+    ended: &mut TextEnd,
+    place: &mut LogPlace,
+) -> u32
+    ensures { ReportsCompare (judged_image base image.now) harts capture.now logs.now ends.now result wanted.old
+        wanted.new ended.old ended.new place.old place.new buffer.old buffer.new }
+{
+    let judged = judge_image(base, image);
+    let compared = compare_logs(alloc, &judged, harts, capture, logs, ends);
+    report_compared(compared, buffer, wanted, ended, place)
+}
+
+/// Compares a capture with logs as [`tracebench_compare`] does, over pieces.
+pub fn tracebench_compare_over_pieces(
+    alloc: Global,
+    pieces: &[ImagePiece<'_>],
+    harts: u16,
+    capture: &[u8],
+    logs: &[u8],
+    ends: &[u64],
+    buffer: &mut [u8],
+    wanted: &mut u64,
+    ended: &mut TextEnd,
+    place: &mut LogPlace,
+) -> u32
+    ensures { OfPieces pieces.now (λ image. ReportsCompare image harts capture.now logs.now ends.now result wanted.old
+        wanted.new ended.old ended.new place.old place.new buffer.old buffer.new) }
+{
+    let judged = judge_pieces(alloc, pieces);
+    let compared = compare_logs(alloc, &judged, harts, capture, logs, ends);
+    report_compared(compared, buffer, wanted, ended, place)
+}
+
+/// Hands out a comparison and how it ends, or reports why there is none, and of which log and row.
+fn report_compared(
+    compared: Result<Written, (u64, TextFault)>,
+    buffer: &mut [u8],
+    wanted: &mut u64,
+    ended: &mut TextEnd,
+    place: &mut LogPlace,
+) -> u32
+    ensures { ReportsCompared compared result wanted.old wanted.new ended.old ended.new place.old place.new buffer.old
+        buffer.new }
+{
+    match compared {
+        Ok(found) => {
+            *ended = found.end;
+            hand_out(found.text.as_slice(), buffer, wanted)
+        }
+        Err((log, fault)) => {
+            *place = LogPlace {
+                log,
+                row: row_of(fault),
+            };
+            fault.status()
+        }
+    }
+}
+
+/// The row that a fault names, counted from 1; 0 where it names none.
+fn row_of(fault: TextFault) -> u64
+    ensures { result ≡ text_row fault }
+{
+    match fault {
+        TextFault::Of(why) => why.row(),
+        TextFault::Symbols(_) => 0,
+        TextFault::Count => 0,
+    }
+}
+
+/// How a capture compares with logs, or why that is not known, and for which log.
+fn compare_logs(
+    alloc: Global,
+    image: &Judged<'_>,
+    harts: u16,
+    capture: &[u8],
+    logs: &[u8],
+    ends: &[u64],
+) -> Result<Written, (u64, TextFault)>
+    ensures { IsCompared image.now harts capture.now logs.now ends.now result }
+{
+    let program = match image {
+        Ok(program) => program,
+        Err(why) => return Err((0, TextFault::Of(Fault::NoProgram(*why)))),
+    };
+    let outcome = match decode_capture(alloc, program, harts, capture) {
+        Ok(outcome) => outcome,
+        Err(_) => return Err((0, TextFault::Of(Fault::Memory))),
+    };
+    if stop_fault(outcome.fault) == MEMORY {
+        return Err((0, TextFault::Of(Fault::Memory)));
+    }
+    let counts = match counts_of(alloc, outcome.harts.len(), outcome.fault, capture) {
+        Ok(counts) => counts,
+        Err(_) => return Err((0, TextFault::Of(Fault::Memory))),
+    };
+    if ends.len() != outcome.harts.len() {
+        return Err((0, TextFault::Count));
+    }
+    let lines = match compare_each(
+        alloc,
+        program,
+        logs,
+        ends,
+        outcome.harts.as_slice(),
+        outcome.closed.as_slice(),
+        counts.as_slice(),
+    ) {
+        Ok(lines) => lines,
+        Err((place, why)) => return Err((place, TextFault::Of(why))),
+    };
+    match write_lines(
+        alloc,
+        lines.as_slice(),
+        outcome.closed.as_slice(),
+        outcome.fault,
+    ) {
+        Ok(written) => Ok(written),
+        Err(_) => Err((0, TextFault::Of(Fault::Memory))),
+    }
+}
+
+/// The report of these lines, and how it ends.
+fn write_lines(
+    alloc: Global,
+    lines: &[ComparedHart],
+    closed: &[bool],
+    stop: Option<(u64, CaptureFault)>,
+) -> Result<Written, WriteFault>
+    ensures { IfOk result (Writes lines.now closed.now stop) }
+{
+    let mut text = Vec::new(alloc);
+    let whole = write_comparison(lines, stop.is_none(), &mut text)?;
+    let end = TextEnd {
+        harts: closed.len() as u64,
+        unclosed: first_unclosed(closed),
+        place: stop_place(stop),
+        fault: stop_fault(stop),
+        whole: u32::from(whole),
+    };
+    Ok(Written { text, end })
+}
+
+/// The line of each hart, by its log, or the log that is at fault and why.
+fn compare_each(
+    alloc: Global,
+    program: &ProgramOver<'_>,
+    logs: &[u8],
+    ends: &[u64],
+    lists: &[Vec<Event>],
+    closed: &[bool],
+    counts: &[HartCount],
+) -> Result<Vec<ComparedHart>, (u64, Fault)>
+    requires many { length ends.now ≡ length lists.now }
+    requires flags { length closed.now ≡ length lists.now }
+    ensures lines { IfOk result (λ lines. AreCompared program.now logs.now ends.now
+        (gots_by (count_in counts.now) 0 (events_in lists.now) closed.now) lines.items) }
+    ensures refused { IfErr result (λ why. IsRefusedLog program.now logs.now ends.now why.0 why.1) }
+{
+    let mut lines = Vec::new(alloc);
+    let mut from = 0;
+    for place in 0..ends.len() {
+        let end = ends[place];
+        let text = text_between(logs, from, end);
+        let decoded = lists[place].as_slice();
+        let line = match compare_text(
+            alloc,
+            program,
+            text,
+            place,
+            decoded,
+            closed[place],
+            count_at(counts, place),
+        ) {
+            Ok(line) => line,
+            Err(fault) => return Err((place as u64, fault)),
+        };
+        match lines.push(line) {
+            Ok(()) => {}
+            Err(_) => return Err((place as u64, Fault::Memory)),
+        }
+        from = end;
+    }
+    Ok(lines)
+}
+
+/// The count of a hart.
+fn count_at(counts: &[HartCount], hart: usize) -> HartCount
+    ensures { result ≡ count_in counts.now hart }
+{
+    match counts.get(hart) {
+        Some(count) => *count,
+        None => HartCount::NONE,
+    }
+}
+
+/// The line of a hart by the legal log of a text.
+fn compare_text(
+    alloc: Global,
+    program: &ProgramOver<'_>,
+    text: Option<&[u8]>,
+    hart: usize,
+    decoded: &[Event],
+    closed: bool,
+    count: HartCount,
+) -> Result<ComparedHart, Fault>
+    ensures line { IfOk result (IsComparedText program.now (option_map (λ own. own.now) text.entry) hart
+        (got_by count decoded.now closed)) }
+    ensures fault { IfErr result (IsNoLegalText program.now (option_map (λ own. own.now) text.entry)) }
+{
+    match legal_events(alloc, program, text) {
+        Ok(events) => Ok(line_of(hart, decoded, closed, count, events.as_slice())),
+        Err(why) => Err(why),
+    }
+}
+
+/// The line of a hart by what was decoded of it and the events of its log.
+fn line_of(
+    hart: usize,
+    decoded: &[Event],
+    closed: bool,
+    count: HartCount,
+    events: &[Event],
+) -> ComparedHart
+    requires { length events.now ≤ most_rows }
+    ensures { (program : Image) → result ≡ line_of hart (got_by count decoded.now closed)
+        (program_log program events.now) }
+{
+    let mut comparing = Comparing::new();
+    comparing.add(decoded, events);
+    ComparedHart {
+        hart,
+        events: comparing.events(),
+        taken: count.taken,
+        bytes: count.bytes,
+        decoded: decoded.len(),
+        verdict: comparing.verdict(closed),
+    }
+}

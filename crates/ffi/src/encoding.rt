@@ -1,0 +1,236 @@
+//! From the texts of logs to a capture.
+
+ghost use Rattle.std.specs.Prelude.{◌≡◌, ◌≤◌, Err, IfErr, IfOk, IfSome, None, length, option_map};
+ghost use Rattle.message.specs.Version.{most_harts};
+ghost use Rattle.ffi.specs.Encoded.{AreInRange, AreLogs, IsEncoded, IsLegalText, IsMade, IsNoLegalText};
+ghost use Rattle.ffi.specs.Encoded.{IsOutOfRange, IsRefusedLog, ReportsEncode, ReportsMade, mode_of};
+ghost use Rattle.ffi.specs.Encoded.{text_between, version_of};
+ghost use Rattle.ffi.specs.Images.{judged_image};
+ghost use Rattle.ffi.specs.declared.fault.Fault.TheVariants.{Memory};
+ghost use Rattle.ffi.specs.declared.fault.ImageFault.TheVariants as ImageFault;
+
+use crate::copying::{Copied, copy_image};
+use crate::fault::{Fault, ImageFault};
+use crate::handing::hand_out;
+use crate::numbers::{DIFFERENTIAL, FULL};
+use captures::encode_capture;
+use legalpath::LegalLog;
+use message::Version;
+use payload::Mode;
+use retire::read_log_from_slice;
+use rvclass::Program;
+use std::alloc::Global;
+
+/// A capture without a header.
+pub const VERSION_ONE: u32 = 1;
+/// A capture with a header.
+pub const VERSION_TWO: u32 = 2;
+
+/// The log and its row that a fault names.
+#[repr(C)]
+#[derive(Clone, Copy)]
+pub struct LogPlace {
+    /// The log, counted from 0; 0 where none is named.
+    pub log: u64,
+    /// The row, counted from 1; 0 where none is named.
+    pub row: u64,
+}
+
+/// Writes the capture of harts' logs to a buffer, hart 0 first. `logs` holds the texts of the logs, one after the
+/// other, and `ends` where each ends; what is after the last end is not looked at. There are 1 to 1,024 logs, in
+/// version 1 at most 64, the period is 1 or more, the mode is [`DIFFERENTIAL`] or [`FULL`], and the version
+/// [`VERSION_ONE`] or [`VERSION_TWO`].
+///
+/// The status is [`DONE`](crate::status::DONE), [`TOO_SMALL`](crate::status::TOO_SMALL),
+/// [`OUT_OF_RANGE`](crate::status::OUT_OF_RANGE) where one of these numbers is out of its range,
+/// [`MEMORY`](crate::status::MEMORY), or says what is wrong with the image or with the first log that is no legal log.
+/// [`BAD_ENDS`](crate::status::BAD_ENDS) says that the log's end is before its start or past the texts. Where there is
+/// no capture, `place` names the log and its row; both are 0 where no log is at fault.
+pub fn tracebench_encode(
+    alloc: Global,
+    base: u64,
+    image: &[u8],
+    logs: &[u8],
+    ends: &[u64],
+    period: u16,
+    mode: u32,
+    version: u32,
+    buffer: &mut [u8],
+    wanted: &mut u64,
+    place: &mut LogPlace,
+) -> u32
+    ensures { ReportsEncode (judged_image base image.now) logs.now ends.now period mode version result wanted.old
+        wanted.new place.old place.new buffer.old buffer.new }
+{
+    let made = encode_logs(alloc, base, image, logs, ends, period, mode, version);
+    report_made(made, buffer, wanted, place)
+}
+
+/// Hands out a capture, or reports why there is none.
+pub(crate) fn report_made(
+    made: Result<Vec<u8>, (u64, Fault)>,
+    buffer: &mut [u8],
+    wanted: &mut u64,
+    place: &mut LogPlace,
+) -> u32
+    ensures { ReportsMade made result wanted.old wanted.new place.old place.new buffer.old buffer.new }
+{
+    match made {
+        Ok(capture) => hand_out(capture.as_slice(), buffer, wanted),
+        Err((log, fault)) => {
+            *place = LogPlace {
+                log,
+                row: fault.row(),
+            };
+            fault.status()
+        }
+    }
+}
+
+/// The capture of logs, or the log that is at fault and why.
+fn encode_logs(
+    alloc: Global,
+    base: u64,
+    image: &[u8],
+    logs: &[u8],
+    ends: &[u64],
+    period: u16,
+    mode: u32,
+    version: u32,
+) -> Result<Vec<u8>, (u64, Fault)>
+    ensures { IsEncoded (judged_image base image.now) logs.now ends.now period mode version result }
+{
+    match settings_of(ends, period, mode, version) {
+        Some((mode, version)) => {
+            let copied = copy_image(alloc, base, image);
+            capture_of_texts(alloc, &copied, logs, ends, period, mode, version)
+        }
+        None => Err((0, Fault::Range)),
+    }
+}
+
+/// The mode and the version that numbers name, where all are within their ranges.
+pub(crate) fn settings_of(
+    ends: &[u64],
+    period: u16,
+    mode: u32,
+    version: u32,
+) -> Option<(Mode, Version)>
+    ensures within { IfSome result (λ named. AreInRange ends.now period mode version named.0 named.1) }
+    ensures out { result ≡ None → IsOutOfRange ends.now period mode version }
+{
+    let Some(mode) = mode_of(mode) else {
+        return None;
+    };
+    let Some(version) = version_of(version) else {
+        return None;
+    };
+    if period == 0 || ends.is_empty() || ends.len() > usize::from(version.most_harts()) {
+        return None;
+    }
+    Some((mode, version))
+}
+
+/// The capture of logs in this version, or the log that is at fault and why.
+pub(crate) fn capture_of_texts(
+    alloc: Global,
+    copied: &Copied,
+    logs: &[u8],
+    ends: &[u64],
+    period: u16,
+    mode: Mode,
+    version: Version,
+) -> Result<Vec<u8>, (u64, Fault)>
+    requires period { 1 ≤ period }
+    requires some { 1 ≤ length ends.now }
+    requires few { length ends.now ≤ most_harts version }
+    ensures made { IsMade copied.now logs.now ends.now period mode version result }
+    ensures memory { copied.now ≡ Err ImageFault.Memory → result ≡ Err (0, Memory) }
+{
+    let program = match copied {
+        Ok(program) => program,
+        Err(ImageFault::Memory) => return Err((0, Fault::Memory)),
+        Err(why) => return Err((0, Fault::NoProgram(*why))),
+    };
+    let logs = read_logs(alloc, program, logs, ends)?;
+    let mut capture = Vec::new(alloc);
+    match encode_capture(logs.as_slice(), period, mode, version, &mut capture) {
+        Ok(()) => Ok(capture),
+        Err(_) => Err((0, Fault::Memory)),
+    }
+}
+
+/// The mode of a number.
+pub(crate) fn mode_of(number: u32) -> Option<Mode>
+    ensures { result ≡ mode_of number }
+{
+    match number {
+        DIFFERENTIAL => Some(Mode::Differential),
+        FULL => Some(Mode::Full),
+        _ => None,
+    }
+}
+
+/// The version of a number.
+pub(crate) fn version_of(number: u32) -> Option<Version>
+    ensures { result ≡ version_of number }
+{
+    match number {
+        VERSION_ONE => Some(Version::One),
+        VERSION_TWO => Some(Version::Two),
+        _ => None,
+    }
+}
+
+/// The legal logs of texts, or the first that is none and why.
+fn read_logs<'p>(
+    alloc: Global,
+    program: &'p Program,
+    logs: &[u8],
+    ends: &[u64],
+) -> Result<Vec<LegalLog<'p>>, (u64, Fault)>
+    ensures read { IfOk result (λ read. AreLogs program.now logs.now 0 ends.now read.items) }
+    ensures refused { IfErr result (λ why. IsRefusedLog program.now logs.now ends.now why.0 why.1) }
+{
+    let mut read = Vec::new(alloc);
+    let mut from = 0;
+    for place in 0..ends.len() {
+        let end = ends[place];
+        let log = match read_legal_log(alloc, program, text_between(logs, from, end)) {
+            Ok(log) => log,
+            Err(fault) => return Err((place as u64, fault)),
+        };
+        match read.push(log) {
+            Ok(()) => {}
+            Err(_) => return Err((place as u64, Fault::Memory)),
+        }
+        from = end;
+    }
+    Ok(read)
+}
+
+/// The bytes from one place up to another.
+pub(crate) fn text_between(logs: &[u8], from: u64, end: u64) -> Option<&[u8]>
+    ensures { option_map (λ text. text.now) result ≡ text_between logs.now from end }
+{
+    logs.get(from as usize..end as usize)
+}
+
+/// The legal log of a text.
+fn read_legal_log<'p>(
+    alloc: Global,
+    program: &'p Program,
+    text: Option<&[u8]>,
+) -> Result<LegalLog<'p>, Fault>
+    ensures log { IfOk result (λ log. IsLegalText program.now (option_map (λ own. own.now) text.entry) log) }
+    ensures fault { IfErr result (IsNoLegalText program.now (option_map (λ own. own.now) text.entry)) }
+{
+    let Some(text) = text else {
+        return Err(Fault::Ends);
+    };
+    let events = read_log_from_slice(alloc, alloc, text)?;
+    match LegalLog::new(program, events) {
+        Ok(log) => Ok(log),
+        Err((why, _)) => Err(Fault::Illegal(why)),
+    }
+}

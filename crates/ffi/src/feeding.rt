@@ -1,0 +1,182 @@
+//! Decoding step by step: one payload in, its events out.
+
+ghost use Rattle.std.specs.Prelude.{◌≡◌, [], None, ℕ, List};
+ghost use Rattle.rvclass.specs.Words.{Words};
+ghost use Rattle.ffi.specs.DecoderKept.{HaveMode, NumbersStand};
+ghost use Rattle.ffi.specs.Fed.{GoesOnIfDone, IsFed, ReportsFeed, feed_status};
+ghost use Rattle.ffi.specs.Images.{judged_image, Judged as AnyJudged};
+ghost use Rattle.ffi.specs.declared.decoder_state.DecoderNumbers.{DecoderNumbers as AnyNumbers};
+ghost use Rattle.ffi.specs.steps.FeedingAll.{IsPacketFed, IsToFeed};
+
+use crate::decoder_state::{DecoderNumbers, numbers_of_state, state_of};
+use crate::decoding::decode_status;
+use crate::events::EventNumbers;
+use crate::fault::ImageFault;
+use crate::handing::hand_out_events;
+use crate::images::{Judged, judge_image};
+use crate::packing::pack_status;
+use crate::status::{BAD_STATE, DONE};
+use decoder::{DecodeFault, Decoder, DecoderState};
+use payload::{PackFault, Packet, unpack};
+use retire::Event;
+use rvclass::ProgramOver;
+use std::alloc::Global;
+
+/// What a payload gives that a decoder takes.
+#[derive(Drop)]
+pub struct FedPayload {
+    /// What the decoder remembers then.
+    pub numbers: DecoderNumbers,
+    /// The events that are added.
+    pub events: Vec<Event>,
+}
+
+/// Why a payload is not taken.
+#[derive(Clone, Copy)]
+pub enum FeedFault {
+    /// No decoder has these numbers.
+    State,
+    /// The payload is that of no packet.
+    Payload(PackFault),
+    /// The image makes no program.
+    Image(ImageFault),
+    /// The decoder refuses the packet.
+    Decode(DecodeFault),
+}
+
+/// Writes the numbers of a decoder before the first packet. No memory is taken.
+pub fn tracebench_decoder(state: &mut DecoderNumbers)
+    ensures stands { (words : Words) → NumbersStand words [] [] state.new }
+    ensures unannounced { HaveMode None state.new }
+{
+    *state = numbers_of_state(&Decoder::new().state());
+}
+
+/// Feeds a payload to the decoder with these numbers, and writes the events that it settles, oldest first, and the
+/// decoder's new numbers. `count` is how many events there are.
+///
+/// An address packet with plain bits is not settled before the next packet, so its events come with that packet's. Hand
+/// in the same image at each call; it is not copied, and the time does not grow with it.
+///
+/// A decoder that passes over packets, after [`tracebench_resume`](crate::tracebench_resume), takes each packet up to
+/// the next synchronisation, settles nothing, and keeps its numbers; only a packet that closes the trace closes it. The
+/// synchronisation begins a stretch, as if it came right after the packet that opens a trace.
+///
+/// The status is [`DONE`], or one of these, which leave the numbers and the events as they were:
+///
+/// - [`TOO_SMALL`](crate::status::TOO_SMALL): the buffer is too small for the events, and `count` is how many there
+///   are.
+/// - [`BAD_STATE`]: no decoder has these numbers.
+/// - [`EMPTY`](crate::status::EMPTY) to [`BAD_REPORT`](crate::status::BAD_REPORT): the payload is that of no packet.
+/// - [`ODD_BASE`](crate::status::ODD_BASE) to [`PAST_END`](crate::status::PAST_END): the image makes no program.
+/// - [`NOT_OPENED`](crate::status::NOT_OPENED) to
+///   [`AFTER_CLOSING_PACKET`](crate::status::AFTER_CLOSING_PACKET): the packet does not follow those before.
+/// - [`MEMORY`](crate::status::MEMORY): an allocation failed.
+pub fn tracebench_feed(
+    alloc: Global,
+    base: u64,
+    image: &[u8],
+    state: &mut DecoderNumbers,
+    payload: &[u8],
+    events: &mut [EventNumbers],
+    count: &mut u64,
+) -> u32
+    ensures { ReportsFeed (judged_image base image.now) payload.now result state.old state.new count.old count.new
+        events.old events.new }
+{
+    let judged = judge_image(base, image);
+    report_feed(alloc, &judged, state, payload, events, count)
+}
+
+/// Feeds a payload to the decoder with these numbers, and reports what came of it.
+#[inline(always)]
+pub(crate) fn report_feed(
+    alloc: Global,
+    image: &Judged<'_>,
+    state: &mut DecoderNumbers,
+    payload: &[u8],
+    events: &mut [EventNumbers],
+    count: &mut u64,
+) -> u32
+    ensures { ReportsFeed image.now payload.now result state.old state.new count.old count.new events.old events.new }
+{
+    match feed_payload(alloc, image, state, payload) {
+        Ok(fed) => {
+            let status = hand_out_events(fed.events.as_slice(), events, count);
+            go_on_if_done(status, state, fed.numbers);
+            status
+        }
+        Err(fault) => feed_status(fault),
+    }
+}
+
+/// Goes on with these numbers where all is done.
+fn go_on_if_done(status: u32, state: &mut DecoderNumbers, next: DecoderNumbers)
+    ensures { GoesOnIfDone status state.old next state.new }
+{
+    if status == DONE {
+        *state = next;
+    }
+}
+
+/// The numbers of the decoder after a payload, and the events that are added.
+fn feed_payload(
+    alloc: Global,
+    image: &Judged<'_>,
+    numbers: &DecoderNumbers,
+    payload: &[u8],
+) -> Result<FedPayload, FeedFault>
+    ensures { IsFed image.now payload.now numbers.now result }
+{
+    let Some(state) = state_of(numbers) else {
+        return Err(FeedFault::State);
+    };
+    let packet = match unpack(payload) {
+        Ok(packet) => packet,
+        Err(why) => return Err(FeedFault::Payload(why)),
+    };
+    let program = match image {
+        Ok(program) => program,
+        Err(why) => return Err(FeedFault::Image(*why)),
+    };
+    let mut events = Vec::new(alloc);
+    let mut next = state;
+    match feed_packet(program, &mut next, &packet, &mut events) {
+        Ok(numbers) => Ok(FedPayload { numbers, events }),
+        Err(why) => Err(FeedFault::Decode(why)),
+    }
+}
+
+/// Feeds a packet to the decoder with this state, and adds the events that it settles to a list, which has none. The
+/// state is the decoder's then, of which these are the numbers.
+pub(crate) fn feed_packet(
+    program: &ProgramOver,
+    state: &mut DecoderState,
+    packet: &Packet,
+    events: &mut Vec<Event>,
+) -> Result<DecoderNumbers, DecodeFault>
+    ensures { (image : AnyJudged) (payload : List ℕ) (numbers : AnyNumbers) →
+        IsToFeed image payload numbers program.now packet.now state.old → events.old.items ≡ [] →
+        IsPacketFed image payload numbers events.new.items state.new result }
+{
+    let mut decoder = Decoder::from_state(*state);
+    match decoder.feed(program, packet, events) {
+        Ok(()) => {
+            *state = decoder.state();
+            Ok(numbers_of_state(state))
+        }
+        Err(why) => Err(why),
+    }
+}
+
+/// Why a payload is not taken, as a status.
+fn feed_status(fault: FeedFault) -> u32
+    ensures { result ≡ feed_status fault }
+{
+    match fault {
+        FeedFault::State => BAD_STATE,
+        FeedFault::Payload(why) => pack_status(why),
+        FeedFault::Image(why) => why.status(),
+        FeedFault::Decode(why) => decode_status(why),
+    }
+}

@@ -1,0 +1,173 @@
+//! Decoding, many steps at a call: payloads in, their events out.
+
+ghost use Rattle.std.specs.Prelude.{◌≡◌, ◌≤◌, ◌-◌, Ok, length, option_map};
+ghost use Rattle.ffi.specs.DecoderKept.{IsOfState};
+ghost use Rattle.ffi.specs.FedAll.{AreFed, EndsFeeds, ReportsFeedAll};
+ghost use Rattle.ffi.specs.Images.{judged_image, Judged as AnyJudged};
+ghost use Rattle.ffi.specs.declared.status.TheConstants.{DONE};
+ghost use Rattle.ffi.specs.steps.FeedingAll.{IsNextFed};
+
+use crate::decoder_state::{DecoderNumbers, state_of};
+use crate::decoding::decode_status;
+use crate::encoding::text_between;
+use crate::events::EventNumbers;
+use crate::feeding::feed_packet;
+use crate::handing::hand_out_events;
+use crate::images::{Judged, judge_image};
+use crate::packing::pack_status;
+use crate::status::{BAD_STATE, DONE, OUT_OF_RANGE};
+use decoder::DecoderState;
+use payload::unpack;
+use retire::Event;
+use rvclass::ProgramOver;
+use std::alloc::Global;
+
+/// Feeds payloads to the decoder with these numbers, one after the other as [`tracebench_feed`](crate::tracebench_feed)
+/// each, and writes the events that they settle, oldest first. `payloads` holds the payloads one after the other, and
+/// `ends` where each ends. `taken` is how many of them were taken, `count` how many events there are at the start of
+/// the buffer, and `state` has the decoder's numbers after those. The time does not grow with the image.
+///
+/// The status is [`DONE`] where all payloads were taken. Else it says why the payload after those was not:
+///
+/// - [`TOO_SMALL`](crate::status::TOO_SMALL): the rest of the buffer is too small for its events. Hand in the payloads
+///   from there on again. Where none was taken, [`tracebench_feed`](crate::tracebench_feed) says how many events it
+///   has.
+/// - [`OUT_OF_RANGE`]: its end is before its start, or past the payloads.
+/// - [`EMPTY`](crate::status::EMPTY) to [`BAD_REPORT`](crate::status::BAD_REPORT): it is the payload of no packet.
+/// - [`NOT_OPENED`](crate::status::NOT_OPENED) to [`AFTER_CLOSING_PACKET`](crate::status::AFTER_CLOSING_PACKET): its
+///   packet does not follow those before.
+/// - [`MEMORY`](crate::status::MEMORY): an allocation failed.
+///
+/// Or no payload was taken, and the state stays: [`BAD_STATE`] where no decoder has these numbers, or what is wrong with
+/// the image.
+pub fn tracebench_feed_all(
+    alloc: Global,
+    base: u64,
+    image: &[u8],
+    state: &mut DecoderNumbers,
+    payloads: &[u8],
+    ends: &[u64],
+    events: &mut [EventNumbers],
+    taken: &mut u64,
+    count: &mut u64,
+) -> u32
+    ensures { ReportsFeedAll (judged_image base image.now) payloads.now ends.now result state.old state.new taken.new
+        count.new events.old events.new }
+{
+    let judged = judge_image(base, image);
+    report_feed_all(alloc, &judged, state, payloads, ends, events, taken, count)
+}
+
+/// Feeds payloads to the decoder with these numbers, and reports what came of them.
+#[inline(always)]
+pub(crate) fn report_feed_all(
+    alloc: Global,
+    image: &Judged<'_>,
+    state: &mut DecoderNumbers,
+    payloads: &[u8],
+    ends: &[u64],
+    events: &mut [EventNumbers],
+    taken: &mut u64,
+    count: &mut u64,
+) -> u32
+    ensures { ReportsFeedAll image.now payloads.now ends.now result state.old state.new taken.new count.new events.old
+        events.new }
+{
+    *taken = 0;
+    *count = 0;
+    let first = match state_of(state) {
+        Some(first) => first,
+        None => return BAD_STATE,
+    };
+    let program = match image {
+        Ok(program) => program,
+        Err(fault) => return fault.status(),
+    };
+    feed_while_room(
+        alloc, program, first, state, payloads, ends, events, taken, count,
+    )
+}
+
+/// Feeds payloads to the decoder with this state and these numbers, as long as their events have room.
+fn feed_while_room(
+    alloc: Global,
+    program: &ProgramOver,
+    first: DecoderState,
+    numbers: &mut DecoderNumbers,
+    payloads: &[u8],
+    ends: &[u64],
+    events: &mut [EventNumbers],
+    taken: &mut u64,
+    count: &mut u64,
+) -> u32
+    ensures fed { (image : AnyJudged) → image ≡ Ok program.now → IsOfState numbers.old first →
+        AreFed image payloads.now ends.now numbers.old numbers.new taken.new count.new events.old events.new }
+    ensures ends { (image : AnyJudged) → image ≡ Ok program.now → IsOfState numbers.old first →
+        EndsFeeds image payloads.now ends.now taken.new numbers.new (length events.old - count.new) result }
+{
+    let mut list = Vec::new(alloc);
+    let mut kept = first;
+    let mut from = 0;
+    let mut written = 0;
+    for place in 0..ends.len() {
+        *taken = place as u64;
+        *count = written as u64;
+        let end = ends[place];
+        let mut more = 0;
+        let status = feed_next(
+            program,
+            &mut kept,
+            numbers,
+            text_between(payloads, from, end),
+            &mut list,
+            &mut events[written..],
+            &mut more,
+        );
+        if status != DONE {
+            return status;
+        }
+        written += more as usize;
+        from = end;
+    }
+    *taken = ends.len() as u64;
+    *count = written as u64;
+    DONE
+}
+
+/// Feeds the next payload to the decoder with this state and these numbers, and writes its events, for which it uses
+/// the list. Where they have no room, nothing changes but the list.
+fn feed_next(
+    program: &ProgramOver,
+    kept: &mut DecoderState,
+    numbers: &mut DecoderNumbers,
+    payload: Option<&[u8]>,
+    list: &mut Vec<Event>,
+    events: &mut [EventNumbers],
+    count: &mut u64,
+) -> u32
+    ensures fed { (image : AnyJudged) → image ≡ Ok program.now → IsOfState numbers.old kept.old →
+        IsNextFed image (option_map (λ own. own.now) payload.entry) result numbers.old numbers.new kept.old
+        kept.new count.new events.old events.new }
+    ensures fits { result ≡ DONE → count.new ≤ length events.old }
+{
+    let payload = match payload {
+        Some(payload) => payload,
+        None => return OUT_OF_RANGE,
+    };
+    let packet = match unpack(payload) {
+        Ok(packet) => packet,
+        Err(why) => return pack_status(why),
+    };
+    list.clear();
+    let mut next = *kept;
+    let after = match feed_packet(program, &mut next, &packet, list) {
+        Ok(after) => after,
+        Err(why) => return decode_status(why),
+    };
+    let status = hand_out_events(list.as_slice(), events, count);
+    if status == DONE {
+        *kept = next;
+        *numbers = after;
+    }
+    status
+}

@@ -1,0 +1,170 @@
+//! From lines of text to a capture.
+
+ghost use Rattle.std.specs.Prelude.{◌≡◌, ◌≤◌, IfSome, Some};
+ghost use Rattle.message.specs.Version.{most_harts};
+ghost use Rattle.ffi.specs.OfLines.{IsOfLines, ReportsOfLines, line_at_fault, lines_status, settings_named};
+ghost use Rattle.ffi.specs.OfLines.{harts_asked, settings_with};
+ghost use Rattle.ffi.specs.Statuses.{line_hart_status, line_status};
+
+use crate::encoding::{mode_of, version_of};
+use crate::handing::hand_out;
+use crate::status::*;
+use capture_lines::{LineFault, LinesFault, Settings, write_capture};
+use message::Version;
+use payload::Mode;
+use std::alloc::Global;
+
+/// Why there is no capture of lines.
+#[derive(Clone, Copy)]
+pub enum LinesRefusal {
+    /// A number is out of its range.
+    Range,
+    /// A line has a fault: its number, counted from 1, and what is wrong with it.
+    Line(u64, LineFault),
+    /// An allocation failed.
+    Memory,
+}
+
+/// Writes the capture of the lines of a text to a buffer, one message a line, in the order of the lines: what
+/// `tracebench capture` writes. The version is [`VERSION_ONE`](crate::VERSION_ONE) or
+/// [`VERSION_TWO`](crate::VERSION_TWO), the mode [`DIFFERENTIAL`](crate::DIFFERENTIAL) or [`FULL`](crate::FULL), and
+/// the period 1 or more. The header counts so many harts, at most 1,024 and in version 1 at most 64; with 0 those up to
+/// the highest of the lines.
+///
+/// The status is [`DONE`], [`TOO_SMALL`], [`OUT_OF_RANGE`] where one of these numbers is out of its range, [`MEMORY`], or
+/// says what is wrong with the first line that has a fault, which is tested in this order: [`LINE_FIELDS`],
+/// [`LINE_HART_ONE`] or [`LINE_HART_TWO`], [`LINE_NUMBER`], [`LINE_BYTES`], [`LINE_ABOVE`]. `line` is then that line,
+/// counted from 1, and else 0.
+pub fn tracebench_capture_of_lines(
+    alloc: Global,
+    text: &[u8],
+    version: u32,
+    mode: u32,
+    period: u16,
+    harts: u16,
+    buffer: &mut [u8],
+    wanted: &mut u64,
+    line: &mut u64,
+) -> u32
+    ensures { ReportsOfLines (settings_named version mode period harts) text.now result line.new wanted.old wanted.new
+        buffer.old buffer.new }
+{
+    match capture_of(alloc, text, settings_named(version, mode, period, harts)) {
+        Ok(capture) => {
+            *line = 0;
+            hand_out(capture.as_slice(), buffer, wanted)
+        }
+        Err(why) => {
+            *line = line_at_fault(why);
+            lines_status(why)
+        }
+    }
+}
+
+/// The settings that numbers name, where all are in their ranges.
+fn settings_named(version: u32, mode: u32, period: u16, harts: u16) -> Option<Settings>
+    ensures value { result ≡ settings_named version mode period harts }
+    ensures period { IfSome result (λ own. 1 ≤ own.period) }
+    ensures harts { IfSome result (λ own. IfSome own.harts (λ harts. (1 ≤ harts) × (harts ≤ most_harts own.version))) }
+{
+    let Some(version) = version_of(version) else {
+        return None;
+    };
+    let Some(mode) = mode_of(mode) else {
+        return None;
+    };
+    settings_with(version, mode, period, harts)
+}
+
+/// The settings in this version and mode, where the other numbers are in their ranges.
+fn settings_with(version: Version, mode: Mode, period: u16, harts: u16) -> Option<Settings>
+    ensures value { result ≡ settings_with (Some version) (Some mode) period harts }
+    ensures period { IfSome result (λ own. 1 ≤ own.period) }
+    ensures harts { IfSome result (λ own. IfSome own.harts (λ harts. (1 ≤ harts) × (harts ≤ most_harts own.version))) }
+{
+    if period >= 1 && harts <= version.most_harts() {
+        Some(Settings {
+            version,
+            mode,
+            period,
+            harts: harts_asked(harts),
+        })
+    } else {
+        None
+    }
+}
+
+/// The count of harts that is asked for: none with 0.
+fn harts_asked(harts: u16) -> Option<u16>
+    ensures value { result ≡ harts_asked harts }
+    ensures same { IfSome result (λ count. (1 ≤ count) × (count ≡ harts)) }
+{
+    if harts == 0 { None } else { Some(harts) }
+}
+
+/// The capture of the lines of a text, or why there is none.
+fn capture_of(
+    alloc: Global,
+    text: &[u8],
+    settings: Option<Settings>,
+) -> Result<Vec<u8>, LinesRefusal>
+    requires period { IfSome settings (λ own. 1 ≤ own.period) }
+    requires harts { IfSome settings (λ own.
+        IfSome own.harts (λ harts. (1 ≤ harts) × (harts ≤ most_harts own.version))) }
+    ensures { IsOfLines settings text.now result }
+{
+    let Some(settings) = settings else {
+        return Err(LinesRefusal::Range);
+    };
+    let mut capture = Vec::new(alloc);
+    match write_capture(settings, text, &mut capture) {
+        Ok(()) => Ok(capture),
+        Err(LinesFault::Line { line, why }) => Err(LinesRefusal::Line(line, why)),
+        Err(LinesFault::Write) => Err(LinesRefusal::Memory),
+    }
+}
+
+/// Why there is no capture of lines, as a status.
+fn lines_status(why: LinesRefusal) -> u32
+    ensures { result ≡ lines_status why }
+{
+    match why {
+        LinesRefusal::Range => OUT_OF_RANGE,
+        LinesRefusal::Line(_, why) => line_status(why),
+        LinesRefusal::Memory => MEMORY,
+    }
+}
+
+/// What is wrong with a line, as a status.
+fn line_status(why: LineFault) -> u32
+    ensures { result ≡ line_status why }
+{
+    match why {
+        LineFault::Fields => LINE_FIELDS,
+        LineFault::Hart(version) => line_hart_status(version),
+        LineFault::Number => LINE_NUMBER,
+        LineFault::Bytes => LINE_BYTES,
+        LineFault::Above => LINE_ABOVE,
+    }
+}
+
+/// A line's hart is not below the most harts of a version, as a status.
+fn line_hart_status(version: Version) -> u32
+    ensures { result ≡ line_hart_status version }
+{
+    match version {
+        Version::One => LINE_HART_ONE,
+        Version::Two => LINE_HART_TWO,
+    }
+}
+
+/// The line at fault, counted from 1; 0 where none is.
+fn line_at_fault(why: LinesRefusal) -> u64
+    ensures { result ≡ line_at_fault why }
+{
+    match why {
+        LinesRefusal::Range => 0,
+        LinesRefusal::Line(number, _) => number,
+        LinesRefusal::Memory => 0,
+    }
+}

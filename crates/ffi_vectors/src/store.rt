@@ -1,0 +1,48 @@
+//! What has a name: buffers, and texts of events and states.
+
+use crate::said::Fault;
+use std::alloc::Global;
+use std::collections::BTreeMap;
+
+/// Bytes by their names.
+#[derive(Drop)]
+pub(crate) struct Store {
+    buffers: BTreeMap<String, Vec<u8>>,
+}
+
+impl Store {
+    /// No name yet.
+    pub(crate) fn new(alloc: Global) -> Store {
+        Store {
+            buffers: BTreeMap::new(alloc),
+        }
+    }
+
+    /// The bytes of this name.
+    pub(crate) fn get(&self, name: &str) -> Option<&[u8]> {
+        match self.buffers.get(name) {
+            Some(bytes) => Some(bytes.as_slice()),
+            None => None,
+        }
+    }
+
+    /// The text of this name; it is empty where there is none.
+    pub(crate) fn text(&self, name: &str) -> &str {
+        let bytes = self.get(name).unwrap_or(&[]);
+        str::from_utf8(bytes).unwrap_or("")
+    }
+
+    /// Takes the bytes of this name out. There is none where it was not there.
+    pub(crate) fn take(&mut self, alloc: Global, name: &str) -> Vec<u8> {
+        match self.buffers.remove(name) {
+            Some(bytes) => bytes,
+            None => Vec::new(alloc),
+        }
+    }
+
+    /// Gives bytes a name.
+    pub(crate) fn put(&mut self, name: String, bytes: Vec<u8>) -> Result<(), Fault> {
+        self.buffers.insert(name, bytes)?;
+        Ok(())
+    }
+}

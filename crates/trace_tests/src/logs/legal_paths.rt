@@ -1,5 +1,0 @@
-//! Small programs, and logs of them.
-
-mod faults;
-mod legal_logs;
-mod successors;

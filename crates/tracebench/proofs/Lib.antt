@@ -1,2 +1,0 @@
-mod CarriedOut
-mod NoFiles

@@ -1,7 +1,0 @@
--- What `command` says of no files is led to the lemma by hand.
-use Rattle.tracebench.proofs.NoFiles.{not_whole}
-use Rattle.tracebench.proofs.tests.content.run_over_none.Goals as goal
-
-pub returns : goal.returns
-returns g c =
-    not_whole _ _ _ _ _ _ _ _ _ c.new-shelf.ensures c.command.ensures.words c.command.ensures.printed

@@ -1,7 +1,0 @@
--- What is done with the messages is reported.
-use Rattle.tracebench_c.proofs.listing_salvaged.tracebench_list_salvaged.Goals as goal
-
-pub returns : goal.returns
-returns c =
-    rw (← c.judge_image-judged.ensures)
-    (c.treat_text-treated.result, c.treat_text-treated.ensures, c.report_text.ensures)

@@ -1,8 +1,0 @@
--- The first events were pushed.
-use Rattle.rvclass.specs.Fetch.{words_of}
-use Rattle.tracebench_c.specs.steps.PushingAll.{ArePushed}
-use Rattle.tracebench_c.proofs.pushing_all.push_while_room.Given as goal
-
-abbrev pub invariant-loop-place : goal.invariant-loop-place
-invariant-loop-place l =
-    ArePushed (words_of l.program) l.fn.encoder l.events l.place l.encoder l.written l.fn.packets l.packets

@@ -1,0 +1,77 @@
+//! What a path did to a capture.
+
+ghost use Rattle.ffi.specs.Audited.{ReportsAudit};
+ghost use Rattle.ffi.specs.AuditedAll.{ReportsAuditAll, compared_by};
+ghost use Rattle.ffi.specs.AuditedUnnumbered.{ReportsUnnumbered};
+
+use ffi::{
+    AlignedEnd, AlignedRow, Arrival, AuditEnd, ByteRun, HartRowNumbers, HartTally, LostRun,
+    PathEnd, SentPlace, Single,
+};
+use std::alloc::Global;
+
+/// Audits RECEIVED against SENT, captures in either version, and says what became of the messages of one hart of SENT.
+/// See [`ffi::tracebench_audit`].
+#[unsafe(no_mangle)]
+pub extern "C" fn tracebench_audit(
+    alloc: Global,
+    sent: &[u8],
+    received: &[u8],
+    hart: u16,
+    tally: &mut HartTally,
+    ended: &mut AuditEnd,
+) -> u32
+    ensures { ReportsAudit sent.now received.now hart result tally.old tally.new ended.old ended.new }
+{
+    ffi::tracebench_audit(alloc, sent, received, hart, tally, ended)
+}
+
+/// Audits RECEIVED against SENT, captures in either version, and reports what became of the messages of all harts of
+/// SENT: what `tracebench audit` reports. See [`ffi::tracebench_audit_all`].
+#[unsafe(no_mangle)]
+pub extern "C" fn tracebench_audit_all(
+    alloc: Global,
+    sent: &[u8],
+    received: &[u8],
+    flags: u32,
+    rows: &mut [HartRowNumbers],
+    arrivals: &mut [Arrival],
+    lost: &mut [LostRun],
+    runs: &mut [ByteRun],
+    refused: &mut SentPlace,
+    ended: &mut PathEnd,
+) -> u32
+    ensures { ReportsAuditAll (compared_by flags) sent.now received.now result
+        (record { rows = rows.old; arrivals = arrivals.old; lost = lost.old; runs = runs.old })
+        (record { rows = rows.new; arrivals = arrivals.new; lost = lost.new; runs = runs.new })
+        refused.old refused.new ended.old ended.new }
+{
+    ffi::tracebench_audit_all(
+        alloc, sent, received, flags, rows, arrivals, lost, runs, refused, ended,
+    )
+}
+
+/// Audits RECEIVED against SENT, captures in either version, by the payloads of the messages alone, and reports what
+/// became of those of all harts of SENT: what `tracebench audit --unnumbered` reports. See
+/// [`ffi::tracebench_audit_unnumbered`].
+#[unsafe(no_mangle)]
+pub extern "C" fn tracebench_audit_unnumbered(
+    alloc: Global,
+    sent: &[u8],
+    received: &[u8],
+    flags: u32,
+    rows: &mut [AlignedRow],
+    singles: &mut [Single],
+    lost: &mut [LostRun],
+    refused: &mut SentPlace,
+    ended: &mut AlignedEnd,
+) -> u32
+    ensures { ReportsUnnumbered (compared_by flags) sent.now received.now result
+        (record { rows = rows.old; singles = singles.old; lost = lost.old })
+        (record { rows = rows.new; singles = singles.new; lost = lost.new })
+        refused.old refused.new ended.old ended.new }
+{
+    ffi::tracebench_audit_unnumbered(
+        alloc, sent, received, flags, rows, singles, lost, refused, ended,
+    )
+}
