@@ -154,8 +154,6 @@ BEFORE = "    gate.before_send(rt, hart, number);\n"
 
 AFTER = "    gate.after_send(rt, hart, number);\n"
 
-OPENS = "    match open(global, harts as u16, config.capacity) {\n"
-
 BODIES = [
     ("run on one thread", "bench", "running.rt", STARTS, ONE_THREAD),
     ("run with one lock round the gate", "bench", "running.rt",
@@ -177,12 +175,6 @@ BODIES = [
         RUNS_IN_ROOMS, replayed_where("!config.keep") + RUNS_IN_ROOMS),
     ("run_in_rooms that hands its messages to the collector in one thread", "bench", "running.rt",
         RUNS_IN_ROOMS, fed_where("logs.len() <= 64") + RUNS_IN_ROOMS),
-    ("runs that open 65,536 messages whatever is asked", "bench", "running.rt",
-        OPENS, OPENS.replace("config.capacity", "65_536")),
-    ("runs that open one message whatever is asked", "bench", "running.rt",
-        OPENS, OPENS.replace("config.capacity", "1")),
-    ("runs that open 16 messages at most", "bench", "running.rt",
-        OPENS, OPENS.replace("config.capacity", "config.capacity.min(16)")),
     ("rooms dropped where packets are not kept", "bench", "running.rt", "    collector.take_rooms(rooms);\n",
         "    let rooms = if plan.config.keep { rooms } else { Vec::new(alloc) };\n    collector.take_rooms(rooms);\n"),
     ("the gate not called for harts past 1", "bench", "worker.rt",
