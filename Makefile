@@ -4,8 +4,8 @@
 help: # lists these commands
 	@sed -n 's/^\([a-z]*\): # /make \1: /p' Makefile
 
-quick: # plays all cases of the tests, unproved, in a few minutes
+quick: # plays all cases of the tests, unproved, program by program, some minutes each
 	tools/quick
 
-gate: # proves each function, tries wrong bodies, and runs tests and programs, in up to two and a half hours
+gate: # proves each function, tries wrong bodies, and runs tests and programs, in one and a half to three hours
 	tools/gate
