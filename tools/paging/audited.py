@@ -43,6 +43,7 @@ class Audited:
     harts: list = field(default_factory=list)  # a dict for each hart, its counts, None where there is none, and its verdict
     all: dict = field(default_factory=dict)  # the sums over the harts
     places: Parts = field(default_factory=lambda: Parts(*FATES))
+    harts_of: Parts = field(default_factory=lambda: Parts(*FATES))  # of each place the message's hart, -1 where it has none
     skips: Parts = field(default_factory=lambda: Parts("hart", "number", "place"))
     runs: Parts = field(default_factory=lambda: Parts("hart", "number", "last"))
     late_by: Parts = field(default_factory=lambda: Parts("by"))
@@ -93,6 +94,7 @@ def take_messages(found, block, is_message, numbers):
     block.refuse(is_message & has_by & (numbers["by"] < 1), "by is not 1 or more")
     for place, fate in enumerate(FATES):
         found.places.take(**{fate: numbers["place"][is_message & (fates == place)]})
+        found.harts_of.take(**{fate: numbers["hart"][is_message & (fates == place)]})
     is_late = is_message & (fates == FATES.index("late"))
     found.late_by.take(by=numbers["by"][is_late])
     is_skip = is_message & (fates == FATES.index("skips"))

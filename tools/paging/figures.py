@@ -3,6 +3,7 @@ import base64
 import io
 
 import matplotlib
+import matplotlib.patches
 import numpy
 from matplotlib.figure import Figure
 from matplotlib.ticker import FuncFormatter, MaxNLocator, NullLocator
@@ -12,6 +13,8 @@ BLACK, ORANGE, SKY, GREEN, BLUE, VERMILION, PURPLE = (
     "#000000", "#e69f00", "#56b4e9", "#009e73", "#0072b2", "#d55e00", "#cc79a7")
 COLOURS = {"lost": VERMILION, "repeated": BLUE, "late": ORANGE, "changed": GREEN, "strange": PURPLE, "extra": SKY}
 OF_LINES = BLUE, VERMILION, GREEN, PURPLE, ORANGE, SKY
+OF_FUNCTIONS = BLUE, SKY, GREEN, ORANGE, PURPLE, "#f0e442", "#999933", "#332288"  # none is that of losses
+OTHER = "#bbbbbb"
 MARKS = "o", "s", "^", "D", "v", "P"
 DASHES = "-", "--", ":", "-."
 MOST_NAMED = 12  # harts with a line and a name of their own
@@ -31,7 +34,7 @@ def drawn(draw):
 def address(draw, width):
     out = io.BytesIO()
     with matplotlib.rc_context(SETTINGS):
-        draw(width).savefig(out, format="svg", metadata={"Date": None, "Creator": None})
+        draw(width).savefig(out, format="svg", dpi=150, metadata={"Date": None, "Creator": None})
     return "data:image/svg+xml;base64," + base64.b64encode(out.getvalue()).decode()
 
 
@@ -66,6 +69,66 @@ def over_places(rows, width_of_bin, total):
         counted(panels[-1].xaxis, 8 if width == WIDE else 4)
         figure.supylabel("messages for each " + ("place" if width_of_bin == 1 else f"{thousands(width_of_bin)} places"), fontsize=9)
         panels[-1].set_xlabel("place in RECEIVED (messages)")
+        return figure
+    return draw
+
+
+def height_of(harts):
+    """Of a strip for each hart: inches."""
+    return min(0.16 * harts, 11.0) + 1.1
+
+
+def by_hart(names, kinds, grid, width_of_bin, total):
+    """A strip of places for each hart, by the number of its kind: -1 where nothing befell."""
+    def draw(width):
+        figure = Figure(figsize=(width, height_of(len(names))), layout="constrained")
+        axes = figure.subplots()
+        colours = matplotlib.colors.ListedColormap([COLOURS[kind] for kind in kinds])
+        shown = numpy.ma.masked_less(grid, 0)
+        edges = numpy.minimum(numpy.arange(grid.shape[1] + 1) * width_of_bin, max(total, 1))
+        axes.pcolormesh(edges, numpy.arange(len(names) + 1) - 0.5, shown, cmap=colours, vmin=-0.5, vmax=len(kinds) - 0.5, rasterized=True)
+        strips(axes, names)
+        axes.set_xlim(0, max(total, 1))
+        counted(axes.xaxis, 8 if width == WIDE else 4)
+        axes.set_xlabel("place in RECEIVED (messages)")
+        legend(axes, {kind: COLOURS[kind] for kind in kinds}, 6 if width == WIDE else 3)
+        return figure
+    return draw
+
+
+def strips(axes, names):
+    """An axis of harts, the first at the top."""
+    step = max(len(names) // 64, 1)
+    axes.set_yticks(range(0, len(names), step), names[::step], fontsize=7)
+    axes.set_ylim(len(names) - 0.5, -0.5)
+    axes.set_ylabel("hart")
+    axes.grid(False)
+    for at in range(1, len(names)):
+        axes.axhline(at - 0.5, color="#dddddd", linewidth=0.4)
+
+
+def legend(axes, colours, columns):
+    handles = [matplotlib.patches.Patch(color=colour, label=name) for name, colour in colours.items()]
+    axes.legend(handles=handles, bbox_to_anchor=(0, 1), loc="lower left", ncols=columns, frameon=False, fontsize=8)
+
+
+def functions(harts, colours, losses):
+    """For each hart a strip of functions over its rows, and the rows that are lost below it. A hart is (name, edges, functions), and
+    `losses` are [(first row, row behind)] of each."""
+    def draw(width):
+        figure = Figure(figsize=(width, 0.42 * len(harts) + 1.6), layout="constrained")
+        axes = figure.subplots()
+        most = max(int(edges[-1]) for _, edges, _ in harts)
+        for at, (_, edges, names) in enumerate(harts):
+            of_parts = [colours.get(name, OTHER) for name in names]
+            axes.broken_barh(list(zip(edges[:-1], numpy.diff(edges))), (at - 0.42, 0.5), facecolors=of_parts, rasterized=True)
+            lost = [(first, max(end - first, most / 400)) for first, end in losses[at]]
+            axes.broken_barh(lost, (at + 0.12, 0.24), facecolors=VERMILION, rasterized=True)
+        strips(axes, [name for name, _, _ in harts])
+        axes.set_xlim(0, most)
+        counted(axes.xaxis, 8 if width == WIDE else 4)
+        axes.set_xlabel("row of the log")
+        legend(axes, {**colours, "other": OTHER, "rows lost": VERMILION}, 5 if width == WIDE else 2)
         return figure
     return draw
 

@@ -17,6 +17,15 @@ class Listed:
 
     harts: numpy.ndarray
     taken: numpy.ndarray
+    rows: numpy.ndarray  # of its hart before each
+
+    def rows_lost(self, hart, first, last):
+        """From which row of a hart to before which the loss of the messages from one number to another reaches."""
+        start, end = numpy.searchsorted(self.harts, [hart, hart + 1])
+        if start + first >= end:
+            return None
+        at = min(start + last, end - 1)
+        return int(self.rows[start + first]), int(self.rows[at] + self.taken[at])
 
     def mean_of(self, hart):
         """The mean of a hart, None where it has no message."""
@@ -35,7 +44,7 @@ def read(path, show=None):
         added.append(numpy.maximum(columns["added"][is_message], 0))
         syncs.append(block.words("packet", PACKETS)[is_message] == 0)
     if not harts:
-        return Listed(numpy.empty(0, numpy.int32), numpy.empty(0, numpy.int64))
+        return Listed(numpy.empty(0, numpy.int32), numpy.empty(0, numpy.int64), numpy.empty(0, numpy.int64))
     if not any(sync.any() for sync in syncs) and any(part.any() for part in added):
         raise Unusable(f"{path}: no message is a sync")
     return rows_taken(numpy.concatenate(harts), numpy.concatenate(added), numpy.concatenate(syncs))
@@ -54,4 +63,5 @@ def rows_taken(harts, added, syncs):
     has_sync = following < ends
     stops = numpy.where(has_sync, following, ends)
     lost_at_sync = numpy.where(has_sync, numpy.maximum(numpy.append(added, 0)[stops] - 1, 0), 0)
-    return Listed(harts, before[stops] - before[:-1] + lost_at_sync)
+    starts = before[numpy.searchsorted(harts, harts, "left")]  # events before each message's hart
+    return Listed(harts, before[stops] - before[:-1] + lost_at_sync, before[:-1] - starts)

@@ -6,21 +6,22 @@ import jinja2
 from paging import figures, told
 
 HERE = os.path.dirname(os.path.abspath(__file__))
+MOST_WHOLE = 64  # rows of the table of harts that are shown without a scroll bar
 COUNTS = {"sent": "sent", "came": "came", "lost": "lost", "repeated": "repeated", "late": "late", "changed": "changed",
           "strange": "strange", "extra": "extra", "runs": "runs of losses", "longest_run": "longest run", "most_late": "late by"}
 
 
-def page(found, listed, measured, compared, title):
+def page(found, listed, measured, compared, followed, title):
     """The text of the page."""
-    shown = [figure for figure in (told.places(found), told.lateness(found), told.runs(found), told.taken(listed),
-                                   told.bits(measured)) if figure]
+    shown = [figure for figure in (told.places(found), told.by_hart(found), told.functions(found, listed, followed), told.lateness(found),
+                                   told.runs(found), told.taken(listed), told.bits(measured)) if figure]
     for figure in shown:
         figure["pictures"] = figures.drawn(figure["draw"])
     loader = jinja2.FileSystemLoader(HERE)
     template = jinja2.Environment(loader=loader, autoescape=True, trim_blocks=True, lstrip_blocks=True)
     heads, rows = hart_table(found, listed, compared)
     return template.get_template("page.html").render(
-        title=title, verdict=found.verdict, summary=summary(found, compared), heads=heads, rows=rows, figures=shown)
+        title=title, verdict=found.verdict, summary=summary(found, compared), heads=heads, rows=rows, is_long=len(rows) > MOST_WHOLE, figures=shown)
 
 
 def summary(found, compared):
@@ -44,7 +45,8 @@ def summary(found, compared):
     if compared:
         harts, result = compared
         decoded, events = (sum(row[at] for row in harts.values()) for at in (1, 0))
-        lines.append(f"Of the logs {decoded:,} of {events:,} rows are decoded ({told.share(decoded, events)}): {result}.")
+        lines.append(f"`compare`: {decoded:,} of {events:,} rows of the logs are decoded ({told.share(decoded, events)}), {result}." + (
+            "" if result == "whole" else " It stops at the first fault of any hart; `decode --lossy` goes on after lost messages."))
     return lines
 
 

@@ -1,9 +1,14 @@
 """What the figures show, in words and in small tables: each figure as a dict with its title, its sentences, the heads and rows of
 its table, and how it is drawn."""
+from collections import Counter
+
 import numpy
 
 from paging import audited, figures, spread
 
+ORDER = "lost", "changed", "repeated", "late", "strange", "extra"
+MOST_STRIPS = 16  # harts whose functions are shown
+MOST_FUNCTIONS = 40  # of the small table
 KINDS = {"repeated": "repeat", "late": "late", "changed": "changed", "strange": "stranger", "extra": "extra"}
 
 
@@ -37,13 +42,13 @@ def places(found):
     parts = [spread.over_places(*pair[:1], found.total, pair[1], spread.MOST_PARTS) for pair in used.values()]
     sentences = [f"RECEIVED has {count_of(found.total, 'message')}. Each bar is of {count_of(width, 'place')}. "
                  "A lost message counts where it is missing: before the first message of its hart that came after it, or at the "
-                 "end."]
+                 "last place."]
     sentences += [most_at(name, counts, width, found.total) for name, counts in rows]
     absent = [name for name in ("lost", "repeated", "late", "changed") if name not in used]
     if absent:
         sentences.append(f"No message is {', '.join(absent[:-1])}{' or ' if absent[1:] else ''}{absent[-1]}.")
     heads = ["places", *used]
-    table = [[f"{at * wide:,} to {min((at + 1) * wide, found.total) - 1:,}", *(f"{int(part[at]):,}" for part in parts)]
+    table = [[spread.class_name(at * wide, min((at + 1) * wide, found.total) - 1), *(f"{int(part[at]):,}" for part in parts)]
              for at in range(len(parts[0]))]
     return figure("places", "Where it happened", sentences, heads, table, figures.over_places(rows, width, found.total))
 
@@ -56,6 +61,92 @@ def most_at(name, counts, width, total):
     where = f"place {at * width:,}" if last == at * width else f"places {at * width:,} to {last:,}"
     return (f"{name.capitalize()}: {count_of(int(counts.sum()), 'message')}, in {filled} of {count_of(len(counts), 'bar')}, "
             f"the most at {where}: {most:,}.")
+
+
+def by_hart(found):
+    """What befell each hart at each place: in each bin the kind that comes first."""
+    names = [row["hart"] for row in found.harts]
+    if len(names) < 2 or not found.total:
+        return None
+    rows_of = {hart: at for at, hart in enumerate(names)}
+    before, _ = audited.losses(found)
+    given = {"lost": (found.runs.whole("hart"), before)}
+    given |= {kind: (found.harts_of.whole(fate), found.places.whole(fate)) for kind, fate in KINDS.items()}
+    given = {kind: pair for kind, pair in given.items() if numpy.isin(pair[0], names).any()}
+    if not given:
+        return None
+    count, width = spread.bins(found.total)
+    kinds = [kind for kind in ORDER if kind in given]
+    grid = numpy.full((len(names), count), -1, numpy.int8)
+    table = {hart: {} for hart in names}
+    for at in range(len(kinds) - 1, -1, -1):
+        harts, places = given[kinds[at]]
+        for hart in numpy.unique(harts[numpy.isin(harts, names)]):
+            mine = numpy.minimum(places[harts == hart], found.total - 1)
+            grid[rows_of[int(hart)], mine // width] = at
+            table[int(hart)][kinds[at]] = spread.class_name(int(mine.min()), int(mine.max()))
+    hit = [hart for hart in names if table[hart]]
+    several = f" Where several things befell a part, its colour is that of the first of: {', '.join(kinds)}." if len(kinds) > 1 else ""
+    sentences = [f"Each strip is a hart, each part of it {count_of(width, 'place')}.{several}",
+                 f"{len(hit):,} of {count_of(len(names), 'hart')} {'has' if len(hit) == 1 else 'have'} a fault" + (
+                     f": hart {hit[0]}." if len(hit) == 1 else ".")]
+    rows = [[f"hart {hart}", *(table[hart].get(kind, "") for kind in kinds)] for hart in hit]
+    draw = figures.by_hart([str(name) for name in names], kinds, grid, width, found.total)
+    return figure("by_hart", "Where it happened, by hart", sentences, ["hart", *(f"{kind}: first and last place" for kind in kinds)], rows, draw)
+
+
+def functions(found, listed, followed):
+    """Where the program was over the rows of each hart, above the rows that are lost."""
+    if listed is None or followed is None:
+        return None
+    harts, first, last = (found.runs.whole(name) for name in ("hart", "number", "last"))
+    losses = {hart: [] for hart in followed.harts}
+    for hart, *run in zip(harts.tolist(), first.tolist(), last.tolist()):
+        if hart in losses and (rows := listed.rows_lost(hart, *run)):
+            losses[hart].append(rows)
+    lost = {hart: rows_in(runs) for hart, runs in losses.items()}
+    shown = sorted(sorted(losses, key=lambda hart: (-lost[hart], hart))[:MOST_STRIPS])
+    counts = Counter()
+    for hart in shown:
+        edges, names = followed.harts[hart]
+        for name, rows in zip(names, numpy.diff(edges).tolist()):
+            counts[name] += rows
+    colours = dict(zip((name for name, _ in counts.most_common(len(figures.OF_FUNCTIONS))), figures.OF_FUNCTIONS))
+    sentences = ["Above, the function that most rows of each part of a hart are of; below it, in red, the rows that are lost with the "
+                 "messages, up to the next synchronisation."]
+    if len(shown) < len(losses):
+        sentences.append(f"The {len(shown)} of {len(losses):,} harts that lost most rows are shown.")
+    where = Counter()
+    for hart in losses:
+        where.update(functions_in(*followed.harts[hart], losses[hart]))
+    if where:
+        name, rows = where.most_common(1)[0]
+        sentences.append(f"Most lost rows are of {name}: {rows:,} of {sum(where.values()):,}, by the function of each part.")
+    table = [[name, f"{rows:,}", f"{where[name]:,}"] for name, rows in counts.most_common(MOST_FUNCTIONS)]
+    draw = figures.functions([(str(hart), *followed.harts[hart]) for hart in shown], colours, [losses[hart] for hart in shown])
+    return figure("functions", "Where the program was", sentences, ["function", "rows", "rows lost"], table, draw)
+
+
+def rows_in(runs):
+    """How many rows some runs of rows have, each row counted once."""
+    count = reached = 0
+    for first, end in sorted(runs):
+        count += max(end - max(first, reached), 0)
+        reached = max(reached, end)
+    return count
+
+
+def functions_in(edges, names, runs):
+    """How many of the rows in some runs each function has."""
+    found, reached = Counter(), 0
+    for first, end in sorted(runs):
+        first = max(first, reached)
+        at = max(int(numpy.searchsorted(edges, first, "right")) - 1, 0)
+        while at < len(names) and edges[at] < end:
+            found[names[at]] += max(min(end, int(edges[at + 1])) - max(first, int(edges[at])), 0)
+            at += 1
+        reached = max(reached, end)
+    return +found
 
 
 def lateness(found):

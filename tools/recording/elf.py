@@ -3,7 +3,7 @@ from contextlib import contextmanager
 
 from recording.image import LARGEST_IMAGE
 from recording.pieces import MOST_BYTES
-from recording.unusable import Unusable
+from recording.unusable import Unusable, lacking
 
 EXECUTABLE = 1  # the flag of a segment
 ALLOCATED, CODE = 2, 4  # flags of a section
@@ -23,8 +23,8 @@ def opened(path):
         from elftools.elf.elffile import ELFFile
     except ImportError:
         raise Unusable(
-            f"{path} is an ELF file, which Debian's python3-pyelftools reads (elsewhere pip install pyelftools); without it, "
-            f"the raw image is what this writes: riscv64-unknown-elf-objcopy -O binary {path} {path}.bin"
+            f"{path} is an ELF file, and {lacking('elftools', 'python3-pyelftools')}; without it, the raw image is what this "
+            f"writes: riscv64-unknown-elf-objcopy -O binary {path} {path}.bin"
         )
     with open(path, "rb") as file:
         try:

@@ -69,13 +69,13 @@ def content_of(path):
         raise Unusable(f"{path}: {error.strerror}")
 
 
-def test_folder(folder):
-    """The logs go to a folder that is there and has no logs."""
+def test_folder(folder, hart=None):
+    """The logs go to a folder that is there and has no logs, where `hart` is a number none of that hart."""
     if not os.path.isdir(folder):
         raise Unusable(f"{folder}: no such folder")
     if not os.access(folder, os.W_OK | os.X_OK):
         raise Unusable(f"{folder}: no file can be made in it")
-    if old := sorted(glob.glob(os.path.join(glob.escape(folder), "hart[0-9][0-9]*.csv"))):
+    if old := sorted(glob.glob(os.path.join(glob.escape(folder), "hart[0-9][0-9]*.csv" if hart is None else f"hart{hart:02}[._]*"))):
         raise Unusable(f"{old[0]} is there already: name a folder that has no logs")
 
 

@@ -2,11 +2,6 @@
 
 from recording.image import NOWHERE
 
-CALLS = (
-    "does not retire, but goes on without a trap: run QEMU with -d exec,int,nochain and without semihosting; a program under "
-    "qemu-riscv64 wants --user and --image FILE here"
-)
-NO_TRAPS = "; no trap is in the recording: run QEMU with -d exec,int,nochain, unless the image has other words than ran"
 OTHER_WORDS = ": the image has other words than ran (another build, code that changed), or lines are missing"
 JUMP_AND_LINK = "is C.JAL of RV32, which the bench takes for C.ADDIW: build without compressed instructions, -march=rv32ima"
 
@@ -54,13 +49,13 @@ class Noticed:
     def why_stray(self, before, address):
         """The text of an event that does not follow the instruction before; None where another warning explains it."""
         if before.next == NOWHERE:
-            return f"the instruction at {before.address:x} {CALLS}"
+            return f"the instruction at {before.address:x} {self.form.CALLS}"
         if before.address == address:
-            twice = f"the instruction at {address:x} is announced twice: leave -icount out"
+            twice = f"the instruction at {address:x} is announced twice{self.form.TWICE}"
             return None if self.faults & self.form.EXPLAINS_TWICE else twice
         if self.has_jump_and_link:
             return None
-        end = OTHER_WORDS if self.has_traps or self.is_user else NO_TRAPS
+        end = OTHER_WORDS if self.has_traps or self.is_user else self.form.NO_TRAPS
         return f"{address:x} does not follow the instruction at {before.address:x}{end}"
 
     def finish(self):
@@ -73,6 +68,6 @@ class Noticed:
         if self.strays and not self.has_traps:
             return
         for number, (address, shown, level) in sorted(self.levels.items()):
-            end = "" if self.has_traps or self.is_user else NO_TRAPS
+            end = "" if self.has_traps or self.is_user else self.form.NO_TRAPS
             text = f"at {address:x} a line shows level {shown}, and the log has {level}; no other is named"
             self.say(f"hart {number}: {text}{end}")

@@ -27,6 +27,12 @@ BLOCKS_TEXT = "QEMU's lines stand for blocks of instructions: run it with -singl
 THREADS_TEXT = "QEMU ran its harts in threads, whose lines mix: run it with -accel tcg,thread=single"
 ICOUNT_TEXT = "QEMU counted instructions, and so announces some twice: leave -icount out"
 
+CALLS = (
+    "does not retire, but goes on without a trap: run QEMU with -d exec,int,nochain and without semihosting; a program under "
+    "qemu-riscv64 wants --user and --image FILE here"
+)
+NO_TRAPS = "; no trap is in the recording: run QEMU with -d exec,int,nochain, unless the image has other words than ran"
+TWICE = ": leave -icount out"
 EXPLAINS_ALL = {BLOCKS_TEXT}  # what makes nothing of all else that is noticed
 EXPLAINS_TWICE = {ICOUNT_TEXT}
 

@@ -18,6 +18,9 @@ INSTRUCTION = re.compile(rb"core +(\d+): (\d) 0x([0-9a-f]{16}) \(0x")
 TRAP = re.compile(rb"core +(\d+): exception (\w+|interrupt #\d+|trap #\d+), epc 0x([0-9a-f]{16})")
 VALUE = re.compile(rb"core +(\d+): +tval 0x([0-9a-f]{16})")
 FORM = "-l --log-commits"
+CALLS = "does not retire, but goes on without a trap: run Spike with -l --log-commits"
+NO_TRAPS = "; no trap is in the log: run Spike with -l --log-commits, unless the image has other words than ran"
+TWICE = ""
 EXPLAINS_ALL = EXPLAINS_TWICE = frozenset()
 
 CAUSES = {

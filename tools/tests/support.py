@@ -8,28 +8,21 @@ import tempfile
 import weakref
 
 HERE = os.path.dirname(os.path.abspath(__file__))
-TOOLS = os.path.dirname(HERE)
 RECORDED = os.path.join(HERE, "recorded")
-sys.path[:0] = [TOOLS, os.path.join(TOOLS, "fuzz")]
-sys.dont_write_bytecode = True
+sys.path.append(os.path.join(HERE, "../../checks/tests"))
 
-import reading  # the reading of docs/FORMATS.md that tools/fuzz compares the bench with
+from common import BASE, LIBRARY, NOP, TOOLS, TOP, TRACEBENCH, InFolder, image_of, reading, script
+
+sys.path.insert(0, TOOLS)
+
 from recording import qemu, spike
 from recording.harts import Harts, summary
 from recording.image import Image
 
-BASE = 0x80000000
-NOP, MRET, SRET, ECALL, RET, WFI = 0x13, 0x30200073, 0x10200073, 0x73, 0x8067, 0x10500073
+MRET, SRET, ECALL, RET, WFI = 0x30200073, 0x10200073, 0x73, 0x8067, 0x10500073
 BEQ_8, LOOP = 0x00000463, 0x0000006F  # BEQ x0, x0, 8 bytes on; JAL x0, 0
 USER, SUPERVISOR, MACHINE = 0, 1, 3
 STOPPED = "Stopped execution of TB chain before 0x7f7c0c000100 [0000000080000000] "
-BUILT = os.path.join(os.path.dirname(TOOLS), "crates/tracebench/out/tracebench")
-TRACEBENCH = os.environ.get("TRACEBENCH") or (BUILT if os.path.exists(BUILT) else None)
-
-
-def image_of(*words):
-    """The bytes of an image of words of 32 bits."""
-    return b"".join(word.to_bytes(4, "little") for word in words)
 
 
 def at(place):
@@ -98,7 +91,7 @@ class Run:
 
 
 def first_illegal(program, text):
-    """The first illegal row of a log and why, None where it is legal, by the reading of tools/fuzz."""
+    """The first illegal row of a log and why, None where it is legal, by the reading of checks/fuzz."""
     events = reading.read_log(text.encode())
     assert not isinstance(events, str), events
     return reading.first_illegal(program, events)

@@ -5,32 +5,21 @@ import os
 import resource
 import subprocess
 import sys
-import tempfile
-import unittest
-from importlib import machinery, util
 from unittest import mock
 
-from support import MACHINE, MRET, NOP, TOOLS, USER, image_of, interrupt, record, trace, traces
+from support import MACHINE, MRET, NOP, TOOLS, USER, InFolder, image_of, interrupt, record, script, trace, traces
 
 IMAGE = image_of(*[NOP] * 7, MRET)
 LINES = "".join(line + "\n" for line in traces((0, 1, 2), USER))
 
 
-class Command(unittest.TestCase):
+class Command(InFolder):
     def setUp(self):
-        kept = tempfile.TemporaryDirectory()
-        self.addCleanup(kept.cleanup)
-        self.folder = kept.name
+        super().setUp()
         self.image = self.file("program.bin", IMAGE)
         self.recording = self.file("qemu.log", LINES.encode())
         self.logs = os.path.join(self.folder, "logs")
         os.mkdir(self.logs)
-
-    def file(self, name, content):
-        path = os.path.join(self.folder, name)
-        with open(path, "wb") as file:
-            file.write(content)
-        return path
 
     def run_with(self, form="qemu", base="80000000", image=None, recording=None, folder=None, more=(), given=b""):
         words = [form, *more, base, image or self.image, recording or self.recording, folder or self.logs]
@@ -78,9 +67,7 @@ class Command(unittest.TestCase):
     def rows_with(self, *flags):
         """How many rows each log has where a log has at most two rows, and a long one at most four; the recording has six."""
         given = "".join(trace(place, USER) + "\n" for place in range(7)).encode()
-        loader = machinery.SourceFileLoader("record", os.path.join(TOOLS, "record"))
-        program = util.module_from_spec(util.spec_from_loader("record", loader))
-        loader.exec_module(program)
+        program = script(os.path.join(TOOLS, "record"))
         words = ["record", "qemu", *flags, "80000000", self.image, self.file("seven.log", given), self.logs]
         limits = mock.patch.multiple(program, ROW_LIMIT=2, LONG_ROW_LIMIT=4)
         with limits, mock.patch.object(sys, "argv", words), contextlib.redirect_stdout(io.StringIO()):
@@ -227,17 +214,13 @@ class Command(unittest.TestCase):
         self.assertEqual(self.run_with(recording="-", given=given).stdout, self.summary_of_file())
 
 
-class Costs(unittest.TestCase):
+class Costs(InFolder):
     """A long recording in which two of ten rows are interrupts behind returns: at most 200 MB, and 150,000 rows a second of
     processor time, at the best of a few tries on a machine that does other things too."""
 
     def setUp(self):
-        kept = tempfile.TemporaryDirectory()
-        self.addCleanup(kept.cleanup)
-        self.folder = kept.name
-        self.image = os.path.join(self.folder, "program.bin")
-        with open(self.image, "wb") as file:
-            file.write(IMAGE)
+        super().setUp()
+        self.image = self.file("program.bin", IMAGE)
 
     def cost(self, name, block, count, more=()):
         """Rows, seconds and kilobytes of a recording that has a block so many times."""

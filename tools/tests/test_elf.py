@@ -2,11 +2,12 @@
 import importlib.util
 import os
 import struct
-import tempfile
+import subprocess
+import sys
 import unittest
 from unittest import mock
 
-from support import BASE, NOP, RECORDED, image_of, record, recorded
+from support import BASE, NOP, RECORDED, TOOLS, TRACEBENCH, InFolder, image_of, record, recorded
 
 from recording import elf
 from recording.image import LARGEST_IMAGE
@@ -32,23 +33,10 @@ def elf_of(*segments, machine=RISCV, kind=EXECUTABLE_FILE, entry=0):
     return head + table + content
 
 
-class Files(unittest.TestCase):
-    def setUp(self):
-        kept = tempfile.TemporaryDirectory()
-        self.addCleanup(kept.cleanup)
-        self.folder = kept.name
-
-    def file(self, content):
-        path = os.path.join(self.folder, "program.elf")
-        with open(path, "wb") as file:
-            file.write(content)
-        return path
-
-
 @unittest.skipUnless(HAS_LIBRARY, "pyelftools is not there")
-class Read(Files):
+class Read(InFolder):
     def image(self, content, base=None):
-        found = image_at(base, self.file(content))
+        found = image_at(base, self.file("program.elf", content))
         return found.base, found.content
 
     def refused(self, content, want, base=None):
@@ -59,7 +47,7 @@ class Read(Files):
         self.assertEqual(self.image(elf_of((BASE, image_of(NOP), READ_EXECUTE))), (BASE, image_of(NOP)))
 
     def pieces(self, *segments, **how):
-        found = image_at(None, self.file(elf_of(*segments, **how)))
+        found = image_at(None, self.file("program.elf", elf_of(*segments, **how)))
         return [(piece.base, bytes(piece.content)) for piece in found.pieces]
 
     def test_each_segment_is_a_piece(self):
@@ -163,9 +151,38 @@ class Read(Files):
                 self.assertIn("T _start\n", file.read())
 
 
-class WithoutTheLibrary(Files):
+class Image(InFolder):
+    def ran(self, *words):
+        ran = subprocess.run([sys.executable, os.path.join(TOOLS, "image"), *words], capture_output=True, text=True, cwd=self.folder)
+        return ran.returncode, ran.stdout, ran.stderr
+
+    @unittest.skipUnless(HAS_LIBRARY, "pyelftools is not there")
+    def test_the_arguments_and_the_files(self):
+        self.file("program.elf", elf_of((FLASH, image_of(NOP), READ_EXECUTE), (BASE, b"data", READ_WRITE), entry=FLASH))
+        self.assertEqual(self.ran("program.elf"), (0, "--base 20000000 --also 80000000=program.elf.bin.80000000 program.elf.bin\n", ""))
+        self.assertEqual(self.ran("program.elf", "raw"), (0, "--base 20000000 --also 80000000=raw.80000000 raw\n", ""))
+        for name, content in (("raw", image_of(NOP)), ("raw.80000000", b"data"), ("program.elf.bin", image_of(NOP))):
+            with open(os.path.join(self.folder, name), "rb") as file:
+                self.assertEqual(file.read(), content)
+        self.assertTrue(os.path.exists(os.path.join(self.folder, "raw.symbols")))
+
+    @unittest.skipUnless(HAS_LIBRARY and TRACEBENCH, "pyelftools or the program is not there")
+    def test_the_program_takes_them(self):
+        self.file("program.elf", elf_of((FLASH, image_of(NOP, NOP), READ_EXECUTE), (BASE, b"data", READ_WRITE), entry=FLASH))
+        with open(os.path.join(self.folder, "log.csv"), "w") as file:
+            file.write("addr,itype,priv,cause,tval\n20000000,0,3,,\n20000004,0,3,,\n")
+        words = [TRACEBENCH, "check", *self.ran("program.elf")[1].split(), "log.csv"]
+        self.assertEqual(subprocess.run(words, capture_output=True, text=True, cwd=self.folder).stdout, "log.csv: legal, 2 events\n")
+
+    def test_what_is_no_elf_file(self):
+        self.file("program.elf", b"1234")
+        self.assertEqual(self.ran("program.elf"), (2, "", "image: program.elf is no ELF file; a raw image needs no other form\n"))
+        self.assertEqual(self.ran("none"), (2, "", "image: none: No such file or directory\n"))
+
+
+class WithoutTheLibrary(InFolder):
     def test_the_line_to_use(self):
-        path = self.file(elf_of((BASE, image_of(NOP), READ_EXECUTE)))
+        path = self.file("program.elf", elf_of((BASE, image_of(NOP), READ_EXECUTE)))
         with mock.patch.dict("sys.modules", {"elftools": None, "elftools.elf.elffile": None, "elftools.common.exceptions": None}):
-            with self.assertRaisesRegex(Unusable, "python3-pyelftools.*: riscv64-unknown-elf-objcopy -O binary .*program.elf"):
+            with self.assertRaisesRegex(Unusable, f"{sys.executable} has no module elftools: .*python3-pyelftools.*: riscv64-unknown-elf-objcopy -O binary .*program.elf"):
                 image_at(None, path)

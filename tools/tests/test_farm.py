@@ -3,14 +3,13 @@ import os
 import shutil
 import subprocess
 import sys
-import tempfile
 import time
 import unittest
 
-from support import TOOLS, TRACEBENCH
+from support import TOOLS, TOP, TRACEBENCH, InFolder
 import long_logs
 
-FARM = os.path.join(os.path.dirname(TOOLS), "examples/farm")
+FARM = os.path.join(TOP, "examples/farm")
 SNAKEMAKE = shutil.which("snakemake", path="/usr/bin")
 SLURM = [shutil.which(name, path="/usr/sbin:/usr/bin") for name in ("munged", "slurmctld", "slurmd", "sbatch")]
 HARTS, SIZE = 7, 3
@@ -32,15 +31,7 @@ TABLE = """hart,log,events,sent,came,lost,repeated,late,changed,strange,path
 """
 
 
-class Folder(unittest.TestCase):
-    def setUp(self):
-        folder = tempfile.TemporaryDirectory()
-        self.addCleanup(folder.cleanup)
-        self.folder = folder.name
-
-    def path(self, name):
-        return os.path.join(self.folder, name)
-
+class Folder(InFolder):
     def text(self, name):
         with open(self.path(name)) as file:
             return file.read()
@@ -49,8 +40,7 @@ class Folder(unittest.TestCase):
 class Table(Folder):
     def made(self, *texts):
         for place, text in enumerate(texts):
-            with open(self.path(str(place)), "w") as file:
-                file.write(text)
+            self.file(str(place), text)
         paths = [self.path(str(place)) for place in range(len(texts))]
         words = [sys.executable, os.path.join(FARM, "table"), self.path("table.csv"), *paths]
         return subprocess.run(words, capture_output=True, text=True)
@@ -75,11 +65,9 @@ class Workflow(Folder):
     def setUp(self):
         super().setUp()
         os.mkdir(self.path("logs"))
-        with open(self.path("image.bin"), "wb") as file:
-            file.write(long_logs.image(long_logs.MIXED))
+        self.file("image.bin", long_logs.image(long_logs.MIXED))
         for hart in range(HARTS):
-            with open(self.path(f"logs/hart{hart:02}.csv"), "wb") as file:
-                file.write(long_logs.HEADER + long_logs.mixed_rows(1000 + 500 * hart)[0])
+            self.file(f"logs/hart{hart:02}.csv", long_logs.HEADER + long_logs.mixed_rows(1000 + 500 * hart)[0])
 
     def begun(self, *options, results="results", path=DAMAGE, **environment):
         """A run that goes on, with its folder of results and the path."""

@@ -9,9 +9,8 @@ import sys
 import tempfile
 import unittest
 from contextlib import redirect_stderr, redirect_stdout
-from importlib import machinery, util
 
-from support import TOOLS
+from support import TOOLS, script
 
 SCRIPT = os.path.join(TOOLS, "from-gate")
 HEAD = "//! A crate of a test.\n#![tactic(auto)]\n\nghost use Rattle.std.specs.Prelude.{◌≡◌};\n"
@@ -50,14 +49,7 @@ int main(void) { return (int)small_same(42); }
 """
 
 
-def script():
-    loader = machinery.SourceFileLoader("from_gate", SCRIPT)
-    made = util.module_from_spec(util.spec_from_loader("from_gate", loader))
-    loader.exec_module(made)
-    return made
-
-
-FROM_GATE = script()
+FROM_GATE = script(SCRIPT)
 try:
     WHY = None if FROM_GATE.kit() else None
 except FROM_GATE.Unusable as error:

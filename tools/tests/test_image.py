@@ -1,4 +1,4 @@
-"""Which row a word gives, compared with the table of docs/FORMATS.md as tools/fuzz reads it."""
+"""Which row a word gives, compared with the table of docs/FORMATS.md as checks/fuzz reads it."""
 import random
 import unittest
 

@@ -2,11 +2,10 @@
 import importlib.util
 import os
 import subprocess
-import tempfile
 import unittest
 
 from support import (
-    BASE, BEQ_8, ECALL, MACHINE, NOP, RECORDED, RET, TOOLS, TRACEBENCH, USER, Run, first_illegal, image_of, reading, record,
+    BASE, BEQ_8, ECALL, MACHINE, NOP, RECORDED, RET, TOOLS, TRACEBENCH, USER, InFolder, Run, first_illegal, image_of, reading, record,
     recorded, trace, traces,
 )
 
@@ -101,24 +100,16 @@ class Rows(unittest.TestCase):
         self.assertEqual(self.run_of(*also[0], also[1:])[0], self.IN_FLASH + self.IN_MEMORY + self.BEHIND)
 
 
-class Given(unittest.TestCase):
+class Given(InFolder):
     """`--also B2=FILE`: what is taken, and what is refused with which text."""
 
     def setUp(self):
-        kept = tempfile.TemporaryDirectory()
-        self.addCleanup(kept.cleanup)
-        self.folder = kept.name
+        super().setUp()
         self.image = self.file("image.bin", image_of(NOP, NOP))
         self.piece = self.file("piece.bin", image_of(NOP))
         self.large = os.path.join(self.folder, "large.bin")
         with open(self.large, "wb") as file:
             file.truncate(LARGEST_IMAGE)
-
-    def file(self, name, content):
-        path = os.path.join(self.folder, name)
-        with open(path, "wb") as file:
-            file.write(content)
-        return path
 
     def pieces(self, *also, base="80000000"):
         return [(piece.base, len(piece.content)) for piece in image_at(base, self.image, also=also).pieces]
@@ -231,13 +222,11 @@ ARGUMENTS = [f"{FLASH:x}={RECORDED}/memories_flash.bin", f"{BASE:x}={RECORDED}/m
 ALSO = [word for argument in ARGUMENTS for word in ("--also", argument)]
 
 
-class FromReset(unittest.TestCase):
+class FromReset(InFolder):
     """QEMU's `virt` machine, whose boot ROM goes to flash: each memory is a file that its monitor wrote."""
 
     def setUp(self):
-        kept = tempfile.TemporaryDirectory()
-        self.addCleanup(kept.cleanup)
-        self.folder = kept.name
+        super().setUp()
         self.rom = os.path.join(RECORDED, "memories_rom.bin")
 
     def log(self, *words):

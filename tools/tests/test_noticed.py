@@ -75,11 +75,11 @@ class Levels(unittest.TestCase):
 class Missing(unittest.TestCase):
     def test_a_handler_without_a_trap(self):
         [text] = warnings_of(*traces((0, 1), USER), *traces((3, 4), MACHINE))
-        self.assertEqual(text, f"hart 0: {at(3):x} does not follow the instruction at {at(1):x}{noticed.NO_TRAPS}")
+        self.assertEqual(text, f"hart 0: {at(3):x} does not follow the instruction at {at(1):x}{qemu.NO_TRAPS}")
 
     def test_a_handler_right_behind_the_instruction(self):
         [text] = warnings_of(*traces((0, 1), USER), *traces((2, 3), MACHINE))
-        self.assertIn("a line shows level 3, and the log has 0; no other is named" + noticed.NO_TRAPS, text)
+        self.assertIn("a line shows level 3, and the log has 0; no other is named" + qemu.NO_TRAPS, text)
 
     def test_an_instruction_that_does_not_follow_where_there_are_traps(self):
         lines = [*traces((0, 1), USER), exception(8, 2), *traces((0, 3, 4), MACHINE)]
@@ -102,7 +102,7 @@ class Missing(unittest.TestCase):
 
     def test_a_call_that_goes_on(self):
         [text] = warnings_of(*traces((7, 8), USER))
-        self.assertEqual(text, f"hart 0: the instruction at {at(7):x} {noticed.CALLS}")
+        self.assertEqual(text, f"hart 0: the instruction at {at(7):x} {qemu.CALLS}")
 
     def test_a_call_of_a_program_of_user_level(self):
         run = Run(IMAGE, traces((7, 8), USER), is_user=True)
@@ -190,7 +190,7 @@ class Recorded(unittest.TestCase):
 
     def test_no_traps(self):
         place = BASE + 0x36
-        self.check("no_int", [f"hart {hart}: the instruction at {place:x} {noticed.CALLS}" for hart in (0, 1)])
+        self.check("no_int", [f"hart {hart}: the instruction at {place:x} {qemu.CALLS}" for hart in (0, 1)])
 
     def test_no_instructions(self):
         self.check("no_exec", [f"- has no line of an instruction: qemu writes them with {qemu.FORM}"])
@@ -205,7 +205,7 @@ class Recorded(unittest.TestCase):
                 os.mkdir(logs)
                 ran = record("qemu", "100b0", image, "-", logs, given=recorded(f"user_{version}.log.xz"))
                 self.assertEqual(ran.returncode, 1)
-                self.assertIn(noticed.CALLS, ran.stderr.decode())
+                self.assertIn(qemu.CALLS, ran.stderr.decode())
 
 
 class Kernel(unittest.TestCase):

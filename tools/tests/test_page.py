@@ -5,11 +5,10 @@ import os
 import re
 import shutil
 import subprocess
-import tempfile
 import unittest
 
 import audit_tables
-from support import BASE, TOOLS, TRACEBENCH
+from support import BASE, TOOLS, TOP, TRACEBENCH, InFolder
 import long_logs
 import wire
 
@@ -17,7 +16,7 @@ PYTHON = "/usr/bin/python3"
 PACKAGES = "import jinja2, matplotlib, pandas"
 IS_THERE = os.path.exists(PYTHON) and subprocess.run([PYTHON, "-c", PACKAGES], capture_output=True).returncode == 0
 CHROMIUM = shutil.which("chromium")
-RECEIVED = os.path.join(os.path.dirname(TOOLS), "examples/audit/audit_received.txt")
+RECEIVED = os.path.join(TOP, "examples/audit/audit_received.txt")
 MEASURED = """hart,events,retirements,traps,branches,packets,payload_bytes
 0,9,8,1,0,4,10
 1,8,8,0,0,4,20
@@ -36,6 +35,16 @@ COMPARED = """hart 0: 20 events, 5 packets, 30 payload bytes, decoded 10, beginn
 hart 1: 20 events, 5 packets, 30 payload bytes, decoded 20, whole
 result: not whole
 """
+STRIP = """hart,first,last,function,rows
+0,0,3,"main",3
+0,4,7,"main",4
+0,8,11,"f(int, int)",3
+1,0,1,"idle",2
+"""
+SCROLLS = """<script>
+const shown = document.querySelector(".scroll");
+document.title = (shown.scrollHeight > shown.clientHeight) + " " + (shown.scrollWidth > shown.clientWidth);
+</script>"""
 CLICKS = """<script>
 const order = () => [...document.querySelectorAll(".harts tbody th")].map((cell) => cell.textContent).join(" ");
 const orders = [order()];
@@ -94,18 +103,7 @@ class Reader(html.parser.HTMLParser):
 
 
 @unittest.skipUnless(IS_THERE, "matplotlib, pandas or Jinja2 of Debian is not there")
-class Page(unittest.TestCase):
-    def setUp(self):
-        folder = tempfile.TemporaryDirectory()
-        self.addCleanup(folder.cleanup)
-        self.folder = folder.name
-
-    def file(self, name, text):
-        path = os.path.join(self.folder, name)
-        with open(path, "wb") as file:
-            file.write(text if isinstance(text, bytes) else text.encode())
-        return path
-
+class Page(InFolder):
     def ran(self, audit, *options):
         """What a run over the text of an audit comes to, and the page."""
         page = os.path.join(self.folder, "page.html")
@@ -131,15 +129,52 @@ class Page(unittest.TestCase):
         self.assertEqual(page.paragraphs[0], "✗ not whole")
         self.assertEqual(page.paragraphs[1:3], ["2 harts: 10 messages sent, 10 came, 2 lost (20.0 %).",
                                                 "Of those that came 1 repeated, 1 late, 1 changed."])
-        harts, places, late, runs = page.tables
+        harts, places, by_hart, late, runs = page.tables
         self.assertEqual(harts[1][:8], ["0", "not whole", "5", "5", "1", "1", "0", "0"])
         self.assertEqual(harts[2][:8], ["1", "not whole", "5", "5", "1", "0", "1", "1"])
         self.assertEqual(places[0], ["places", "lost", "repeated", "late", "changed"])
         self.assertEqual([row[1:] for row in places[1:]], [
             ["0", "0", "0", "0"], ["0", "0", "0", "0"], ["0", "1", "0", "0"], ["1", "0", "0", "0"], ["0", "0", "0", "0"],
             ["0", "0", "0", "0"], ["0", "0", "0", "0"], ["0", "0", "1", "0"], ["0", "0", "0", "1"], ["1", "0", "0", "0"]])
+        self.assertEqual(by_hart, [["hart", *(f"{kind}: first and last place" for kind in ("lost", "changed", "repeated", "late"))],
+                                   ["hart 0", "3", "", "2", ""], ["hart 1", "9", "8", "", "7"]])
         self.assertEqual(late[1:], [["1", "1"]])
         self.assertEqual(runs[1:], [["1", "2", "2"]])
+
+    def strips(self, text):
+        return "--list", self.file("list.csv", LISTED), "--functions", self.file("strip.csv", text)
+
+    def test_where_the_program_was(self):
+        """Message 2 of hart 0 is lost: it adds no row, and with it go rows 1 to 8, the 5 of message 3 and the 3 of message 4 before its
+        own."""
+        audit = table("run,,,0,2,2,,,,,,,,,,,,,,,", "hart,,,0,,,,,,,6,5,1,0,0,0,0,1,1,0,not whole",
+                      "hart,,,1,,,,,,,6,6,0,0,0,0,0,0,0,0,whole", "result,11,,,1,,,0,,,,,,,,,0,0,,,not whole")
+        page = Reader(self.made(audit, *self.strips(STRIP)))
+        found = page.tables[3]
+        self.assertEqual(found, [["function", "rows", "rows lost"], ["main", "8", "7"], ["f(int, int)", "4", "1"], ["idle", "2", "0"]])
+        self.assertIn("Most lost rows are of main: 7 of 8, by the function of each part.", page.paragraphs)
+
+    def test_strips_that_are_none(self):
+        good = of_example()
+        self.refused("strip.csv: line 1: no table of `tools/timeline --strip`", good, *self.strips("hart,first\n"))
+        self.refused("strip.csv: line 3: no row of `tools/timeline --strip`", good, *self.strips(STRIP.replace("0,4,7", "0,x,7")))
+        self.refused("strip.csv: no row: give it what `tools/timeline --strip` writes", good, *self.strips(STRIP.splitlines()[0] + "\n"))
+        ran, _ = self.ran(good, "--functions", self.file("strip.csv", STRIP))
+        self.assertEqual(ran.returncode, 2)
+        self.assertIn("--functions wants --list FILE", ran.stderr)
+
+    def of_harts(self, count):
+        rows = [f"hart,,,{hart},,,,,,,20000,19990,10,10,10,10,10,10,10,10,not whole" for hart in range(count)]
+        return self.made(table(*rows, "result,400,,,,,,0,,,,,,,,,0,0,,,not whole"))
+
+    @unittest.skipUnless(CHROMIUM, "Chromium is not there")
+    def test_64_harts_have_no_scroll_bar(self):
+        for count, want in ((64, "false false"), (65, "true false")):
+            path = self.file("long.html", self.of_harts(count).replace("</body>", SCROLLS + "</body>"))
+            words = [CHROMIUM, "--headless", "--no-sandbox", "--disable-gpu", f"--user-data-dir={self.folder}/chromium",
+                     "--window-size=1100,900", "--dump-dom", "file://" + path]
+            dom = subprocess.run(words, capture_output=True, text=True, timeout=120).stdout
+            self.assertEqual(re.search("<title>(.*)</title>", dom)[1], want)
 
     def test_it_stands_alone(self):
         page = self.made(of_example())
@@ -154,8 +189,18 @@ class Page(unittest.TestCase):
             "message,4,,0,9,,skips,6,,,,,,,,,,,,,", "message,6,,0,5,,late,4,,,,,,,,,,,,,", "run,,,0,3,4,,,,,,,,,,,,,,,",
             "run,,,0,6,8,,,,,,,,,,,,,,,", "run,,,0,12,15,,,,,,,,,,,,,,,",
             "hart,,,0,,,,,,,16,7,9,0,1,0,0,3,4,4,not whole", "result,7,,,4,,,0,,,,,,,,,0,0,,,not whole")))
-        self.assertEqual([row[:2] for row in page.tables[1][5:]], [["4 to 4", "5"], ["5 to 5", "0"], ["6 to 6", "4"]])
+        self.assertEqual([row[:2] for row in page.tables[1][5:]], [["4", "5"], ["5", "0"], ["6", "4"]])
         self.assertEqual(page.tables[3][1:], [["2", "1", "2"], ["3 to 4", "2", "7"]])
+
+    def test_what_is_lost_at_the_end_is_at_the_last_place(self):
+        """Of two harts and 4 messages: hart 0 lost one before place 1 and two at its end, hart 1 nothing."""
+        page = Reader(self.made(table(
+            "message,1,,0,2,,skips,1,,,,,,,,,,,,,", "run,,,0,1,1,,,,,,,,,,,,,,,", "run,,,0,3,4,,,,,,,,,,,,,,,",
+            "hart,,,0,,,,,,,5,2,3,0,0,0,0,2,2,0,not whole", "hart,,,1,,,,,,,2,2,0,0,0,0,0,0,0,0,whole",
+            "result,4,,,1,,,0,,,,,,,,,0,0,,,not whole")))
+        self.assertEqual(page.tables[1][1:], [["0", "0"], ["1", "1"], ["2", "0"], ["3", "2"]])
+        self.assertEqual(page.tables[2], [["hart", "lost: first and last place"], ["hart 0", "1 to 3"]])
+        self.assertIn("Each strip is a hart, each part of it 1 place.", page.paragraphs)
 
     def test_numbers_keep_their_digits(self):
         """Of two runs: the first number of one is no double, and the other ends with the last number that there is."""
@@ -186,7 +231,7 @@ class Page(unittest.TestCase):
                                       "hart,,,0,,,,,,,5,5,0,0,0,0,0,0,0,0,whole",
                                       "result,6,,,5,,,0,,,,,,,,,1,0,,,not whole")))
         self.assertIn("Of those that came 1 strange.", page.paragraphs)
-        self.assertEqual(page.tables[1][-1], ["5 to 5", "1"])
+        self.assertEqual(page.tables[1][-1], ["5", "1"])
 
     def test_a_summary(self):
         page = Reader(self.made(table("hart,,,0,,,,,,,5,4,1,0,0,0,0,1,1,0,not whole", "result,4,,,3,,,9,,,,,,,,,0,2,,,not whole")))
@@ -198,7 +243,7 @@ class Page(unittest.TestCase):
             of_example(), "--list", self.file("list.csv", LISTED), "--measure", "8=" + self.file("8.csv", MEASURED),
             "--measure", "64=" + self.file("64.csv", MEASURED.replace("10\n1", "8\n1")),
             "--compare", self.file("compare.txt", COMPARED)))
-        harts, _, _, _, taken, bits = page.tables
+        harts, _, _, _, _, taken, bits = page.tables
         self.assertEqual(harts[0][-4:], ["rows a loss costs", "rows", "rows decoded", "log"])
         # Open 0; sync 1 + 5 and the 3 before the next sync; address 8; address 8; sync 4 + 2; close 2.
         self.assertEqual(harts[1][-4:], [f"{(0 + 9 + 8 + 8 + 6 + 2) / 6:.1f}", "20", "10", "beginning"])
@@ -206,7 +251,8 @@ class Page(unittest.TestCase):
         self.assertEqual(taken[1:], [["0", "1"], ["1", "0"], ["2", "1"], ["3 to 4", "0"], ["5 to 8", "3"], ["9 to 16", "1"]])
         self.assertEqual(bits, [["hart", "period 8", "period 64"], ["hart 0", "10.000", "8.000"], ["hart 1", "20.000", "20.000"],
                                 ["all", "15.000", "15.000"]])
-        self.assertIn("Of the logs 30 of 40 rows are decoded (75.0 %): not whole.", page.paragraphs)
+        self.assertIn("`compare`: 30 of 40 rows of the logs are decoded (75.0 %), not whole. It stops at the first fault of any hart; "
+                      "`decode --lossy` goes on after lost messages.", page.paragraphs)
 
     @unittest.skipUnless(TRACEBENCH, "the program is not built")
     def test_rows_that_a_lost_message_takes_away(self):
@@ -214,11 +260,7 @@ class Page(unittest.TestCase):
         image = self.file("image.bin", long_logs.image(long_logs.MIXED))
         log = self.file("log.csv", long_logs.HEADER + long_logs.mixed_rows(300)[0])
         capture = self.of_program("encode", "--base", f"{BASE:x}", "--period", "32", image, log)
-        start, messages = len(wire.header()), []
-        while start < len(capture):
-            messages.append(capture[start:start + 11 + capture[start + 10]])
-            start += len(messages[-1])
-        gone = []
+        messages, gone = [message for _, message in wire.messages(capture, len(wire.header()))], []
         for lost in range(len(messages)):
             left = self.file("left.capture", capture[:len(wire.header())] + b"".join(messages[:lost] + messages[lost + 1:]))
             text = self.of_program("decode", "--lossy", "--base", f"{BASE:x}", image, left).decode()
@@ -228,7 +270,7 @@ class Page(unittest.TestCase):
         page = Reader(self.made(of_example(), "--list", self.file("list.csv", listed)))
         self.assertGreater(max(gone), 32)
         self.assertEqual(page.tables[0][1][-1], f"{sum(gone) / len(gone):,.1f}")
-        self.assertEqual([int(count) for _, count in page.tables[4][1:]], in_classes(gone))
+        self.assertEqual([int(count) for _, count in page.tables[5][1:]], in_classes(gone))
 
     def of_program(self, *words):
         """What the program prints."""

@@ -6,12 +6,9 @@ import subprocess
 import sys
 import tempfile
 import unittest
-from importlib import machinery, util
 
-from support import TOOLS, TRACEBENCH
+from support import LIBRARY, TOOLS, TRACEBENCH, script
 
-LIBRARY = os.environ.get("TRACEBENCH_LIBRARY") or os.path.join(
-    os.path.dirname(TOOLS), "crates/tracebench_c/out/libtracebench_c.a")
 NEEDED = [name for name in ("scdoc", "cc", "objcopy", "dpkg-deb") if not shutil.which(name)]
 
 
@@ -43,9 +40,7 @@ class Release(unittest.TestCase):
 
     @unittest.skipUnless(shutil.which("cc") and shutil.which("readelf"), "no compiler")
     def test_the_c_library_that_a_program_wants(self):
-        loader = machinery.SourceFileLoader("release", os.path.join(TOOLS, "release"))
-        made = util.module_from_spec(util.spec_from_loader("release", loader))
-        loader.exec_module(made)
+        made = script(os.path.join(TOOLS, "release"))
         with tempfile.TemporaryDirectory() as folder:
             program, source = os.path.join(folder, "program"), os.path.join(folder, "program.c")
             with open(source, "w", encoding="utf-8") as file:

@@ -6,7 +6,7 @@ import tempfile
 import textwrap
 import unittest
 
-from support import BASE, RECORDED, TOOLS, TRACEBENCH, record, recorded
+from support import BASE, RECORDED, TOOLS, TRACEBENCH, InFolder, record, recorded
 
 HEADER = "addr,itype,priv,cause,tval\n"
 LOGS = [HEADER + "80000000,0,3,,\n80000004,0,3,,\n80000008,0,3,,\n", HEADER + "80000000,0,0,,\n80000004,0,3,,\n"]
@@ -70,22 +70,12 @@ STAND_IN = '''\
 '''
 
 
-class StandIn(unittest.TestCase):
+class StandIn(InFolder):
     def setUp(self):
-        kept = tempfile.TemporaryDirectory()
-        self.addCleanup(kept.cleanup)
-        self.folder = kept.name
+        super().setUp()
         self.calls = self.path("calls")
         self.image = self.file("image.bin", "raw")
         self.paths = [self.file(f"hart{hart:02}.csv", text) for hart, text in enumerate(LOGS)]
-
-    def path(self, name):
-        return os.path.join(self.folder, name)
-
-    def file(self, name, text):
-        with open(self.path(name), "w") as file:
-            file.write(text)
-        return self.path(name)
 
     def run_with(self, wrong=None, words=(), logs=None):
         program = self.file("program", textwrap.dedent(STAND_IN).format(python=sys.executable, wrong=wrong, calls=self.calls))

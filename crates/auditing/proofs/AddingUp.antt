@@ -11,7 +11,7 @@ use Rattle.std.proofs.lemmas.List.Sums.{sum_by-cons, sum_by-set}
 use Rattle.std.proofs.lemmas.Option.{slice_get_within}
 use Rattle.message.specs.OfHart.{of_hart}
 use Rattle.message.specs.declared.message.Message.{Message}
-use Rattle.alike.specs.declared.by.By.TheVariants as by
+use Rattle.payload.specs.declared.by.By.TheVariants as by
 use Rattle.auditing.proofs.Appending.{counted-next}
 use Rattle.auditing.proofs.FindingLemmas.{skips-other, skips-own}
 use Rattle.auditing.proofs.TakingLemmas.{fate_is, takes, takes_other}

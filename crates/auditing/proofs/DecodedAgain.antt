@@ -54,7 +54,7 @@ use Rattle.captures.specs.Returned.{IsMemory}
 use Rattle.captures.specs.Whole.{IsWhole}
 use Rattle.captures.specs.declared.outcome.CaptureFault.{CaptureFault}
 use Rattle.captures.specs.declared.outcome.CaptureFault.TheVariants as fault
-use Rattle.alike.specs.declared.by.By.{By}
+use Rattle.payload.specs.declared.by.By.{By}
 use Rattle.auditing.proofs.HartPlaces.{place_of}
 use Rattle.auditing.proofs.KnownPackets.{answer_alike, expected_alike, of_hart-messages, packets_alike, parted, reading_alike}
 use Rattle.auditing.specs.DecodedAgain.{AreDecodedAgain}

@@ -5,9 +5,9 @@ use Rattle.std.proofs.Common.{inl, inr, arith}
 use Rattle.std.specs.Prelude.{◌+◌, if◌then◌else◌, nat_lt, option_map}
 use Rattle.std.proofs.lemmas.List.{length-map, map-append, map-set}
 use Rattle.std.proofs.lemmas.Option.{slice_get-map}
-use Rattle.alike.specs.Same.{known_by, same, shortest_or}
-use Rattle.alike.specs.declared.by.By.{By}
-use Rattle.alike.specs.declared.by.By.TheVariants as by
+use Rattle.payload.specs.Same.{known_by, same, shortest_or}
+use Rattle.payload.specs.declared.by.By.{By}
+use Rattle.payload.specs.declared.by.By.TheVariants as by
 use Rattle.message.specs.Numbered.{messages_from}
 use Rattle.message.specs.OfHart.{of_hart}
 use Rattle.message.specs.declared.header.Header.{Header}

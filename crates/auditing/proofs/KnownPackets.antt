@@ -2,8 +2,8 @@
 use Rattle.std.proofs.Common.{◌≡◌, ℕ, ◌<◌, ◌++◌, All, List, [], ◌∷◌, length, map, refl, sym, ap, subst, ◌∙◌}
 use Rattle.std.proofs.lemmas.List.Elements.{All-filter, All-head, All-tail}
 use Rattle.std.specs.Prelude.{◌==◌, ◌+◌, if◌then◌else◌, nat_lt, Err}
-use Rattle.alike.proofs.SameLemmas.{reading-known}
-use Rattle.alike.specs.declared.by.By.{By}
+use Rattle.payload.proofs.SameLemmas.{reading-known}
+use Rattle.payload.specs.declared.by.By.{By}
 use Rattle.payload.specs.ClosedTrace.{last_is_closing}
 use Rattle.payload.specs.Reading.{reading}
 use Rattle.message.proofs.HartMessages.{expected_of}

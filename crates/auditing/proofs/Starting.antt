@@ -10,7 +10,7 @@ use Rattle.message.specs.declared.header.Header.{Header}
 use Rattle.message.specs.declared.message.Message.{Message}
 use Rattle.captures.specs.NoMessage.{BeginsNone}
 use Rattle.captures.specs.Whole.{BeginsWith}
-use Rattle.alike.specs.declared.by.By.{By}
+use Rattle.payload.specs.declared.by.By.{By}
 use Rattle.auditing.proofs.TakenKnown.{starts_known}
 use Rattle.auditing.specs.Audits.{Audits}
 use Rattle.auditing.specs.Ledger.{HartLedger, Ledger}

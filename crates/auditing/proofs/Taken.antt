@@ -8,8 +8,8 @@ use Rattle.std.proofs.lemmas.Option.{slice_get_within}
 use Rattle.message.proofs.AcceptedLemmas.{slice_get-set}
 use Rattle.message.proofs.Elements.{slice_get-some}
 use Rattle.message.specs.declared.message.Message.{Message}
-use Rattle.alike.specs.declared.by.By.{By}
-use Rattle.alike.specs.declared.by.By.TheVariants as by
+use Rattle.payload.specs.declared.by.By.{By}
+use Rattle.payload.specs.declared.by.By.TheVariants as by
 use Rattle.auditing.proofs.CountLemmas.{capped_more, strangers-next}
 use Rattle.auditing.proofs.FindingLemmas.{first-next, found_by_past}
 use Rattle.auditing.proofs.OwnMessages.{any_of_hart}

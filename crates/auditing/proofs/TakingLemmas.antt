@@ -9,7 +9,7 @@ use Rattle.std.proofs.lemmas.Bool.{and_from, and_parts, eq-eqb, eqb-true, le-ltb
 use Rattle.std.proofs.lemmas.Bool.{true≢false}
 use Rattle.message.specs.OfHart.{of_hart}
 use Rattle.message.specs.declared.message.Message.{Message}
-use Rattle.alike.specs.declared.by.By.TheVariants as by
+use Rattle.payload.specs.declared.by.By.TheVariants as by
 use Rattle.auditing.proofs.Appending.{any-next, any-other, any_weaker, or_false, true_ones-same}
 use Rattle.auditing.proofs.CountLemmas.{counts-next, counts-other}
 use Rattle.auditing.proofs.FindingLemmas.{greatest_above, latest-other, latest-own, past-false, past-other, past-true}

@@ -9,7 +9,7 @@ use Rattle.message.specs.Numbered.{messages_from}
 use Rattle.message.specs.OfHart.{of_hart}
 use Rattle.message.specs.declared.header.Header.{Header}
 use Rattle.message.specs.declared.message.Message.{Message}
-use Rattle.alike.specs.declared.by.By.{By}
+use Rattle.payload.specs.declared.by.By.{By}
 use Rattle.auditing.proofs.OwnMessages.{flags}
 use Rattle.auditing.proofs.SentLemmas.{none_above, none_beyond, numbered}
 use Rattle.auditing.specs.Audits.{AuditsBytes, AuditsHart, capped}

@@ -1,7 +1,7 @@
 -- Messages by what their payloads are compared by.
 use Rattle.std.specs.Prelude.{List, map}
-use Rattle.alike.specs.Same.{known_by}
-use Rattle.alike.specs.declared.by.By.{By}
+use Rattle.payload.specs.Same.{known_by}
+use Rattle.payload.specs.declared.by.By.{By}
 use Rattle.message.specs.declared.message.Message.{Message}
 
 -- A message whose payload is what its own is known by. By bytes it is the message itself. By packets messages of one

@@ -1,7 +1,7 @@
 -- What an audit keeps.
 use Rattle.std.specs.Prelude.{ℕ, Bool, List, Option, map}
-use Rattle.alike.specs.Same.{known_by}
-use Rattle.alike.specs.declared.by.By.{By}
+use Rattle.payload.specs.Same.{known_by}
+use Rattle.payload.specs.declared.by.By.{By}
 use Rattle.message.specs.declared.header.Header.{Header}
 use Rattle.auditing.specs.declared.tally.Counts.{Counts}
 

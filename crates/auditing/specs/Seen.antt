@@ -1,10 +1,10 @@
 -- What is known of a message by SENT.
 use Rattle.std.specs.Prelude.{ℕ, Bool, if◌then◌else◌, List, Option, Some, None}
-use Rattle.alike.specs.Same.{same}
-use Rattle.alike.specs.declared.by.By.{By}
+use Rattle.payload.specs.Same.{same}
+use Rattle.payload.specs.declared.by.By.{By}
 use Rattle.message.specs.declared.message.Message.{Message}
-use Rattle.resuming.specs.declared.sent.Sight.{Sight}
-use Rattle.resuming.specs.declared.sent.Sight.TheVariants as sight
+use Rattle.frames.specs.declared.sent.Sight.{Sight}
+use Rattle.frames.specs.declared.sent.Sight.TheVariants as sight
 use Rattle.auditing.specs.SentPayload.{payload_sent}
 
 -- What is known of a message with this payload, by the payload that SENT has with its hart and its number, if it has one.

@@ -11,8 +11,8 @@ use crate::finding::{Finding, finding_at, lateness};
 use crate::lost::run_lengths;
 use crate::row::HartRow;
 use crate::tally::{Counts, Tally};
-use alike::{By, same};
-use resuming::Sight;
+use frames::Sight;
+use payload::{By, same};
 use std::alloc::{AllocError, Allocator};
 use std::marker::Model;
 

@@ -14,7 +14,7 @@ ghost use Rattle.message.specs.declared.header.Header.{Header};
 ghost use Rattle.message.specs.declared.message.Message.{Message};
 ghost use Rattle.receiver.specs.NotReceived.{IsNotReceived};
 ghost use Rattle.receiver.specs.declared.fault.ReceiveFault.{ReceiveFault};
-ghost use Rattle.alike.specs.declared.by.By.{By};
+ghost use Rattle.payload.specs.declared.by.By.{By};
 ghost use Rattle.auditing.specs.declared.fate.Fate.TheVariants as Fate;
 ghost use Rattle.auditing.specs.Audits.{Audits};
 ghost use Rattle.auditing.specs.Known.{known_all};

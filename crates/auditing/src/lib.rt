@@ -23,7 +23,6 @@ mod lost;
 mod row;
 mod tally;
 
-pub use alike::By;
 pub use audit::Audit;
 pub use fate::Fate;
 pub use fault::SentFault;
@@ -33,5 +32,6 @@ pub use laws::{
     whole_is_untouched,
 };
 pub use lost::{Lost, LostRuns, RunLengths, run_lengths};
+pub use payload::By;
 pub use row::HartRow;
 pub use tally::Tally;

@@ -1,23 +1,25 @@
 -- What `decode` prints, from what was found.
 use Rattle.std.proofs.Common.{◌≡◌, refl, ℕ, Bool, List, Option, Result, sym, subst, Ok}
 use Rattle.captures.specs.declared.outcome.CaptureFault.{CaptureFault}
-use Rattle.hart_range.specs.declared.range.HartRange.{HartRange}
+use Rattle.message.specs.declared.range.HartRange.{HartRange}
 use Rattle.retire.specs.declared.event.Event.{Event}
 use Rattle.rvclass.specs.Fetch.{words_of}
 use Rattle.rvclass.specs.Image.{Image}
-use Rattle.subcommands.specs.declared.words.Decode.{Decode}
+use Rattle.command_inputs.specs.declared.words.Decode.{Decode}
 use Rattle.command_inputs.proofs.Beginnings.{cut_leads}
 use Rattle.command_inputs.proofs.Runs.{leads_on}
 use Rattle.command_inputs.specs.Begun.{IsCutOf}
-use Rattle.command_inputs.specs.Found.{IsProgramAt, IsRead}
-use Rattle.files.specs.Known.{Content}
+use Rattle.command_inputs.specs.Found.{IsBase, IsProgramAt, IsRead}
+use Rattle.command_inputs.specs.OnlyHarts.{IsOnly}
+use Rattle.log_streams.specs.Known.{Content}
 use Rattle.command_inputs.specs.Printed.{PrintsUnlessDenied}
 use Rattle.capture_commands.specs.CountedHarts.{HasHartBelow}
 use Rattle.capture_commands.specs.Faults.{Fault, Printed}
 use Rattle.command_inputs.specs.declared.status.Status.{Status}
-use Rattle.hart_rows.specs.HartsText.{harts_text_of}
+use Rattle.capture_index.specs.HartsText.{harts_text_of}
 use Rattle.captures.specs.OfHarts.{IsDecodedOf}
-use Rattle.capture_commands.specs.Decoded.{CanDecodeHarts, CanWriteLogs, DecodesHarts, WritesDecoded, WritesLogs}
+use Rattle.capture_commands.specs.Decoded.{CanDecode, CanWriteLogs, CanWriteLogsOf, Decodes, WritesDecoded}
+use Rattle.capture_commands.specs.Decoded.{WritesLogs, WritesLogsOf}
 use Rattle.capture_commands.specs.Decoding.{end_of_capture_of}
 use Rattle.capture_commands.specs.declared.reason.CaptureReason.{CaptureReason}
 
@@ -37,46 +39,53 @@ decodes harts range program bytes lists closed stop decoded = record {
 }
 
 module _ (content : Content) (asked : Decode) (base : ℕ) (range : HartRange) (program : Image) (bytes : List ℕ)
+    (based : IsBase {W = CaptureReason} asked.base.now asked.also.items (Ok base))
+    (chosen : IsOnly {W = CaptureReason} asked.only (Ok range))
     (found : IsProgramAt {W = CaptureReason} content base asked.image asked.also.items (Ok program))
-    (read : IsRead {W = CaptureReason} content asked.capture (Ok bytes))
-    (has : HasHartBelow asked.harts range bytes (Ok tt)) where
-  -- What is written of the capture is what `decode` prints.
-  logs_lead : (lossy : Bool) → asked.lossy ≡ lossy → (printed : Printed)
-      → WritesLogs lossy asked.harts range program bytes printed → DecodesHarts content asked base range printed
-  logs_lead lossy is printed writes = (
-    Ok program,
-    found,
-    (
-      Ok bytes,
-      read,
-      (Ok tt, has, subst (λ l. WritesLogs l asked.harts range program bytes printed) (sym is) writes),
-    ),
-  )
+    (read : IsRead {W = CaptureReason} content asked.capture (Ok bytes)) where
+  abbrev Own : Printed → Type 0
+  Own = WritesLogsOf asked.lossy asked.harts range program bytes
 
-  -- And once that can be written, `decode` writes.
-  can_lead : (lossy : Bool) → asked.lossy ≡ lossy → CanWriteLogs lossy asked.harts range program bytes
-      → CanDecodeHarts content asked base range
-  can_lead lossy is can = (
-    program,
-    found,
-    (bytes, read, (tt, has, subst (λ l. CanWriteLogs l asked.harts range program bytes) (sym is) can)),
-  )
+  -- What is written of the capture is what `decode` prints.
+  leads : (printed : Printed) → Own printed → Decodes content asked printed
+  leads printed writes = (Ok base, based, (Ok range, chosen, (Ok program, found, (Ok bytes, read, writes))))
 
   -- What is printed of the capture is what `decode` prints.
-  pub logs_printed : (lossy : Bool) (ended : Result Status Fault) (old new : Option (List ℕ)) → asked.lossy ≡ lossy
-      → PrintsUnlessDenied (WritesLogs lossy asked.harts range program bytes)
-      (CanWriteLogs lossy asked.harts range program bytes) ended old new
-      → PrintsUnlessDenied (DecodesHarts content asked base range) (CanDecodeHarts content asked base range) ended old
-      new
-  logs_printed lossy ended old new is =
-      leads_on (WritesLogs lossy asked.harts range program bytes) (DecodesHarts content asked base range)
-      (CanWriteLogs lossy asked.harts range program bytes) (CanDecodeHarts content asked base range) ended old new
-      (logs_lead lossy is) (can_lead lossy is)
+  pub capture_printed : (ended : Result Status Fault) (old new : Option (List ℕ))
+      → PrintsUnlessDenied Own (CanWriteLogsOf asked.lossy asked.harts range program bytes) ended old new
+      → PrintsUnlessDenied (Decodes content asked) (CanDecode content asked) ended old new
+  capture_printed ended old new =
+      leads_on Own (Decodes content asked) (CanWriteLogsOf asked.lossy asked.harts range program bytes)
+      (CanDecode content asked) ended old new leads
+      (λ can. (base, based, (range, chosen, (program, found, (bytes, read, can)))))
 
   -- And a cut of it is one of that.
-  pub logs_cut : (lossy : Bool) (old new : Option (List ℕ)) → asked.lossy ≡ lossy
-      → IsCutOf (WritesLogs lossy asked.harts range program bytes) old new
-      → IsCutOf (DecodesHarts content asked base range) old new
-  logs_cut lossy old new is =
-      cut_leads (WritesLogs lossy asked.harts range program bytes) (DecodesHarts content asked base range) old new
-      (logs_lead lossy is)
+  pub capture_cut : (old new : Option (List ℕ)) → IsCutOf Own old new → IsCutOf (Decodes content asked) old new
+  capture_cut old new = cut_leads Own (Decodes content asked) old new leads
+
+module _ (asked : Decode) (range : HartRange) (program : Image) (bytes : List ℕ) (lossy : Bool)
+    (is : asked.lossy ≡ lossy) (u : Unit {0}) (has : HasHartBelow asked.harts range bytes (Ok u)) where
+  -- What is written of the logs is what is written of the capture.
+  logs_lead : (printed : Printed) → WritesLogs lossy asked.harts range program bytes printed
+      → WritesLogsOf asked.lossy asked.harts range program bytes printed
+  logs_lead printed writes =
+      (Ok u, has, subst (λ l. WritesLogs l asked.harts range program bytes printed) (sym is) writes)
+
+  pub logs_printed : (ended : Result Status Fault) (old new : Option (List ℕ))
+      → PrintsUnlessDenied (WritesLogs lossy asked.harts range program bytes)
+      (CanWriteLogs lossy asked.harts range program bytes) ended old new
+      → PrintsUnlessDenied (WritesLogsOf asked.lossy asked.harts range program bytes)
+      (CanWriteLogsOf asked.lossy asked.harts range program bytes) ended old new
+  logs_printed ended old new =
+      leads_on (WritesLogs lossy asked.harts range program bytes)
+      (WritesLogsOf asked.lossy asked.harts range program bytes)
+      (CanWriteLogs lossy asked.harts range program bytes)
+      (CanWriteLogsOf asked.lossy asked.harts range program bytes) ended old new logs_lead
+      (λ can. (u, has, subst (λ l. CanWriteLogs l asked.harts range program bytes) (sym is) can))
+
+  -- And a cut of it is one of that.
+  pub logs_cut : (old new : Option (List ℕ)) → IsCutOf (WritesLogs lossy asked.harts range program bytes) old new
+      → IsCutOf (WritesLogsOf asked.lossy asked.harts range program bytes) old new
+  logs_cut old new =
+      cut_leads (WritesLogs lossy asked.harts range program bytes)
+      (WritesLogsOf asked.lossy asked.harts range program bytes) old new logs_lead

@@ -14,8 +14,8 @@ use Rattle.frames.proofs.ScatteredLemmas.{written}
 use Rattle.frames.specs.Frame.{IsFrame, end_of_frames}
 use Rattle.frames.specs.Spans.{spans_from}
 use Rattle.frames.specs.Written.{frames_from}
-use Rattle.hart_range.proofs.Selecting.{all_selected}
-use Rattle.hart_range.specs.Range.{every_hart, selected}
+use Rattle.message.proofs.Selecting.{all_selected}
+use Rattle.message.specs.Range.{every_hart, selected}
 use Rattle.losses.specs.Collects.{GivesPieces}
 use Rattle.losses.specs.Parts.{LogPart}
 use Rattle.losses.specs.Parts.{Missing as LogMissing, Events as LogEvents}
@@ -39,12 +39,12 @@ use Rattle.salvaging.specs.PartsIn.{parts_in}
 use Rattle.salvaging.specs.Salvages.{GivesSalvaged}
 use Rattle.salvaging.specs.declared.salvaged.Salvaged.{Salvaged}
 use Rattle.salvaging.specs.declared.salvaged.SalvagedHart.{SalvagedHart}
-use Rattle.searching.specs.Harts.{harts_counted, harts_in}
-use Rattle.searching.specs.Search.{mode_of}
-use Rattle.searching.specs.Start.{IsStart, first_place, known_harts, spans_of}
-use Rattle.salvaged_text.specs.Damage.{closed_harts, has_loss, is_damaged, is_no_stretch}
-use Rattle.salvaged_text.specs.Found.{IsSalvagedCapture}
-use Rattle.salvaged_text.specs.Frames.{is_run, messages_in}
+use Rattle.frames.specs.Harts.{harts_counted, harts_in}
+use Rattle.frames.specs.Search.{mode_of}
+use Rattle.frames.specs.Start.{IsStart, first_place, known_harts, spans_of}
+use Rattle.salvage_reports.specs.Damage.{closed_harts, has_loss, is_damaged, is_no_stretch}
+use Rattle.salvage_reports.specs.Found.{IsSalvagedCapture}
+use Rattle.salvage_reports.specs.Frames.{is_run, messages_in}
 use Rattle.capture_commands.specs.Decoding.{end_of_harts}
 use Rattle.capture_commands.specs.Faults.{reading_fault}
 use Rattle.capture_commands.specs.KeptToo.{AreReadAlike, CountAlike, HaveSmallNumbers, IsKeptToo, IsOfFrames}

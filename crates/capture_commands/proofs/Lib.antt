@@ -7,3 +7,8 @@ mod SymbolsFound
 mod TreatedRuns
 mod WrittenOutcomes
 mod KeptToo
+mod BesideLemmas
+mod ComparedRuns
+mod FoundHarts
+mod LinesMade
+mod Reported

@@ -1,31 +1,34 @@
 -- What `list` prints, from what was found.
-use Rattle.std.proofs.Common.{◌≡◌, inl, inr, ℕ, List, Option, Result, Ok, Err}
+use Rattle.std.proofs.Common.{◌≡◌, inl, inr, refl, subst, sym, ℕ, Bool, List, Option, Result, Ok, Err}
+use Rattle.std.specs.Prelude.{⊤, false}
 use Rattle.std.specs.Io.KnownBytes.{Keeps}
-use Rattle.hart_range.specs.declared.range.HartRange.{HartRange}
+use Rattle.message.specs.declared.range.HartRange.{HartRange}
 use Rattle.rvclass.specs.Fetch.{words_of}
 use Rattle.rvclass.specs.Image.{Image}
 use Rattle.listing.specs.Begun.{BeginsPart}
 use Rattle.listing.specs.BegunOf.IsPartOfListingOf.{OfAll as OfAllLines}
 use Rattle.listing.specs.Listing.{AppendsListing}
-use Rattle.listing_table.specs.PartOf.IsPartOfTableOf.{OfAll as OfAllRows}
+use Rattle.listing.specs.PartOf.IsPartOfTableOf.{OfAll as OfAllRows}
 use Rattle.captures.specs.declared.outcome.CaptureFault.{CaptureFault}
 use Rattle.output.proofs.Beginnings.{begun_kept, whole_begun}
-use Rattle.subcommands.specs.declared.words.Format.{Format}
-use Rattle.subcommands.specs.declared.words.Format.TheVariants.{Csv, Other, Text}
-use Rattle.subcommands.specs.declared.words.Listing.{Listing}
+use Rattle.command_inputs.specs.declared.words.Format.{Format}
+use Rattle.command_inputs.specs.declared.words.Format.TheVariants.{Csv, Other, Text}
+use Rattle.command_inputs.specs.declared.words.Listing.{Listing}
 use Rattle.command_inputs.proofs.Beginnings.{cut_leads}
 use Rattle.command_inputs.proofs.Runs.{appends-keeps, leads_on}
 use Rattle.command_inputs.specs.Begun.{IsCutOf}
 use Rattle.command_inputs.specs.Found.{IsProgramAt, IsRead}
-use Rattle.files.specs.Known.{Content}
-use Rattle.command_inputs.specs.Printed.{IsPrinted, PrintsUnlessDenied}
+use Rattle.log_streams.specs.Known.{Content}
+use Rattle.command_inputs.specs.Printed.{IsPrinted, PrintsUnlessDenied, silent}
+use Rattle.capture_commands.specs.CountedHarts.{HasHartBelow}
 use Rattle.capture_commands.specs.Faults.{Fault, Printed}
 use Rattle.capture_commands.specs.Symbols.{AreSymbols}
 use Rattle.command_inputs.specs.declared.fault.Fault.TheVariants as fault
 use Rattle.command_inputs.specs.declared.status.Status.{Status}
 use Rattle.capture_commands.specs.Decoding.{end_of_capture_of}
-use Rattle.capture_commands.specs.Listed.{CanListHarts, CanWriteListed, ListsHarts, ListsHartsInPart}
-use Rattle.capture_commands.specs.Listed.{ListsUpToMemory, WritesListed, WritesListedPart, WritesListing, WritesPart}
+use Rattle.capture_commands.specs.Listed.{CanListBelow, CanListHarts, CanWriteListed, ListsBelow, ListsHarts}
+use Rattle.capture_commands.specs.Listed.{ListsHartsInPart, ListsPartBelow, ListsUpToMemory, WritesListed}
+use Rattle.capture_commands.specs.Listed.{WritesListedPart, WritesListing, WritesPart, harts_or_one}
 use Rattle.capture_commands.specs.ListedFormats.{IsListedIn, IsPartListedIn}
 use Rattle.capture_commands.specs.declared.reason.CaptureReason.{CaptureReason}
 
@@ -76,6 +79,39 @@ module _ (content : Content) (asked : Listing) (base : ℕ) (only : HartRange) (
   pub list_cut : (old new : Option (List ℕ)) → IsCutOf OwnPart old new
       → IsCutOf (ListsHartsInPart content asked base only) old new
   list_cut old new = cut_leads OwnPart (ListsHartsInPart content asked base only) old new part_leads
+
+-- Where salvaging is not asked for.
+module _ (format : Format) (salvage : Bool) (only : HartRange) (given : Option ℕ) (program : Image)
+    (symbols : Option (List ℕ)) (bytes : List ℕ) (not : salvage ≡ false) (harts : ℕ) (are : harts ≡ harts_or_one given)
+  where
+    by_harts : (printed : Printed) → ListsBelow format only harts program symbols bytes printed
+        → WritesListed format salvage only given program symbols bytes printed
+    by_harts printed is =
+        subst (λ b. WritesListed format b only given program symbols bytes printed) (sym not)
+        (subst (λ n. ListsBelow format only n program symbols bytes printed) are is)
+
+    -- The capture has none of the harts.
+    pub lists_nothing : (why : Fault) → HasHartBelow harts only bytes (Err why)
+        → WritesListed format salvage only given program symbols bytes (silent why)
+    lists_nothing why none = by_harts (silent why) (Err why, none, refl)
+
+    module _ (u : Unit {0}) (has : HasHartBelow harts only bytes (Ok u)) where
+      -- It has one of them: its listing is what is listed.
+      pub lists : (printed : Printed) → WritesListing format only harts program symbols bytes printed
+          → WritesListed format salvage only given program symbols bytes printed
+      lists printed writes = by_harts printed (Ok u, has, writes)
+
+      pub can_lists : ⊤ → CanWriteListed salvage only given bytes
+      can_lists there =
+          subst (λ b. CanWriteListed b only given bytes) (sym not)
+          (subst (λ n. CanListBelow only n bytes) are (u, has, tt))
+
+      -- And a part of it is a part of that.
+      pub lists_part : (printed : Printed) → WritesPart format only harts program symbols bytes printed
+          → WritesListedPart format salvage only given program symbols bytes printed
+      lists_part printed part =
+          subst (λ b. WritesListedPart format b only given program symbols bytes printed) (sym not)
+          (subst (λ n. ListsPartBelow format only n program symbols bytes printed) are (u, has, part))
 
 module _ (format : Format) (only : HartRange) (harts : ℕ) (program : Image) (symbols : Option (List ℕ))
     (bytes : List ℕ) where

@@ -3,27 +3,27 @@ use Rattle.std.proofs.Common.{◌≡◌, inr, refl, ℕ, Bool, true, false, List
 use Rattle.std.specs.Io.KnownBytes.{Keeps}
 use Rattle.std.specs.declared.alloc.Global.{Global}
 use Rattle.frames.specs.declared.span.Span.{Span}
-use Rattle.hart_range.specs.declared.range.HartRange.{HartRange}
+use Rattle.message.specs.declared.range.HartRange.{HartRange}
 use Rattle.output.proofs.Beginnings.{begun_kept}
 use Rattle.output.specs.Begun.{AppendsBeginning}
 use Rattle.rvclass.specs.Image.{Image}
 use Rattle.message.specs.declared.header.Header.{Header}
 use Rattle.salvaging.specs.declared.salvaged.Salvaged.{Salvaged}
-use Rattle.searching.specs.Start.{spans_of}
-use Rattle.salvaged_text.proofs.OwnSpans.{runs_chosen}
-use Rattle.salvaged_text.proofs.SameTexts.{text_same as same_texts}
-use Rattle.salvaged_text.specs.FoundTexts.{found_as}
-use Rattle.salvaged_text.specs.Layouts.{salvaged_as}
-use Rattle.salvaged_text.specs.declared.found.Found.{Found}
-use Rattle.subcommands.specs.declared.words.Format.{Format}
-use Rattle.subcommands.specs.declared.words.Format.TheVariants.{Csv, Other, Text}
-use Rattle.subcommands.specs.declared.words.Salvage.{Salvage}
+use Rattle.frames.specs.Start.{spans_of}
+use Rattle.salvage_reports.proofs.OwnSpans.{runs_chosen}
+use Rattle.salvage_reports.proofs.SameTexts.{text_same as same_texts}
+use Rattle.salvage_reports.specs.FoundTexts.{found_as}
+use Rattle.salvage_reports.specs.Layouts.{salvaged_as}
+use Rattle.salvage_reports.specs.declared.found.Found.{Found}
+use Rattle.command_inputs.specs.declared.words.Format.{Format}
+use Rattle.command_inputs.specs.declared.words.Format.TheVariants.{Csv, Other, Text}
+use Rattle.command_inputs.specs.declared.words.Salvage.{Salvage}
 use Rattle.command_inputs.proofs.Beginnings.{cut_leads, printed_begun}
 use Rattle.command_inputs.proofs.Runs.{leads_on}
 use Rattle.command_inputs.specs.Begun.{IsCutOf}
 use Rattle.command_inputs.specs.Found.{IsAskedBase, IsProgramAt, IsRead}
 use Rattle.command_inputs.specs.OnlyHarts.{IsOnly}
-use Rattle.files.specs.Known.{Content}
+use Rattle.log_streams.specs.Known.{Content}
 use Rattle.command_inputs.specs.Printed.{PrintsUnlessDenied}
 use Rattle.capture_commands.specs.Faults.{Fault, Printed}
 use Rattle.command_inputs.specs.declared.status.Status.{Status}

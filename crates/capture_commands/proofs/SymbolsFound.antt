@@ -1,6 +1,6 @@
 -- What is found of symbols, from what is read of their file.
 use Rattle.std.proofs.Common.{◌≡◌, ◌⊎◌, inl, inr, refl, ℕ, ap, List, Some, Result, Ok, Err}
-use Rattle.files.specs.Known.{Content}
+use Rattle.log_streams.specs.Known.{Content}
 use Rattle.symbols.specs.Refused.{file_or_fault}
 use Rattle.symbols.specs.declared.fault.SymbolsFault.{SymbolsFault}
 use Rattle.symbols.specs.declared.fault.SymbolsFault.TheVariants as symbols

@@ -3,21 +3,21 @@ use Rattle.std.proofs.Common.{◌≡◌, ◌∙◌, inr, refl, ℕ, ap, List, Ok
 use Rattle.std.specs.Io.KnownBytes.{Keeps}
 use Rattle.output.proofs.Beginnings.{begun_kept}
 use Rattle.output.specs.Begun.{AppendsBeginning}
-use Rattle.hart_range.specs.declared.range.HartRange.{HartRange}
+use Rattle.message.specs.declared.range.HartRange.{HartRange}
 use Rattle.rvclass.specs.Image.{Image}
 use Rattle.salvaging.specs.declared.treatment.Treated.{Treated}
-use Rattle.searching.specs.Start.{spans_of}
+use Rattle.frames.specs.Start.{spans_of}
 use Rattle.command_inputs.proofs.Beginnings.{printed_begun}
 use Rattle.command_inputs.specs.Begun.{IsCutOf}
 use Rattle.command_inputs.specs.declared.status.Status.{Status}
-use Rattle.subcommands.specs.declared.words.Format.{Format}
-use Rattle.salvaged_text.proofs.OwnSpans.{runs_chosen}
+use Rattle.command_inputs.specs.declared.words.Format.{Format}
+use Rattle.salvage_reports.proofs.OwnSpans.{runs_chosen}
 use Rattle.capture_commands.specs.Faults.{Fault}
 use Rattle.capture_commands.specs.ListedFormats.{treated_in}
 use Rattle.capture_commands.specs.ListedSalvaged.{AreTreatedIn, TreatsHarts}
 use Rattle.capture_commands.specs.Salvaging.{end_of_salvage_of}
 use Rattle.capture_commands.specs.steps.Reading.{IsFoundOf}
-use Rattle.salvaged_text.specs.declared.found.Found.{Found}
+use Rattle.salvage_reports.specs.declared.found.Found.{Found}
 
 module _ (format : Format) (only : HartRange) (asked : Option ℕ) (program : Image) (symbols : Option (List ℕ))
     (bytes : List ℕ) (found : Found) (is : IsFoundOf only asked program bytes found) (treated : List Treated)

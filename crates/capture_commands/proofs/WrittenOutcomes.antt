@@ -1,29 +1,27 @@
 -- What `decode` prints, from what was written of the harts.
-use Rattle.std.proofs.Common.{◌≡◌, ◌⊎◌, inl, inr, refl, ℕ, ◌+◌, List, [], ◌∷◌, Bool, true, false, Option, Some, None, Err, Result}
+use Rattle.std.proofs.Common.{◌≡◌, ◌⊎◌, inl, inr, refl, ℕ, ◌+◌, List, [], ◌∷◌, Bool, true, false, Option, Some, None, Err}
 use Rattle.std.specs.Io.KnownBytes.{Keeps}
 use Rattle.std.specs.Prelude.{⊤, ◌&&◌, not}
 use Rattle.captures.specs.declared.outcome.CaptureFault.{CaptureFault}
 use Rattle.captures.specs.declared.outcome.CaptureFault.TheVariants as capture
 use Rattle.decoder.specs.declared.fault.DecodeFault.TheVariants as decode
 use Rattle.message.specs.declared.fault.MessageFault.TheVariants as message
-use Rattle.hart_range.specs.Range.{selects}
-use Rattle.hart_range.specs.declared.range.HartRange.{HartRange}
+use Rattle.message.specs.Range.{selects}
+use Rattle.message.specs.declared.range.HartRange.{HartRange}
 use Rattle.retire.specs.declared.fault.WriteFault.{WriteFault}
 use Rattle.retire.specs.declared.fault.WriteFault.TheVariants as write
 use Rattle.rvclass.specs.Fetch.{words_of}
 use Rattle.rvclass.specs.Image.{Image}
 use Rattle.captures.specs.OfHarts.{IsDecodedOf}
-use Rattle.hart_survey.specs.Surveyed.{NeverMemory}
-use Rattle.hart_rows.specs.Written.{BeginsHartsOf}
+use Rattle.capture_index.specs.Surveyed.{NeverMemory}
+use Rattle.capture_index.specs.Written.{BeginsHartsOf}
 use Rattle.command_inputs.specs.Begun.{IsCutOf}
 use Rattle.command_inputs.specs.Faults.{write_fault}
 use Rattle.command_inputs.specs.Printed.{IsPrintingDenied}
 use Rattle.command_inputs.specs.declared.fault.Fault.TheVariants as fault
-use Rattle.command_inputs.specs.declared.status.Status.{Status}
 use Rattle.capture_commands.proofs.DecodedRuns.{decodes}
 use Rattle.capture_commands.specs.Decoded.{WritesDecoded}
 use Rattle.capture_commands.specs.Decoding.{end_of_capture_of, end_of_harts_of}
-use Rattle.capture_commands.specs.Faults.{Fault}
 use Rattle.capture_commands.specs.declared.reason.CaptureReason.{CaptureReason}
 
 -- A fault of writing is one that denies printing, once the run can write.

@@ -1,9 +1,9 @@
 -- Whether a capture has any of the harts that are asked for, where it is told how many harts one without a header has.
 use Rattle.std.specs.Prelude.{ℕ, ◌≡◌, List, Option, Result, max}
-use Rattle.hart_range.specs.declared.range.HartRange.{HartRange}
+use Rattle.message.specs.declared.range.HartRange.{HartRange}
 use Rattle.message.specs.declared.fault.MessageFault.{MessageFault}
 use Rattle.message.specs.declared.header.Header.{Header}
-use Rattle.searching.specs.Start.{IsStart}
+use Rattle.frames.specs.Start.{IsStart}
 use Rattle.capture_commands.specs.Faults.{Fault}
 use Rattle.capture_commands.specs.OnlyHarts.{hart_at}
 use Rattle.capture_commands.specs.Pieces.{harts_counted}

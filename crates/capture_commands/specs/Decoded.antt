@@ -2,22 +2,22 @@
 use Rattle.std.specs.Prelude.{⊤, ◌⊎◌, ◌≡◌, ℕ, Bool, true, false, List, Option}
 use Rattle.std.specs.Io.KnownBytes.{Keeps}
 use Rattle.captures.specs.declared.outcome.CaptureFault.{CaptureFault}
-use Rattle.hart_range.specs.declared.range.HartRange.{HartRange}
+use Rattle.message.specs.declared.range.HartRange.{HartRange}
 use Rattle.retire.specs.declared.event.Event.{Event}
 use Rattle.rvclass.specs.Fetch.{words_of}
 use Rattle.rvclass.specs.Image.{Image}
-use Rattle.subcommands.specs.declared.words.Decode.{Decode}
+use Rattle.command_inputs.specs.declared.words.Decode.{Decode}
 use Rattle.command_inputs.specs.Begun.{BeginsPrinted}
 use Rattle.command_inputs.specs.Found.{IsBase, IsProgramAt, IsRead}
 use Rattle.command_inputs.specs.FurtherPieces.{base_number}
-use Rattle.files.specs.Known.{Content}
+use Rattle.log_streams.specs.Known.{Content}
 use Rattle.command_inputs.specs.OnlyHarts.{IsOnly, asked_harts}
 use Rattle.command_inputs.specs.Order.{base_or_only_fault}
 use Rattle.command_inputs.specs.Printed.{First}
 use Rattle.capture_commands.specs.CountedHarts.{HasHartBelow}
 use Rattle.capture_commands.specs.Faults.{Meaning, Once, Printed}
 use Rattle.capture_commands.specs.Decoding.{end_of_capture_of}
-use Rattle.hart_rows.specs.HartsText.{harts_text_of}
+use Rattle.capture_index.specs.HartsText.{harts_text_of}
 use Rattle.captures.specs.OfHarts.{IsDecodedOf}
 use Rattle.capture_commands.specs.Pieces.{HasPieces, WritesPieces}
 
@@ -43,37 +43,32 @@ abbrev pub WritesLogsOf : Bool → ℕ → HartRange → Image → List ℕ → 
 WritesLogsOf lossy harts range program bytes =
     First (HasHartBelow harts range bytes) (λ _. WritesLogs lossy harts range program bytes)
 
--- The image is looked at, with its further pieces, and then the capture. Where there is no fault, what the capture has
--- of the logs of these harts is written.
-abbrev pub DecodesHarts : Content → Decode → ℕ → HartRange → Printed → Type 0
-DecodesHarts content asked base range =
-    First (IsProgramAt content base asked.image asked.also.items) (λ program.
-    First (IsRead content asked.capture) (WritesLogsOf asked.lossy asked.harts range program))
-
 -- The bases are looked at first, then the harts that are asked for, the image with its further pieces, and the capture.
 -- Where there is no fault, what the capture has of the logs of these harts is written.
 abbrev pub Decodes : Content → Decode → Printed → Type 0
 Decodes content asked =
     First (IsBase asked.base.now asked.also.items) (λ base.
-    First (IsOnly asked.only) (DecodesHarts content asked base))
+    First (IsOnly asked.only) (λ range.
+    First (IsProgramAt content base asked.image asked.also.items) (λ program.
+    First (IsRead content asked.capture) (WritesLogsOf asked.lossy asked.harts range program))))
 
--- Where messages may be lost, `decode` writes once what is left of the logs is collected.
+-- Where messages may be lost, what is left of the logs is written once it is collected.
 abbrev pub CanWriteLogs : Bool → ℕ → HartRange → Image → List ℕ → Type 0
 CanWriteLogs true harts range program bytes = HasPieces harts range program bytes
 CanWriteLogs false harts range program bytes = ⊤
 
--- `decode` writes once it has the program and the capture, and that has one of the harts.
-abbrev pub CanDecodeHarts : Content → Decode → ℕ → HartRange → Type 0
-CanDecodeHarts content asked base range =
-    Once (IsProgramAt content base asked.image asked.also.items) (λ program.
-    Once (IsRead content asked.capture) (λ bytes.
-    Once (HasHartBelow asked.harts range bytes) (λ _.
-    CanWriteLogs asked.lossy asked.harts range program bytes)))
+-- And the capture has one of these harts.
+abbrev pub CanWriteLogsOf : Bool → ℕ → HartRange → Image → List ℕ → Type 0
+CanWriteLogsOf lossy harts range program bytes =
+    Once (HasHartBelow harts range bytes) (λ _. CanWriteLogs lossy harts range program bytes)
 
+-- `decode` writes once it has the program and the capture, and that has one of the harts.
 abbrev pub CanDecode : Content → Decode → Type 0
 CanDecode content asked =
     Once (IsBase asked.base.now asked.also.items) (λ base.
-    Once (IsOnly asked.only) (CanDecodeHarts content asked base))
+    Once (IsOnly asked.only) (λ range.
+    Once (IsProgramAt content base asked.image asked.also.items) (λ program.
+    Once (IsRead content asked.capture) (CanWriteLogsOf asked.lossy asked.harts range program))))
 
 -- What `decode` means. Only where messages may be lost does it take memory for the text of a log once the logs before
 -- it are written.

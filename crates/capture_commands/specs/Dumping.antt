@@ -2,12 +2,12 @@
 use Rattle.std.specs.Prelude.{⊤, ◌≡◌, ℕ, Bool, true, false, List, Option, Some, None, Result, Ok, Err}
 use Rattle.captures.specs.Dump.{IsDumpOf}
 use Rattle.captures.specs.declared.outcome.CaptureFault.TheVariants as capture
-use Rattle.hart_range.specs.declared.range.HartRange.{HartRange}
+use Rattle.message.specs.declared.range.HartRange.{HartRange}
 use Rattle.message.specs.declared.fault.MessageFault.{MessageFault}
-use Rattle.searching.specs.Search.{IsSearchedOf}
-use Rattle.subcommands.specs.declared.words.Dump.{Dump}
+use Rattle.frames.specs.Search.{IsSearchedOf}
+use Rattle.command_inputs.specs.declared.words.Dump.{Dump}
 use Rattle.command_inputs.specs.Found.{IsRead}
-use Rattle.files.specs.Known.{Content}
+use Rattle.log_streams.specs.Known.{Content}
 use Rattle.command_inputs.specs.Meaning.{writing_at_once}
 use Rattle.command_inputs.specs.OnlyHarts.{IsOnly, asked_harts}
 use Rattle.command_inputs.specs.Order.{only_fault}

@@ -2,7 +2,7 @@
 use Rattle.std.specs.Prelude.{ℕ, ◌++◌, List, codes}
 use Rattle.std.specs.Fmt.{decimal}
 use Rattle.captures.specs.FaultText.{capture_fault_text}
-use Rattle.hart_range.specs.Text.{range_text}
+use Rattle.message.specs.Text.{range_text}
 use Rattle.message.specs.FaultText.{message_fault_text}
 use Rattle.message.specs.declared.fault.MessageFault.TheVariants.{BadHeader}
 use Rattle.symbols.specs.FaultText.{symbols_fault_text}

@@ -1,10 +1,10 @@
 -- Whether a capture that may be damaged has any of the harts that are asked for.
 use Rattle.std.specs.Prelude.{ℕ, ◌≡◌, List, Option, Result, max}
-use Rattle.hart_range.specs.declared.range.HartRange.{HartRange}
+use Rattle.message.specs.declared.range.HartRange.{HartRange}
 use Rattle.message.specs.declared.fault.MessageFault.{MessageFault}
 use Rattle.message.specs.declared.header.Header.{Header}
-use Rattle.searching.specs.Harts.{harts_counted}
-use Rattle.searching.specs.Start.{IsStart}
+use Rattle.frames.specs.Harts.{harts_counted}
+use Rattle.frames.specs.Start.{IsStart}
 use Rattle.capture_commands.specs.Faults.{Fault}
 use Rattle.capture_commands.specs.OnlyHarts.{hart_at}
 

@@ -12,8 +12,8 @@ use Rattle.message.specs.declared.header.Version.TheVariants.{Two}
 use Rattle.message.specs.declared.message.Message.{Message}
 use Rattle.salvaging.specs.LossyParts.{AreCollectedToo}
 use Rattle.salvaging.specs.declared.salvaged.Salvaged.{Salvaged}
-use Rattle.searching.specs.Start.{IsStart, known_harts, spans_of}
-use Rattle.salvaged_text.specs.Frames.{is_run, messages_in}
+use Rattle.frames.specs.Start.{IsStart, known_harts, spans_of}
+use Rattle.salvage_reports.specs.Frames.{is_run, messages_in}
 use Rattle.capture_commands.specs.Pieces.{IsReadWhole, end_of_pieces}
 use Rattle.capture_commands.specs.Salvaging.{end_of_salvage}
 

@@ -16,3 +16,5 @@ pub mod SalvagedFormats
 pub mod Salvaging
 pub mod KeptToo
 pub mod steps
+pub mod Comparison
+pub mod Comparing

@@ -1,18 +1,18 @@
 -- The listing of some harts of a capture, in the format that is asked for.
 use Rattle.std.specs.Prelude.{ℕ, Bool, List, Option}
 use Rattle.captures.specs.declared.outcome.CaptureFault.{CaptureFault}
-use Rattle.hart_range.specs.declared.range.HartRange.{HartRange}
+use Rattle.message.specs.declared.range.HartRange.{HartRange}
 use Rattle.listing.specs.BegunOf.{IsPartOfListingOf}
 use Rattle.listing.specs.ListingOf.{IsListingOf}
-use Rattle.listing_table.specs.PartOf.{IsPartOfTableOf}
-use Rattle.listing_table.specs.TableOf.{IsTableOf}
+use Rattle.listing.specs.PartOf.{IsPartOfTableOf}
+use Rattle.listing.specs.TableOf.{IsTableOf}
 use Rattle.message.specs.declared.header.Header.{Header}
 use Rattle.rvclass.specs.Words.{Words}
-use Rattle.salvaged_lines.specs.HartLines.{treated_text_of}
+use Rattle.salvage_reports.specs.HartLines.{treated_text_of}
 use Rattle.salvaging.specs.declared.treatment.Treated.{Treated}
-use Rattle.subcommands.specs.declared.words.Format.{Format}
-use Rattle.subcommands.specs.declared.words.Format.TheVariants.{Csv}
-use Rattle.treated_table.specs.HartTable.{treated_table_of}
+use Rattle.command_inputs.specs.declared.words.Format.{Format}
+use Rattle.command_inputs.specs.declared.words.Format.TheVariants.{Csv}
+use Rattle.salvage_reports.specs.HartTable.{treated_table_of}
 
 -- The text is the listing of these harts of a capture, as a table or in lines.
 abbrev pub IsListedIn : Format → Words → HartRange → ℕ → Option (List ℕ) → List ℕ → List Bool

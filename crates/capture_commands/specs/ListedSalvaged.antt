@@ -2,8 +2,8 @@
 use Rattle.std.specs.Prelude.{◌≡◌, ℕ, List, Option}
 use Rattle.std.specs.List.{list_any}
 use Rattle.std.specs.declared.alloc.Global.{Global}
-use Rattle.hart_range.specs.Range.{selected}
-use Rattle.hart_range.specs.declared.range.HartRange.{HartRange}
+use Rattle.message.specs.Range.{selected}
+use Rattle.message.specs.declared.range.HartRange.{HartRange}
 use Rattle.message.specs.declared.fault.MessageFault.{MessageFault}
 use Rattle.message.specs.declared.header.Header.{Header}
 use Rattle.rvclass.specs.Fetch.{words_of}
@@ -11,12 +11,12 @@ use Rattle.rvclass.specs.Image.{Image}
 use Rattle.salvaging.specs.Treatments.{AreTreated}
 use Rattle.salvaging.specs.declared.salvaged.Salvaged.{Salvaged}
 use Rattle.salvaging.specs.declared.treatment.Treated.{Treated}
-use Rattle.searching.specs.Harts.{harts_counted}
-use Rattle.searching.specs.Search.{mode_of}
-use Rattle.searching.specs.Start.{spans_of}
-use Rattle.salvaged_text.specs.Found.{IsSalvagedOf}
-use Rattle.salvaged_text.specs.Frames.{is_run, messages_in}
-use Rattle.subcommands.specs.declared.words.Format.{Format}
+use Rattle.frames.specs.Harts.{harts_counted}
+use Rattle.frames.specs.Search.{mode_of}
+use Rattle.frames.specs.Start.{spans_of}
+use Rattle.salvage_reports.specs.Found.{IsSalvagedOf}
+use Rattle.salvage_reports.specs.Frames.{is_run, messages_in}
+use Rattle.command_inputs.specs.declared.words.Format.{Format}
 use Rattle.command_inputs.specs.Printed.{First}
 use Rattle.capture_commands.specs.Faults.{Printed}
 use Rattle.capture_commands.specs.HartsFound.{HasHartFound}

@@ -1,10 +1,10 @@
 -- Whether a capture has any of the harts that are asked for.
 use Rattle.std.specs.Prelude.{ℕ, ◌≡◌, List, Option, Result, Ok, Err, if◌then◌else◌}
-use Rattle.hart_range.specs.Range.{has_below}
-use Rattle.hart_range.specs.declared.range.HartRange.{HartRange}
+use Rattle.message.specs.Range.{has_below}
+use Rattle.message.specs.declared.range.HartRange.{HartRange}
 use Rattle.message.specs.declared.fault.MessageFault.{MessageFault}
 use Rattle.message.specs.declared.header.Header.{Header}
-use Rattle.searching.specs.Start.{IsStart, known_harts}
+use Rattle.frames.specs.Start.{IsStart, known_harts}
 use Rattle.command_inputs.specs.declared.fault.Fault.TheVariants as fault
 use Rattle.capture_commands.specs.Faults.{Fault}
 use Rattle.capture_commands.specs.declared.reason.CaptureReason.TheVariants.{NoHart}

@@ -6,8 +6,8 @@ use Rattle.std.specs.List.{flat_map, list_any}
 use Rattle.std.specs.declared.alloc.Global.{Global}
 use Rattle.captures.specs.Whole.{IsReadFault, IsWhole}
 use Rattle.captures.specs.declared.capture_reading.ReadFault.{ReadFault}
-use Rattle.hart_range.specs.Range.{every_hart, selected}
-use Rattle.hart_range.specs.declared.range.HartRange.{HartRange}
+use Rattle.message.specs.Range.{every_hart, selected}
+use Rattle.message.specs.declared.range.HartRange.{HartRange}
 use Rattle.losses.specs.Collects.{GivesFault, GivesPieces}
 use Rattle.losses.specs.Parts.{LogPart, Events, Missing}
 use Rattle.losses.specs.PartsIn.{parts_in}
@@ -22,11 +22,11 @@ use Rattle.capture_commands.specs.Faults.{Fault, Printed, lossy_fault, reading_f
 use Rattle.command_inputs.specs.declared.status.Status.{Status}
 use Rattle.command_inputs.specs.declared.status.Status.TheVariants.{NotWhole}
 use Rattle.capture_commands.specs.Decoding.{end_of_harts}
-use Rattle.salvaged_text.specs.HartItems.{items_of}
-use Rattle.salvaged_text.specs.MessagesLine.{messages_line}
-use Rattle.searching.specs.Search.{mode_of}
+use Rattle.salvage_reports.specs.HartItems.{items_of}
+use Rattle.salvage_reports.specs.MessagesLine.{messages_line}
+use Rattle.frames.specs.Search.{mode_of}
 use Rattle.capture_commands.specs.Placed.{placed_fault}
-use Rattle.hart_rows.specs.EachHart.{each_hart}
+use Rattle.capture_index.specs.EachHart.{each_hart}
 
 -- The line of a gap, with how many numbers are missing; or the line of a stretch, with how many events it has, and the
 -- text of their log.

@@ -1,7 +1,7 @@
 -- The place, among all messages, of a message of some harts.
 use Rattle.std.specs.Prelude.{ℕ, ◌+◌, List, [], ◌∷◌, if◌then◌else◌, get_or}
-use Rattle.hart_range.specs.Range.{selects}
-use Rattle.hart_range.specs.declared.range.HartRange.{HartRange}
+use Rattle.message.specs.Range.{selects}
+use Rattle.message.specs.declared.range.HartRange.{HartRange}
 use Rattle.losses.specs.declared.fault.LossyFault.{LossyFault}
 use Rattle.losses.specs.declared.fault.LossyFault.TheVariants as lossy
 use Rattle.message.specs.declared.message.Message.{Message}

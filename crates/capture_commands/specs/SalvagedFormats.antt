@@ -2,15 +2,15 @@
 use Rattle.std.specs.Prelude.{ℕ, Bool, List, Option}
 use Rattle.std.specs.declared.alloc.Global.{Global}
 use Rattle.frames.specs.declared.span.Span.{Span}
-use Rattle.hart_range.specs.declared.range.HartRange.{HartRange}
+use Rattle.message.specs.declared.range.HartRange.{HartRange}
 use Rattle.message.specs.declared.header.Header.{Header}
 use Rattle.salvaging.specs.declared.salvaged.Salvaged.{Salvaged}
-use Rattle.salvaged_table.specs.Offsets.{offsets_in}
-use Rattle.salvaged_table.specs.Table.{salvaged_table_from}
-use Rattle.subcommands.specs.declared.words.Format.{Format}
-use Rattle.subcommands.specs.declared.words.Format.TheVariants.{Csv}
-use Rattle.salvaged_text.specs.HartItems.{items_of}
-use Rattle.salvaged_text.specs.SalvagedText.{salvaged_text}
+use Rattle.salvage_reports.specs.Offsets.{offsets_in}
+use Rattle.salvage_reports.specs.SalvagedTable.{salvaged_table_from}
+use Rattle.command_inputs.specs.declared.words.Format.{Format}
+use Rattle.command_inputs.specs.declared.words.Format.TheVariants.{Csv}
+use Rattle.salvage_reports.specs.HartItems.{items_of}
+use Rattle.salvage_reports.specs.SalvagedText.{salvaged_text}
 
 -- The table of these harts, or their lines and, where no summary is asked for, the rows of their logs. A table has no
 -- rows of logs.

@@ -3,22 +3,22 @@ use Rattle.std.specs.Prelude.{⊤, ◌≡◌, ◌||◌, ℕ, Bool, List, Option,
 use Rattle.std.specs.List.{list_any}
 use Rattle.std.specs.declared.alloc.Global.{Global}
 use Rattle.captures.specs.declared.outcome.CaptureFault.TheVariants as capture
-use Rattle.hart_range.specs.declared.range.HartRange.{HartRange}
+use Rattle.message.specs.declared.range.HartRange.{HartRange}
 use Rattle.message.specs.declared.fault.MessageFault.{MessageFault}
 use Rattle.message.specs.declared.header.Header.{Header}
 use Rattle.rvclass.specs.Image.{Image}
 use Rattle.salvaging.specs.declared.salvaged.Salvaged.{Salvaged}
 use Rattle.salvaging.specs.declared.salvaged.SalvagedHart.{SalvagedHart}
-use Rattle.searching.specs.Start.{spans_of}
-use Rattle.salvaged_text.specs.Damage.{closed_harts, is_damaged}
-use Rattle.salvaged_text.specs.Found.{IsSalvagedOf}
-use Rattle.salvaged_text.specs.Frames.{is_run}
-use Rattle.salvaged_text.specs.HartItems.{items_of}
-use Rattle.subcommands.specs.declared.words.Format.{Format}
-use Rattle.subcommands.specs.declared.words.Salvage.{Salvage}
+use Rattle.frames.specs.Start.{spans_of}
+use Rattle.salvage_reports.specs.Damage.{closed_harts, is_damaged}
+use Rattle.salvage_reports.specs.Found.{IsSalvagedOf}
+use Rattle.salvage_reports.specs.Frames.{is_run}
+use Rattle.salvage_reports.specs.HartItems.{items_of}
+use Rattle.command_inputs.specs.declared.words.Format.{Format}
+use Rattle.command_inputs.specs.declared.words.Salvage.{Salvage}
 use Rattle.command_inputs.specs.Found.{IsAskedBase, IsProgramAt, IsRead}
 use Rattle.command_inputs.specs.FurtherPieces.{base_number}
-use Rattle.files.specs.Known.{Content}
+use Rattle.log_streams.specs.Known.{Content}
 use Rattle.command_inputs.specs.Meaning.{writing_at_once}
 use Rattle.command_inputs.specs.OnlyHarts.{IsOnly, asked_harts}
 use Rattle.command_inputs.specs.Order.{format_base_or_only_fault}

@@ -1,6 +1,6 @@
 -- What is found of a file of symbols: its bytes, or a fault.
 use Rattle.std.specs.Prelude.{◌≡◌, ℕ, List, Option, Some, None, Result, Ok, Err}
-use Rattle.files.specs.Known.{Content}
+use Rattle.log_streams.specs.Known.{Content}
 use Rattle.symbols.specs.Refused.{file_or_fault}
 use Rattle.symbols.specs.declared.fault.SymbolsFault.{SymbolsFault}
 use Rattle.command_inputs.specs.Faults.{Path}

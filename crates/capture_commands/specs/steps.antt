@@ -1,2 +1,7 @@
+pub mod Names
 pub mod Layouts
 pub mod Reading
+pub mod Places
+pub mod Beside
+pub mod Surveyed
+pub mod Lines

@@ -1,8 +1,15 @@
 //! How many messages there are to work through.
 
-use frames::Span;
+use command_inputs::{Files, MessageProgress};
+use frames::{Span, spans_of, start_of};
 use message::Messages;
-use searching::{spans_of, start_of};
+
+/// Begins to show how far the messages of a capture are worked through, where that is asked for.
+pub(crate) fn begin_messages<F: Files>(progress: &MessageProgress<'_, F>, capture: &[u8]) {
+    if progress.is_asked() {
+        progress.begin(messages_in(capture));
+    }
+}
 
 /// How many messages a capture has before the first place where there is no complete message. There are none where its
 /// header is cut short or bad.

@@ -1,35 +1,30 @@
 //! The subcommand `decode`.
 
-ghost use Rattle.std.specs.Prelude.{⊤, ◌≡◌, ◌≢◌, ◌⊎◌, true, false, Err, IfOk, IfSome};
+ghost use Rattle.std.specs.Prelude.{⊤, ◌≡◌, ◌≢◌, ◌⊎◌, true, false, Err, IfSome};
 ghost use Rattle.std.specs.Io.KnownBytes.{Keeps};
-ghost use Rattle.hart_survey.specs.CaptureSurveyed.{IsCaptureSurvey};
-ghost use Rattle.rvclass.specs.Fetch.{words_of};
 ghost use Rattle.command_inputs.specs.Begun.{BeginsPrinted, IsCutOf};
 ghost use Rattle.command_inputs.specs.FurtherPieces.{base_number};
 ghost use Rattle.command_inputs.specs.OnlyHarts.{asked_harts};
 ghost use Rattle.command_inputs.specs.Order.{base_or_only_fault};
 ghost use Rattle.command_inputs.specs.Printed.{PrintsUnlessDenied};
 ghost use Rattle.capture_commands.specs.Faults.{final_status};
-ghost use Rattle.capture_commands.specs.Decoded.{CanDecode, CanDecodeHarts, Decodes, DecodesHarts, WritesDecoded};
+ghost use Rattle.capture_commands.specs.Decoded.{CanDecode, CanWriteLogsOf, Decodes, WritesDecoded, WritesLogsOf};
 ghost use Rattle.command_inputs.specs.declared.fault.Fault.TheVariants as Fault;
 
-use crate::counting::messages_in;
+use crate::counting::begin_messages;
 use crate::ending::ended_of;
 use crate::hart_check::check_harts_below;
+use crate::input::Input;
 use crate::lossy_decoding::decode_lossy;
 use crate::reason::Fault;
 use crate::survey_progress::SurveyProgress;
 use command_inputs::{
-    Files, MessageProgress, Status, base_of, content_of, harts_asked, program_of,
+    Decode, Files, MessageProgress, Status, base_of, content_of, harts_asked, program_of,
 };
-use hart_range::HartRange;
-use hart_survey::{CaptureSurvey, survey_capture};
-use rows_side_by_side::{Sharing, write_decoded_side_by_side};
-use rvclass::ProgramOver;
-use std::alloc::{AllocError, Global};
+use parallel_decode::{Sharing, write_decoded_side_by_side};
+use std::alloc::Global;
 use std::io::Write;
 use std::thread::Threads;
-use subcommands::Decode;
 
 /// Writes the log of each hart, as far as the messages of a capture settle it. Returns that all is done where the
 /// capture's header, if it has one, is valid, no message is refused, every packet is decoded and each hart's closing
@@ -53,82 +48,79 @@ pub fn decode<'a, F: Files, O: Write, R: Threads + Sync>(
     ensures early { IfSome
         (base_or_only_fault (base_number asked.now.base.now asked.now.also.items) (asked_harts asked.now.only))
         (λ fault. result ≡ Err fault) }
-    ensures refused { final_status result ≡ Status.Refused → out.new ≡ out.old }
+    ensures untouched { (final_status result ≡ Status.Refused)
+        ⊎ ((asked.now.lossy ≡ false) × (result ≡ Err Fault.Memory)) → out.new ≡ out.old }
     ensures printed { PrintsUnlessDenied (Decodes (F.content files.old) asked.now)
         (CanDecode (F.content files.old) asked.now) result
         (O.contents out.old) (O.contents out.new) }
-    ensures untouched { asked.now.lossy ≡ false → result ≡ Err Fault.Memory → out.new ≡ out.old }
     ensures begun { result ≡ Err Fault.Memory → Keeps (O.contents out.old) (O.contents out.new)
         ⊎ ((asked.now.lossy ≡ true)
         × BeginsPrinted (Decodes (F.content files.old) asked.now) (O.contents out.old) (O.contents out.new)) }
     ensures cut { IsCutOf (Decodes (F.content files.old) asked.now) (O.contents out.old) (O.contents out.new) }
 {
     let base = base_of(asked.base, &asked.also)?;
-    let range = harts_asked(asked.only)?;
-    decode_harts(alloc, rt, files, asked, base, range, out)
-}
-
-/// Writes what a capture has of the logs of the harts in a range, by the program at this base.
-fn decode_harts<'a, F: Files, O: Write, R: Threads + Sync>(
-    alloc: Global,
-    rt: &R,
-    files: &mut F,
-    asked: &Decode<'a>,
-    base: u64,
-    range: HartRange,
-    out: &mut O,
-) -> Result<Status, Fault<'a>>
-    ensures refused { final_status result ≡ Status.Refused → out.new ≡ out.old }
-    ensures printed { PrintsUnlessDenied (DecodesHarts (F.content files.old) asked.now base range)
-        (CanDecodeHarts (F.content files.old) asked.now base range) result
-        (O.contents out.old) (O.contents out.new) }
-    ensures untouched { asked.now.lossy ≡ false → result ≡ Err Fault.Memory → out.new ≡ out.old }
-    ensures cut { IsCutOf (DecodesHarts (F.content files.old) asked.now base range) (O.contents out.old)
-        (O.contents out.new) }
-{
+    let only = harts_asked(asked.only)?;
     let program = program_of(alloc, files, base, asked.image, &asked.also)?;
     let bytes = content_of(files, asked.capture)?;
-    let capture = bytes.as_slice();
-    check_harts_below(asked.harts, range, capture)?;
     let progress = MessageProgress::new(&*files, asked.progress);
+    let input = Input {
+        program: &program,
+        symbols: None,
+        bytes: bytes.as_slice(),
+        only,
+    };
+    decode_capture(alloc, rt, &progress, asked, &input, out)
+}
+
+/// Writes what an input has of the logs of its harts, where the capture has one of them.
+fn decode_capture<'a, F: Files, O: Write, R: Threads + Sync>(
+    alloc: Global,
+    rt: &R,
+    progress: &MessageProgress<'_, F>,
+    asked: &Decode<'a>,
+    input: &Input,
+    out: &mut O,
+) -> Result<Status, Fault<'a>>
+    ensures never_refused { final_status result ≢ Status.Refused }
+    ensures printed { PrintsUnlessDenied
+        (WritesLogsOf asked.now.lossy asked.now.harts input.now.only input.now.program.now input.now.bytes.now)
+        (CanWriteLogsOf asked.now.lossy asked.now.harts input.now.only input.now.program.now input.now.bytes.now) result
+        (O.contents out.old) (O.contents out.new) }
+    ensures untouched { asked.now.lossy ≡ false → result ≡ Err Fault.Memory → out.new ≡ out.old }
+    ensures cut { IsCutOf
+        (WritesLogsOf asked.now.lossy asked.now.harts input.now.only input.now.program.now input.now.bytes.now)
+        (O.contents out.old) (O.contents out.new) }
+{
+    check_harts_below(asked.harts, input.only, input.bytes)?;
     if asked.lossy {
-        decode_lossy(alloc, &progress, &program, asked.harts, range, capture, out)
+        decode_lossy(alloc, progress, asked.harts, input, out)
     } else {
-        decode_whole(
-            alloc,
-            rt,
-            &progress,
-            &program,
-            asked.harts,
-            range,
-            capture,
-            out,
-        )
+        decode_whole(alloc, rt, progress, asked.harts, input, out)
     }
 }
 
-/// Writes the log of each hart in a range, as far as the messages of these bytes settle it, where no message may be
-/// lost. They are decoded in some threads for each of the machine's processors. All memory is taken before anything is
-/// written.
+/// Writes the log of each hart of an input, as far as their messages settle it, where no message may be lost. They are
+/// decoded in some threads for each of the machine's processors. All memory is taken before anything is written.
 fn decode_whole<'a, F: Files, O: Write, R: Threads + Sync>(
     alloc: Global,
     rt: &R,
     progress: &MessageProgress<'_, F>,
-    program: &ProgramOver,
     harts: u16,
-    range: HartRange,
-    bytes: &[u8],
+    input: &Input,
     out: &mut O,
 ) -> Result<Status, Fault<'a>>
     ensures never_refused { final_status result ≢ Status.Refused }
     ensures untouched { result ≡ Err Fault.Memory → out.new ≡ out.old }
-    ensures printed { PrintsUnlessDenied (WritesDecoded harts range program.now bytes.now) ⊤ result
+    ensures printed { PrintsUnlessDenied
+        (WritesDecoded harts input.now.only input.now.program.now input.now.bytes.now) ⊤ result
         (O.contents out.old) (O.contents out.new) }
-    ensures cut { IsCutOf (WritesDecoded harts range program.now bytes.now) (O.contents out.old) (O.contents out.new) }
+    ensures cut { IsCutOf (WritesDecoded harts input.now.only input.now.program.now input.now.bytes.now)
+        (O.contents out.old) (O.contents out.new) }
 {
-    if progress.is_asked() {
-        progress.begin(messages_in(bytes));
-    }
+    let program = input.program;
+    let only = input.only;
+    let bytes = input.bytes;
+    begin_messages(progress, bytes);
     let survey = SurveyProgress { progress };
     let decoded = write_decoded_side_by_side(
         alloc,
@@ -136,31 +128,11 @@ fn decode_whole<'a, F: Files, O: Write, R: Threads + Sync>(
         Sharing::of(rt),
         program,
         harts,
-        range,
+        only,
         bytes,
         &survey,
         out,
     )?;
     out.flush()?;
-    ended_of(range, decoded.fault, decoded.closed.as_slice())
-}
-
-/// Where the messages of some harts among these bytes are, and how far they are decoded. How far all of them are worked
-/// through is shown, where that is asked for. The error says that an allocation failed.
-pub fn survey_of_harts<'b, F: Files>(
-    alloc: Global,
-    progress: &MessageProgress<'_, F>,
-    program: &ProgramOver,
-    harts: u16,
-    range: HartRange,
-    bytes: &'b [u8],
-) -> Result<CaptureSurvey<'b, Global>, AllocError>
-    ensures { IfOk result (IsCaptureSurvey range (words_of program.now) harts bytes.now) }
-{
-    if progress.is_asked() {
-        progress.begin(messages_in(bytes));
-    }
-    let found = survey_capture(alloc, program, harts, range, bytes, progress);
-    progress.end();
-    found
+    ended_of(only, decoded.fault, decoded.closed.as_slice())
 }

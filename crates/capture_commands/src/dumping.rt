@@ -15,12 +15,11 @@ use crate::hart_check::check_harts;
 use crate::reason::Fault;
 use crate::stopping::capture_fault;
 use captures::{CaptureFault, Dumped, dump_harts};
-use command_inputs::{Files, MessageProgress, Status, content_of, harts_asked};
-use hart_range::HartRange;
+use command_inputs::{Dump, Files, MessageProgress, Status, content_of, harts_asked};
+use frames::search_harts;
+use message::HartRange;
 use retire::WriteFault;
-use searching::search_harts;
 use std::io::Write;
-use subcommands::Dump;
 
 /// Writes the line of a capture's header, if it has one, and a line for each message, up to the first place where there
 /// is no complete message. Returns that all is done if every payload is a packet, and else that the capture is not

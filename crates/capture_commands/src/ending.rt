@@ -1,16 +1,16 @@
 //! How the decoding of a capture ends a run.
 
 ghost use Rattle.std.specs.Prelude.{◌≡◌, ◌≢◌, ◌&&◌, not};
-ghost use Rattle.hart_range.specs.Range.{selects};
+ghost use Rattle.message.specs.Range.{selects};
 ghost use Rattle.capture_commands.specs.Faults.{final_status};
 ghost use Rattle.capture_commands.specs.Decoding.{end_of_capture_of};
 
 use crate::reason::{CaptureReason, Fault};
 use crate::stopping::capture_fault;
+use capture_index::selects_hart;
 use captures::CaptureFault;
 use command_inputs::Status;
-use hart_range::HartRange;
-use hart_rows::selects_hart;
+use message::HartRange;
 
 /// How decoding of the harts in a range ended: at its fault, if there is one, or at the first of these harts whose
 /// closing packet did not come.

@@ -9,8 +9,8 @@ ghost use Rattle.command_inputs.specs.declared.fault.Fault.TheVariants as Fault;
 use crate::lossy_decoding::harts_counted;
 use crate::reason::{CaptureReason, Fault};
 use command_inputs::Status;
-use hart_range::HartRange;
-use searching::{known_harts, start_of};
+use frames::{known_harts, start_of};
+use message::HartRange;
 
 /// Stops where a capture has none of these harts: its header counts no more than those before the first. Without a
 /// valid header a capture has any hart below [`MOST_HARTS`](message::MOST_HARTS).
@@ -25,7 +25,11 @@ pub(crate) fn check_harts<'a>(harts: HartRange, capture: &[u8]) -> Result<(), Fa
 
 /// Stops where a capture has none of these harts: its header counts no more than those before the first. Without a
 /// valid header a capture has any hart below `count`. Hart 0 is one of any capture.
-pub fn check_harts_below<'a>(count: u16, harts: HartRange, capture: &[u8]) -> Result<(), Fault<'a>>
+pub(crate) fn check_harts_below<'a>(
+    count: u16,
+    harts: HartRange,
+    capture: &[u8],
+) -> Result<(), Fault<'a>>
     ensures found { HasHartBelow count harts capture.now result }
     ensures never_refused { IfErr result (λ why. status_of why ≢ Status.Refused) }
     ensures no_memory { IfErr result (λ why. why ≢ Fault.Memory) }

@@ -1,7 +1,7 @@
 //! What the definitions of what is read and kept of a capture promise.
 
 ghost use Rattle.std.specs.Prelude.{ℕ, List, Option, Ok};
-ghost use Rattle.salvaged_text.specs.HartItems.{AllHartsHaveItems};
+ghost use Rattle.salvage_reports.specs.HartItems.{AllHartsHaveItems};
 ghost use Rattle.std.specs.declared.alloc.Global.{Global as AnyGlobal};
 ghost use Rattle.captures.specs.Whole.{IsWhole};
 ghost use Rattle.losses.specs.declared.part.HartPieces.{HartPieces};
@@ -13,7 +13,7 @@ ghost use Rattle.salvaging.specs.declared.salvaged.Salvaged.{Salvaged};
 ghost use Rattle.salvaging.specs.declared.salvaged.SalvagedHart.{SalvagedHart};
 ghost use Rattle.capture_commands.specs.KeptToo.{AreReadAlike, CountAlike, HaveSmallNumbers, IsKeptToo, IsOfFrames};
 ghost use Rattle.capture_commands.specs.Pieces.{ArePieces};
-ghost use Rattle.salvaged_text.specs.Found.{IsSalvagedCapture};
+ghost use Rattle.salvage_reports.specs.Found.{IsSalvagedCapture};
 
 /// Where no range of harts is asked for, `salvage` and `decode --lossy` leave no hart out.
 pub fn all_harts_have_items()

@@ -3,7 +3,7 @@
 ghost use Rattle.std.specs.Prelude.{⊤, ◌≡◌, ◌≢◌, Ok, Err, IfErr, IfOk, OnOk};
 ghost use Rattle.std.specs.Io.KnownBytes.{Appends};
 ghost use Rattle.std.specs.List.{list_any};
-ghost use Rattle.hart_range.specs.Range.{selected};
+ghost use Rattle.message.specs.Range.{selected};
 ghost use Rattle.losses.specs.Collects.{GivesFault, GivesPieces};
 ghost use Rattle.losses.specs.Parts.{Events, Missing};
 ghost use Rattle.losses.specs.PartsIn.{part_of, parts_in};
@@ -12,121 +12,118 @@ ghost use Rattle.command_inputs.specs.Begun.{IsCutOf};
 ghost use Rattle.command_inputs.specs.Printed.{IsPrintingDenied, PrintsUnlessDenied};
 ghost use Rattle.capture_commands.specs.Faults.{final_status, status_of};
 ghost use Rattle.capture_commands.specs.Decoding.{end_of_harts};
-ghost use Rattle.hart_rows.specs.EachHart.{each_hart};
+ghost use Rattle.capture_index.specs.EachHart.{each_hart};
 ghost use Rattle.capture_commands.specs.Pieces.{ArePiecesOf, HasPieces, WritesPieces, closed_of, end_of_pieces_from};
 ghost use Rattle.capture_commands.specs.Pieces.{harts_counted, have_gaps, is_gap, part_text, parts_of};
 ghost use Rattle.capture_commands.specs.Pieces.{parts_text};
-ghost use Rattle.searching.specs.Search.{mode_of};
+ghost use Rattle.frames.specs.Search.{mode_of};
 
-use crate::counting::messages_in;
+use crate::counting::begin_messages;
+use crate::input::Input;
 use crate::own_messages::{fault_among, select_messages};
 use crate::reason::{CaptureReason, Fault};
 use crate::stopping::reading_fault;
 use captures::{WholeCapture, read_messages};
 use command_inputs::{Files, MessageProgress, Status};
-use hart_range::HartRange;
+use frames::mode_of;
 use losses::{HartPieces, LossyFault, Part, collect_watched};
-use message::Header;
+use message::{Header, Watch};
 use output::write_text;
 use retire::{Event, write_log};
-use rvclass::ProgramOver;
-use salvaged_text::{items_of, write_messages};
-use searching::mode_of;
+use salvage_reports::{items_of, write_messages};
 use std::alloc::Global;
 use std::io::Write;
-use watching::Watch;
 
-/// Writes what is left of the log of each of these harts. Returns that all is done where the closing packet of each
-/// came and there is no gap. Where the capture is not read to its end, a message of these harts is refused or its
-/// packet is not decoded, nothing is written. Messages of all other harts are passed over; a fault counts them.
+/// Writes what is left of the log of each hart of an input. Returns that all is done where the closing packet of each came
+/// and there is no gap. Where the capture is not read to its end, a message of these harts is refused or its packet is not
+/// decoded, nothing is written. Messages of all other harts are passed over; a fault counts them.
 pub(crate) fn decode_lossy<'a, F: Files, O: Write>(
     alloc: Global,
     progress: &MessageProgress<'_, F>,
-    program: &ProgramOver,
     harts: u16,
-    only: HartRange,
-    bytes: &[u8],
+    input: &Input,
     out: &mut O,
 ) -> Result<Status, Fault<'a>>
     ensures never_refused { final_status result ≢ Status.Refused }
-    ensures printed { PrintsUnlessDenied (WritesPieces harts only program.now bytes.now)
-        (HasPieces harts only program.now bytes.now) result (O.contents out.old) (O.contents out.new) }
-    ensures cut { IsCutOf (WritesPieces harts only program.now bytes.now) (O.contents out.old) (O.contents out.new) }
+    ensures printed { PrintsUnlessDenied
+        (WritesPieces harts input.now.only input.now.program.now input.now.bytes.now)
+        (HasPieces harts input.now.only input.now.program.now input.now.bytes.now) result
+        (O.contents out.old) (O.contents out.new) }
+    ensures cut { IsCutOf (WritesPieces harts input.now.only input.now.program.now input.now.bytes.now)
+        (O.contents out.old) (O.contents out.new) }
 {
-    let pieces = pieces_of(alloc, progress, program, harts, only, bytes)?;
+    let only = input.only;
+    let pieces = pieces_of(alloc, progress, harts, input)?;
     let own = items_of(only, pieces.as_slice());
     write_pieces(alloc, only.first, own, out)?;
     out.flush()?;
     ended(only.first, own)
 }
 
-/// What the messages of these harts leave of the logs of a capture's harts. How far its messages are worked through is
-/// shown, where that is asked for.
+/// What the messages of an input leave of the logs of a capture's harts. How far they are worked through is shown, where
+/// that is asked for.
 fn pieces_of<'a, F: Files>(
     alloc: Global,
     progress: &MessageProgress<'_, F>,
-    program: &ProgramOver,
     harts: u16,
-    only: HartRange,
-    bytes: &[u8],
+    input: &Input,
 ) -> Result<Vec<HartPieces>, Fault<'a>>
-    ensures found { IfOk result (λ pieces. ArePiecesOf harts only program.now bytes.now (Ok pieces.items)) }
-    ensures fault { IfErr result (λ fault. ArePiecesOf harts only program.now bytes.now (Err fault)) }
+    ensures found { IfOk result
+        (λ pieces. ArePiecesOf harts input.now.only input.now.program.now input.now.bytes.now (Ok pieces.items)) }
+    ensures fault { IfErr result
+        (λ fault. ArePiecesOf harts input.now.only input.now.program.now input.now.bytes.now (Err fault)) }
     ensures never_refused { IfErr result (λ fault. status_of fault ≢ Status.Refused) }
 {
-    if progress.is_asked() {
-        progress.begin(messages_in(bytes));
-    }
-    let pieces = collect(alloc, progress, program, harts, only, bytes);
+    begin_messages(progress, input.bytes);
+    let pieces = collect(alloc, progress, harts, input);
     progress.end();
     pieces
 }
 
-/// Collects what the messages of these harts leave of the logs of a capture's harts.
+/// Collects what the messages of an input leave of the logs of a capture's harts.
 fn collect<'a, F: Files>(
     alloc: Global,
     progress: &MessageProgress<'_, F>,
-    program: &ProgramOver,
     harts: u16,
-    only: HartRange,
-    bytes: &[u8],
+    input: &Input,
 ) -> Result<Vec<HartPieces>, Fault<'a>>
-    ensures found { IfOk result (λ pieces. ArePiecesOf harts only program.now bytes.now (Ok pieces.items)) }
-    ensures fault { IfErr result (λ fault. ArePiecesOf harts only program.now bytes.now (Err fault)) }
+    ensures found { IfOk result
+        (λ pieces. ArePiecesOf harts input.now.only input.now.program.now input.now.bytes.now (Ok pieces.items)) }
+    ensures fault { IfErr result
+        (λ fault. ArePiecesOf harts input.now.only input.now.program.now input.now.bytes.now (Err fault)) }
     ensures never_refused { IfErr result (λ fault. status_of fault ≢ Status.Refused) }
 {
-    let whole = match read_messages(alloc, bytes) {
+    let whole = match read_messages(alloc, input.bytes) {
         Ok(whole) => whole,
         Err(fault) => return Err(reading_fault(fault)),
     };
-    match collect_own(alloc, progress, program, harts, only, whole) {
+    match collect_own(alloc, progress, harts, input, whole) {
         Ok(pieces) => Ok(pieces),
-        Err(fault) => Err(fault_among(alloc, only, fault, bytes)),
+        Err(fault) => Err(fault_among(alloc, input.only, fault, input.bytes)),
     }
 }
 
-/// Collects what the messages of these harts leave of the logs of a capture's harts. The other messages are dropped
-/// first, and shown as worked through.
+/// Collects what the messages of an input leave of the logs of a capture's harts. The other messages are dropped first,
+/// and shown as worked through.
 fn collect_own<F: Files>(
     alloc: Global,
     progress: &MessageProgress<'_, F>,
-    program: &ProgramOver,
     harts: u16,
-    only: HartRange,
+    input: &Input,
     whole: WholeCapture,
 ) -> Result<Vec<HartPieces>, LossyFault>
-    ensures found { IfOk result (λ pieces. GivesPieces program.now (harts_counted harts whole.header)
-        (mode_of whole.header) (selected only whole.messages.items) pieces.items) }
-    ensures fault { IfErr result (λ fault. GivesFault program.now (harts_counted harts whole.header)
-        (mode_of whole.header) (selected only whole.messages.items) fault) }
+    ensures found { IfOk result (λ pieces. GivesPieces input.now.program.now (harts_counted harts whole.header)
+        (mode_of whole.header) (selected input.now.only whole.messages.items) pieces.items) }
+    ensures fault { IfErr result (λ fault. GivesFault input.now.program.now (harts_counted harts whole.header)
+        (mode_of whole.header) (selected input.now.only whole.messages.items) fault) }
 {
     let header = whole.header;
     let count = whole.messages.len();
-    let messages = select_messages(only, whole.messages);
+    let messages = select_messages(input.only, whole.messages);
     progress.note(count.saturating_sub(messages.len()));
     collect_watched(
         alloc,
-        program,
+        input.program,
         harts_counted(harts, header),
         mode_of(header),
         messages.as_slice(),

@@ -1,6 +1,6 @@
 //! The subcommand `list`.
 
-ghost use Rattle.std.specs.Prelude.{⊤, ◌≡◌, ◌≢◌, true, Err, IfOk, IfSome, OnErr, option_map};
+ghost use Rattle.std.specs.Prelude.{⊤, ◌≡◌, ◌≢◌, ◌⊎◌, true, Err, IfOk, IfSome, OnErr};
 ghost use Rattle.listing.specs.Begun.{BeginsPart};
 ghost use Rattle.listing.specs.Listing.{AppendsListing};
 ghost use Rattle.rvclass.specs.Fetch.{words_of};
@@ -10,32 +10,29 @@ ghost use Rattle.command_inputs.specs.OnlyHarts.{asked_harts};
 ghost use Rattle.command_inputs.specs.Order.{format_base_or_only_fault};
 ghost use Rattle.command_inputs.specs.Printed.{PrintsUnlessDenied};
 ghost use Rattle.capture_commands.specs.Faults.{final_status};
-ghost use Rattle.capture_commands.specs.Listed.{CanList, CanListBelow, CanListHarts, CanWriteListed, Lists, ListsBelow};
-ghost use Rattle.capture_commands.specs.Listed.{ListsHarts, ListsHartsInPart, ListsInPart, ListsPartBelow};
-ghost use Rattle.capture_commands.specs.Listed.{ListsUpToMemory, WritesListed, WritesListedPart, WritesListing};
-ghost use Rattle.capture_commands.specs.Listed.{WritesPart, harts_or_one};
+ghost use Rattle.capture_commands.specs.Listed.{CanList, CanListHarts, CanWriteListed, Lists, ListsHarts};
+ghost use Rattle.capture_commands.specs.Listed.{ListsHartsInPart, ListsInPart, ListsUpToMemory, WritesListed};
+ghost use Rattle.capture_commands.specs.Listed.{WritesListedPart, WritesListing, WritesPart, harts_or_one};
 ghost use Rattle.capture_commands.specs.ListedFormats.{IsListedIn, IsPartListedIn};
+ghost use Rattle.capture_commands.specs.steps.Names.{names_in};
 ghost use Rattle.command_inputs.specs.declared.fault.Fault.TheVariants as Fault;
 
-use crate::counting::messages_in;
+use crate::counting::begin_messages;
 use crate::ending::ended_of;
 use crate::hart_check::check_harts_below;
+use crate::input::Input;
 use crate::reason::Fault;
 use crate::salvaged_listing::list_salvaged;
 use crate::symbols_input::symbols_of;
 use command_inputs::{
-    Files, MessageProgress, Status, asked_base, content_of, harts_asked, program_of,
+    Files, Format, Listing, MessageProgress, Status, asked_base, content_of, harts_asked,
+    program_of,
 };
-use hart_range::HartRange;
-use listing::{Listed, list_harts as list_lines};
-use listing_table::write_harts_table;
+use listing::{Listed, list_harts as list_lines, write_harts_table};
+use message::HartRange;
 use retire::WriteFault;
-use rvclass::ProgramOver;
 use std::alloc::Global;
 use std::io::Write;
-use subcommands::{Format, Listing};
-use symbols::Symbols;
-use watching::Watch;
 
 /// Writes the line of a capture's header, if it has one, and a line for each message: its offset in the file, its
 /// packet, and the events that it settles. Places are named by the symbols, if they are given. Returns that all is done
@@ -64,8 +61,8 @@ pub fn list<'a, F: Files, O: Write>(
         (format_base_or_only_fault asked.now.format (base_number asked.now.base.now asked.now.also.items)
         (asked_harts asked.now.only))
         (λ fault. result ≡ Err fault) }
-    ensures refused { final_status result ≡ Status.Refused → out.new ≡ out.old }
-    ensures untouched { asked.now.salvage ≡ true → result ≡ Err Fault.Memory → out.new ≡ out.old }
+    ensures untouched { (final_status result ≡ Status.Refused)
+        ⊎ ((asked.now.salvage ≡ true) × (result ≡ Err Fault.Memory)) → out.new ≡ out.old }
     ensures printed { PrintsUnlessDenied (Lists (F.content files.old) asked.now)
         (CanList (F.content files.old) asked.now) result
         (O.contents out.old) (O.contents out.new) }
@@ -102,91 +99,42 @@ fn list_harts<'a, F: Files, O: Write>(
     let symbols = symbols_of(alloc, files, asked.symbols)?;
     let bytes = content_of(files, asked.capture)?;
     let progress = MessageProgress::new(&*files, asked.progress);
-    write_listed(
-        alloc,
-        &progress,
-        &program,
-        asked.format,
-        asked.salvage,
+    let input = Input {
+        program: &program,
+        symbols: symbols.as_ref(),
+        bytes: bytes.as_slice(),
         only,
-        asked.harts,
-        symbols.as_ref(),
-        bytes.as_slice(),
-        out,
-    )
+    };
+    write_listed(alloc, &progress, asked, &input, out)
 }
 
-/// Writes what is listed of these harts of a capture's bytes, where it has one of them: what salvaging does with each
-/// of their messages, where that is asked for, and else their listing.
+/// Writes what is listed of an input, where the capture has one of its harts: what salvaging does with each of their
+/// messages, where that is asked for, and else their listing.
 fn write_listed<'a, F: Files, O: Write>(
     alloc: Global,
     progress: &MessageProgress<'_, F>,
-    program: &ProgramOver,
-    format: Format,
-    salvage: bool,
-    only: HartRange,
-    harts: Option<u16>,
-    symbols: Option<&Symbols>,
-    bytes: &[u8],
+    asked: &Listing<'a>,
+    input: &Input,
     out: &mut O,
 ) -> Result<Status, Fault<'a>>
     ensures never_refused { final_status result ≢ Status.Refused }
-    ensures untouched { salvage ≡ true → result ≡ Err Fault.Memory → out.new ≡ out.old }
-    ensures printed { PrintsUnlessDenied
-        (WritesListed format salvage only harts program.now (option_map (λ file. file.now) symbols.entry) bytes.now)
-        (CanWriteListed salvage only harts bytes.now) result (O.contents out.old) (O.contents out.new) }
+    ensures untouched { asked.now.salvage ≡ true → result ≡ Err Fault.Memory → out.new ≡ out.old }
+    ensures printed { PrintsUnlessDenied (WritesListed asked.now.format asked.now.salvage input.now.only asked.now.harts
+        input.now.program.now (names_in input.now) input.now.bytes.now)
+        (CanWriteListed asked.now.salvage input.now.only asked.now.harts input.now.bytes.now) result
+        (O.contents out.old) (O.contents out.new) }
     ensures begun { result ≡ Err Fault.Memory → ListsUpToMemory
-        (WritesListed format salvage only harts program.now (option_map (λ file. file.now) symbols.entry) bytes.now)
-        (O.contents out.old) (O.contents out.new) }
-    ensures cut { IsCutOf
-        (WritesListedPart format salvage only harts program.now (option_map (λ file. file.now) symbols.entry) bytes.now)
-        (O.contents out.old) (O.contents out.new) }
+        (WritesListed asked.now.format asked.now.salvage input.now.only asked.now.harts input.now.program.now
+        (names_in input.now) input.now.bytes.now) (O.contents out.old) (O.contents out.new) }
+    ensures cut { IsCutOf (WritesListedPart asked.now.format asked.now.salvage input.now.only asked.now.harts
+        input.now.program.now (names_in input.now) input.now.bytes.now) (O.contents out.old) (O.contents out.new) }
 {
-    if salvage {
-        return list_salvaged(
-            alloc, progress, program, format, only, harts, symbols, bytes, out,
-        );
+    if asked.salvage {
+        return list_salvaged(alloc, progress, asked, input, out);
     }
-    list_below(
-        alloc,
-        progress,
-        program,
-        format,
-        only,
-        harts_or_one(harts),
-        symbols,
-        bytes,
-        out,
-    )
-}
-
-/// Writes the listing of these harts of a capture's bytes, where it has one of them.
-fn list_below<'a, F: Files, O: Write>(
-    alloc: Global,
-    progress: &MessageProgress<'_, F>,
-    program: &ProgramOver,
-    format: Format,
-    only: HartRange,
-    harts: u16,
-    symbols: Option<&Symbols>,
-    bytes: &[u8],
-    out: &mut O,
-) -> Result<Status, Fault<'a>>
-    ensures never_refused { final_status result ≢ Status.Refused }
-    ensures printed { PrintsUnlessDenied
-        (ListsBelow format only harts program.now (option_map (λ file. file.now) symbols.entry) bytes.now)
-        (CanListBelow only harts bytes.now) result (O.contents out.old) (O.contents out.new) }
-    ensures begun { result ≡ Err Fault.Memory → ListsUpToMemory
-        (ListsBelow format only harts program.now (option_map (λ file. file.now) symbols.entry) bytes.now)
-        (O.contents out.old) (O.contents out.new) }
-    ensures cut { IsCutOf
-        (ListsPartBelow format only harts program.now (option_map (λ file. file.now) symbols.entry) bytes.now)
-        (O.contents out.old) (O.contents out.new) }
-{
-    check_harts_below(harts, only, bytes)?;
-    write_listing(
-        alloc, progress, program, format, only, harts, symbols, bytes, out,
-    )
+    let harts = harts_or_one(asked.harts);
+    check_harts_below(harts, input.only, input.bytes)?;
+    write_listing(alloc, progress, asked.format, harts, input, out)
 }
 
 /// The count of harts of a capture with no header: one where none is given.
@@ -196,92 +144,62 @@ fn harts_or_one(given: Option<u16>) -> u16
     given.unwrap_or(1)
 }
 
-/// Writes the listing of these harts of a capture's bytes, and returns how their decoding ended.
+/// Writes the listing of an input, and returns how the decoding of its harts ended.
 fn write_listing<'a, F: Files, O: Write>(
     alloc: Global,
     progress: &MessageProgress<'_, F>,
-    program: &ProgramOver,
     format: Format,
-    only: HartRange,
     harts: u16,
-    symbols: Option<&Symbols>,
-    bytes: &[u8],
+    input: &Input,
     out: &mut O,
 ) -> Result<Status, Fault<'a>>
     ensures never_refused { final_status result ≢ Status.Refused }
     ensures printed { PrintsUnlessDenied
-        (WritesListing format only harts program.now (option_map (λ file. file.now) symbols.entry) bytes.now) ⊤ result
+        (WritesListing format input.now.only harts input.now.program.now (names_in input.now) input.now.bytes.now) ⊤ result
         (O.contents out.old) (O.contents out.new) }
     ensures begun { result ≡ Err Fault.Memory → ListsUpToMemory
-        (WritesListing format only harts program.now (option_map (λ file. file.now) symbols.entry) bytes.now)
+        (WritesListing format input.now.only harts input.now.program.now (names_in input.now) input.now.bytes.now)
         (O.contents out.old) (O.contents out.new) }
-    ensures cut { IsCutOf (WritesPart format only harts program.now (option_map (λ file. file.now) symbols.entry) bytes.now)
+    ensures cut { IsCutOf
+        (WritesPart format input.now.only harts input.now.program.now (names_in input.now) input.now.bytes.now)
         (O.contents out.old) (O.contents out.new) }
 {
-    let listed = show_listing(
-        alloc, progress, program, format, only, harts, symbols, bytes, out,
-    )?;
+    let listed = show_listing(alloc, progress, format, harts, input, out)?;
     out.flush()?;
-    ended_of(only, listed.fault, listed.closed.as_slice())
+    ended_of(input.only, listed.fault, listed.closed.as_slice())
 }
 
-/// Writes the listing of these harts of a capture's bytes. How far their messages are worked through is shown, where
-/// that is asked for.
+/// Writes the listing of an input in a format. How far the messages are worked through is shown, where that is asked
+/// for.
 fn show_listing<F: Files, O: Write>(
     alloc: Global,
     progress: &MessageProgress<'_, F>,
-    program: &ProgramOver,
     format: Format,
-    only: HartRange,
     harts: u16,
-    symbols: Option<&Symbols>,
-    bytes: &[u8],
+    input: &Input,
     out: &mut O,
 ) -> Result<Listed, WriteFault>
     ensures listed { IfOk result (λ listed. AppendsListing
-        (IsListedIn format (words_of program.now) only harts (option_map (λ file. file.now) symbols.entry) bytes.now)
+        (IsListedIn format (words_of input.now.program.now) input.now.only harts (names_in input.now) input.now.bytes.now)
         listed.closed.items listed.fault (O.contents out.old) (O.contents out.new)) }
     ensures begun { OnErr result (BeginsPart
-        (IsPartListedIn format (words_of program.now) only harts (option_map (λ file. file.now) symbols.entry) bytes.now)
-        (O.contents out.old) (O.contents out.new)) }
+        (IsPartListedIn format (words_of input.now.program.now) input.now.only harts (names_in input.now)
+        input.now.bytes.now) (O.contents out.old) (O.contents out.new)) }
     ensures memory { result ≡ Err WriteFault.Memory → out.new ≡ out.old }
 {
-    if progress.is_asked() {
-        progress.begin(messages_in(bytes));
-    }
-    let listed = list_in(
-        alloc, format, program, only, harts, symbols, bytes, out, progress,
-    );
-    progress.end();
-    listed
-}
-
-/// Writes the listing of these harts of a capture's bytes in a format, and tells `watch` of each message.
-fn list_in<O: Write, V: Watch>(
-    alloc: Global,
-    format: Format,
-    program: &ProgramOver,
-    only: HartRange,
-    harts: u16,
-    symbols: Option<&Symbols>,
-    bytes: &[u8],
-    out: &mut O,
-    watch: &V,
-) -> Result<Listed, WriteFault>
-    ensures listed { IfOk result (λ listed. AppendsListing
-        (IsListedIn format (words_of program.now) only harts (option_map (λ file. file.now) symbols.entry) bytes.now)
-        listed.closed.items listed.fault (O.contents out.old) (O.contents out.new)) }
-    ensures begun { OnErr result (BeginsPart
-        (IsPartListedIn format (words_of program.now) only harts (option_map (λ file. file.now) symbols.entry) bytes.now)
-        (O.contents out.old) (O.contents out.new)) }
-    ensures memory { result ≡ Err WriteFault.Memory → out.new ≡ out.old }
-{
-    match format {
+    let program = input.program;
+    let only = input.only;
+    let bytes = input.bytes;
+    let symbols = input.symbols;
+    begin_messages(progress, bytes);
+    let listed = match format {
         Format::Csv => {
-            write_harts_table(alloc, program, harts, only, bytes, symbols, out, watch)
+            write_harts_table(alloc, program, harts, only, bytes, symbols, out, progress)
         }
         Format::Text | Format::Other => {
-            list_lines(alloc, program, harts, only, bytes, symbols, out, watch)
+            list_lines(alloc, program, harts, only, bytes, symbols, out, progress)
         }
-    }
+    };
+    progress.end();
+    listed
 }

@@ -2,7 +2,7 @@
 
 ghost use Rattle.std.specs.Prelude.{◌≡◌, ◌≢◌, ◌⊎◌, List, get_or, Option, Ok};
 ghost use Rattle.captures.specs.Whole.{IsWhole};
-ghost use Rattle.hart_range.specs.Range.{selected};
+ghost use Rattle.message.specs.Range.{selected};
 ghost use Rattle.message.specs.declared.header.Header.{Header as AnyHeader};
 ghost use Rattle.message.specs.declared.message.Message.{Message as AnyMessage};
 ghost use Rattle.capture_commands.specs.Faults.{lossy_fault, status_of};
@@ -13,9 +13,8 @@ use crate::reason::Fault;
 use crate::stopping::lossy_fault;
 use captures::read_messages;
 use command_inputs::Status;
-use hart_range::HartRange;
 use losses::LossyFault;
-use message::Message;
+use message::{HartRange, Message};
 use std::alloc::Global;
 
 /// The messages of these harts, in their order. The others are dropped.

@@ -6,8 +6,7 @@ ghost use Rattle.capture_commands.specs.Faults.{capture_reason_status};
 
 use captures::CaptureFault;
 use command_inputs::{Reason, Status};
-use hart_range::HartRange;
-use message::MessageFault;
+use message::{HartRange, MessageFault};
 use std::fmt;
 use symbols::SymbolsFault;
 

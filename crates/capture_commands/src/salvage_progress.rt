@@ -1,8 +1,8 @@
 //! Showing how far salvaging is.
 
 use command_inputs::{Files, MessageProgress};
-use salvaged_text::WatchSalvage;
-use watching::Watch;
+use message::Watch;
+use salvage_reports::WatchSalvage;
 
 /// Shows how far the messages of a capture's frames are salvaged, where that is asked for, as the first of so many
 /// rounds over them. That is ended where there is no other round, or this one failed.

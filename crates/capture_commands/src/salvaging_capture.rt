@@ -1,8 +1,8 @@
 //! The subcommand `salvage`.
 
 ghost use Rattle.std.specs.Prelude.{◌≡◌, ◌≢◌, ◌⊎◌, Err, IfErr, IfOk, IfSome};
-ghost use Rattle.salvaged_text.specs.Damage.{closed_harts};
-ghost use Rattle.salvaged_text.specs.HartItems.{items_of};
+ghost use Rattle.salvage_reports.specs.Damage.{closed_harts};
+ghost use Rattle.salvage_reports.specs.HartItems.{items_of};
 ghost use Rattle.command_inputs.specs.Begun.{IsCutOf};
 ghost use Rattle.command_inputs.specs.FurtherPieces.{base_number};
 ghost use Rattle.command_inputs.specs.OnlyHarts.{asked_harts};
@@ -18,20 +18,19 @@ ghost use Rattle.capture_commands.specs.steps.Reading.{IsFoundOf};
 ghost use Rattle.command_inputs.specs.declared.fault.Fault.TheVariants as Fault;
 
 use crate::hart_check::hart_below;
+use crate::input::Input;
 use crate::reason::{CaptureReason, Fault};
 use crate::salvage_progress::SalvageProgress;
 use crate::stopping::capture_fault;
 use captures::CaptureFault;
 use command_inputs::{
-    Files, MessageProgress, Status, asked_base, content_of, harts_asked, program_of,
+    Files, Format, MessageProgress, Salvage, Status, asked_base, content_of, harts_asked,
+    program_of,
 };
-use hart_range::HartRange;
-use rvclass::ProgramOver;
-use salvaged_text::{Found, Layout, find_salvaged, write_found};
-use searching::{harts_counted, start_of};
+use frames::{harts_counted, start_of};
+use salvage_reports::{Found, Layout, find_salvaged, write_found};
 use std::alloc::Global;
 use std::io::Write;
-use subcommands::{Format, Salvage};
 
 /// Writes what is left of the log of each hart, whatever happened to the bytes of a capture. Its messages are the
 /// frames among its bytes, after a valid header, and without one from the first byte on. Returns that all is done if
@@ -65,40 +64,35 @@ pub fn salvage<'a, F: Files, O: Write>(
     let program = program_of(alloc, files, base, asked.image, &asked.also)?;
     let bytes = content_of(files, asked.capture)?;
     let progress = MessageProgress::new(&*files, asked.progress);
-    salvage_capture(
-        alloc,
-        &progress,
-        &program,
+    let input = Input {
+        program: &program,
+        symbols: None,
+        bytes: bytes.as_slice(),
         only,
-        asked.format,
-        asked.harts,
-        asked.summary,
-        bytes.as_slice(),
-        out,
-    )
+    };
+    salvage_capture(alloc, &progress, asked, &input, out)
 }
 
-/// Writes what is salvaged of these harts of the bytes of a capture.
+/// Writes what is salvaged of an input.
 fn salvage_capture<'a, F: Files, O: Write>(
     alloc: Global,
     progress: &MessageProgress<'_, F>,
-    program: &ProgramOver,
-    only: HartRange,
-    format: Format,
-    harts: Option<u16>,
-    summary: bool,
-    bytes: &[u8],
+    asked: &Salvage<'a>,
+    input: &Input,
     out: &mut O,
 ) -> Result<Status, Fault<'a>>
     ensures never_refused { final_status result ≢ Status.Refused }
     ensures untouched { result ≡ Err Fault.Memory → out.new ≡ out.old }
-    ensures printed { PrintsUnlessDenied (SalvagesOf only format harts summary program.now bytes.now)
-        (CanSalvageOf only harts bytes.now) result (O.contents out.old) (O.contents out.new) }
-    ensures cut { IsCutOf (SalvagesOf only format harts summary program.now bytes.now) (O.contents out.old)
-        (O.contents out.new) }
+    ensures printed { PrintsUnlessDenied (SalvagesOf input.now.only asked.now.format asked.now.harts asked.now.summary
+        input.now.program.now input.now.bytes.now)
+        (CanSalvageOf input.now.only asked.now.harts input.now.bytes.now) result
+        (O.contents out.old) (O.contents out.new) }
+    ensures cut { IsCutOf (SalvagesOf input.now.only asked.now.format asked.now.harts asked.now.summary
+        input.now.program.now input.now.bytes.now) (O.contents out.old) (O.contents out.new) }
 {
-    let found = find(alloc, progress, 1, program, only, harts, bytes)?;
-    write_found(alloc, layout_of(format, summary), &found, bytes, out)?;
+    let found = find(alloc, progress, 1, asked.harts, input)?;
+    let layout = layout_of(asked.format, asked.summary);
+    write_found(alloc, layout, &found, input.bytes, out)?;
     out.flush()?;
     ended(&found)
 }
@@ -119,22 +113,23 @@ fn layout_of(format: Format, summary: bool) -> Layout
     }
 }
 
-/// What is salvaged of the messages of these harts among a capture's frames, where it has one of these harts. How far
-/// they are worked through is shown, where that is asked for, as the first of so many rounds over them. Whoever makes a
-/// last round ends that.
+/// What is salvaged of the messages of an input, where the capture has one of its harts. How far they are worked through
+/// is shown, where that is asked for, as the first of so many rounds over them. Whoever makes a last round ends that.
 pub(crate) fn find<'a, F: Files>(
     alloc: Global,
     progress: &MessageProgress<'_, F>,
     rounds: u64,
-    program: &ProgramOver,
-    only: HartRange,
     harts: Option<u16>,
-    bytes: &[u8],
+    input: &Input,
 ) -> Result<Found, Fault<'a>>
-    ensures found { IfOk result (IsFoundOf only harts program.now bytes.now) }
-    ensures lacked { IfErr result (λ why. (why ≡ Fault.Memory) ⊎ HasHartFound harts only bytes.now (Err why)) }
+    ensures found { IfOk result (IsFoundOf input.now.only harts input.now.program.now input.now.bytes.now) }
+    ensures lacked { IfErr result
+        (λ why. (why ≡ Fault.Memory) ⊎ HasHartFound harts input.now.only input.now.bytes.now (Err why)) }
     ensures never_refused { IfErr result (λ why. status_of why ≢ Status.Refused) }
 {
+    let program = input.program;
+    let only = input.only;
+    let bytes = input.bytes;
     let start = start_of(bytes);
     let count = harts_counted(harts, start.header, bytes);
     hart_below(only, count.max(1))?;

@@ -12,7 +12,7 @@ use message::MessageFault;
 use symbols::SymbolsFault;
 
 /// Why reading or decoding a capture stopped at this message.
-pub fn capture_fault<'a>(number: u64, why: CaptureFault) -> Fault<'a>
+pub(crate) fn capture_fault<'a>(number: u64, why: CaptureFault) -> Fault<'a>
     ensures value { result ≡ capture_fault number why }
     ensures never_refused { status_of result ≢ Status.Refused }
 {

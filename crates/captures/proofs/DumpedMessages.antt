@@ -13,9 +13,9 @@ use Rattle.payload.specs.declared.mode.Mode.{Mode}
 use Rattle.message.specs.Capture.{capture, message_bytes}
 use Rattle.message.specs.Cut.{IsMessage}
 use Rattle.message.specs.declared.message.Message.{Message}
-use Rattle.hart_range.proofs.Selecting.{selected-append}
-use Rattle.hart_range.specs.Range.{selected}
-use Rattle.hart_range.specs.declared.range.HartRange.{HartRange}
+use Rattle.message.proofs.Selecting.{selected-append}
+use Rattle.message.specs.Range.{selected}
+use Rattle.message.specs.declared.range.HartRange.{HartRange}
 use Rattle.captures.proofs.Reaching.{capture_next}
 use Rattle.captures.specs.Dump.{has_bad_payload, dump_line, dump_text}
 

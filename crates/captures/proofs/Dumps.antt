@@ -10,9 +10,9 @@ use Rattle.std.proofs.lemmas.List.Elements.{All-append, All-nil, All-cons}
 use Rattle.output.specs.Begun.{AppendsBeginning}
 use Rattle.output.proofs.Beginnings.{begun_between}
 use Rattle.payload.specs.declared.mode.Mode.{Mode}
-use Rattle.hart_range.proofs.Selecting.{selected-append}
-use Rattle.hart_range.specs.Range.{selected}
-use Rattle.hart_range.specs.declared.range.HartRange.{HartRange}
+use Rattle.message.proofs.Selecting.{selected-append}
+use Rattle.message.specs.Range.{selected}
+use Rattle.message.specs.declared.range.HartRange.{HartRange}
 use Rattle.message.proofs.Fronts.{Front, front_of}
 use Rattle.message.specs.Capture.{capture, message_bytes}
 use Rattle.message.specs.Cut.{IsMessage}

@@ -1,7 +1,7 @@
 -- Where all harts are decoded, a capture is.
 use Rattle.std.proofs.Common.{◌≡◌, ℕ, All, Bool, List, Option, Some, None, subst}
-use Rattle.hart_range.proofs.Selecting.{all_selected}
-use Rattle.hart_range.specs.Range.{every_hart, selected}
+use Rattle.message.proofs.Selecting.{all_selected}
+use Rattle.message.specs.Range.{every_hart, selected}
 use Rattle.retire.specs.declared.event.Event.{Event}
 use Rattle.rvclass.specs.Words.{Words}
 use Rattle.payload.specs.declared.mode.Mode.{Mode}

@@ -4,7 +4,7 @@ use Rattle.std.specs.Io.KnownBytes.{Appends}
 use Rattle.std.proofs.KnownBytes.{Appends-nil, Appends-trans}
 use Rattle.output.specs.Begun.{AppendsBeginning}
 use Rattle.output.proofs.Beginnings.{begun_behind, begun_in_front}
-use Rattle.hart_range.specs.declared.range.HartRange.{HartRange}
+use Rattle.message.specs.declared.range.HartRange.{HartRange}
 use Rattle.payload.specs.declared.mode.Mode.TheVariants.{Differential}
 use Rattle.message.specs.Header.{IsHeader, IsMarked, header_bytes}
 use Rattle.message.specs.declared.fault.MessageFault.{MessageFault}

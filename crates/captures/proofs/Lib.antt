@@ -17,3 +17,5 @@ pub mod NothingDecoded
 pub mod HeaderFaults
 pub mod HeaderDumps
 pub mod WholeCaptures
+mod AddedPackets
+mod EncodedEvents

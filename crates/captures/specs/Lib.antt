@@ -12,3 +12,4 @@ pub mod PacketText
 pub mod Offsets
 pub mod Dump
 pub mod steps
+pub mod HasEncoded

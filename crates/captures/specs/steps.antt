@@ -1,2 +1,4 @@
 pub mod Collecting
 pub mod Reading
+pub mod Adds
+pub mod Encodes

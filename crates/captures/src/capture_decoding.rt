@@ -2,7 +2,7 @@
 
 ghost use Rattle.std.specs.Prelude.{ℕ, ◌≡◌, ◌++◌, ◌∷◌, All, List, [], true, false, IfErr, IfOk, OnErr, OnOk, Some};
 ghost use Rattle.std.specs.Prelude.{length, replicate};
-ghost use Rattle.hart_range.specs.Range.{selected, selects};
+ghost use Rattle.message.specs.Range.{selected, selects};
 ghost use Rattle.rvclass.specs.Fetch.{words_of};
 ghost use Rattle.legalpath.specs.ProgramLog.{ProgramLog};
 ghost use Rattle.payload.specs.declared.mode.Mode.{Mode as AnyMode};
@@ -18,13 +18,11 @@ ghost use Rattle.captures.specs.Returned.{AreAskedFor, AreReturned, IsCaptureOf}
 ghost use Rattle.captures.specs.steps.Collecting.{HasReceivedUpTo};
 
 use crate::outcome::{CaptureFault, CaptureOutcome};
-use hart_range::HartRange;
-use message::{Message, Messages};
+use message::{HartRange, Message, Messages, Unwatched, Watch};
 use payload::Mode;
 use receiver::{ReceiveFault, Receiver};
 use rvclass::ProgramOver;
 use std::alloc::{AllocError, Allocator};
-use watching::{Unwatched, Watch};
 
 /// Reads the messages of a capture, splits them by hart, and decodes each hart's, up to the first fault.
 ///

@@ -7,16 +7,14 @@ ghost use Rattle.output.specs.Begun.{AppendsBeginning};
 ghost use Rattle.message.specs.steps.Filling.{AreBytes};
 ghost use Rattle.captures.specs.Dump.{AppendsDump, AreMessagesDumped, BeginsDump, IsDump, IsDumpOf, header_line};
 ghost use Rattle.captures.specs.Dump.{dump_line, dump_text, has_bad_payload, mode_text};
-ghost use Rattle.hart_range.specs.Range.{selected};
+ghost use Rattle.message.specs.Range.{selected};
 
 use crate::packet_text::ReadingText;
-use hart_range::HartRange;
-use message::{Header, Message, MessageFault, Messages};
+use message::{HartRange, Header, Message, MessageFault, Messages, Unwatched, Watch};
 use output::write_text;
 use payload::{Mode, unpack};
 use retire::WriteFault;
 use std::io::Write;
-use watching::{Unwatched, Watch};
 
 /// What was found in a capture that was dumped.
 #[derive(Clone, Copy, Debug, PartialEq, Eq)]

@@ -1,13 +1,16 @@
 //! The files of cases that a program is given.
 
+use crate::repeats::{Numbered, written_out};
 use std::rt::{Env, Files};
 use std::{env, fs, io};
 
-/// A file of cases.
+/// A file of cases, its lines written out.
 #[derive(Drop)]
 pub struct DataFile {
     pub name: String,
     pub text: String,
+    /// For each line of the text the number that it has in the file, from 1.
+    pub(crate) numbers: Vec<usize>,
 }
 
 /// The files that the program's arguments name, in their order.
@@ -16,8 +19,13 @@ pub struct DataFile {
 pub fn data_files<R: Env + Files + AllocGlobal>(rt: &R) -> io::Result<Vec<DataFile>> {
     let mut files = Vec::new(rt.alloc());
     for name in env::args(rt)?.skip(1) {
-        let text = fs::read_to_string(rt, name.as_str())?;
-        files.push(DataFile { name, text })?;
+        let read = fs::read_to_string(rt, name.as_str())?;
+        let Numbered { text, numbers } = written_out(rt.alloc(), read.as_str())?;
+        files.push(DataFile {
+            name,
+            text,
+            numbers,
+        })?;
     }
     Ok(files)
 }

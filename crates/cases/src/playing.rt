@@ -1,80 +1,32 @@
 //! Files of cases, played.
 
+use crate::case::Case;
 use crate::files::{DataFile, data_files};
+use crate::lines::lines_of;
 use crate::tally::Tally;
-use std::alloc::{AllocError, Global};
 use std::io;
 use std::process::ExitCode;
 use std::rt::{Env, Files};
 
 /// What gives the results of cases.
 pub trait Verbs {
-    /// Appends what a case gives. Where there is no such verb, or its arguments are not read, it appends why.
-    fn answer(&mut self, alloc: Global, case: &str, came: &mut String) -> Result<(), AllocError>;
+    /// Appends what a case gives. Where there is no such verb, or its arguments are not read, that is noted.
+    fn answer(&mut self, case: &mut Case<'_>);
 }
 
-/// A case whose wanted lines are not all read yet.
-#[derive(Drop)]
-struct Case<'a> {
-    line: usize,
-    case: &'a str,
-    wanted: String,
-}
-
-/// The case that begins at a line.
-fn case_of<'a>(alloc: Global, line: usize, text: &'a str) -> Result<Case<'a>, AllocError> {
-    let (case, wanted) = text.split_once(" -> ").unwrap_or((text, ""));
-    Ok(Case {
-        line,
-        case,
-        wanted: String::from_str(alloc, wanted)?,
-    })
-}
-
-/// Adds a further line to what is wanted.
-fn add_wanted(case: &mut Case<'_>, text: &str) -> Result<(), AllocError> {
-    if !case.wanted.is_empty() {
-        case.wanted.push('\n')?;
-    }
-    case.wanted.push_str(text)
-}
-
-/// Plays a case, if one is begun.
-fn end_case<R: Eprint + AllocGlobal, V: Verbs>(
+/// Plays the cases of files.
+fn play_files<R: Eprint + AllocGlobal, V: Verbs>(
     rt: &R,
     verbs: &mut V,
     tally: &mut Tally,
-    file: &str,
-    case: Option<Case<'_>>,
+    files: &[DataFile],
 ) -> io::Result<()> {
-    let Some(Case { line, case, wanted }) = case else {
-        return Ok(());
-    };
-    let mut came = String::new(rt.alloc());
-    verbs.answer(rt.alloc(), case, &mut came)?;
-    let came = came.trim_end_matches('\n');
-    tally.count(rt, (file, line), wanted.as_str(), came)
-}
-
-/// Plays the cases of a file.
-fn play_file<R: Eprint + AllocGlobal, V: Verbs>(
-    rt: &R,
-    verbs: &mut V,
-    tally: &mut Tally,
-    file: &DataFile,
-) -> io::Result<()> {
-    let mut begun = None;
-    for (i, text) in file.text.lines().enumerate() {
-        if let Some(further) = text.strip_prefix("> ") {
-            if let Some(case) = &mut begun {
-                add_wanted(case, further)?;
-            }
-        } else if !text.is_empty() && !text.starts_with('#') {
-            end_case(rt, verbs, tally, file.name.as_str(), begun)?;
-            begun = Some(case_of(rt.alloc(), i.saturating_add(1), text)?);
-        }
+    for line in &lines_of(rt.alloc(), files)? {
+        let mut case = Case::new(rt.alloc(), line.case());
+        verbs.answer(&mut case);
+        tally.judge(rt, line, &mut case)?;
     }
-    end_case(rt, verbs, tally, file.name.as_str(), begun)
+    Ok(())
 }
 
 /// Plays the cases of the files that the program's arguments name, and prints how many they are, as `COUNT cases`.
@@ -86,8 +38,6 @@ pub fn play<R: Env + Files + Print + Eprint + AllocGlobal, V: Verbs>(
     verbs: &mut V,
 ) -> io::Result<ExitCode> {
     let mut tally = Tally::new();
-    for file in &data_files(rt)? {
-        play_file(rt, verbs, &mut tally, file)?;
-    }
+    play_files(rt, verbs, &mut tally, data_files(rt)?.as_slice())?;
     tally.end(rt, "cases")
 }

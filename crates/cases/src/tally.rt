@@ -1,7 +1,24 @@
 //! How many cases were played, and which of them failed.
 
+use crate::case::Case;
+use crate::lines::Line;
 use std::io;
 use std::process::ExitCode;
+
+/// How many bytes of what is wanted and of what came are shown whole.
+const MOST_SHOWN: usize = 4_000;
+
+/// The first lines that differ of texts that are not shown whole.
+fn differing<'t>(wanted: &'t str, came: &'t str) -> (&'t str, &'t str) {
+    if wanted.len() > MOST_SHOWN || came.len() > MOST_SHOWN {
+        for (one, other) in wanted.lines().zip(came.lines()) {
+            if one != other {
+                return (one, other);
+            }
+        }
+    }
+    (wanted, came)
+}
 
 /// Counts cases, and those that failed.
 #[derive(Drop)]
@@ -19,8 +36,26 @@ impl Tally {
         }
     }
 
+    /// Counts a case that was played, if it does not only set something. Where what came is not what was wanted, both go
+    /// to standard error.
+    pub fn judge<R: Eprint + AllocGlobal>(
+        &mut self,
+        rt: &R,
+        line: &Line<'_>,
+        case: &mut Case<'_>,
+    ) -> io::Result<()> {
+        let mut wanted = String::new(rt.alloc());
+        line.add_wanted(&mut wanted)?;
+        case.end()?;
+        let came = case.came.trim_end_matches('\n');
+        if case.is_setting() && wanted.as_str() == came {
+            return Ok(());
+        }
+        self.count(rt, (line.file, line.number), wanted.as_str(), came)
+    }
+
     /// Counts a case, at this line of a file; its lines are counted from 1. Where what came is not what was wanted, both
-    /// go to standard error.
+    /// go to standard error, of long texts the first lines that differ.
     pub fn count(
         &mut self,
         rt: &impl Eprint,
@@ -33,6 +68,7 @@ impl Tally {
             return Ok(());
         }
         self.failed = self.failed.saturating_add(1);
+        let (wanted, came) = differing(wanted, came);
         eprintln!(rt; "{file}:{line}: wanted {wanted}, came {came}")
     }
 

@@ -3,7 +3,7 @@
 //!
 //! Messages that are written and read (`message`), the queue and its limits (`funnel`), and what the bench (`bench`)
 //! makes of messages, replays and runs where nothing fails are lines of `channel_vectors`. Tests that draw inputs, go
-//! through each size, length or call, or are of scale are in `tools/long-tests/path`.
+//! through each size, length or call, or are of scale are in `checks/long-tests/path`.
 #![tactic(auto)]
 
 #[cfg(test)]

@@ -1,7 +1,7 @@
 //! A gate that counts.
 
 use bench::Gate;
-use std::alloc::Global;
+use cases::Case;
 use std::sync::Wait;
 use std::sync::atomic::{AtomicBool, AtomicU64, Ordering};
 
@@ -15,15 +15,15 @@ pub(crate) struct Calls {
 
 impl Calls {
     /// No call of so many harts yet.
-    pub(crate) fn new(alloc: Global, harts: usize) -> Option<Calls> {
-        let mut made = Vec::new(alloc);
+    pub(crate) fn new(case: &mut Case<'_>, harts: usize) -> Calls {
+        let mut made = Vec::new(case.alloc);
         for _ in 0..harts {
-            made.push(AtomicU64::new(0)).ok()?;
+            case.push(&mut made, AtomicU64::new(0));
         }
-        Some(Calls {
+        Calls {
             made,
             strange: AtomicBool::new(false),
-        })
+        }
     }
 
     /// Counts a call of a hart, before which it should have made so many.
@@ -37,16 +37,16 @@ impl Calls {
         }
     }
 
-    /// How many calls each hart made; `None` where a call was not the next of its hart.
-    pub(crate) fn made(&self, alloc: Global) -> Option<Vec<u64>> {
+    /// How many calls each hart made. A call that was not the next of its hart is said.
+    pub(crate) fn made(&self, case: &mut Case<'_>) -> Vec<u64> {
         if self.strange.load(Ordering::SeqCst) {
-            return None;
+            case.put_part("a call that is not the next");
         }
-        let mut counts = Vec::new(alloc);
+        let mut counts = Vec::new(case.alloc);
         for made in &self.made {
-            counts.push(made.load(Ordering::SeqCst)).ok()?;
+            case.push(&mut counts, made.load(Ordering::SeqCst));
         }
-        Some(counts)
+        counts
     }
 }
 

@@ -2,16 +2,14 @@
 
 ghost use Rattle.std.specs.Prelude.{◌≤◌};
 
-use crate::logs::{logs_of, times};
-use crate::messages::{add_part, message_in, part};
-use crate::outcomes::{add_counts, add_outcome};
-use crate::settings::settings_in;
+use crate::logs::{config_of, logs_in};
+use crate::outcomes::{put_counts, put_outcome};
 use bench::{Collector, Config};
+use cases::{Case, message_of};
 use encoder::Source;
 use legalpath::LegalLog;
 use message::Message;
 use rvclass::Program;
-use std::alloc::Global;
 
 /// Takes in the first messages of a log, at most this many. Returns how many there are, and of how many bytes.
 fn take_log(
@@ -42,93 +40,98 @@ fn take_log(
     sent
 }
 
-/// Takes in all messages of each log, and adds how many there are.
+/// Takes in all messages of each log, and appends how many there are.
 fn take_all(
-    alloc: Global,
+    case: &mut Case<'_>,
     collector: &mut Collector<'_, '_>,
     logs: &[LegalLog<'_>],
     config: Config,
-    came: &mut String,
-) -> Option<()>
+)
     requires { 1 ≤ config.period }
 {
-    let mut counts = Vec::new(alloc);
+    let mut counts = Vec::new(case.alloc);
     for (hart, log) in logs.iter().enumerate() {
-        let hart = u16::try_from(hart).ok()?;
+        let hart = hart.min(65_535) as u16;
         let (count, _) = take_log(collector, log, config, hart, u64::MAX);
-        counts.push(count).ok()?;
+        case.push(&mut counts, count);
     }
-    add_counts("messages", counts.as_slice(), came)
+    put_counts(case, "messages", counts.as_slice());
 }
 
-/// Takes in a message, and adds why not, or that it is taken in.
-fn take_message(
-    alloc: Global,
-    collector: &mut Collector<'_, '_>,
-    words: &str,
-    came: &mut String,
-) -> Option<()> {
-    let message = message_in(alloc, words)?;
-    match collector.take_in(message) {
-        Ok(()) => add_part("taken in", came),
-        Err(fault) => add_part(fault, came),
+/// Takes in a message, and appends why not, or that it is taken in.
+fn take_message(case: &mut Case<'_>, collector: &mut Collector<'_, '_>, word: &str) {
+    if let Some(message) = message_of(case, word) {
+        match collector.take_in(message) {
+            Ok(()) => case.put_part("taken in"),
+            Err(fault) => case.put_part(fault),
+        }
     }
 }
 
-/// One step: `all` messages of each log, `HART*MOST` of one, or `HART:NUMBER:PAYLOAD`, a message.
-fn take_step(
-    alloc: Global,
+/// Takes in the first messages of a log, `MOST*HART`, and appends how many there are.
+fn take_some(
+    case: &mut Case<'_>,
     collector: &mut Collector<'_, '_>,
     logs: &[LegalLog<'_>],
     config: Config,
     step: &str,
-    came: &mut String,
-) -> Option<()>
+)
     requires { 1 ≤ config.period }
 {
-    if step == "all" {
-        return take_all(alloc, collector, logs, config, came);
-    }
-    if step.contains(':') {
-        let words = step.replace(alloc, ":", " ").ok()?;
-        return take_message(alloc, collector, words.as_str(), came);
-    }
-    let (hart, most) = times(step)?;
-    let hart = hart.parse::<u16>().ok()?;
-    let log = logs.get(usize::from(hart))?;
+    let (most, hart) = case.times(step);
+    let hart = case.short(hart);
+    let Some(log) = logs.get(usize::from(hart)) else {
+        return case.unread();
+    };
     let (count, bytes) = take_log(collector, log, config, hart, most);
-    part(came)?;
-    write!(came, "{count} messages of {bytes} bytes").ok()
+    case.put_part(count);
+    case.put(" messages of ");
+    case.put_shown(bytes);
+    case.put(" bytes");
+}
+
+/// Takes in what the steps of `take` say.
+fn take_steps(
+    case: &mut Case<'_>,
+    collector: &mut Collector<'_, '_>,
+    logs: &[LegalLog<'_>],
+    config: Config,
+)
+    requires { 1 ≤ config.period }
+{
+    for step in case.named("take").split(',') {
+        if step == "all" {
+            take_all(case, collector, logs, config);
+        } else if step.contains(':') {
+            take_message(case, collector, step);
+        } else {
+            take_some(case, collector, logs, config, step);
+        }
+    }
 }
 
 /// `collect SETTINGS`: what comes of each step of `take`, which have commas between them, and of the harts then. A step
-/// is `all`, by which all messages of each log are taken in, `HART*MOST`, the first messages of a log, at most so many,
-/// or `HART:NUMBER:PAYLOAD`, a message. For the hart `refuse` an allocation has failed before.
-pub(crate) fn collected(
-    alloc: Global,
-    program: &Program,
-    words: &str,
-    came: &mut String,
-) -> Option<()> {
-    let settings = settings_in(words)?;
-    let config = settings.config;
-    let logs = logs_of(alloc, program, settings.harts, settings.long)?;
+/// is `all`, by which all messages of each log are taken in, `MOST*HART`, the first messages of a log, at most so many,
+/// or a message. For the hart `refuse` an allocation has failed before.
+pub(crate) fn collected(case: &mut Case<'_>, program: &Program) {
+    let config = config_of(case);
+    let logs = logs_in(case, program);
+    let refused = case.number("refuse", u64::MAX);
     if logs.len() > 65_535 || config.period == 0 {
-        return None;
+        return case.unread();
     }
-    let mut collector = Collector::new(alloc, logs.as_slice(), config.keep).ok()?;
-    if let Some(hart) = settings.refuse {
-        if usize::from(hart) >= logs.len() {
-            return None;
-        }
-        collector.refuse(hart);
+    let Ok(mut collector) = Collector::new(case.alloc, logs.as_slice(), config.keep) else {
+        return case.no_memory();
+    };
+    if refused < logs.len() as u64 && refused < 65_535 {
+        collector.refuse(refused as u16);
+    } else if refused != u64::MAX {
+        case.unread();
     }
-    for step in settings.take.split(',') {
-        take_step(alloc, &mut collector, logs.as_slice(), config, step, came)?;
-    }
+    take_steps(case, &mut collector, logs.as_slice(), config);
     let outcome = collector.finish();
-    if settings.report {
-        came.push('\n').ok()?;
+    if case.named("report") == "yes" {
+        case.put("\n");
     }
-    add_outcome(alloc, &outcome, logs.as_slice(), settings.report, came)
+    put_outcome(case, &outcome, logs.as_slice());
 }

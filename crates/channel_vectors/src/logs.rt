@@ -1,119 +1,113 @@
-//! A program of five instructions, and the logs of harts that run it.
+//! A program of five instructions, the logs of harts that run it, and how they are sent.
 
+use bench::Config;
+use cases::{Case, events_of, mode_of, piece_of};
 use legalpath::LegalLog;
-use retire::Event;
 use rvclass::Program;
 use std::alloc::Global;
 
-/// The address of the program.
-const BASE: u64 = 0x8000_0000;
-
 /// Two `nop`, a jump to the address in `ra`, a branch to itself, and a jump to itself.
-const WORDS: [u32; 5] = [
-    0x0000_0013,
-    0x0000_0013,
-    0x0000_8067,
-    0x0000_0063,
-    0x0000_006f,
-];
+const WORDS: &str = "00000013 00000013 00008067 00000063 0000006f";
 
-/// The events of logs of four kinds: branches, a jump to `ra`, traps, and jumps of an instruction to itself.
+/// The rows of logs of four kinds: branches, a jump to `ra`, traps, and jumps of an instruction to itself.
 const KINDS: [&str; 4] = [
-    "12/5*33",
-    "0/0 4/0 8/6 4/0",
-    "0/0 exception 0/0 interrupt",
-    "16/0*3",
+    "33*8000000c,5,3,,",
+    "80000000,0,3,, 80000004,0,3,, 80000008,6,3,, 80000004,0,3,,",
+    "80000000,0,3,, 80000004,1,3,b,0 80000000,0,3,, 80000004,2,3,7,",
+    "3*80000010,0,3,,",
 ];
 
 /// The program.
 pub(crate) fn program(alloc: Global) -> Option<Program> {
-    let mut image = Vec::new(alloc);
-    for word in WORDS {
-        image.extend_from_slice(&word.to_le_bytes()).ok()?;
-    }
-    Program::new(BASE, image).ok()
+    let (base, image) = piece_of(&mut Case::new(alloc, ""), WORDS);
+    Program::new(base, image).ok()
 }
 
-/// The retirement of an instruction at an offset, at machine level.
-pub(crate) fn retired(offset: u64, itype: u8) -> Event {
-    Event::Retire {
-        addr: BASE.wrapping_add(offset),
-        itype,
-        privilege: 3,
-    }
-}
-
-/// A trap at machine level after the first instruction.
-fn trapped(interrupt: bool, cause: u8) -> Event {
-    Event::Trap {
-        epc: BASE + 4,
-        privilege: 3,
-        interrupt,
-        cause,
-        tval: 0,
-    }
-}
-
-/// The event of a word: `OFFSET/ITYPE`, the retirement of an instruction at machine level, or a trap by its name.
-fn event_of(word: &str) -> Option<Event> {
-    match word {
-        "exception" => return Some(trapped(false, 0xb)),
-        "interrupt" => return Some(trapped(true, 7)),
-        _ => {}
-    }
-    let (offset, itype) = word.split_once('/')?;
-    let offset = offset.parse::<u64>().ok()?;
-    Some(retired(offset, itype.parse::<u8>().ok()?))
-}
-
-/// The words before a star and the number after it, or the words and 1.
-pub(crate) fn times(word: &str) -> Option<(&str, u64)> {
-    match word.split_once('*') {
-        Some((word, count)) => Some((word, count.parse::<u64>().ok()?)),
-        None => Some((word, 1)),
-    }
-}
-
-/// The events of words, each with `*COUNT` behind it where it comes so many times.
-pub(crate) fn events_of(alloc: Global, words: &str) -> Option<Vec<Event>> {
-    let mut events = Vec::new(alloc);
-    for word in words.split_whitespace() {
-        let (word, count) = times(word)?;
-        let event = event_of(word)?;
-        for _ in 0..count {
-            events.push(event).ok()?;
+/// Adds the log of these rows.
+fn add_log<'p>(
+    case: &mut Case<'_>,
+    program: &'p Program,
+    rows: &str,
+    logs: &mut Vec<LegalLog<'p>>,
+) {
+    let mut rows = Case::new(case.alloc, rows);
+    let events = events_of(&mut rows);
+    case.join(&rows);
+    if events.len() <= 1 << 24 {
+        if let Ok(log) = LegalLog::new(program, events) {
+            return case.push(logs, log);
         }
     }
-    Some(events)
+    case.unread();
 }
 
-/// Adds the log of these events.
-fn add_log<'p>(
-    alloc: Global,
-    program: &'p Program,
-    words: &str,
-    logs: &mut Vec<LegalLog<'p>>,
-) -> Option<()> {
-    let events = events_of(alloc, words)?;
-    if events.len() > 1 << 24 {
-        return None;
-    }
-    logs.push(LegalLog::new(program, events).ok()?).ok()
-}
-
-/// The logs of this many harts, of the four kinds in turn, and then one of this many branches if there are some.
+/// The logs of this many harts, of the four kinds in turn, and then one of these rows if there are some.
 pub(crate) fn logs_of<'p>(
-    alloc: Global,
+    case: &mut Case<'_>,
     program: &'p Program,
     harts: u16,
     long: &str,
-) -> Option<Vec<LegalLog<'p>>> {
-    let mut logs = Vec::new(alloc);
+) -> Vec<LegalLog<'p>> {
+    let mut logs = Vec::new(case.alloc);
     for hart in 0..usize::from(harts) {
-        add_log(alloc, program, KINDS[hart % 4], &mut logs)?;
+        add_log(case, program, KINDS[hart % 4], &mut logs);
     }
     if !long.is_empty() {
-        add_log(alloc, program, long, &mut logs)?;
+        add_log(case, program, long, &mut logs);
     }
-    Some(logs)
+    logs
+}
+
+/// The logs of a case: as many as its harts, and then one more if there is one. A setting that is not known is noted.
+pub(crate) fn logs_in<'p>(case: &mut Case<'_>, program: &'p Program) -> Vec<LegalLog<'p>> {
+    check_names(case);
+    let harts = case.small("harts", 4);
+    let long = case.named("long");
+    logs_of(case, program, harts, long)
+}
+
+/// Whether a setting has this name.
+fn is_setting(name: &str) -> bool {
+    matches!(
+        name,
+        "harts"
+            | "long"
+            | "period"
+            | "mode"
+            | "capacity"
+            | "keep"
+            | "rooms"
+            | "room"
+            | "turns"
+            | "each"
+            | "last"
+            | "take"
+            | "refuse"
+            | "report"
+    )
+}
+
+/// Notes an argument that has not the name of a setting.
+fn check_names(case: &mut Case<'_>) {
+    for word in case.text.split_whitespace() {
+        let name = word.split_once('=').unwrap_or(("", "")).0;
+        if !is_setting(name) {
+            case.unread();
+        }
+    }
+}
+
+/// How a case sends messages.
+pub(crate) fn config_of(case: &mut Case<'_>) -> Config {
+    let mode = case.value("mode").unwrap_or("diff");
+    let capacity = case.number("capacity", 1);
+    if capacity > 0xffff_ffff {
+        case.unread();
+    }
+    Config {
+        period: case.small("period", 1024),
+        mode: mode_of(case, mode),
+        capacity: (capacity & 0xffff_ffff) as u32,
+        keep: case.named("keep") == "yes",
+    }
 }

@@ -10,22 +10,50 @@ mod collecting;
 mod logs;
 mod messages;
 mod outcomes;
-mod playing;
 mod queue;
 mod reading;
 mod reports;
 mod runs;
-mod settings;
 mod split;
 mod verbs;
 
+use crate::verbs::Vectors;
+use cases::{Case, DataFile, Tally, data_files, lines_of};
 use std::io;
 use std::process::ExitCode;
+use std::rt::{Env, Files};
+use std::sync::Wait;
+use std::thread::Threads;
+
+/// Plays the cases of files, as `cases::play` does. A case may start threads, which share the runtime: a method of a trait
+/// cannot ask for that.
+fn play_files<R: Eprint + AllocGlobal + Threads + Wait + Sync>(
+    rt: &R,
+    vectors: &mut Vectors<'_>,
+    tally: &mut Tally,
+    files: &[DataFile],
+) -> io::Result<()> {
+    for line in &lines_of(rt.alloc(), files)? {
+        let mut case = Case::new(rt.alloc(), line.case());
+        vectors.answer(rt, &mut case);
+        tally.judge(rt, line, &mut case)?;
+    }
+    Ok(())
+}
+
+/// Plays the cases of the files that the program's arguments name, and prints how many they are, as `COUNT cases`.
+fn play<R: Env + Files + Print + Eprint + AllocGlobal + Threads + Wait + Sync>(
+    rt: &R,
+    vectors: &mut Vectors<'_>,
+) -> io::Result<ExitCode> {
+    let mut tally = Tally::new();
+    play_files(rt, vectors, &mut tally, data_files(rt)?.as_slice())?;
+    tally.end(rt, "cases")
+}
 
 fn main(rt: HostRuntime) -> io::Result<ExitCode> {
-    let Some(program) = logs::program(rt.alloc()) else {
-        return Ok(ExitCode::FAILURE);
-    };
-    let mut vectors = verbs::Vectors::new(&program);
-    playing::play(&rt, &mut vectors)
+    match logs::program(rt.alloc()) {
+        Some(program) => play(&rt, &mut Vectors::new(&program)),
+        None => Ok(ExitCode::FAILURE),
+    }
 }

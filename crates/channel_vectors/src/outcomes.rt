@@ -1,82 +1,68 @@
 //! What comes of the harts of a replay, of a run, or of messages that were taken in by hand, as text.
 
-use crate::messages::{add_part, part};
 use bench::{Outcome, is_whole, report};
+use cases::Case;
 use legalpath::LegalLog;
-use std::alloc::Global;
 
-/// Adds a name, and the number of each hart. A number that is that of the hart four places before is left out.
-pub(crate) fn add_counts(name: &str, counts: &[u64], came: &mut String) -> Option<()> {
-    part(came)?;
-    came.push_str(name).ok()?;
+/// Appends a name, and the number of each hart. A number that is that of the hart four places before is left out.
+pub(crate) fn put_counts(case: &mut Case<'_>, name: &str, counts: &[u64]) {
+    case.put_part("");
+    case.put(name);
     for (hart, count) in counts.iter().enumerate() {
         if hart < 4 {
-            write!(came, " {count}").ok()?;
+            case.put_word(*count);
         } else if counts.get(hart - 4) != Some(count) {
-            write!(came, ", hart {hart} {count}").ok()?;
+            let done = write!(case.came, ", hart {hart} {count}");
+            case.note(done);
         }
     }
-    Some(())
 }
 
-/// Adds the report of an outcome, whose lines end.
-fn add_report(
-    alloc: Global,
-    outcome: &Outcome,
-    logs: &[LegalLog<'_>],
-    came: &mut String,
-) -> Option<()> {
-    let mut text = Vec::new(alloc);
-    if logs.len() != outcome.harts.len() {
-        return None;
-    }
-    report(outcome, logs, &mut text).ok()?;
-    came.push_str(str::from_utf8(text.as_slice()).ok()?).ok()
-}
-
-/// Adds what comes of each hart, where that is asked for its report first: whether every log came back whole, how many
+/// Appends what comes of each hart, where that is asked for its report first: whether every log came back whole, how many
 /// packets of each hart are kept, and which harts are closed and refused.
-pub(crate) fn add_outcome(
-    alloc: Global,
-    outcome: &Outcome,
-    logs: &[LegalLog<'_>],
-    reports: bool,
-    came: &mut String,
-) -> Option<()> {
-    if reports {
-        add_report(alloc, outcome, logs, came)?;
-    } else {
-        part(came)?;
-    }
+pub(crate) fn put_outcome(case: &mut Case<'_>, outcome: &Outcome, logs: &[LegalLog<'_>]) {
     if logs.len() != outcome.harts.len() {
-        return None;
+        return case.unread();
     }
-    let mut line = String::new(alloc);
-    let whole = is_whole(outcome, logs);
-    add_part(if whole { "whole" } else { "not whole" }, &mut line)?;
-    add_harts(alloc, outcome, &mut line)?;
-    came.push_str(line.as_str()).ok()
+    if case.named("report") == "yes" {
+        let mut text = Vec::new(case.alloc);
+        if report(outcome, logs, &mut text).is_err() {
+            case.no_memory();
+        }
+        case.put_text(text.as_slice());
+    } else {
+        case.put_part("");
+    }
+    case.put(if is_whole(outcome, logs) {
+        "whole"
+    } else {
+        "not whole"
+    });
+    put_harts(case, outcome);
 }
 
-/// Adds how many packets of each hart are kept, which of the first four harts are open and refused, and how many harts
+/// Appends how many packets of each hart are kept, which of the first four harts are open and refused, and how many harts
 /// are open where there are more.
-fn add_harts(alloc: Global, outcome: &Outcome, came: &mut String) -> Option<()> {
-    let mut kept = Vec::new(alloc);
+fn put_harts(case: &mut Case<'_>, outcome: &Outcome) {
+    let mut kept = Vec::new(case.alloc);
+    let mut open: u64 = 0;
     for hart in &outcome.harts {
-        kept.push(hart.packets.len() as u64).ok()?;
+        case.push(&mut kept, hart.packets.len() as u64);
+        open = open.saturating_add(u64::from(!hart.closed));
     }
-    add_counts("kept", kept.as_slice(), came)?;
+    put_counts(case, "kept", kept.as_slice());
     for (number, hart) in outcome.harts.iter().take(4).enumerate() {
         if !hart.closed {
-            write!(came, ", {number} open").ok()?;
+            case.put_part(number);
+            case.put(" open");
         }
         if hart.refused {
-            write!(came, ", {number} refused").ok()?;
+            case.put_part(number);
+            case.put(" refused");
         }
     }
-    let open = outcome.harts.iter().filter(|hart| !hart.closed).count();
     if outcome.harts.len() > 4 && open > 0 {
-        write!(came, ", {open} open in all").ok()?;
+        case.put_part(open);
+        case.put(" open in all");
     }
-    Some(())
 }

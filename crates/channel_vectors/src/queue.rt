@@ -2,9 +2,9 @@
 
 ghost use Rattle.std.specs.Prelude.{◌≡◌};
 
-use crate::messages::{add_message, add_part, message_in};
+use crate::messages::put_message;
+use cases::{Case, message_of};
 use funnel::{Core, OpenFault, open};
-use std::alloc::Global;
 
 /// A queue, and how many harts it serves.
 #[derive(Drop)]
@@ -17,96 +17,98 @@ pub(crate) struct Queue {
 /// Why no queue is made, and why no channel.
 type Faults = (Option<OpenFault>, Option<OpenFault>);
 
-/// The first number of a range `FIRST-LAST/STEP`, the last one and the step; one number is a range too.
-fn range_of(word: &str) -> Option<(u64, u64, usize)> {
+/// The first number of a range `FIRST-LAST/STEP`, the one after the last and the step; one number is a range too.
+fn range_of(case: &mut Case<'_>, word: &str) -> (u64, u64, usize) {
     let (word, step) = word.split_once('/').unwrap_or((word, "1"));
     let (first, last) = word.split_once('-').unwrap_or((word, word));
-    let step = step.parse::<usize>().ok()?;
-    Some((first.parse::<u64>().ok()?, last.parse::<u64>().ok()?, step))
+    let step = case.decimal(step) as usize;
+    let (first, last) = (case.decimal(first), case.decimal(last));
+    (first, last.saturating_add(1), step)
 }
 
-/// Adds why there is none of something, or that it is made.
-fn add_made(fault: Option<OpenFault>, came: &mut String) -> Option<()> {
+/// Appends why there is none of something, or that it is made.
+fn put_made(case: &mut Case<'_>, fault: Option<OpenFault>) {
     match fault {
-        Some(fault) => add_part(fault, came),
-        None => add_part("made", came),
+        Some(fault) => case.put_part(fault),
+        None => case.put_part("made"),
     }
+}
+
+/// Appends why no queue and why no channel of these numbers are made, where that is not as before.
+fn put_limits(case: &mut Case<'_>, harts: u64, capacity: u64, before: &mut Option<Faults>) {
+    let (Ok(harts), Ok(capacity)) = (u16::try_from(harts), u32::try_from(capacity)) else {
+        return case.unread();
+    };
+    let of_queue = Core::new(case.alloc, harts, capacity).err();
+    let of_channel = open(case.alloc, harts, capacity).err();
+    if *before != Some((of_queue, of_channel)) {
+        put_made(case, of_queue);
+        put_made(case, of_channel);
+    }
+    *before = Some((of_queue, of_channel));
 }
 
 /// `limits HARTS CAPACITIES`, each a number or a range: why no queue and why no channel of them is made, once for all
 /// that are alike and come one after the other.
-pub(crate) fn limits(alloc: Global, words: &str, came: &mut String) -> Option<()> {
-    let (harts, capacities) = words.split_once(' ')?;
-    let (first, last, step) = range_of(harts)?;
+pub(crate) fn limits(case: &mut Case<'_>) {
+    let (harts, capacities) = (case.word(), case.word());
+    let (first, end, step) = range_of(case, harts);
+    let (low, high, by) = range_of(case, capacities);
     let mut before = None;
-    for harts in (first..last.saturating_add(1)).step_by(step.max(1)) {
-        add_limits(
-            alloc,
-            u16::try_from(harts).ok()?,
-            capacities,
-            &mut before,
-            came,
-        )?;
-    }
-    Some(())
-}
-
-/// Adds why no queue and why no channel of these numbers are made, where that is not as before.
-fn add_limits(
-    alloc: Global,
-    harts: u16,
-    capacities: &str,
-    before: &mut Option<Faults>,
-    came: &mut String,
-) -> Option<()> {
-    let (first, last, step) = range_of(capacities)?;
-    for capacity in (first..last.saturating_add(1)).step_by(step.max(1)) {
-        let capacity = u32::try_from(capacity).ok()?;
-        let of_queue = Core::new(alloc, harts, capacity).err();
-        let of_channel = open(alloc, harts, capacity).err();
-        if *before != Some((of_queue, of_channel)) {
-            add_made(of_queue, came)?;
-            add_made(of_channel, came)?;
+    for harts in (first..end).step_by(step.max(1)) {
+        for capacity in (low..high).step_by(by.max(1)) {
+            put_limits(case, harts, capacity, &mut before);
         }
-        *before = Some((of_queue, of_channel));
     }
-    Some(())
 }
 
 /// `queue HARTS CAPACITY`: a new queue.
-pub(crate) fn begin(alloc: Global, words: &str, queue: &mut Option<Queue>) -> Option<()> {
-    let (harts, capacity) = words.split_once(' ')?;
-    let harts = harts.parse::<u16>().ok()?;
-    let core = Core::new(alloc, harts, capacity.parse::<u32>().ok()?).ok()?;
-    *queue = Some(Queue { core, harts });
-    Some(())
+pub(crate) fn begin(case: &mut Case<'_>) -> Option<Queue> {
+    let (harts, capacity) = (case.word(), case.word());
+    let harts = case.short(harts);
+    case.sets();
+    let Ok(capacity) = capacity.parse::<u32>() else {
+        case.unread();
+        return None;
+    };
+    match Core::new(case.alloc, harts, capacity) {
+        Ok(core) => Some(Queue { core, harts }),
+        Err(_) => {
+            case.unread();
+            None
+        }
+    }
 }
 
-/// `offer HART NUMBER PAYLOAD`: whether the queue takes the message, or gives it back.
-pub(crate) fn offer(
-    alloc: Global,
-    words: &str,
-    queue: &mut Option<Queue>,
-    came: &mut String,
-) -> Option<()> {
-    let queue = queue.as_mut()?;
-    let message = message_in(alloc, words)?;
+/// `offer MESSAGE`: whether the queue takes the message, or gives it back.
+pub(crate) fn offer(case: &mut Case<'_>, queue: &mut Option<Queue>) {
+    let word = case.text;
+    let message = message_of(case, word);
+    let Some(queue) = queue.as_mut() else {
+        return case.unread();
+    };
+    let Some(message) = message else {
+        return;
+    };
     if message.hart >= queue.harts {
-        return None;
+        return case.unread();
     }
     match queue.core.offer(message) {
-        Ok(()) => add_part("taken", came),
+        Ok(()) => case.put_part("taken"),
         Err(back) => {
-            add_part("back", came)?;
-            add_message(alloc, &back, came)
+            case.put_part("back");
+            put_message(case, &back);
         }
     }
 }
 
 /// `take`: the front message, which is taken.
-pub(crate) fn take(alloc: Global, queue: &mut Option<Queue>, came: &mut String) -> Option<()> {
-    match queue.as_mut()?.core.take() {
-        Some(message) => add_message(alloc, &message, came),
-        None => add_part("none", came),
+pub(crate) fn take(case: &mut Case<'_>, queue: &mut Option<Queue>) {
+    let Some(queue) = queue.as_mut() else {
+        return case.unread();
+    };
+    match queue.core.take() {
+        Some(message) => put_message(case, &message),
+        None => case.put_part("none"),
     }
 }

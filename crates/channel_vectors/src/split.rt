@@ -1,15 +1,19 @@
 //! Messages that are split by hart.
 
-use crate::messages::{add_part, message_in};
+use cases::{Case, message_of};
 use message::{Demux, DemuxFault, Message};
 use payload::Packet;
-use std::alloc::Global;
 
 /// `demux HARTS`: a new demultiplexer.
-pub(crate) fn begin(alloc: Global, words: &str, known: &mut Option<Demux>) -> Option<()> {
-    let harts = words.parse::<u16>().ok()?;
-    *known = Some(Demux::new(alloc, harts).ok()?);
-    Some(())
+pub(crate) fn begin(case: &mut Case<'_>) -> Option<Demux> {
+    let harts = case.word();
+    let harts = case.short(harts);
+    case.sets();
+    let demux = Demux::new(case.alloc, harts).ok();
+    if demux.is_none() {
+        case.no_memory();
+    }
+    demux
 }
 
 /// What a call returns for a message, with how many numbers are missing before it.
@@ -23,30 +27,35 @@ fn answer(demux: &mut Demux, call: &str, message: &Message) -> Result<(Packet, u
     }
 }
 
-/// `accept next|lossy HART NUMBER PAYLOAD`: how many numbers are missing before the message, whose packet is returned,
-/// or why it is refused; and which of the harts 0, 1, 2 and 65535 are closed then.
-pub(crate) fn accept(
-    alloc: Global,
-    words: &str,
-    known: &mut Option<Demux>,
-    came: &mut String,
-) -> Option<()> {
-    let demux = known.as_mut()?;
-    let (call, words) = words.split_once(' ')?;
-    let message = message_in(alloc, words)?;
-    match answer(demux, call, &message) {
+/// Appends what a call returns for a message, and which harts are closed then.
+fn put_answer(case: &mut Case<'_>, demux: &mut Demux, call: &str, message: &Message) {
+    match answer(demux, call, message) {
         Ok((packet, missing)) => {
             if payload::unpack(message.payload.bytes()) != Ok(packet) {
-                add_part("another packet", came)?;
+                case.put_part("another packet");
             }
-            write!(came, "{missing} missing").ok()?;
+            case.put_shown(missing);
+            case.put(" missing");
         }
-        Err(fault) => add_part(fault, came)?,
+        Err(fault) => case.put_part(fault),
     }
     for hart in [0u16, 1, 2, 65_535] {
         if demux.is_closed(hart) {
-            write!(came, ", {hart} closed").ok()?;
+            case.put_part(hart);
+            case.put(" closed");
         }
     }
-    Some(())
+}
+
+/// `accept next|lossy MESSAGE`: how many numbers are missing before the message, whose packet is returned, or why it is
+/// refused; and which of the harts 0, 1, 2 and 65535 are closed then.
+pub(crate) fn accept(case: &mut Case<'_>, known: &mut Option<Demux>) {
+    let (call, word) = (case.word(), case.word());
+    let message = message_of(case, word);
+    let Some(demux) = known.as_mut() else {
+        return case.unread();
+    };
+    if let Some(message) = message {
+        put_answer(case, demux, call, &message);
+    }
 }

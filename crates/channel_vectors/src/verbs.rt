@@ -2,9 +2,9 @@
 
 use crate::queue::{self, Queue};
 use crate::{collecting, messages, reading, reports, runs, split};
+use cases::Case;
 use message::Demux;
 use rvclass::Program;
-use std::alloc::{AllocError, Global};
 use std::sync::Wait;
 use std::thread::Threads;
 
@@ -26,41 +26,37 @@ impl<'p> Vectors<'p> {
         }
     }
 
-    /// Appends what a case gives. Where there is no such verb, or its arguments are not read, it appends that.
-    pub(crate) fn answer<R: Threads + Wait + Sync>(
-        &mut self,
-        alloc: Global,
-        rt: &R,
-        case: &str,
-        came: &mut String,
-    ) -> Result<(), AllocError> {
-        let (verb, words) = case.split_once(' ').unwrap_or((case, ""));
+    /// Appends what a case of messages, the demultiplexer or the queue gives.
+    fn answer_alone(&mut self, case: &mut Case<'_>, verb: &str) {
+        match verb {
+            "memory" => messages::in_memory(case),
+            "stream" => messages::from_start(case),
+            "messages" => messages::from_stream(case),
+            "fault" => messages::fault(case),
+            "demux" => self.demux = split::begin(case),
+            "accept" => split::accept(case, &mut self.demux),
+            "queue" => self.queue = queue::begin(case),
+            "offer" => queue::offer(case, &mut self.queue),
+            "take" => queue::take(case, &mut self.queue),
+            _ => case.unread(),
+        }
+    }
+
+    /// Appends what a case gives. Where there is no such verb, or its arguments are not read, that is noted.
+    pub(crate) fn answer<R: Threads + Wait + Sync>(&mut self, rt: &R, case: &mut Case<'_>) {
         let program = self.program;
-        let answered = match verb {
-            "message" => messages::written(alloc, words, came),
-            "header" => messages::header_written(alloc, words, came),
-            "memory" => messages::in_memory(alloc, words, came),
-            "stream" => messages::from_start(alloc, words, came),
-            "messages" => messages::from_stream(alloc, words, came),
-            "fault" => messages::fault(words, came),
-            "demux" => split::begin(alloc, words, &mut self.demux),
-            "accept" => split::accept(alloc, words, &mut self.demux, came),
-            "limits" => queue::limits(alloc, words, came),
-            "queue" => queue::begin(alloc, words, &mut self.queue),
-            "offer" => queue::offer(alloc, words, &mut self.queue, came),
-            "take" => queue::take(alloc, &mut self.queue, came),
-            "replay" => runs::replayed(alloc, program, words, came),
-            "run" => runs::run_over_threads(alloc, rt, program, words, came),
-            "alike" => runs::alike(alloc, rt, program, words, came),
-            "collect" => collecting::collected(alloc, program, words, came),
-            "told" => reading::told(alloc, program, words, came),
-            "piece" => reading::piece(alloc, words, came),
-            "report" => reports::reported(alloc, program, words, came),
-            _ => None,
-        };
-        match answered {
-            Some(()) => Ok(()),
-            None => came.push_str(" (is not read)"),
+        match case.word() {
+            "replay" => runs::replayed(case, program),
+            "run" => runs::run_over_threads(case, rt, program),
+            "alike" => runs::alike(case, rt, program),
+            "collect" => collecting::collected(case, program),
+            "told" => reading::told(case, program),
+            "piece" => reading::piece(case),
+            "report" => reports::reported(case, program),
+            "message" => messages::written(case),
+            "header" => messages::header_written(case),
+            "limits" => queue::limits(case),
+            verb => self.answer_alone(case, verb),
         }
     }
 }

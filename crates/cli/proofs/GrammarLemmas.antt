@@ -7,7 +7,7 @@ use Rattle.clap.specs.Simple.{app_of_fields, on_top}
 use Rattle.clap.specs.declared.builder.arg.Arg.{Arg}
 use Rattle.clap.specs.declared.builder.command.Command.{Command}
 use Rattle.clap.specs.declared.builder.command.Command.TheViews.{out-Command as fields_of}
-use Rattle.arguments.specs.Rules.{IsReadBy}
+use Rattle.cli.specs.Rules.{IsReadBy}
 use Rattle.cli.specs.Grammar.{HasGrammar}
 
 -- A text at the top of help changes no grammar.

@@ -34,7 +34,7 @@ use Rattle.clap.specs.declared.parser.matches.ArgMatches.TheViews.{out-ArgMatche
 use Rattle.std.proofs.lemmas.Option.{same_Some}
 use Rattle.cli.specs.Asking.{AreRefused, Asks, AsksFound, WordsAsk}
 use Rattle.cli.specs.Grammar.{HasGrammar, IsOneOf, IsSubcommand, all_apps, program_app}
-use Rattle.subcommands.specs.declared.words.Asked.{Asked}
+use Rattle.command_inputs.specs.declared.words.Asked.{Asked}
 use Rattle.clap.specs.Walk.{done, waits, plain, refused, next, trailing, subcommand, value, idle, option, positional}
 use Rattle.clap.specs.Walk.{answers_to}
 use Rattle.clap.specs.Walk.{after_flag, after_step, arg_by_index, arg_by_long, bundle, long_met, long_or_other}

@@ -10,13 +10,13 @@ use Rattle.message.specs.declared.header.Version.{Version}
 use Rattle.message.specs.declared.header.Version.TheVariants.{One, Two}
 use Rattle.payload.specs.declared.mode.Mode.{Mode}
 use Rattle.payload.specs.declared.mode.Mode.TheVariants.{Differential, Full}
-use Rattle.subcommands.specs.Kind.{IsCheck}
-use Rattle.subcommands.specs.Limits.{greatest_first, longest_period}
-use Rattle.subcommands.specs.declared.words.Asked.{Asked}
-use Rattle.subcommands.specs.declared.words.Format.{Format}
-use Rattle.subcommands.specs.declared.words.Format.TheVariants as format
-use Rattle.subcommands.specs.declared.words.Asked.TheVariants.{Audit, Bench, Capture, Check, Decode, Dump, Encode}
-use Rattle.subcommands.specs.declared.words.Asked.TheVariants.{Compare, Listing, Measure, Replay, Salvage}
+use Rattle.command_inputs.specs.Kind.{IsCheck}
+use Rattle.command_inputs.specs.Limits.{greatest_first, longest_period}
+use Rattle.command_inputs.specs.declared.words.Asked.{Asked}
+use Rattle.command_inputs.specs.declared.words.Format.{Format}
+use Rattle.command_inputs.specs.declared.words.Format.TheVariants as format
+use Rattle.command_inputs.specs.declared.words.Asked.TheVariants.{Audit, Bench, Capture, Check, Decode, Dump, Encode}
+use Rattle.command_inputs.specs.declared.words.Asked.TheVariants.{Compare, Listing, Measure, Replay, Salvage}
 
 -- The first value of an argument, or no text where it has none.
 abbrev pub text_of : Text → List Row → Text

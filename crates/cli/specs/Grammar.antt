@@ -6,12 +6,12 @@ use Rattle.clap.specs.Words.{with_rule, with_subcommand}
 use Rattle.clap.specs.Simple.{on_top}
 use Rattle.clap.specs.declared.builder.command.Command.{Command}
 use Rattle.clap.specs.declared.builder.command.Command.TheViews.{out-Command as fields_of}
-use Rattle.arguments.specs.Rules.{also_rule, base_rule, capacity_rule, capture_rule, explain_rule, first_rule}
-use Rattle.arguments.specs.Rules.{format_rule, full_rule, given_harts_rule, harts_rule, hex_rule, image_rule}
-use Rattle.arguments.specs.Rules.{lines_rule, logs_rule, long_rule, lossy_rule, of_rule, only_rule}
-use Rattle.arguments.specs.Rules.{packets_rule, period_rule}
-use Rattle.arguments.specs.Rules.{progress_rule, received_rule, salvage_rule, schedule_rule, search_rule, sent_rule}
-use Rattle.arguments.specs.Rules.{summary_rule, symbols_rule, unnumbered_rule, version_one_rule}
+use Rattle.cli.specs.Rules.{also_rule, base_rule, capacity_rule, capture_rule, explain_rule, first_rule}
+use Rattle.cli.specs.Rules.{format_rule, full_rule, given_harts_rule, harts_rule, hex_rule, image_rule}
+use Rattle.cli.specs.Rules.{lines_rule, logs_rule, long_rule, lossy_rule, of_rule, only_rule}
+use Rattle.cli.specs.Rules.{packets_rule, period_rule}
+use Rattle.cli.specs.Rules.{progress_rule, received_rule, salvage_rule, schedule_rule, search_rule, sent_rule}
+use Rattle.cli.specs.Rules.{summary_rule, symbols_rule, unnumbered_rule, version_one_rule}
 
 -- A subcommand of this name with arguments that are read by these rules.
 abbrev pub with_arguments : Text → List Rule → App

@@ -1,3 +1,5 @@
 pub mod Grammar
 pub mod Asking
 pub mod Errors
+pub mod Rules
+pub mod steps

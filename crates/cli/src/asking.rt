@@ -7,17 +7,17 @@ ghost use Rattle.cli.specs.Asking.{AreRefused, Asks, IsCapacity, IsFlag, IsForma
 ghost use Rattle.cli.specs.Asking.{IsMode, IsPeriod, IsVersion};
 ghost use Rattle.cli.specs.Asking.{WordsAsk, text_of, texts_of};
 ghost use Rattle.cli.specs.Grammar.{IsSubcommand, program_app};
-ghost use Rattle.subcommands.specs.Limits.{IsWithinLimits};
+ghost use Rattle.command_inputs.specs.Limits.{IsWithinLimits};
 
 use crate::grammar::program;
 use clap::{ArgMatches, Error};
-use message::{MOST_CAPACITY, MOST_HARTS, Version};
-use payload::Mode;
-use std::alloc::{AllocError, Global};
-use subcommands::{
+use command_inputs::{
     Asked, Audit, Bench, Capture, Check, Compare, Decode, Dump, Encode, Format, GREATEST_FIRST,
     Listing, Measure, Replay, SHORTEST_PERIOD, SMALLEST_CAPACITY, Salvage,
 };
+use message::{MOST_CAPACITY, MOST_HARTS, Version};
+use payload::Mode;
+use std::alloc::{AllocError, Global};
 
 /// The period where the arguments give none.
 const DEFAULT_PERIOD: u16 = 1024;

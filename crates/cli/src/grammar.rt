@@ -2,7 +2,7 @@
 
 ghost use Rattle.std.specs.Prelude.{◌++◌, ◌∷◌, [], IfOk, List};
 ghost use Rattle.std.specs.List.{AllZip};
-ghost use Rattle.arguments.specs.Rules.{IsReadBy};
+ghost use Rattle.cli.specs.Rules.{IsReadBy};
 ghost use Rattle.clap.specs.Words.{App, Rule};
 ghost use Rattle.cli.specs.Grammar.{HasGrammar, all_apps, audit_app, bench_app, capture_app, check_app};
 ghost use Rattle.cli.specs.Grammar.{compare_app};
@@ -15,7 +15,7 @@ use crate::help::{
     DUMP_EXAMPLE, ENCODE_EXAMPLE, EXIT_STATUSES, LIST_EXAMPLE, MEASURE_EXAMPLE, REPLAY_EXAMPLE,
     SALVAGE_EXAMPLE, VERSION,
 };
-use arguments::{
+use crate::{
     also, base, capacity, capture, capture_progress, counted_harts, explain, first, format, full,
     harts, headed_full, headed_period, headless, hex, image, lines, listed_harts, logs, long,
     lossy, of, only, packets, period, progress, received, salvaged, salvaged_harts, schedule,

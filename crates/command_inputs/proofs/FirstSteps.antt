@@ -8,7 +8,7 @@ use Rattle.rvclass.specs.Image.{Image}
 use Rattle.command_inputs.specs.Faults.{Path}
 use Rattle.command_inputs.specs.Found.{AreFew, IsAskedProgram, IsBase, IsProgramAt}
 use Rattle.command_inputs.specs.FoundLogs.{AreAskedLogsUpTo, AreLegalLogsUpTo}
-use Rattle.files.specs.Known.{Content}
+use Rattle.log_streams.specs.Known.{Content}
 use Rattle.command_inputs.specs.Order.{logs_fault}
 use Rattle.command_inputs.specs.Printed.{First, Printed, PrintsUnlessDenied}
 use Rattle.command_inputs.specs.declared.fault.Fault.{Fault}

@@ -12,7 +12,7 @@ use Rattle.rvclass.specs.declared.fault.ProgramFault.{ProgramFault}
 use Rattle.command_inputs.specs.Faults.{Path, log_fault}
 use Rattle.command_inputs.specs.Found.{IsImageAt, IsRead}
 use Rattle.command_inputs.specs.FoundLogs.{IsLegalLogUpTo, IsLogUpTo}
-use Rattle.files.specs.Known.{Content}
+use Rattle.log_streams.specs.Known.{Content}
 use Rattle.command_inputs.specs.declared.fault.Fault.{Fault}
 use Rattle.command_inputs.specs.declared.fault.Fault.TheVariants as fault
 

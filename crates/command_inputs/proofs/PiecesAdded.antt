@@ -3,11 +3,11 @@ use Rattle.std.proofs.Common.{◌≡◌, ◌⊎◌, ◌<◌, ◌+◌, inl, inr, 
 use Rattle.std.proofs.Common.{Result, Ok, Err}
 use Rattle.std.proofs.lemmas.List.{drop_more}
 use Rattle.std.specs.Result.{result_map_both}
-use Rattle.memory.specs.Adding.{add_piece}
-use Rattle.memory.specs.declared.fault.PieceFault.{PieceFault}
-use Rattle.memory.specs.declared.fault.PieceFault.TheVariants as piece
+use Rattle.rvclass.specs.Adding.{add_piece}
+use Rattle.rvclass.specs.declared.piece_fault.PieceFault.{PieceFault}
+use Rattle.rvclass.specs.declared.piece_fault.PieceFault.TheVariants as piece
 use Rattle.rvclass.specs.Image.{Image}
-use Rattle.files.specs.Known.{Content}
+use Rattle.log_streams.specs.Known.{Content}
 use Rattle.command_inputs.specs.Faults.{Path, piece_fault}
 use Rattle.command_inputs.specs.Found.{IsRead, IsWithFile, IsWithPiece, IsWithPieces}
 use Rattle.command_inputs.specs.FurtherPieces.{given_piece}

@@ -7,7 +7,7 @@ use Rattle.retire.specs.declared.event.Event.{Event}
 use Rattle.retire.specs.declared.fault.LogFault.{LogFault}
 use Rattle.retire.specs.declared.fault.LogFault.TheVariants as log
 use Rattle.rvclass.specs.Image.{Image}
-use Rattle.files.specs.Known.{Content}
+use Rattle.log_streams.specs.Known.{Content}
 use Rattle.log_streams.specs.Made.{AreMade, IsMadeOf, IsStopped}
 use Rattle.log_streams.specs.Read.{IsReadIn, IsUnread}
 use Rattle.log_streams.specs.declared.illegal_row.IllegalRow.{IllegalRow}

@@ -2,9 +2,9 @@
 use Rattle.std.specs.Prelude.{ℕ, ◌++◌, List, codes}
 use Rattle.std.specs.Fmt.{decimal}
 use Rattle.legalpath.specs.FaultText.{path_fault_text}
-use Rattle.memory.specs.FaultText.{piece_fault_text}
-use Rattle.memory.specs.declared.fault.PieceFault.{PieceFault}
-use Rattle.memory.specs.declared.fault.PieceFault.TheVariants.{TooMany}
+use Rattle.rvclass.specs.PieceFaultText.{piece_fault_text}
+use Rattle.rvclass.specs.declared.piece_fault.PieceFault.{PieceFault}
+use Rattle.rvclass.specs.declared.piece_fault.PieceFault.TheVariants.{TooMany}
 use Rattle.retire.specs.FaultText.{log_fault_text}
 use Rattle.rvclass.specs.FaultText.{program_fault_text}
 use Rattle.command_inputs.specs.Faults.{Path}

@@ -1,12 +1,12 @@
 -- The fault of a subcommand for each fault of what it calls, and how the subcommand ends at it.
 use Rattle.std.specs.Prelude.{ℕ, List, Result, Ok, Err}
 use Rattle.std.specs.Borrow.{Bor}
-use Rattle.files.specs.declared.fault.FileFault.{FileFault}
-use Rattle.files.specs.declared.fault.FileFault.TheVariants as file
+use Rattle.log_streams.specs.declared.fault.FileFault.{FileFault}
+use Rattle.log_streams.specs.declared.fault.FileFault.TheVariants as file
 use Rattle.log_streams.specs.declared.stop.Stop.{Stop}
 use Rattle.log_streams.specs.declared.stop.Stop.TheVariants as stop
-use Rattle.memory.specs.declared.fault.PieceFault.{PieceFault}
-use Rattle.memory.specs.declared.fault.PieceFault.TheVariants as piece
+use Rattle.rvclass.specs.declared.piece_fault.PieceFault.{PieceFault}
+use Rattle.rvclass.specs.declared.piece_fault.PieceFault.TheVariants as piece
 use Rattle.retire.specs.declared.fault.LogFault.{LogFault}
 use Rattle.retire.specs.declared.fault.LogFault.TheVariants as log
 use Rattle.retire.specs.declared.fault.WriteFault.{WriteFault}

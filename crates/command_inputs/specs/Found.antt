@@ -2,12 +2,12 @@
 use Rattle.std.specs.Prelude.{◌≡◌, ◌==◌, ℕ, List, [], ◌∷◌, Option, Some, None, Result, Ok, Err, if◌then◌else◌}
 use Rattle.std.specs.Prelude.{length, nat_lt}
 use Rattle.std.specs.Result.{result_map_both}
-use Rattle.files.specs.Known.{Content, MayHold, MayLack}
-use Rattle.memory.specs.Adding.{add_piece}
+use Rattle.log_streams.specs.Known.{Content, MayHold, MayLack}
+use Rattle.rvclass.specs.Adding.{add_piece}
 use Rattle.rvclass.specs.Image.{Image}
 use Rattle.rvclass.specs.Program.{program_of}
-use Rattle.subcommands.specs.declared.words.Format.{Format}
-use Rattle.subcommands.specs.declared.words.Format.TheVariants.{Other}
+use Rattle.command_inputs.specs.declared.words.Format.{Format}
+use Rattle.command_inputs.specs.declared.words.Format.TheVariants.{Other}
 use Rattle.command_inputs.specs.Faults.{Path, piece_fault}
 use Rattle.command_inputs.specs.Finding.{After}
 use Rattle.command_inputs.specs.FurtherPieces.{base_number, given_piece}

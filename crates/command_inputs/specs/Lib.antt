@@ -11,3 +11,5 @@ pub mod Judged
 pub mod Printed
 pub mod Begun
 pub mod Meaning
+pub mod Limits
+pub mod Kind

@@ -1,7 +1,7 @@
 -- What is said of a run, whichever subcommand it is of.
 use Rattle.std.specs.Prelude.{ℕ, List, Option}
 use Rattle.std.specs.Io.KnownBytes.{Keeps}
-use Rattle.files.specs.Known.{Content}
+use Rattle.log_streams.specs.Known.{Content}
 use Rattle.command_inputs.specs.Printed.{Printed}
 use Rattle.command_inputs.specs.declared.fault.Fault.{Fault}
 

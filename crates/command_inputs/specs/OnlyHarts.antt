@@ -1,8 +1,8 @@
 -- The harts that `--only` asks for.
 use Rattle.std.specs.Prelude.{◌≡◌, Option, Some, None, Result, Ok, Err}
-use Rattle.hart_range.specs.Range.{every_hart}
-use Rattle.hart_range.specs.Text.{range_of}
-use Rattle.hart_range.specs.declared.range.HartRange.{HartRange}
+use Rattle.message.specs.Range.{every_hart}
+use Rattle.message.specs.Text.{range_of}
+use Rattle.message.specs.declared.range.HartRange.{HartRange}
 use Rattle.command_inputs.specs.Faults.{Path}
 use Rattle.command_inputs.specs.declared.fault.Fault.{Fault}
 use Rattle.command_inputs.specs.declared.fault.Fault.TheVariants as fault

@@ -1,8 +1,8 @@
 -- The faults that are found before any file is read.
 use Rattle.std.specs.Prelude.{ℕ, ◌==◌, Option, Some, None, nat_lt, if◌then◌else◌}
-use Rattle.hart_range.specs.declared.range.HartRange.{HartRange}
-use Rattle.subcommands.specs.declared.words.Format.{Format}
-use Rattle.subcommands.specs.declared.words.Format.TheVariants.{Other}
+use Rattle.message.specs.declared.range.HartRange.{HartRange}
+use Rattle.command_inputs.specs.declared.words.Format.{Format}
+use Rattle.command_inputs.specs.declared.words.Format.TheVariants.{Other}
 use Rattle.command_inputs.specs.declared.fault.Fault.{Fault}
 use Rattle.command_inputs.specs.declared.fault.Fault.TheVariants as fault
 

@@ -7,9 +7,8 @@ ghost use Rattle.command_inputs.specs.declared.fault.Fault.TheVariants as fault;
 
 use crate::reason::Reason;
 use crate::status::Status;
-use files::FileFault;
 use legalpath::PathFault;
-use log_streams::Stop;
+use log_streams::{FileFault, Stop};
 use retire::{LogFault, WriteFault};
 use rvclass::{PieceFault, ProgramFault};
 use std::alloc::AllocError;

@@ -6,13 +6,13 @@ ghost use Rattle.command_inputs.specs.Found.{AreFew, IsAskedBase, IsAskedProgram
 ghost use Rattle.command_inputs.specs.FurtherPieces.{base_number};
 ghost use Rattle.command_inputs.specs.Order.{format_fault, format_or_base_fault, logs_fault};
 
+use crate::Format;
 use crate::fault::Fault;
 use crate::pieces::{add_pieces, give_pieces};
-use files::Files;
+use log_streams::Files;
 use retire::number;
 use rvclass::Program;
 use std::alloc::Global;
-use subcommands::Format;
 
 /// Refuses an argument that names no format.
 pub fn check_format<'a, W>(format: Format) -> Result<(), Fault<'a, W>>

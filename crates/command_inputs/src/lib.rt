@@ -1,4 +1,7 @@
-//! How the subcommands of `tracebench` begin and end, whatever they do in between.
+//! What the subcommands of `tracebench` share: what is asked of each, their inputs, and how they begin and end.
+//!
+//! [`Asked`] is what a command line may ask for, with one struct for each subcommand, and the limits of its numbers. Both
+//! `cli`, which reads arguments, and `commands`, which does what they ask for, use it, and neither uses the other.
 //!
 //! A subcommand reads its inputs from [`Files`]: a base, an image with its further pieces, logs or a capture, each in
 //! order, or a [`Fault`] that ends it. It ends with a [`Status`], or at a fault, whose line [`report_error`] writes. A
@@ -10,19 +13,26 @@ mod error_reporting;
 mod fault;
 mod inputs;
 mod legal_logs;
+mod limits;
 mod listing;
 mod only_harts;
 mod pieces;
 mod progress;
 mod reason;
 mod status;
+mod words;
 
 pub use error_reporting::report_error;
 pub use fault::Fault;
-pub use files::{FileFault, FileReader, Files};
 pub use inputs::{asked_base, asked_program, base_of, check_format, content_of, program_of};
 pub use legal_logs::legal_logs_of;
+pub use limits::{GREATEST_FIRST, LONGEST_PERIOD, SHORTEST_PERIOD, SMALLEST_CAPACITY};
+pub use log_streams::{FileFault, FileReader, Files};
 pub use only_harts::harts_asked;
 pub use progress::{MessageProgress, begin_progress};
 pub use reason::Reason;
 pub use status::Status;
+pub use words::{
+    Asked, Audit, Bench, Capture, Check, Compare, Decode, Dump, Encode, Format, Listing, Measure,
+    Replay, Salvage,
+};

@@ -5,7 +5,7 @@ ghost use Rattle.command_inputs.specs.OnlyHarts.{IsOnly, asked_harts};
 ghost use Rattle.command_inputs.specs.Order.{only_fault};
 
 use crate::fault::Fault;
-use hart_range::{HartRange, range_of};
+use message::{HartRange, range_of};
 
 /// The harts that the argument of `--only` asks for, or all where there is none. Where it is no range of harts, the fault
 /// is [`Fault::Only`].

@@ -8,7 +8,7 @@ ghost use Rattle.command_inputs.specs.declared.fault.Fault.TheVariants as Fault;
 
 use crate::fault::Fault;
 use crate::inputs::content_of;
-use files::Files;
+use log_streams::Files;
 use retire::number;
 use rvclass::Program;
 use std::alloc::Global;

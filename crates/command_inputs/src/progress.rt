@@ -1,7 +1,7 @@
 //! How far files are read and messages are worked through, on a terminal.
 
-use files::Files;
-use watching::Watch;
+use log_streams::Files;
+use message::Watch;
 
 /// Begins to show how far the files at these paths are read, where that is asked for.
 pub fn begin_progress<F: Files>(files: &F, is_asked: bool, paths: &[&str]) {

@@ -1,1 +1,2 @@
 mod JoinedRuns
+mod CarriedOut

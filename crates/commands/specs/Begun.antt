@@ -1,8 +1,8 @@
 -- What is written where allocation or the output fails: a prefix of the text.
 use Rattle.std.specs.Prelude.{ℕ, List, Option}
-use Rattle.subcommands.specs.declared.words.Asked.{Asked}
+use Rattle.command_inputs.specs.declared.words.Asked.{Asked}
 use Rattle.command_inputs.specs.Begun.{IsCutOf}
-use Rattle.files.specs.Known.{Content}
+use Rattle.log_streams.specs.Known.{Content}
 use Rattle.commands.specs.Meanings.{meaning_of}
 
 -- The run may write a part of its text before allocation fails, as that of `check` may, that of `decode` where messages

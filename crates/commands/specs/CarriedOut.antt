@@ -1,7 +1,7 @@
 -- What a run prints for what is asked, and how it ends.
 use Rattle.std.specs.Prelude.{ℕ, List, Option, Result}
-use Rattle.subcommands.specs.declared.words.Asked.{Asked}
-use Rattle.files.specs.Known.{Content}
+use Rattle.command_inputs.specs.declared.words.Asked.{Asked}
+use Rattle.log_streams.specs.Known.{Content}
 use Rattle.command_inputs.specs.Printed.{PrintsUnlessDenied}
 use Rattle.command_inputs.specs.declared.status.Status.{Status}
 use Rattle.commands.specs.Faults.{Fault}

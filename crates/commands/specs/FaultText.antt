@@ -4,7 +4,7 @@ use Rattle.command_inputs.specs.FaultText as inputs
 use Rattle.log_commands.specs.FaultText.{log_reason_text}
 use Rattle.capture_commands.specs.FaultText.{capture_reason_text}
 use Rattle.path_commands.specs.FaultText.{path_reason_text}
-use Rattle.line_commands.specs.FaultText.{line_reason_text}
+use Rattle.path_commands.specs.LineFaultText.{line_reason_text}
 use Rattle.commands.specs.Faults.{Fault}
 use Rattle.commands.specs.declared.reason.CommandReason.{CommandReason}
 use Rattle.commands.specs.declared.reason.CommandReason.TheVariants.{Capture, Line, Log, Path, Words}

@@ -9,7 +9,7 @@ use Rattle.command_inputs.specs.declared.status.Status.TheVariants.{Refused}
 use Rattle.log_commands.specs.Faults.{log_reason_status}
 use Rattle.capture_commands.specs.Faults.{capture_reason_status}
 use Rattle.path_commands.specs.Faults.{path_reason_status}
-use Rattle.line_commands.specs.Faults.{line_reason_status}
+use Rattle.path_commands.specs.LineFaults.{line_reason_status}
 use Rattle.commands.specs.declared.reason.CommandReason.{CommandReason}
 use Rattle.commands.specs.declared.reason.CommandReason.TheVariants.{Capture, Line, Log, Path, Words}
 

@@ -6,3 +6,5 @@ pub mod CarriedOut
 pub mod Begun
 pub mod Order
 pub mod steps
+pub mod Progress
+pub mod Words

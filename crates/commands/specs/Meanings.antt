@@ -1,7 +1,7 @@
 -- What each subcommand means.
-use Rattle.subcommands.specs.declared.words.Asked.{Asked}
-use Rattle.subcommands.specs.declared.words.Asked.TheVariants.{Audit, Bench, Capture, Check, Decode, Dump, Encode}
-use Rattle.subcommands.specs.declared.words.Asked.TheVariants.{Compare, Listing, Measure, Replay, Salvage}
+use Rattle.command_inputs.specs.declared.words.Asked.{Asked}
+use Rattle.command_inputs.specs.declared.words.Asked.TheVariants.{Audit, Bench, Capture, Check, Decode, Dump, Encode}
+use Rattle.command_inputs.specs.declared.words.Asked.TheVariants.{Compare, Listing, Measure, Replay, Salvage}
 use Rattle.log_commands.specs.Benching.{bench_meaning}
 use Rattle.log_commands.specs.Checking.{check_meaning}
 use Rattle.log_commands.specs.Encoding.{encode_meaning}
@@ -11,9 +11,9 @@ use Rattle.capture_commands.specs.Decoded.{decode_meaning}
 use Rattle.capture_commands.specs.Dumping.{dump_meaning}
 use Rattle.capture_commands.specs.Listed.{list_meaning}
 use Rattle.capture_commands.specs.Salvaging.{salvage_meaning}
-use Rattle.compare_commands.specs.Comparing.{compare_meaning}
+use Rattle.capture_commands.specs.Comparing.{compare_meaning}
 use Rattle.path_commands.specs.Audited.{audit_meaning}
-use Rattle.line_commands.specs.Capturing.{capture_meaning}
+use Rattle.path_commands.specs.Capturing.{capture_meaning}
 use Rattle.commands.specs.Faults.{Meaning}
 use Rattle.commands.specs.Joined.{joined}
 use Rattle.commands.specs.declared.reason.CommandReason.TheVariants as reason

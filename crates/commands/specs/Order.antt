@@ -1,6 +1,6 @@
 -- The fault that is found before any file is read.
 use Rattle.std.specs.Prelude.{Option}
-use Rattle.subcommands.specs.declared.words.Asked.{Asked}
+use Rattle.command_inputs.specs.declared.words.Asked.{Asked}
 use Rattle.commands.specs.Faults.{Fault}
 use Rattle.commands.specs.Meanings.{meaning_of}
 

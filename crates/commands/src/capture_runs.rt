@@ -1,18 +1,16 @@
 //! Runs of the subcommands that read captures, with their reasons to stop among those of all.
 
 ghost use Rattle.commands.specs.steps.Running.{IsRun};
-ghost use Rattle.subcommands.specs.declared.words.Asked.TheVariants as Asked;
+ghost use Rattle.command_inputs.specs.declared.words.Asked.TheVariants as Asked;
 
 use crate::joining::joined_end;
 use crate::reason::Fault;
-use capture_commands::{decode, dump, list, salvage};
-use command_inputs::{Files, Status};
-use compare_commands::compare;
+use capture_commands::{compare, decode, dump, list, salvage};
+use command_inputs::{Audit, Compare, Decode, Dump, Files, Listing, Salvage, Status};
 use path_commands::audit;
 use std::alloc::Global;
 use std::io::Write;
 use std::thread::Threads;
-use subcommands::{Audit, Compare, Decode, Dump, Listing, Salvage};
 
 /// A run of `dump`.
 pub(crate) fn run_dump<'a, F: Files, O: Write>(

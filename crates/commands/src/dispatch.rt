@@ -1,8 +1,8 @@
 //! Whichever subcommand is asked for.
 
 ghost use Rattle.std.specs.Prelude.{◌≡◌, Err, IfSome};
-ghost use Rattle.subcommands.specs.Kind.{IsCheck};
-ghost use Rattle.subcommands.specs.Limits.{IsWithinLimits};
+ghost use Rattle.command_inputs.specs.Kind.{IsCheck};
+ghost use Rattle.command_inputs.specs.Limits.{IsWithinLimits};
 ghost use Rattle.command_inputs.specs.declared.fault.Fault.TheVariants as Fault;
 ghost use Rattle.commands.specs.Begun.{IsBegun, IsCutOutput, WritesInParts};
 ghost use Rattle.commands.specs.CarriedOut.{IsCarriedOut};
@@ -14,12 +14,11 @@ use crate::capture_runs::{run_audit, run_compare, run_decode, run_dump, run_list
 use crate::line_runs::run_capture;
 use crate::log_runs::{run_bench, run_check, run_encode, run_measure, run_replay};
 use crate::reason::Fault;
-use command_inputs::{Files, Status};
+use command_inputs::{Asked, Files, Status};
 use std::alloc::Global;
 use std::io::Write;
 use std::sync::Wait;
 use std::thread::Threads;
-use subcommands::Asked;
 
 /// Does what is asked, and returns how that ended: with a status, or at the first fault in the order base, bases of
 /// further pieces, count of logs or harts, image, further pieces, symbols, each log in turn, schedule, capture or

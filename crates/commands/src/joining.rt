@@ -11,9 +11,8 @@ ghost use Rattle.commands.specs.declared.reason.CommandReason.TheVariants as rea
 use crate::reason::{CommandReason, Fault};
 use capture_commands::CaptureReason;
 use command_inputs::{Fault as AnyFault, Reason, Status};
-use line_commands::LineReason;
 use log_commands::LogReason;
-use path_commands::PathReason;
+use path_commands::{LineReason, PathReason};
 
 /// The reasons of some subcommands, which are among those of all.
 pub(crate) trait Family<'a>: Reason {

@@ -2,15 +2,14 @@
 
 ghost use Rattle.std.specs.Prelude.{◌≤◌};
 ghost use Rattle.commands.specs.steps.Running.{IsRun};
-ghost use Rattle.subcommands.specs.Limits.{IsCountIfGiven};
-ghost use Rattle.subcommands.specs.declared.words.Asked.TheVariants as Asked;
+ghost use Rattle.command_inputs.specs.Limits.{IsCountIfGiven};
+ghost use Rattle.command_inputs.specs.declared.words.Asked.TheVariants as Asked;
 
 use crate::joining::joined_end;
 use crate::reason::Fault;
-use command_inputs::{Files, Status};
-use line_commands::capture;
+use command_inputs::{Capture, Files, Status};
+use path_commands::capture;
 use std::io::Write;
-use subcommands::Capture;
 
 /// A run of `capture`.
 pub(crate) fn run_capture<'a, F: Files, O: Write>(

@@ -2,17 +2,16 @@
 
 ghost use Rattle.std.specs.Prelude.{◌≤◌};
 ghost use Rattle.commands.specs.steps.Running.{IsRun};
-ghost use Rattle.subcommands.specs.declared.words.Asked.TheVariants as Asked;
+ghost use Rattle.command_inputs.specs.declared.words.Asked.TheVariants as Asked;
 
 use crate::joining::joined_end;
 use crate::reason::Fault;
-use command_inputs::{Files, Status};
+use command_inputs::{Bench, Check, Encode, Files, Measure, Replay, Status};
 use log_commands::{bench, check, encode, measure, replay};
 use std::alloc::Global;
 use std::io::Write;
 use std::sync::Wait;
 use std::thread::Threads;
-use subcommands::{Bench, Check, Encode, Measure, Replay};
 
 /// A run of `check`.
 pub(crate) fn run_check<'a, F: Files + Sync, O: Write, R: Threads + Sync>(

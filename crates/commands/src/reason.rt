@@ -6,9 +6,8 @@ ghost use Rattle.commands.specs.Faults.{command_reason_status};
 
 use capture_commands::CaptureReason;
 use command_inputs::{Reason, Status};
-use line_commands::LineReason;
 use log_commands::LogReason;
-use path_commands::PathReason;
+use path_commands::{LineReason, PathReason};
 use std::fmt;
 
 /// Why the program stops. Its text is the error line without the program's name and the line's end.

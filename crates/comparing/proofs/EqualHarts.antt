@@ -4,8 +4,8 @@ use Rattle.std.proofs.lemmas.List.{length-replicate}
 use Rattle.captures.proofs.EveryHart.{all_decoded}
 use Rattle.captures.specs.OfHarts.{IsDecodedOf}
 use Rattle.captures.specs.declared.outcome.CaptureFault.{CaptureFault}
-use Rattle.hart_range.specs.Range.{every_hart}
-use Rattle.hart_range.specs.declared.range.HartRange.{HartRange}
+use Rattle.message.specs.Range.{every_hart}
+use Rattle.message.specs.declared.range.HartRange.{HartRange}
 use Rattle.retire.specs.declared.event.Event.{Event}
 use Rattle.rvclass.specs.Words.{Words}
 use Rattle.comparing.specs.Compared.{gots_by, is_compared_whole, of_harts}

@@ -8,7 +8,7 @@ use Rattle.captures.specs.declared.outcome.CaptureFault.{CaptureFault}
 use Rattle.comparing.specs.Compared.{AreGot, AreGotOf, got_by, gots_by, of_harts}
 use Rattle.comparing.specs.Counts.{AreCounted, AreCounts, count_of}
 use Rattle.comparing.specs.declared.hart_count.HartCount.{HartCount}
-use Rattle.hart_range.specs.declared.range.HartRange.{HartRange}
+use Rattle.message.specs.declared.range.HartRange.{HartRange}
 use Rattle.message.specs.declared.message.Message.{Message}
 use Rattle.retire.specs.declared.event.Event.{Event}
 use Rattle.rvclass.specs.Words.{Words}

@@ -4,8 +4,8 @@ use Rattle.std.proofs.Common.{refl, slice_get, sym, take}
 use Rattle.std.proofs.lemmas.List.{get_or-drop, get_or-take, length-drop, length-take, take_all}
 use Rattle.std.specs.Prelude.{min}
 use Rattle.std.proofs.lemmas.Option.{slice_get-get_or}
-use Rattle.hart_range.specs.Range.{every_hart}
-use Rattle.hart_range.specs.declared.range.HartRange.{HartRange}
+use Rattle.message.specs.Range.{every_hart}
+use Rattle.message.specs.declared.range.HartRange.{HartRange}
 use Rattle.retire.specs.declared.event.Event.{Event}
 use Rattle.comparing.specs.Compared.{got_by, gots_by, of_harts}
 use Rattle.comparing.specs.declared.hart_count.HartCount.{HartCount}

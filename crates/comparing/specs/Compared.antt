@@ -8,7 +8,7 @@ use Rattle.captures.specs.Decoded.{IsDecoded}
 use Rattle.captures.specs.OfHarts.{IsDecodedOf}
 use Rattle.captures.specs.Whole.{IsFront}
 use Rattle.captures.specs.declared.outcome.CaptureFault.{CaptureFault}
-use Rattle.hart_range.specs.declared.range.HartRange.{HartRange}
+use Rattle.message.specs.declared.range.HartRange.{HartRange}
 use Rattle.legalpath.specs.ProgramLog.{ProgramLog}
 use Rattle.message.specs.declared.fault.MessageFault.{MessageFault}
 use Rattle.message.specs.declared.header.Header.{Header}

@@ -4,8 +4,8 @@ use Rattle.bench.specs.Got.{Got}
 use Rattle.captures.specs.Decoded.{IsDecoded}
 use Rattle.captures.specs.OfHarts.{IsDecodedOf}
 use Rattle.captures.specs.declared.outcome.CaptureFault.{CaptureFault}
-use Rattle.hart_range.specs.Range.{every_hart}
-use Rattle.hart_range.specs.declared.range.HartRange.{HartRange}
+use Rattle.message.specs.Range.{every_hart}
+use Rattle.message.specs.declared.range.HartRange.{HartRange}
 use Rattle.legalpath.specs.ProgramLog.{ProgramLog}
 use Rattle.retire.specs.declared.event.Event.{Event}
 use Rattle.rvclass.specs.Words.{Words}

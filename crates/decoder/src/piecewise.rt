@@ -2,7 +2,7 @@
 
 ghost use Rattle.std.specs.Prelude.{◌≡◌, ◌↔◌, ◌⊎◌, ◌+◌, ◌*◌, ◌/◌, ◌^◌, ◌≤◌, ◌<◌, List, [], ◌∷◌, ◌++◌, true, false};
 ghost use Rattle.std.specs.Prelude.{Some, Ok, Err, length, vec_len, vec_capacity, IfOk, IfErr, Option};
-ghost use Rattle.memory.specs.Memory.{byte_count};
+ghost use Rattle.rvclass.specs.Memory.{byte_count};
 ghost use Rattle.retire.specs.declared.event.Event.{Event};
 ghost use Rattle.rvclass.specs.Fetch.{words_of};
 ghost use Rattle.payload.specs.Closing.{is_closing_packet};

@@ -1,7 +1,7 @@
 //! The events that each packet adds, after the event before and the last reported address.
 
 ghost use Rattle.std.specs.Prelude.{◌≡◌, ◌+◌, ◌*◌, ◌/◌, ◌≤◌, List, ◌++◌, None, Some, vec_capacity, IfErr, OnOk};
-ghost use Rattle.memory.specs.Memory.{byte_count};
+ghost use Rattle.rvclass.specs.Memory.{byte_count};
 ghost use Rattle.retire.specs.declared.event.Event.{Event as AnyEvent};
 ghost use Rattle.rvclass.specs.Fetch.{words_of};
 ghost use Rattle.decoder.specs.Fits.{Fits, FitsAddress, FitsSync};

@@ -3,7 +3,7 @@
 
 ghost use Rattle.std.specs.Prelude.{◌≡◌, ◌+◌, ◌*◌, ◌/◌, ◌≤◌, List, ◌++◌, vec_len, vec_capacity, IsOk};
 ghost use Rattle.std.specs.Prelude.{IfOk, IfErr};
-ghost use Rattle.memory.specs.Memory.{byte_count};
+ghost use Rattle.rvclass.specs.Memory.{byte_count};
 ghost use Rattle.retire.specs.declared.event.Event.{Event as AnyEvent};
 ghost use Rattle.rvclass.specs.Fetch.{words_of};
 ghost use Rattle.rvclass.specs.Words.{IsProgram};

@@ -12,8 +12,8 @@ pub use Rattle.message.specs.Accepting
 pub use Rattle.message.specs.Accepted
 pub use Rattle.message.specs.Lossy
 pub use Rattle.message.specs.FaultText as MessageFaultText
-pub use Rattle.hart_range.specs.Range as RangeOfHarts
-pub use Rattle.hart_range.specs.Text as RangeText
+pub use Rattle.message.specs.Range as RangeOfHarts
+pub use Rattle.message.specs.Text as RangeText
 pub use Rattle.receiver.specs.Received
 pub use Rattle.receiver.specs.Holds
 pub use Rattle.receiver.specs.Agreeing
@@ -30,19 +30,19 @@ pub use Rattle.captures.specs.FaultText as CaptureFaultText
 pub use Rattle.captures.specs.PacketText
 pub use Rattle.captures.specs.Offsets as CaptureOffsets
 pub use Rattle.captures.specs.Dump
-pub use Rattle.hart_survey.specs.Places as HartPlaces
-pub use Rattle.hart_survey.specs.Placed as PlacedLogs
-pub use Rattle.hart_survey.specs.Surveyed
-pub use Rattle.hart_survey.specs.CaptureSurveyed
-pub use Rattle.hart_survey.specs.Marks
-pub use Rattle.hart_rows.specs.EachHart
-pub use Rattle.hart_rows.specs.HartsText
-pub use Rattle.hart_rows.specs.Written as WrittenHarts
-pub use Rattle.hart_rows.specs.Laws as WrittenHartsLaws
-pub use Rattle.survey_threads.specs.Marked as MarkedSurveys
-pub use Rattle.survey_threads.specs.CaptureMarked
-pub use Rattle.rows_side_by_side.specs.Marked as MarkedHarts
-pub use Rattle.hart_events.specs.Left as HartEventsLeft
+pub use Rattle.capture_index.specs.Places as HartPlaces
+pub use Rattle.capture_index.specs.Placed as PlacedLogs
+pub use Rattle.capture_index.specs.Surveyed
+pub use Rattle.capture_index.specs.CaptureSurveyed
+pub use Rattle.capture_index.specs.Marks
+pub use Rattle.capture_index.specs.EachHart
+pub use Rattle.capture_index.specs.HartsText
+pub use Rattle.capture_index.specs.Written as WrittenHarts
+pub use Rattle.capture_index.specs.Laws as WrittenHartsLaws
+pub use Rattle.parallel_decode.specs.Marked as MarkedSurveys
+pub use Rattle.parallel_decode.specs.CaptureMarked
+pub use Rattle.parallel_decode.specs.MarkedRows as MarkedHarts
+pub use Rattle.capture_index.specs.Left as HartEventsLeft
 pub use Rattle.capture_lines.specs.Line as CaptureLine
 pub use Rattle.capture_lines.specs.Lines as CaptureLines
 pub use Rattle.capture_lines.specs.Capture as LinesCapture
@@ -61,15 +61,15 @@ pub use Rattle.listing.specs.Listing
 pub use Rattle.listing.specs.Begun as ListingBegun
 pub use Rattle.listing.specs.ListingOf
 pub use Rattle.listing.specs.BegunOf as ListingBegunOf
-pub use Rattle.listing_table.specs.Packets as ListingTablePackets
-pub use Rattle.listing_table.specs.Rows as ListingTableRows
-pub use Rattle.listing_table.specs.Table as ListingTable
-pub use Rattle.listing_table.specs.Part as ListingTablePart
-pub use Rattle.listing_table.specs.TableOf as ListingTableOf
-pub use Rattle.listing_table.specs.PartOf as ListingTablePartOf
-pub use Rattle.listing_table.specs.ReadBack as ListingTableReadBack
-pub use Rattle.tables.specs.Fields as TableFields
-pub use Rattle.tables.specs.Quoted as TableQuoted
-pub use Rattle.tables.specs.ReadBack as TableReadBack
-pub use Rattle.hart_encoding.specs.HasEncoded
+pub use Rattle.listing.specs.Packets as ListingTablePackets
+pub use Rattle.listing.specs.Rows as ListingTableRows
+pub use Rattle.listing.specs.Table as ListingTable
+pub use Rattle.listing.specs.Part as ListingTablePart
+pub use Rattle.listing.specs.TableOf as ListingTableOf
+pub use Rattle.listing.specs.PartOf as ListingTablePartOf
+pub use Rattle.listing.specs.ReadBack as ListingTableReadBack
+pub use Rattle.output.specs.Fields as TableFields
+pub use Rattle.output.specs.Quoted as TableQuoted
+pub use Rattle.output.specs.ReadBack as TableReadBack
+pub use Rattle.captures.specs.HasEncoded
 pub use Rattle.output.specs.Begun

@@ -1,12 +1,12 @@
 -- What the contracts of programs and logs cite.
 pub use Rattle.isa.specs.Privilege
 pub use Rattle.isa.specs.Address
-pub use Rattle.memory.specs.Piece
-pub use Rattle.memory.specs.Memory
-pub use Rattle.memory.specs.Fetch as FetchedBytes
-pub use Rattle.memory.specs.Adding
-pub use Rattle.memory.specs.Halves
-pub use Rattle.memory.specs.FaultText as PieceFaultText
+pub use Rattle.rvclass.specs.Piece
+pub use Rattle.rvclass.specs.Memory
+pub use Rattle.rvclass.specs.FetchedBytes as FetchedBytes
+pub use Rattle.rvclass.specs.Adding
+pub use Rattle.rvclass.specs.Halves
+pub use Rattle.rvclass.specs.PieceFaultText as PieceFaultText
 pub use Rattle.rvclass.specs.Bits
 pub use Rattle.rvclass.specs.Offset
 pub use Rattle.rvclass.specs.Word32

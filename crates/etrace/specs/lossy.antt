@@ -11,12 +11,12 @@ pub use Rattle.losses.specs.WholeStretches
 pub use Rattle.losses.specs.FaultText as LossyFaultText
 pub use Rattle.losses.specs.Stops
 pub use Rattle.losses.specs.Collects
-pub use Rattle.alignment.specs.Matches
-pub use Rattle.unnumbered.specs.Aligned
-pub use Rattle.unnumbered.specs.Split
-pub use Rattle.unnumbered.specs.Cursor
-pub use Rattle.unnumbered.specs.Arrivals
-pub use Rattle.unnumbered.specs.Counted
+pub use Rattle.path_match.specs.Matches
+pub use Rattle.path_match.specs.Aligned
+pub use Rattle.path_match.specs.Split
+pub use Rattle.path_match.specs.Cursor
+pub use Rattle.path_match.specs.Arrivals
+pub use Rattle.path_match.specs.Counted
 pub use Rattle.auditing.specs.Fates
 pub use Rattle.auditing.specs.Judged
 pub use Rattle.auditing.specs.Losing
@@ -33,9 +33,9 @@ pub use Rattle.auditing.specs.HartRows
 pub use Rattle.auditing.specs.SentPayload
 pub use Rattle.auditing.specs.Known
 pub use Rattle.auditing.specs.Seen
-pub use Rattle.alike.specs.Same
-pub use Rattle.resuming.specs.Taken as ResumingTaken
-pub use Rattle.resuming.specs.Passages
-pub use Rattle.resuming.specs.Counted as ResumingCounted
-pub use Rattle.resuming.specs.Borrowed
-pub use Rattle.resuming.specs.Amid
+pub use Rattle.payload.specs.Same
+pub use Rattle.frames.specs.GuidedTaken as ResumingTaken
+pub use Rattle.frames.specs.Passages
+pub use Rattle.frames.specs.Counted as ResumingCounted
+pub use Rattle.frames.specs.Borrowed
+pub use Rattle.frames.specs.Amid

@@ -9,8 +9,8 @@ pub use Rattle.funnel.specs.Rule
 pub use Rattle.funnel.specs.Live
 pub use Rattle.funnel.specs.Ends
 pub use Rattle.funnel.specs.Refusals
-pub use Rattle.schedule.specs.Schedule
-pub use Rattle.schedule.specs.FaultText as ScheduleFaultText
+pub use Rattle.funnel.specs.Schedule
+pub use Rattle.funnel.specs.FaultText as ScheduleFaultText
 pub use Rattle.bench.specs.Verdict
 pub use Rattle.bench.specs.Got
 pub use Rattle.bench.specs.Report

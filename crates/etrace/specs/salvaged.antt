@@ -21,34 +21,34 @@ pub use Rattle.salvaging.specs.FromLogs
 pub use Rattle.salvaging.specs.LogsSalvaged
 pub use Rattle.salvaging.specs.LossyParts
 pub use Rattle.salvaging.specs.AlikeParts
-pub use Rattle.salvaged_lines.specs.Words as SalvagedWords
-pub use Rattle.salvaged_lines.specs.Lines as SalvagedLines
-pub use Rattle.salvaged_lines.specs.HartLines as SalvagedHartLines
-pub use Rattle.salvaged_lines.specs.Effects as SalvagedEffects
-pub use Rattle.salvaged_lines.specs.ListedAlike
-pub use Rattle.salvaged_table.specs.Offsets as SalvagedOffsets
-pub use Rattle.salvaged_table.specs.Rows as SalvagedRows
-pub use Rattle.salvaged_table.specs.Table as SalvagedTable
-pub use Rattle.salvaged_table.specs.ReadBack as SalvagedReadBack
-pub use Rattle.treated_table.specs.Fields as TreatedFields
-pub use Rattle.treated_table.specs.Rows as TreatedRows
-pub use Rattle.treated_table.specs.Table as TreatedTable
-pub use Rattle.treated_table.specs.HartTable as TreatedHartTable
-pub use Rattle.treated_table.specs.Effects as TreatedEffects
-pub use Rattle.treated_table.specs.ReadBack as TreatedReadBack
-pub use Rattle.salvaged_text.specs.Frames as CaptureFrames
-pub use Rattle.salvaged_text.specs.HartItems
-pub use Rattle.salvaged_text.specs.Found
-pub use Rattle.salvaged_text.specs.Damage
-pub use Rattle.salvaged_text.specs.MessagesLine
-pub use Rattle.salvaged_text.specs.Layouts
-pub use Rattle.salvaged_text.specs.SalvagedText
-pub use Rattle.salvaged_text.specs.FoundTexts
-pub use Rattle.salvaged_text.specs.Salvaged as SalvagedCapture
+pub use Rattle.salvage_reports.specs.Words as SalvagedWords
+pub use Rattle.salvage_reports.specs.Lines as SalvagedLines
+pub use Rattle.salvage_reports.specs.HartLines as SalvagedHartLines
+pub use Rattle.salvage_reports.specs.Effects as SalvagedEffects
+pub use Rattle.salvage_reports.specs.ListedAlike
+pub use Rattle.salvage_reports.specs.Offsets as SalvagedOffsets
+pub use Rattle.salvage_reports.specs.SalvagedRows as SalvagedRows
+pub use Rattle.salvage_reports.specs.SalvagedTable as SalvagedTable
+pub use Rattle.salvage_reports.specs.SalvagedReadBack as SalvagedReadBack
+pub use Rattle.salvage_reports.specs.Fields as TreatedFields
+pub use Rattle.salvage_reports.specs.TreatedRows as TreatedRows
+pub use Rattle.salvage_reports.specs.TreatedTable as TreatedTable
+pub use Rattle.salvage_reports.specs.HartTable as TreatedHartTable
+pub use Rattle.salvage_reports.specs.EffectFields as TreatedEffects
+pub use Rattle.salvage_reports.specs.TreatedReadBack as TreatedReadBack
+pub use Rattle.salvage_reports.specs.Frames as CaptureFrames
+pub use Rattle.salvage_reports.specs.HartItems
+pub use Rattle.salvage_reports.specs.Found
+pub use Rattle.salvage_reports.specs.Damage
+pub use Rattle.salvage_reports.specs.MessagesLine
+pub use Rattle.salvage_reports.specs.Layouts
+pub use Rattle.salvage_reports.specs.SalvagedText
+pub use Rattle.salvage_reports.specs.FoundTexts
+pub use Rattle.salvage_reports.specs.Salvaged as SalvagedCapture
 pub use Rattle.frames.specs.Frame
 pub use Rattle.frames.specs.Taken as FramesTaken
 pub use Rattle.frames.specs.Spans as FrameSpans
 pub use Rattle.frames.specs.Written as FramesWritten
-pub use Rattle.searching.specs.Start as SearchStart
-pub use Rattle.searching.specs.Harts as SearchHarts
-pub use Rattle.searching.specs.Search
+pub use Rattle.frames.specs.Start as SearchStart
+pub use Rattle.frames.specs.Harts as SearchHarts
+pub use Rattle.frames.specs.Search

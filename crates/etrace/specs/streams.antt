@@ -2,8 +2,8 @@
 pub use Rattle.retire.specs.Source
 pub use Rattle.retire.specs.ReaderSource
 pub use Rattle.retire.specs.HasRead
-pub use Rattle.files.specs.Gave
-pub use Rattle.files.specs.Known
+pub use Rattle.log_streams.specs.Gave
+pub use Rattle.log_streams.specs.Known
 pub use Rattle.log_streams.specs.Illegal
 pub use Rattle.log_streams.specs.Read
 pub use Rattle.log_streams.specs.Next

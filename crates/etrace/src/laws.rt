@@ -5,6 +5,7 @@ pub use auditing::{
     harts_are_received_alone, rows_add_up, skips_add_up, whole_decodes_again, whole_is_untouched,
 };
 pub use bench::turns_let_beginnings_through;
+pub use capture_index::all_harts_are_decoded;
 pub use capture_lines::{hex_lines_become_the_capture, hex_lines_say_their_messages};
 pub use comparing::{
     all_harts_are_compared, whole_is_decoded, whole_is_these_logs, whole_of_harts_is_decoded,
@@ -17,37 +18,33 @@ pub use decoder::{
 };
 pub use encoder::{logs_have_few_packets, packets_are_in_profile};
 pub use explaining::texts_list_what_is_legal;
+pub use frames::all_harts_choose_every_span;
 pub use funnel::{every_state_is_lawful, live_channel_is_the_machine};
-pub use hart_range::all_harts_select_every_message;
-pub use hart_rows::all_harts_are_decoded;
 pub use legalpath::{
     logs_split_and_join, reasons_name_illegal_rows, retirements_lead_to_one_place,
 };
-pub use listing::all_harts_are_listed;
-pub use listing_table::{
-    all_harts_are_tabled as all_listed_harts_are_tabled,
+pub use listing::{
+    all_harts_are_listed, all_harts_are_tabled as all_listed_harts_are_tabled,
     rows_are_read_back as listed_rows_are_read_back,
 };
 pub use losses::{stretches_are_whole, stretches_stand_apart};
+pub use message::all_harts_select_every_message;
+pub use path_match::{counts_add_up, whole_is_equal};
 pub use retire::{
     long_read_is_in_range, long_written_is_read_back, plain_is_parted, read_is_in_range,
     written_is_plain, written_is_read_back,
 };
 pub use roundtrip::first_packets_settle_the_first_events;
 pub use rvclass::{cut_pieces_have_the_instructions_of_one, the_bytes_decide_the_instructions};
-pub use salvaged_lines::{
-    accepted_messages_are_taken, all_harts_are_treated, messages_of_logs_are_taken,
-    taken_messages_have_their_effect, undamaged_captures_are_listed_alike,
+pub use salvage_reports::{
+    accepted_messages_are_taken, all_harts_are_treated,
+    all_treated_harts_are_tabled as all_treated_harts_are_tabled, messages_of_logs_are_taken,
+    salvaged_rows_are_read_back as salvaged_rows_are_read_back, taken_messages_have_their_effect,
+    taken_messages_have_their_fields, treated_rows_are_read_back as treated_rows_are_read_back,
+    undamaged_captures_are_listed_alike,
 };
-pub use salvaged_table::rows_are_read_back as salvaged_rows_are_read_back;
 pub use salvaging::{
     harts_are_salvaged_in_one_way, harts_end_at_their_lowest_number,
     harts_end_where_no_stretch_comes_after, logs_are_salvaged, parts_are_what_is_done,
     treatments_are_counted, what_is_collected_is_salvaged,
 };
-pub use searching::all_harts_choose_every_span;
-pub use treated_table::{
-    all_harts_are_tabled as all_treated_harts_are_tabled,
-    rows_are_read_back as treated_rows_are_read_back, taken_messages_have_their_fields,
-};
-pub use unnumbered::{counts_add_up, whole_is_equal};

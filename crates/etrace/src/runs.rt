@@ -7,8 +7,7 @@ pub use bench::{
 };
 pub use comparing::{ComparedHart, Comparing, HartCount, counts_of, write_comparison};
 pub use funnel::{
-    Core, Ended, MOST_PORTS, OpenFault, Outlet, Port, Receipt, SendFault, Settled, Turn, open,
-    opening_fault,
+    Core, Ended, MOST_PORTS, OpenFault, Outlet, Port, Receipt, ScheduleFault, SendFault, Settled,
+    Turn, open, opening_fault, read_schedule,
 };
 pub use message::MOST_CAPACITY;
-pub use schedule::{ScheduleFault, read_schedule};

@@ -4,9 +4,9 @@ use Rattle.std.proofs.Common.{sym, ap, is_some, ⊎_elim}
 use Rattle.std.proofs.lemmas.Bool.{and_right, cases_eq, eq-eqb, ne_eqb}
 use Rattle.std.specs.List.{AllByRecursion}
 use Rattle.std.specs.Prelude.{◌&&◌, ◌==◌, not, if◌then◌else◌, option_map}
-use Rattle.memory.specs.Fetch.{byte_at, half_at, has_bytes, word_at}
-use Rattle.memory.specs.Memory.{Memory, base_of, lowest_of}
-use Rattle.memory.specs.Piece.{IsPiece}
+use Rattle.rvclass.specs.FetchedBytes.{byte_at, half_at, has_bytes, word_at}
+use Rattle.rvclass.specs.Memory.{Memory, base_of, lowest_of}
+use Rattle.rvclass.specs.Piece.{IsPiece}
 use Rattle.rvclass.proofs.WordsLemmas.{words_of-IsProgram}
 use Rattle.rvclass.specs.Fetch.{is_compressed, is_longer, words_of}
 use Rattle.rvclass.specs.Image.{Image, IsImage}

@@ -2,9 +2,9 @@
 use Rattle.std.proofs.Common.{◌≡◌, ℕ, zero, suc, ◌+◌, ◌-◌, ◌≤◌, ◌==◌, if◌then◌else◌, Bool, true, false, List, [], ◌∷◌, drop, length}
 use Rattle.std.proofs.Common.{Option, Some, None, option_map, is_some, refl, sym, ap, ◌∙◌, arith}
 use Rattle.std.specs.List.{slice_get}
-use Rattle.memory.proofs.PlacedLemmas.{length_placed}
-use Rattle.memory.specs.Memory.{Memory, in_order}
-use Rattle.memory.specs.Piece.{Piece, end_of, extent_of}
+use Rattle.rvclass.proofs.PlacedLemmas.{length_placed}
+use Rattle.rvclass.specs.Memory.{Memory, in_order}
+use Rattle.rvclass.specs.Piece.{Piece, end_of, extent_of}
 use Rattle.explaining.specs.Ranges.{range_from, ranges_after, ranges_of}
 use Rattle.explaining.specs.declared.ranges.Range.{Range}
 use Rattle.explaining.specs.steps.JoinedRanges.{behind, carried, lists_one, passed, ranges_on}

@@ -1,7 +1,7 @@
 -- Lines that were worked by hand, as the definition gives them.
 use Rattle.std.proofs.Common.{◌≡◌, ℕ, ◌+◌, true, false, List, [], ◌∷◌, ◌++◌, refl}
 use Rattle.std.specs.Prelude.{codes}
-use Rattle.memory.specs.Piece.{Piece, piece_at}
+use Rattle.rvclass.specs.Piece.{Piece, piece_at}
 use Rattle.retire.specs.declared.event.Event.{Event}
 use Rattle.retire.specs.declared.event.Event.TheVariants.{Retire, Trap}
 use Rattle.rvclass.specs.Fetch.{words_of}

@@ -1,7 +1,7 @@
 -- Whether an image is an ELF file in place of the raw bytes of a program.
 use Rattle.std.specs.Prelude.{◌+◌, ◌&&◌, ◌==◌, if◌then◌else◌, Bool, List, ℕ, [], codes}
-use Rattle.memory.specs.Fetch.{half_at, has_bytes}
-use Rattle.memory.specs.Memory.{base_of}
+use Rattle.rvclass.specs.FetchedBytes.{half_at, has_bytes}
+use Rattle.rvclass.specs.Memory.{base_of}
 use Rattle.rvclass.specs.Image.{Image}
 
 -- The image begins as an ELF file does: at the lowest address of a piece it has the four bytes 7f 45 4c 46, read as two

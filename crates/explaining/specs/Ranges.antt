@@ -1,8 +1,8 @@
 -- The ranges of addresses at which an image has bytes.
 use Rattle.std.specs.Prelude.{ℕ, zero, suc, ◌-◌, ◌++◌, ◌==◌, if◌then◌else◌, List, [], ◌∷◌, length, codes}
 use Rattle.std.specs.Fmt.{decimal}
-use Rattle.memory.specs.Memory.{in_order}
-use Rattle.memory.specs.Piece.{Piece, end_of}
+use Rattle.rvclass.specs.Memory.{in_order}
+use Rattle.rvclass.specs.Piece.{Piece, end_of}
 use Rattle.retire.specs.LogText.{hex}
 use Rattle.rvclass.specs.Image.{Image}
 use Rattle.explaining.specs.declared.ranges.Range.{Range}

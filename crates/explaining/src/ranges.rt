@@ -1,7 +1,7 @@
 //! The ranges of addresses at which a program's image has bytes.
 
 ghost use Rattle.std.specs.Prelude.{◌≡◌, ◌-◌, ◌+◌, ◌^◌, ◌<◌, IfSome, Some, length, slice_get};
-ghost use Rattle.memory.specs.Memory.{in_order};
+ghost use Rattle.rvclass.specs.Memory.{in_order};
 ghost use Rattle.explaining.specs.Ranges.{image_text, range_text, ranges_of};
 ghost use Rattle.explaining.specs.steps.JoinedRanges.{carried, passed};
 ghost use Rattle.explaining.specs.steps.RangeTexts.{more_text, next_text};

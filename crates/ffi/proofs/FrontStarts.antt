@@ -7,7 +7,7 @@ use Rattle.message.specs.Capture.{capture}
 use Rattle.message.specs.declared.fault.MessageFault.{MessageFault}
 use Rattle.message.specs.declared.header.Header.{Header}
 use Rattle.message.specs.declared.message.Message.{Message}
-use Rattle.searching.specs.Start.{IsStart}
+use Rattle.frames.specs.Start.{IsStart}
 
 -- It does not begin with one that is cut or not valid as well.
 begins_well : (bytes rest : List ℕ) (header : Option Header) (why : MessageFault) → BeginsWith header bytes rest

@@ -2,7 +2,7 @@
 use Rattle.std.proofs.Common.{◌≡◌, ℕ, ◌+◌, ◌-◌, ◌^◌, ◌<◌, ◌≤◌, List, [], ◌∷◌, ◌++◌, length, refl, sym, ap, ◌∙◌, arith}
 use Rattle.std.proofs.Common.{min, append_assoc, append-nil, subst}
 use Rattle.std.proofs.lemmas.List.{length_push}
-use Rattle.alike.specs.declared.by.By.{By}
+use Rattle.payload.specs.declared.by.By.{By}
 use Rattle.auditing.specs.Audits.{Audits}
 use Rattle.auditing.specs.Findings.{finding_of}
 use Rattle.auditing.specs.Known.{known_all, known_one}
@@ -10,7 +10,7 @@ use Rattle.auditing.specs.Ledger.{Ledger}
 use Rattle.frames.specs.declared.span.Span.{Span}
 use Rattle.frames.specs.declared.span.Span.TheVariants.{Frame, Bytes}
 use Rattle.message.specs.declared.message.Message.{Message}
-use Rattle.resuming.specs.Counted.{bytes_in, messages_in, span_size}
+use Rattle.frames.specs.Counted.{bytes_in, messages_in, span_size}
 use Rattle.ffi.specs.AuditedAll.{arrival_of, arrivals_after, byte_runs}
 use Rattle.ffi.specs.declared.path_numbers.Arrival.{Arrival}
 use Rattle.ffi.specs.declared.path_numbers.ByteRun.{ByteRun}

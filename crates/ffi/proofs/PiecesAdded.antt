@@ -2,8 +2,8 @@
 use Rattle.std.proofs.Common.{◌≡◌, ◌⊎◌, inl, inr, ℕ, ◌+◌, ◌-◌, ◌<◌, ◌≤◌, ◌++◌, List, [], ◌∷◌, Ok, Err, IsOk, Result, Bool, true, false, length}
 use Rattle.std.proofs.Common.{if◌then◌else◌, drop, take, slice_index_or, refl, sym, ap, subst, ◌∙◌, arith}
 use Rattle.std.proofs.lemmas.List.{length-append, length-drop, take-append-drop, take_all, take_more}
-use Rattle.memory.specs.Adding.{add_piece}
-use Rattle.memory.specs.declared.fault.PieceFault.{PieceFault}
+use Rattle.rvclass.specs.Adding.{add_piece}
+use Rattle.rvclass.specs.declared.piece_fault.PieceFault.{PieceFault}
 use Rattle.rvclass.specs.Image.{Image}
 use Rattle.ffi.specs.Images.{IsJudged, Judged, Judges, NoMemory, are_sorted_from, judged_image, judged_in_turn}
 use Rattle.ffi.specs.Images.{judged_next, judged_pieces, with_piece, with_pieces}

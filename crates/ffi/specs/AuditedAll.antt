@@ -2,8 +2,8 @@
 use Rattle.std.specs.Prelude.{ℕ, ◌≡◌, ◌<◌, ◌≤◌, ◌==◌, ◌&&◌, ◌||◌, ◌++◌, nat_le, not, Bool, true, false, if◌then◌else◌}
 use Rattle.std.specs.Prelude.{List, [], ◌∷◌, Option, Some, None, is_none, is_some, unwrap_or, drop, length, map}
 use Rattle.std.specs.List.{flat_map, list_all, range_with_len}
-use Rattle.alike.specs.declared.by.By.{By}
-use Rattle.alike.specs.declared.by.By.TheVariants as by
+use Rattle.payload.specs.declared.by.By.{By}
+use Rattle.payload.specs.declared.by.By.TheVariants as by
 use Rattle.auditing.specs.Findings.{finding_of, first_found}
 use Rattle.auditing.specs.HartRows.{row_of}
 use Rattle.auditing.specs.Judged.{strangers_in}
@@ -24,9 +24,9 @@ use Rattle.message.specs.declared.fault.DemuxFault.TheVariants as demux
 use Rattle.message.specs.declared.fault.MessageFault.{MessageFault}
 use Rattle.message.specs.declared.header.Header.{Header}
 use Rattle.message.specs.declared.message.Message.{Message}
-use Rattle.resuming.specs.Counted.{bytes_in, messages_in}
-use Rattle.resuming.specs.Passages.{spans_from}
-use Rattle.searching.specs.Start.{IsStart, first_place}
+use Rattle.frames.specs.Counted.{bytes_in, messages_in}
+use Rattle.frames.specs.Passages.{spans_from}
+use Rattle.frames.specs.Start.{IsStart, first_place}
 use Rattle.ffi.specs.Audited.{sent_status, tally_reported}
 use Rattle.ffi.specs.Numbers.{flag}
 use Rattle.ffi.specs.Sending.{numbers_of_header}

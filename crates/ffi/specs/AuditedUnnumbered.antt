@@ -2,8 +2,8 @@
 use Rattle.std.specs.Prelude.{ℕ, ◌≡◌, ◌==◌, ◌+◌, ◌&&◌, ◌++◌, nat_le, nat_lt, not, Bool, true, is_none, is_some}
 use Rattle.std.specs.Prelude.{List, [], ◌∷◌, Option, Some, None, length, map}
 use Rattle.std.specs.List.{count_by}
-use Rattle.alignment.specs.Matches.{Flags}
-use Rattle.alike.specs.declared.by.By.{By}
+use Rattle.path_match.specs.Matches.{Flags}
+use Rattle.payload.specs.declared.by.By.{By}
 use Rattle.auditing.specs.HartRows.{longest_of}
 use Rattle.auditing.specs.Losing.{runs_of}
 use Rattle.auditing.specs.Sent.{IsSent, IsSentFault, harts_of}
@@ -14,12 +14,12 @@ use Rattle.captures.specs.Whole.{IsFront}
 use Rattle.message.specs.declared.fault.MessageFault.{MessageFault}
 use Rattle.message.specs.declared.header.Header.{Header}
 use Rattle.message.specs.declared.message.Message.{Message}
-use Rattle.searching.specs.Start.{IsStart}
-use Rattle.unnumbered.specs.Aligned.{AreAligned}
-use Rattle.unnumbered.specs.Arrivals.{arrival_lines}
-use Rattle.unnumbered.specs.Counted.{counts_of, total_of}
-use Rattle.unnumbered.specs.declared.line.Line.{Line}
-use Rattle.unnumbered.specs.declared.line.Line.TheVariants as line
+use Rattle.frames.specs.Start.{IsStart}
+use Rattle.path_match.specs.Aligned.{AreAligned}
+use Rattle.path_match.specs.Arrivals.{arrival_lines}
+use Rattle.path_match.specs.Counted.{counts_of, total_of}
+use Rattle.path_match.specs.declared.line.Line.{Line}
+use Rattle.path_match.specs.declared.line.Line.TheVariants as line
 use Rattle.ffi.specs.Audited.{sent_status}
 use Rattle.ffi.specs.AuditedAll.{IsGiven, fitting_status, header_fault, header_reported, heads_differ}
 use Rattle.ffi.specs.AuditedAll.{lost_reported, sent_place}

@@ -6,7 +6,7 @@ use Rattle.decoder.specs.Order.{IsOpen, open_packet}
 use Rattle.decoder.specs.Resuming.{IsSync}
 use Rattle.decoder.specs.declared.fault.DecodeFault.{DecodeFault}
 use Rattle.decoder.specs.declared.fault.DecodeFault.TheVariants as decode
-use Rattle.memory.specs.Memory.{byte_count}
+use Rattle.rvclass.specs.Memory.{byte_count}
 use Rattle.payload.specs.ClosedTrace.{last_is_closing}
 use Rattle.payload.specs.Closing.{is_closing_packet}
 use Rattle.payload.specs.Reading.{reading}

@@ -1,8 +1,8 @@
 -- What an image makes that is handed in, as one piece or as several.
 use Rattle.std.specs.Prelude.{ℕ, ◌≡◌, ◌≤◌, ◌++◌, ◌&&◌, nat_le, Bool, true, if◌then◌else◌, List, [], ◌∷◌, length}
 use Rattle.std.specs.Prelude.{Result, Ok, Err, IsOk}
-use Rattle.memory.specs.Adding.{add_piece}
-use Rattle.memory.specs.declared.fault.PieceFault.{PieceFault}
+use Rattle.rvclass.specs.Adding.{add_piece}
+use Rattle.rvclass.specs.declared.piece_fault.PieceFault.{PieceFault}
 use Rattle.rvclass.specs.Image.{Image, image_at}
 use Rattle.rvclass.specs.Program.{program_of}
 use Rattle.rvclass.specs.declared.fault.ProgramFault.{ProgramFault}

@@ -3,7 +3,7 @@ use Rattle.std.specs.Prelude.{ℕ, ◌≡◌, ◌==◌, ◌&&◌, is_none, Bool,
 use Rattle.std.specs.Prelude.{Result, Ok, Err, length}
 use Rattle.captures.specs.declared.outcome.CaptureFault.{CaptureFault}
 use Rattle.listing.specs.Listing.{IsListing}
-use Rattle.listing_table.specs.Table.{IsTable}
+use Rattle.listing.specs.Table.{IsTable}
 use Rattle.rvclass.specs.Fetch.{words_of}
 use Rattle.rvclass.specs.Image.{Image}
 use Rattle.rvclass.specs.Words.{Words}

@@ -4,21 +4,21 @@ use Rattle.std.specs.Prelude.{Result, Ok, Err, length}
 use Rattle.std.specs.List.{list_any}
 use Rattle.std.specs.Option.{unwrap_or}
 use Rattle.std.specs.declared.alloc.Global.{Global}
-use Rattle.hart_range.specs.Range.{every_hart}
-use Rattle.hart_range.specs.declared.range.HartRange.{HartRange}
+use Rattle.message.specs.Range.{every_hart}
+use Rattle.message.specs.declared.range.HartRange.{HartRange}
 use Rattle.message.specs.declared.fault.MessageFault.{MessageFault}
 use Rattle.message.specs.declared.header.Header.{Header}
 use Rattle.rvclass.specs.Image.{Image}
-use Rattle.salvaged_text.specs.Damage.{closed_harts, first_unclosed, is_damaged}
-use Rattle.salvaged_text.specs.Found.{IsSalvagedCapture}
-use Rattle.salvaged_text.specs.Frames.{is_run}
-use Rattle.salvaged_text.specs.HartItems.{items_of}
-use Rattle.salvaged_text.specs.Layouts.{salvaged_as}
-use Rattle.salvaged_text.specs.declared.found_writing.Layout.{Layout}
-use Rattle.salvaged_text.specs.declared.found_writing.Layout.TheVariants as layout
+use Rattle.salvage_reports.specs.Damage.{closed_harts, first_unclosed, is_damaged}
+use Rattle.salvage_reports.specs.Found.{IsSalvagedCapture}
+use Rattle.salvage_reports.specs.Frames.{is_run}
+use Rattle.salvage_reports.specs.HartItems.{items_of}
+use Rattle.salvage_reports.specs.Layouts.{salvaged_as}
+use Rattle.salvage_reports.specs.declared.found_writing.Layout.{Layout}
+use Rattle.salvage_reports.specs.declared.found_writing.Layout.TheVariants as layout
 use Rattle.salvaging.specs.declared.salvaged.Salvaged.{Salvaged}
 use Rattle.salvaging.specs.declared.salvaged.SalvagedHart.{SalvagedHart}
-use Rattle.searching.specs.Start.{spans_of}
+use Rattle.frames.specs.Start.{spans_of}
 use Rattle.ffi.specs.Images.{Judged}
 use Rattle.ffi.specs.Numbers.{flag}
 use Rattle.ffi.specs.Statuses.{message_status}

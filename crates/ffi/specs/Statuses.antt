@@ -8,8 +8,8 @@ use Rattle.decoder.specs.declared.fault.DecodeFault.{DecodeFault}
 use Rattle.decoder.specs.declared.fault.DecodeFault.TheVariants as decode
 use Rattle.legalpath.specs.declared.fault.Why.{Why}
 use Rattle.legalpath.specs.declared.fault.Why.TheVariants as path
-use Rattle.memory.specs.declared.fault.PieceFault.{PieceFault}
-use Rattle.memory.specs.declared.fault.PieceFault.TheVariants as piece
+use Rattle.rvclass.specs.declared.piece_fault.PieceFault.{PieceFault}
+use Rattle.rvclass.specs.declared.piece_fault.PieceFault.TheVariants as piece
 use Rattle.message.specs.declared.fault.DemuxFault.{DemuxFault}
 use Rattle.message.specs.declared.fault.DemuxFault.TheVariants as demux
 use Rattle.message.specs.declared.fault.MessageFault.{MessageFault}

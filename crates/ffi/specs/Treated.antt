@@ -2,23 +2,23 @@
 use Rattle.std.specs.Prelude.{ℕ, ◌≡◌, List, Option, Some, None, Result, Ok, Err}
 use Rattle.std.specs.List.{list_any}
 use Rattle.std.specs.declared.alloc.Global.{Global}
-use Rattle.hart_range.specs.Range.{every_hart, selected}
-use Rattle.hart_range.specs.declared.range.HartRange.{HartRange}
+use Rattle.message.specs.Range.{every_hart, selected}
+use Rattle.message.specs.declared.range.HartRange.{HartRange}
 use Rattle.message.specs.declared.fault.MessageFault.{MessageFault}
 use Rattle.message.specs.declared.header.Header.{Header}
 use Rattle.rvclass.specs.Fetch.{words_of}
 use Rattle.rvclass.specs.Image.{Image}
-use Rattle.salvaged_lines.specs.HartLines.{treated_text_of}
-use Rattle.salvaged_text.specs.Found.{IsSalvagedCapture}
-use Rattle.salvaged_text.specs.Frames.{is_run, messages_in}
+use Rattle.salvage_reports.specs.HartLines.{treated_text_of}
+use Rattle.salvage_reports.specs.Found.{IsSalvagedCapture}
+use Rattle.salvage_reports.specs.Frames.{is_run, messages_in}
 use Rattle.salvaging.specs.Treatments.{AreTreated}
 use Rattle.salvaging.specs.declared.salvaged.Salvaged.{Salvaged}
 use Rattle.salvaging.specs.declared.treatment.Treated.{Treated}
-use Rattle.searching.specs.Harts.{harts_counted}
-use Rattle.searching.specs.Search.{mode_of}
-use Rattle.searching.specs.Start.{spans_of}
+use Rattle.frames.specs.Harts.{harts_counted}
+use Rattle.frames.specs.Search.{mode_of}
+use Rattle.frames.specs.Start.{spans_of}
 use Rattle.symbols.specs.declared.fault.SymbolsFault.TheVariants as reading
-use Rattle.treated_table.specs.HartTable.{treated_table_of}
+use Rattle.salvage_reports.specs.HartTable.{treated_table_of}
 use Rattle.ffi.specs.Images.{Judged}
 use Rattle.ffi.specs.Listed.{format_of, symbols_in}
 use Rattle.ffi.specs.Salvaged.{harts_asked, salvage_end}

@@ -3,12 +3,12 @@
 ghost use Rattle.std.specs.Prelude.{◌≡◌, IfErr, IfOk, length};
 ghost use Rattle.auditing.specs.Sent.{IsSent, IsSentFault, harts_of};
 ghost use Rattle.captures.specs.Whole.{IsFront};
-ghost use Rattle.searching.specs.Start.{IsStart};
+ghost use Rattle.frames.specs.Start.{IsStart};
 ghost use Rattle.ffi.specs.AuditedAll.{compared_by};
 ghost use Rattle.ffi.specs.AuditedUnnumbered.{AreAlignedGiven, IsAuditedUnnumbered, ReportsUnnumbered};
 ghost use Rattle.ffi.specs.AuditedUnnumbered.{aligned_end, singles_of, strangers_among};
-ghost use Rattle.unnumbered.specs.Aligned.{AreAligned};
-ghost use Rattle.unnumbered.specs.Counted.{total_of};
+ghost use Rattle.path_match.specs.Aligned.{AreAligned};
+ghost use Rattle.path_match.specs.Counted.{total_of};
 
 use crate::aligned_harts::{aligned_rows, first_place, singles_of, strangers_among, unmatched_of};
 use crate::aligned_numbers::{AlignedEnd, AlignedRow, Single};
@@ -17,14 +17,13 @@ use crate::path_audit::sent_status;
 use crate::path_ending::{header_fault, header_reported, heads_differ};
 use crate::path_numbers::{LostRun, SentPlace, sent_place};
 use crate::status::OUT_OF_RANGE;
-use alignment::Alignment;
-use alike::By;
 use auditing::{Audit, SentFault};
 use captures::{read_front, read_messages};
+use frames::start_of;
 use message::{Header, Message, MessageFault};
-use searching::start_of;
+use path_match::{Alignment, aligned_harts, arrival_lines, total_of};
+use payload::By;
 use std::alloc::{AllocError, Global};
-use unnumbered::{aligned_harts, arrival_lines, total_of};
 
 /// What is found of a path by payloads alone.
 #[derive(Drop)]

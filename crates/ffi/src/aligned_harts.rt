@@ -7,11 +7,10 @@ ghost use Rattle.ffi.specs.AuditedUnnumbered.{unmatched_from};
 use crate::aligned_numbers::{AlignedRow, Single, aligned_reported, single_of};
 use crate::path_harts::add_lost;
 use crate::path_numbers::LostRun;
-use alignment::Alignment;
 use auditing::LostRuns;
 use message::Message;
+use path_match::{Alignment, Line};
 use std::alloc::{AllocError, Global};
-use unnumbered::Line;
 
 /// What is found of each hart, by their alignments.
 pub(crate) fn aligned_rows(alloc: Global, all: &[Alignment]) -> Result<Vec<AlignedRow>, AllocError>

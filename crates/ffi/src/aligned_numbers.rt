@@ -5,9 +5,8 @@ ghost use Rattle.ffi.specs.AuditedUnnumbered.{aligned_reported, single_of};
 
 use crate::headers::HeaderNumbers;
 use crate::path_numbers::{FATE_IN_ORDER, FATE_STRANGER};
-use alignment::Alignment;
 use auditing::run_lengths;
-use unnumbered::{Line, counts_of};
+use path_match::{Alignment, Line, counts_of};
 
 /// The message is matched with no message of SENT.
 pub const FATE_EXTRA: u32 = 5;

@@ -2,7 +2,7 @@
 //! owns its bytes.
 
 ghost use Rattle.std.specs.Prelude.{◌≡◌, ◌≤◌, ◌⊎◌, true, length, Err, IfErr, IfOk, Ok};
-ghost use Rattle.memory.specs.Adding.{add_piece};
+ghost use Rattle.rvclass.specs.Adding.{add_piece};
 ghost use Rattle.ffi.specs.Images.{are_sorted_from, judged_image, judged_next, judged_pieces};
 ghost use Rattle.ffi.specs.Images.{with_pieces};
 ghost use Rattle.ffi.specs.declared.fault.ImageFault.TheVariants.{Memory};

@@ -1,7 +1,7 @@
 //! The program of an image that is handed in, as one piece or as several.
 
 ghost use Rattle.std.specs.Prelude.{◌≡◌, ◌≤◌, ◌⊎◌, true, length, IfErr, IfOk, IsOk, Err, Ok};
-ghost use Rattle.memory.specs.Adding.{add_piece};
+ghost use Rattle.rvclass.specs.Adding.{add_piece};
 ghost use Rattle.ffi.specs.Images.{IsJudged, are_sorted_from, judged_image, judged_next, judged_pieces};
 ghost use Rattle.ffi.specs.Images.{with_pieces};
 ghost use Rattle.ffi.specs.declared.fault.ImageFault.TheVariants.{Memory};

@@ -13,13 +13,12 @@ use crate::decoding::{stop_fault, stop_place};
 use crate::fault::Fault;
 use crate::images::{ImagePiece, Judged, judge_image, judge_pieces};
 use crate::texts::{TextEnd, TextFault, Written, first_unclosed, report_text};
-use listing::{Listed, list_watched};
-use listing_table::write_listing_table;
+use listing::{Listed, list_watched, write_listing_table};
+use message::Unwatched;
 use retire::WriteFault;
 use rvclass::ProgramOver;
 use std::alloc::Global;
 use symbols::{Symbols, SymbolsFault};
-use watching::Unwatched;
 
 /// Lines of text.
 pub const TEXT: u32 = 0;

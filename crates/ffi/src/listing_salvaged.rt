@@ -2,7 +2,7 @@
 
 ghost use Rattle.std.specs.Prelude.{◌≡◌, IfOk, OnOk, Some, option_map};
 ghost use Rattle.std.specs.Io.KnownBytes.{Appends};
-ghost use Rattle.hart_range.specs.Range.{every_hart};
+ghost use Rattle.message.specs.Range.{every_hart};
 ghost use Rattle.ffi.specs.Images.{OfPieces, judged_image};
 ghost use Rattle.ffi.specs.Treated.{IsTreatedAs, IsTreatedIn, ReportsTreated, treated_in};
 ghost use Rattle.ffi.specs.steps.Treating.{IsTreatedBy};
@@ -12,18 +12,14 @@ use crate::images::{ImagePiece, Judged, judge_image, judge_pieces};
 use crate::listing_capture::{TextFormat, format_of, symbols_of};
 use crate::salvaged::{end_of_found, harts_asked};
 use crate::texts::{TextEnd, TextFault, Written, report_text};
-use hart_range::HartRange;
-use message::Header;
+use frames::{harts_counted, mode_of, start_of};
+use message::{HartRange, Header, Unwatched};
 use retire::WriteFault;
 use rvclass::ProgramOver;
-use salvaged_lines::write_treated_harts;
-use salvaged_text::find_salvaged;
+use salvage_reports::{find_salvaged, write_treated_harts, write_treated_harts_table};
 use salvaging::{Treated, treat_watched};
-use searching::{harts_counted, mode_of, start_of};
 use std::alloc::Global;
 use symbols::Symbols;
-use treated_table::write_treated_harts_table;
-use watching::Unwatched;
 
 /// Writes what salvaging does with each message of a capture to a buffer, as `tracebench list --salvage` prints it: a
 /// line for each message that is found among its bytes, with what it says and what is done with it, and one for each

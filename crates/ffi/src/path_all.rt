@@ -16,10 +16,9 @@ use crate::path_numbers::{
     Arrival, BY_PACKETS, ByteRun, HartRowNumbers, LostRun, PathEnd, SentPlace, sent_place,
 };
 use crate::status::{DONE, OUT_OF_RANGE, TOO_SMALL};
-use alike::By;
 use auditing::{Audit, SentFault};
-use resuming::Resuming;
-use searching::{CaptureStart, first_place, start_of};
+use frames::{CaptureStart, Resuming, first_place, start_of};
+use payload::By;
 use std::alloc::{AllocError, Global};
 
 /// What is found of a path.

@@ -4,14 +4,14 @@ ghost use Rattle.std.specs.Prelude.{◌≡◌, ◌+◌, ◌≤◌, ◌<◌, ◌^
 ghost use Rattle.auditing.specs.Audits.{Audits as IsAudit};
 ghost use Rattle.auditing.specs.Seen.{sight_of};
 ghost use Rattle.message.specs.declared.message.Message.{Message as AnyMessage};
-ghost use Rattle.resuming.specs.Borrowed.{span_of};
-ghost use Rattle.resuming.specs.Counted.{bytes_in, messages_in};
-ghost use Rattle.resuming.specs.Passages.{spans_left};
+ghost use Rattle.frames.specs.Borrowed.{span_of};
+ghost use Rattle.frames.specs.Counted.{bytes_in, messages_in};
+ghost use Rattle.frames.specs.Passages.{spans_left};
 ghost use Rattle.ffi.specs.AuditedAll.{arrivals_after, byte_runs};
 
 use crate::path_numbers::{Arrival, ByteRun, arrival_of};
 use auditing::Audit;
-use resuming::{Passage, Resuming};
+use frames::{Passage, Resuming};
 use std::alloc::AllocError;
 
 /// Takes the messages of RECEIVED that are left. Adds each with what is found of it, and each run of bytes of no

@@ -1,14 +1,14 @@
 //! What an audit of a path finds, in numbers.
 
 ghost use Rattle.std.specs.Prelude.{◌≡◌};
-ghost use Rattle.resuming.specs.Borrowed.{message_of};
+ghost use Rattle.frames.specs.Borrowed.{message_of};
 ghost use Rattle.ffi.specs.AuditedAll.{arrival_of, expected_at, fate_number, found_by, row_reported, sent_place};
 
 use crate::headers::HeaderNumbers;
 use crate::path_audit::{HartTally, tally_reported};
 use auditing::{Finding, HartRow, SentFault};
+use frames::BorrowedMessage;
 use message::DemuxFault;
-use resuming::BorrowedMessage;
 
 /// Payloads are compared by the packets that they unpack to, and not by their bytes.
 pub const BY_PACKETS: u32 = 1;

@@ -9,7 +9,7 @@ use crate::listing_capture::{CSV, TEXT};
 use crate::status::DONE;
 use crate::texts::TextEnd;
 use message::MessageFault;
-use salvaged_text::{Found, Layout};
+use salvage_reports::{Found, Layout};
 
 /// Lines of text without the rows of logs.
 pub const SUMMARY: u32 = 2;

@@ -8,10 +8,9 @@ use crate::fault::Fault;
 use crate::images::{ImagePiece, Judged, judge_image, judge_pieces};
 use crate::salvaged::{end_of_found, harts_asked, layout_of};
 use crate::texts::{TextEnd, TextFault, Written, report_text};
-use hart_range::HartRange;
-use salvaged_text::{Layout, write_salvaged};
+use message::{HartRange, Unwatched};
+use salvage_reports::{Layout, write_salvaged};
 use std::alloc::Global;
-use watching::Unwatched;
 
 /// Writes what is left of the logs of a capture to a buffer, whatever happened to its bytes, as `tracebench salvage`
 /// prints it. Its messages are looked for among all bytes after a valid header, and without one from the first byte on.

@@ -1,338 +1,381 @@
 //! The arguments of a case.
 
-use crate::fields::{Fields, NO_FIELDS, Record, low_16, low_32};
-use crate::said::Fault;
+use crate::fields::{FromRecord, NO_FIELDS, Record, low_16, low_32};
 use crate::store::Store;
+use cases::{Case, bytes_of};
 use ffi::{EncoderNumbers, EventNumbers, HartNumbers, ImagePiece, PacketNumbers};
 use std::alloc::Global;
 
 /// Where programs begin that name no base.
 const BASE: u64 = 0x8000_0000;
 
-/// The value of the argument with this name; it is empty where there is none.
-pub(crate) fn value<'a>(words: &'a str, name: &str) -> &'a str {
-    for word in words.split(' ') {
-        if let Some((own, value)) = word.split_once('=') {
-            if own == name {
-                return value;
-            }
-        }
-    }
-    ""
-}
-
-/// Whether there is an argument with this name.
-pub(crate) fn has(words: &str, name: &str) -> bool {
-    for word in words.split(' ') {
-        if let Some((own, _)) = word.split_once('=') {
-            if own == name {
-                return true;
-            }
-        }
-    }
-    false
-}
-
 /// The number of decimal digits, or of hexadecimal ones after `0x`.
-pub(crate) fn number_of(text: &str) -> Option<u64> {
+pub(crate) fn number_of(case: &mut Case<'_>, text: &str) -> u64 {
     match text.strip_prefix("0x") {
-        Some(digits) => u64::from_str_radix(digits, 16).ok(),
-        None => text.parse::<u64>().ok(),
+        Some(digits) => case.hex(digits),
+        None => case.decimal(text),
     }
 }
 
 /// The number that the argument with this name is, or the other number where there is none.
-pub(crate) fn number_or(words: &str, name: &str, other: u64) -> u64 {
-    number_of(value(words, name)).unwrap_or(other)
-}
-
-/// How often a part is meant, and the part.
-pub(crate) fn times_of(text: &str) -> (u64, &str) {
-    if let Some((count, part)) = text.split_once('*') {
-        if let Some(times) = number_of(count) {
-            return (times, part);
-        }
+pub(crate) fn number_or(case: &mut Case<'_>, name: &str, other: u64) -> u64 {
+    match case.value(name) {
+        Some(text) => number_of(case, text),
+        None => other,
     }
-    (1, text)
-}
-
-/// Appends the bytes of a part so often.
-fn add_part(bytes: &mut Vec<u8>, part: &[u8], times: u64) -> Result<(), Fault> {
-    for _ in 0..times {
-        bytes.extend_from_slice(part)?;
-    }
-    Ok(())
 }
 
 /// Appends the bytes that an expression says.
-pub(crate) fn add_bytes(
-    alloc: Global,
-    store: &Store,
-    text: &str,
-    bytes: &mut Vec<u8>,
-) -> Result<(), Fault> {
+pub(crate) fn add_bytes(case: &mut Case<'_>, store: &Store, text: &str, bytes: &mut Vec<u8>) {
     for one in text.split('+') {
-        let (times, part) = times_of(one);
-        if let Some(named) = store.get(part) {
-            add_part(bytes, named, times)?;
-        } else if let Ok(own) = hex::decode(alloc, part) {
-            add_part(bytes, own.as_slice(), times)?;
-        } else {
-            return Err(Fault("bytes that are not read"));
+        let (times, part) = case.times(one);
+        let own = match store.get(part) {
+            Some(_) => Vec::new(case.alloc),
+            None => bytes_of(case, part),
+        };
+        let part = store.get(part).unwrap_or(own.as_slice());
+        for _ in 0..times {
+            let done = bytes.extend_from_slice(part);
+            case.note(done);
         }
     }
-    Ok(())
 }
 
-/// The place of a name.
-fn place_of(names: &[&str], name: &str) -> Option<usize> {
-    for (place, own) in names.iter().enumerate() {
+/// Sets the number of a field, `NAME=VALUE`.
+fn set_field(case: &mut Case<'_>, names: &[&str], record: &mut Record, word: &str) {
+    let (name, number) = word.split_once('=').unwrap_or((word, ""));
+    let number = number_of(case, number);
+    for (own, field) in names.iter().zip(record.iter_mut()) {
         if *own == name {
-            return Some(place);
+            *field = number;
+            return;
         }
     }
-    None
+    case.unread();
 }
 
-/// The numbers of a struct with these fields.
-pub(crate) fn record_of(names: &[&str], text: &str) -> Option<Record> {
-    let inner = text.strip_prefix('{')?.strip_suffix('}')?;
+/// The struct that a text or its name says. What is no field of it is noted.
+fn struct_of<T: FromRecord>(case: &mut Case<'_>, store: &Store, text: &str) -> T {
+    let named = store.get(text).unwrap_or(text.as_bytes());
+    let text = str::from_utf8(named).unwrap_or("");
+    let begun = text.strip_prefix('{').unwrap_or("");
+    let inner = begun.strip_suffix('}').unwrap_or("?");
     let mut record = NO_FIELDS;
-    if inner.is_empty() {
-        return Some(record);
-    }
     for word in inner.split(',') {
-        let (name, number) = word.split_once('=')?;
-        let place = place_of(names, name)?;
-        let field = record.get_mut(place)?;
-        *field = number_of(number)?;
-    }
-    Some(record)
-}
-
-/// The struct that a text or its name says.
-fn struct_of<T: Fields>(store: &Store, text: &str) -> Result<T, Fault> {
-    let text = if text.starts_with('{') {
-        text
-    } else {
-        store.text(text)
-    };
-    match record_of(T::names(), text) {
-        Some(record) => Ok(T::of(&record)),
-        None => Err(Fault("fields that are not read")),
-    }
-}
-
-/// Bytes of several elements, one after the other, and where each ends.
-#[derive(Drop)]
-pub(crate) struct Joined {
-    pub(crate) bytes: Vec<u8>,
-    pub(crate) ends: Vec<u64>,
-}
-
-impl Joined {
-    /// Adds elements, each an expression.
-    fn add(&mut self, alloc: Global, store: &Store, text: &str) -> Result<(), Fault> {
-        for item in text.split(',') {
-            let (times, part) = times_of(item);
-            for _ in 0..times {
-                add_bytes(alloc, store, part, &mut self.bytes)?;
-                self.ends.push(self.bytes.len() as u64)?;
-            }
+        if !inner.is_empty() {
+            set_field(case, T::NAMES, &mut record, word);
         }
-        Ok(())
     }
-
-    /// Takes other ends.
-    fn end_at(&mut self, text: &str) -> Result<(), Fault> {
-        self.ends.clear();
-        if text.is_empty() {
-            return Ok(());
-        }
-        for item in text.split(',') {
-            let (times, part) = times_of(item);
-            let end = number_of(part).ok_or(Fault("ends that are not read"))?;
-            for _ in 0..times {
-                self.ends.push(end)?;
-            }
-        }
-        Ok(())
-    }
+    T::of(record)
 }
 
 /// What is given to a call.
 #[derive(Drop)]
 pub(crate) struct Given<'a> {
-    pub(crate) words: &'a str,
-    pub(crate) store: &'a Store,
+    pub(crate) alloc: Global,
+    store: &'a Store,
+    /// Whether the program is in pieces, and these.
+    pub(crate) in_pieces: bool,
     pub(crate) pieces: Vec<ImagePiece<'a>>,
-    pub(crate) joined: Joined,
+    /// Bytes of several elements, one after the other, and where each ends.
+    pub(crate) joined: Vec<u8>,
+    pub(crate) ends: Vec<u64>,
     pub(crate) events: Vec<EventNumbers>,
     pub(crate) event: EventNumbers,
     pub(crate) before: EventNumbers,
     pub(crate) packet: PacketNumbers,
     pub(crate) encoder: EncoderNumbers,
-    pub(crate) hart: HartNumbers,
+    pub(crate) hart_state: HartNumbers,
+    pub(crate) bytes: Bytes<'a>,
+    pub(crate) numbers: Numbers,
 }
 
-impl<'a> Given<'a> {
-    /// Nothing but the arguments.
-    pub(crate) fn new(alloc: Global, store: &'a Store, words: &'a str) -> Given<'a> {
-        Given {
-            words,
-            store,
-            pieces: Vec::new(alloc),
-            joined: Joined {
-                bytes: Vec::new(alloc),
-                ends: Vec::new(alloc),
-            },
-            events: Vec::new(alloc),
-            event: EventNumbers::of(&NO_FIELDS),
-            before: EventNumbers::of(&NO_FIELDS),
-            packet: PacketNumbers::of(&NO_FIELDS),
-            encoder: EncoderNumbers::of(&NO_FIELDS),
-            hart: HartNumbers::of(&NO_FIELDS),
-        }
-    }
+/// Bytes by the names of parameters.
+#[derive(Clone, Copy)]
+pub(crate) struct Bytes<'a> {
+    pub(crate) image: &'a [u8],
+    pub(crate) payload: &'a [u8],
+    pub(crate) capture: &'a [u8],
+    pub(crate) sent: &'a [u8],
+    pub(crate) received: &'a [u8],
+    pub(crate) log: &'a [u8],
+    pub(crate) text: &'a [u8],
+    pub(crate) symbols: &'a [u8],
+    pub(crate) start: &'a [u8],
+    /// What a call has to hand out.
+    pub(crate) due: Option<&'a [u8]>,
+}
 
-    /// Whether the program is in pieces.
-    pub(crate) fn in_pieces(&self) -> bool {
-        has(self.words, "pieces") || has(self.words, "cut")
-    }
+/// Numbers by the names of parameters.
+#[derive(Clone, Copy)]
+pub(crate) struct Numbers {
+    pub(crate) base: u64,
+    pub(crate) harts: u16,
+    pub(crate) hart: u16,
+    pub(crate) period: u16,
+    pub(crate) mode: u32,
+    pub(crate) version: u32,
+    pub(crate) format: u32,
+    pub(crate) flags: u32,
+    pub(crate) number: u64,
+    pub(crate) has_before: u32,
+    /// The size of a buffer, if it is given.
+    pub(crate) room: Option<usize>,
+    pub(crate) places: usize,
+    pub(crate) rows: usize,
+    pub(crate) arrivals: usize,
+    pub(crate) singles: usize,
+    pub(crate) lost: usize,
+    pub(crate) runs: usize,
+    /// Of what is handed out so many of the last are shown, or of the first.
+    pub(crate) tail: Option<usize>,
+    pub(crate) last: Option<usize>,
+    pub(crate) show: Option<usize>,
+    /// Whether lists are written by steps.
+    pub(crate) steps: bool,
+}
 
-    /// Whether there is an argument with this name.
-    pub(crate) fn has(&self, name: &str) -> bool {
-        has(self.words, name)
-    }
+/// No bytes.
+const NO_BYTES: Bytes<'static> = Bytes {
+    image: &[],
+    payload: &[],
+    capture: &[],
+    sent: &[],
+    received: &[],
+    log: &[],
+    text: &[],
+    symbols: &[],
+    start: &[],
+    due: None,
+};
 
-    /// The number that an argument is, or 0.
-    pub(crate) fn number(&self, name: &str) -> u64 {
-        number_or(self.words, name, 0)
-    }
+/// No number is given.
+const NO_NUMBERS: Numbers = Numbers {
+    base: BASE,
+    harts: 0,
+    hart: 0,
+    period: 0,
+    mode: 0,
+    version: 0,
+    format: 0,
+    flags: 0,
+    number: 0,
+    has_before: 0,
+    room: None,
+    places: 0,
+    rows: 0,
+    arrivals: 0,
+    singles: 0,
+    lost: 0,
+    runs: 0,
+    tail: None,
+    last: None,
+    show: None,
+    steps: false,
+};
 
-    /// The same of 32 bits.
-    pub(crate) fn small(&self, name: &str) -> u32 {
-        low_32(self.number(name))
-    }
-
-    /// The same of 16 bits.
-    pub(crate) fn short(&self, name: &str) -> u16 {
-        low_16(self.number(name))
-    }
-
-    /// The size of a buffer.
-    pub(crate) fn size(&self, name: &str) -> usize {
-        self.number(name).min(1 << 32) as usize
-    }
-
-    /// Where the program begins.
-    pub(crate) fn base(&self) -> u64 {
-        number_or(self.words, "base", BASE)
-    }
-
-    /// The bytes that an argument is, or none.
-    pub(crate) fn bytes(&self, name: &str) -> &'a [u8] {
-        self.store.get(value(self.words, name)).unwrap_or(&[])
-    }
-
-    /// Adds pieces: where each begins, and the name of its bytes.
-    fn add_pieces(&mut self, text: &str) -> Result<(), Fault> {
-        if text.is_empty() {
-            return Ok(());
-        }
-        for item in text.split(',') {
-            let (times, part) = times_of(item);
-            let (base, name) = part.split_once(':').unwrap_or((part, ""));
-            let base = number_of(base).ok_or(Fault("pieces that are not read"))?;
-            let bytes = self.store.get(name).unwrap_or(&[]);
-            for _ in 0..times {
-                self.pieces.push(ImagePiece { base, bytes })?;
-            }
-        }
-        Ok(())
-    }
-
-    /// Cuts the image.
-    fn add_cut(&mut self, at: usize) -> Result<(), Fault> {
-        let image = self.bytes("image");
-        let base = self.base();
-        self.pieces.push(ImagePiece {
-            base,
-            bytes: image.get(..at).unwrap_or(image),
-        })?;
-        self.pieces.push(ImagePiece {
-            base: base.saturating_add(at as u64),
-            bytes: image.get(at..).unwrap_or(&[]),
-        })?;
-        Ok(())
-    }
-
-    /// Adds events.
-    fn add_events(&mut self, alloc: Global, text: &str) -> Result<(), Fault> {
-        for item in text.split(';') {
-            let (times, part) = times_of(item);
-            let event = struct_of(self.store, part)?;
-            let count = times.min(1 << 32) as usize;
-            if self.events.is_empty() {
-                self.events = Vec::from_elem(alloc, event, count)?;
-            } else {
-                for _ in 0..count {
-                    self.events.push(event)?;
+impl Numbers {
+    /// Sets the number of this name. One that is not known is noted.
+    fn set(&mut self, case: &mut Case<'_>, name: &str, text: &str) {
+        let number = number_of(case, text);
+        match name {
+            "base" => self.base = number,
+            "number" => self.number = number,
+            "harts" => self.harts = low_16(number),
+            "hart" => self.hart = low_16(number),
+            "period" => self.period = low_16(number),
+            "mode" => self.mode = low_32(number),
+            "version" => self.version = low_32(number),
+            "format" => self.format = low_32(number),
+            "flags" => self.flags = low_32(number),
+            "has_before" => self.has_before = low_32(number),
+            _ => {
+                if !self.set_size(name, number.min(1 << 32) as usize) {
+                    self.set_shown(case, name, number.min(1 << 32) as usize);
                 }
             }
         }
-        Ok(())
+    }
+
+    /// Sets the size of this name; whether there is one.
+    fn set_size(&mut self, name: &str, size: usize) -> bool {
+        match name {
+            "room" => self.room = Some(size),
+            "places" => self.places = size,
+            "rows" => self.rows = size,
+            "arrivals" => self.arrivals = size,
+            "singles" => self.singles = size,
+            "lost" => self.lost = size,
+            "runs" => self.runs = size,
+            _ => return false,
+        }
+        true
+    }
+
+    /// Sets how much is shown, by this name. One that is not known is noted.
+    fn set_shown(&mut self, case: &mut Case<'_>, name: &str, count: usize) {
+        match name {
+            "tail" => self.tail = Some(count),
+            "last" => self.last = Some(count),
+            "show" => self.show = Some(count),
+            "steps" => self.steps = true,
+            _ => case.unread(),
+        }
+    }
+}
+
+impl<'a> Bytes<'a> {
+    /// Sets the bytes of this name.
+    fn set(&mut self, name: &str, bytes: &'a [u8]) {
+        match name {
+            "image" => self.image = bytes,
+            "payload" => self.payload = bytes,
+            "capture" => self.capture = bytes,
+            "sent" => self.sent = bytes,
+            "received" => self.received = bytes,
+            "log" => self.log = bytes,
+            "text" => self.text = bytes,
+            "symbols" => self.symbols = bytes,
+            "bytes" => self.start = bytes,
+            _ => self.due = Some(bytes),
+        }
+    }
+}
+
+impl<'a> Given<'a> {
+    /// Nothing.
+    pub(crate) fn new(alloc: Global, store: &'a Store) -> Given<'a> {
+        Given {
+            alloc,
+            store,
+            in_pieces: false,
+            pieces: Vec::new(alloc),
+            joined: Vec::new(alloc),
+            ends: Vec::new(alloc),
+            events: Vec::new(alloc),
+            event: EventNumbers::of(NO_FIELDS),
+            before: EventNumbers::of(NO_FIELDS),
+            packet: PacketNumbers::of(NO_FIELDS),
+            encoder: EncoderNumbers::of(NO_FIELDS),
+            hart_state: HartNumbers::of(NO_FIELDS),
+            bytes: NO_BYTES,
+            numbers: NO_NUMBERS,
+        }
+    }
+
+    /// Adds elements, each an expression.
+    fn add_joined(&mut self, case: &mut Case<'_>, text: &str) {
+        for item in text.split(',') {
+            let (times, part) = case.times(item);
+            for _ in 0..times {
+                add_bytes(case, self.store, part, &mut self.joined);
+                case.push(&mut self.ends, self.joined.len() as u64);
+            }
+        }
+    }
+
+    /// Takes other ends.
+    fn end_at(&mut self, case: &mut Case<'_>, text: &str) {
+        self.ends.clear();
+        for item in text.split(',') {
+            let (times, part) = case.times(item);
+            if !text.is_empty() {
+                let end = number_of(case, part);
+                for _ in 0..times {
+                    case.push(&mut self.ends, end);
+                }
+            }
+        }
+    }
+
+    /// Adds pieces: where each begins, and the name of its bytes.
+    fn add_pieces(&mut self, case: &mut Case<'_>, text: &str) {
+        for item in text.split(',') {
+            let (times, part) = case.times(item);
+            if !text.is_empty() {
+                let (base, name) = part.split_once(':').unwrap_or((part, ""));
+                let base = number_of(case, base);
+                let bytes = self.store.get(name).unwrap_or(&[]);
+                for _ in 0..times {
+                    case.push(&mut self.pieces, ImagePiece { base, bytes });
+                }
+            }
+        }
+    }
+
+    /// Cuts the image.
+    fn add_cut(&mut self, case: &mut Case<'_>, text: &str) {
+        let at = number_of(case, text);
+        let (image, base) = (self.bytes.image, number_or(case, "base", BASE));
+        let (front, rest) = image.split_at((at as usize).min(image.len()));
+        case.push(&mut self.pieces, ImagePiece { base, bytes: front });
+        let base = base.saturating_add(at);
+        case.push(&mut self.pieces, ImagePiece { base, bytes: rest });
+    }
+
+    /// Adds events.
+    fn add_events(&mut self, case: &mut Case<'_>, text: &str) {
+        for item in text.split(';') {
+            let (times, part) = case.times(item);
+            let event = struct_of(case, self.store, part);
+            for _ in 0..times {
+                case.push(&mut self.events, event);
+            }
+        }
     }
 
     /// Reads a state, which is that of an encoder or of a decoder, or of both where all its fields are known to both.
-    fn read_state(&mut self, text: &str) -> Result<(), Fault> {
-        let encoder = struct_of(self.store, text);
-        let hart = struct_of(self.store, text);
-        if let Ok(encoder) = encoder {
-            self.encoder = encoder;
-            self.hart = hart.unwrap_or(self.hart);
-            return Ok(());
+    fn read_state(&mut self, case: &mut Case<'_>, text: &str) {
+        let mut encoder = case.again();
+        let mut hart = case.again();
+        self.encoder = struct_of(&mut encoder, self.store, text);
+        self.hart_state = struct_of(&mut hart, self.store, text);
+        if encoder.is_failed() {
+            self.encoder = EncoderNumbers::of(NO_FIELDS);
+            case.join(&hart);
+        } else if hart.is_failed() {
+            self.hart_state = HartNumbers::of(NO_FIELDS);
         }
-        self.hart = hart?;
-        Ok(())
     }
 
     /// Reads an argument.
-    fn read(&mut self, alloc: Global, name: &str, text: &str) -> Result<(), Fault> {
+    fn read(&mut self, case: &mut Case<'_>, name: &str, text: &str) {
         match name {
-            "logs" | "payloads" => self.joined.add(alloc, self.store, text),
-            "ends" => self.joined.end_at(text),
-            "pieces" => self.add_pieces(text),
-            "cut" => self.add_cut(self.size("cut")),
-            "events" => self.add_events(alloc, text),
-            "event" => {
-                self.event = struct_of(self.store, text)?;
-                Ok(())
-            }
-            "before" => {
-                self.before = struct_of(self.store, text)?;
-                Ok(())
-            }
-            "packet" => {
-                self.packet = struct_of(self.store, text)?;
-                Ok(())
-            }
-            "state" => self.read_state(text),
-            "new" => Ok(()),
-            _ => is_number(name, text),
+            "logs" | "payloads" => self.add_joined(case, text),
+            "ends" => self.end_at(case, text),
+            "pieces" => self.add_pieces(case, text),
+            "cut" => self.add_cut(case, text),
+            "events" => self.add_events(case, text),
+            "event" => self.event = struct_of(case, self.store, text),
+            "before" => self.before = struct_of(case, self.store, text),
+            "packet" => self.packet = struct_of(case, self.store, text),
+            "state" => self.read_state(case, text),
+            "new" => {}
+            _ => self.numbers.set(case, name, text),
         }
     }
 
     /// Reads the arguments.
-    pub(crate) fn read_all(&mut self, alloc: Global) -> Result<(), Fault> {
-        for word in self.words.split(' ') {
+    pub(crate) fn read_all(&mut self, case: &mut Case<'_>) {
+        self.in_pieces = case.value("pieces").is_some() || case.value("cut").is_some();
+        self.find_bytes(case);
+        for word in case.text.split(' ') {
             if let Some((name, text)) = word.split_once('=') {
                 if !is_bytes(name) {
-                    self.read(alloc, name, text)?;
+                    self.read(case, name, text);
                 }
             }
         }
-        Ok(())
+    }
+
+    /// Finds the bytes that arguments name.
+    fn find_bytes(&mut self, case: &Case<'_>) {
+        for word in case.text.split(' ') {
+            let (name, text) = word.split_once('=').unwrap_or((word, ""));
+            if is_bytes(name) {
+                self.bytes.set(name, self.store.get(text).unwrap_or(&[]));
+            }
+        }
     }
 }
 
@@ -353,54 +396,15 @@ fn is_bytes(name: &str) -> bool {
     )
 }
 
-/// The arguments that are numbers.
-static NUMBERS: [&str; 21] = [
-    "base",
-    "room",
-    "harts",
-    "hart",
-    "period",
-    "mode",
-    "version",
-    "format",
-    "flags",
-    "number",
-    "has_before",
-    "places",
-    "rows",
-    "arrivals",
-    "singles",
-    "lost",
-    "runs",
-    "tail",
-    "last",
-    "show",
-    "steps",
-];
-
-/// It is a fault where there is no argument of this name, or the text is no number.
-fn is_number(name: &str, text: &str) -> Result<(), Fault> {
-    if place_of(&NUMBERS, name).is_none() {
-        return Err(Fault("an argument that is not known"));
-    }
-    match number_of(text) {
-        Some(_) => Ok(()),
-        None => Err(Fault("a number that is not read")),
-    }
-}
-
 /// Makes the bytes that arguments say, and stores them under their own texts.
-pub(crate) fn store_bytes(alloc: Global, store: &mut Store, words: &str) -> Result<(), Fault> {
-    for word in words.split(' ') {
-        if let Some((name, text)) = word.split_once('=') {
-            if is_bytes(name)
-                && (store.get(text).is_none() || text.contains('+') || text.contains('*'))
-            {
-                let mut bytes = Vec::new(alloc);
-                add_bytes(alloc, store, text, &mut bytes)?;
-                store.put(String::from_str(alloc, text)?, bytes)?;
-            }
+pub(crate) fn store_bytes(case: &mut Case<'_>, store: &mut Store) {
+    for word in case.text.split(' ') {
+        let (name, text) = word.split_once('=').unwrap_or((word, ""));
+        let is_known = store.get(text).is_some() && !text.contains(['+', '*']);
+        if is_bytes(name) && !is_known {
+            let mut bytes = Vec::new(case.alloc);
+            add_bytes(case, store, text, &mut bytes);
+            store.put(case, text, bytes);
         }
     }
-    Ok(())
 }

@@ -1,14 +1,13 @@
 //! Audits of paths.
 
 use crate::arguments::Given;
-use crate::fields::Fields;
-use crate::said::{Fault, KEPT, KEPT_16, KEPT_32};
-use crate::writing::{Form, put_all, put_list, put_list_as};
+use crate::fields::{Fields, KEPT, KEPT_16, KEPT_32};
+use crate::writing::{put_all, put_list};
+use cases::Case;
 use ffi::{
     AlignedEnd, AlignedRow, Arrival, AuditEnd, ByteRun, HartRowNumbers, HartTally, HeaderNumbers,
     LostRun, PathEnd, SentPlace, Single,
 };
-use std::alloc::Global;
 
 /// What no call wrote.
 const HEADER: HeaderNumbers = HeaderNumbers {
@@ -23,22 +22,18 @@ const REFUSED: SentPlace = SentPlace {
 };
 
 /// Appends a status, and the message of SENT that is refused.
-fn put_status(out: &mut String, status: u32, refused: &SentPlace) -> Result<(), Fault> {
+fn put_status(case: &mut Case<'_>, status: u32, refused: &SentPlace) {
     put_all(
-        out,
+        case,
         &["status", "message", "expected"],
         &[u64::from(status), refused.message, refused.expected],
     )
 }
 
 /// Appends both headers.
-fn put_headers(
-    out: &mut String,
-    sent: &HeaderNumbers,
-    received: &HeaderNumbers,
-) -> Result<(), Fault> {
+fn put_headers(case: &mut Case<'_>, sent: &HeaderNumbers, received: &HeaderNumbers) {
     put_all(
-        out,
+        case,
         &[
             "sent_mode",
             "sent_period",
@@ -55,21 +50,12 @@ fn put_headers(
             u64::from(received.period),
             u64::from(received.harts),
         ],
-    )
-}
-
-/// How lists are written: by steps with `steps`.
-fn form_of(given: &Given<'_>) -> Form {
-    if given.has("steps") {
-        Form::Steps
-    } else {
-        Form::Elements
-    }
+    );
 }
 
 /// Of one hart.
-pub(crate) fn audit(alloc: Global, given: &Given<'_>, out: &mut String) -> Result<(), Fault> {
-    let mut tally = HartTally::of(&[KEPT; 20]);
+pub(crate) fn audit(case: &mut Case<'_>, given: &Given<'_>) {
+    let mut tally = HartTally::KEPT;
     let mut end = AuditEnd {
         harts: KEPT,
         strangers: KEPT,
@@ -77,15 +63,15 @@ pub(crate) fn audit(alloc: Global, given: &Given<'_>, out: &mut String) -> Resul
         fault: KEPT_32,
     };
     let status = ffi::tracebench_audit(
-        alloc,
-        given.bytes("sent"),
-        given.bytes("received"),
-        given.short("hart"),
+        given.alloc,
+        given.bytes.sent,
+        given.bytes.received,
+        given.numbers.hart,
         &mut tally,
         &mut end,
     );
     put_all(
-        out,
+        case,
         &["status", "harts", "strangers", "place", "fault"],
         &[
             u64::from(status),
@@ -94,14 +80,14 @@ pub(crate) fn audit(alloc: Global, given: &Given<'_>, out: &mut String) -> Resul
             end.place,
             u64::from(end.fault),
         ],
-    )?;
-    put_list(out, "tally", &[tally])
+    );
+    put_list(case, "tally", &[tally], false);
 }
 
 /// Appends how an audit of all harts ends.
-fn put_path_end(out: &mut String, end: &PathEnd) -> Result<(), Fault> {
+fn put_path_end(case: &mut Case<'_>, end: &PathEnd) {
     put_all(
-        out,
+        case,
         &[
             "harts",
             "messages",
@@ -132,8 +118,8 @@ fn put_path_end(out: &mut String, end: &PathEnd) -> Result<(), Fault> {
             u64::from(end.has_first),
             u64::from(end.whole),
         ],
-    )?;
-    put_headers(out, &end.sent_header, &end.received_header)
+    );
+    put_headers(case, &end.sent_header, &end.received_header);
 }
 
 /// What buffers of an audit of all harts hold.
@@ -146,19 +132,19 @@ struct PathBuffers {
 }
 
 /// Buffers of the sizes that are given.
-fn path_buffers(alloc: Global, given: &Given<'_>) -> Result<PathBuffers, Fault> {
-    let kept = [KEPT; 20];
-    Ok(PathBuffers {
-        rows: Vec::from_elem(alloc, HartRowNumbers::of(&kept), given.size("rows"))?,
-        arrivals: Vec::from_elem(alloc, Arrival::of(&kept), given.size("arrivals"))?,
-        lost: Vec::from_elem(alloc, LostRun::of(&kept), given.size("lost"))?,
-        runs: Vec::from_elem(alloc, ByteRun::of(&kept), given.size("runs"))?,
-    })
+fn path_buffers(case: &mut Case<'_>, given: &Given<'_>) -> PathBuffers {
+    let sizes = given.numbers;
+    PathBuffers {
+        rows: case.filled(HartRowNumbers::KEPT, sizes.rows),
+        arrivals: case.filled(Arrival::KEPT, sizes.arrivals),
+        lost: case.filled(LostRun::KEPT, sizes.lost),
+        runs: case.filled(ByteRun::KEPT, sizes.runs),
+    }
 }
 
 /// Of all harts.
-pub(crate) fn audit_all(alloc: Global, given: &Given<'_>, out: &mut String) -> Result<(), Fault> {
-    let mut buffers = path_buffers(alloc, given)?;
+pub(crate) fn audit_all(case: &mut Case<'_>, given: &Given<'_>) {
+    let mut buffers = path_buffers(case, given);
     let mut refused = REFUSED;
     let mut end = PathEnd {
         harts: KEPT,
@@ -178,10 +164,10 @@ pub(crate) fn audit_all(alloc: Global, given: &Given<'_>, out: &mut String) -> R
         whole: KEPT_32,
     };
     let status = ffi::tracebench_audit_all(
-        alloc,
-        given.bytes("sent"),
-        given.bytes("received"),
-        given.small("flags"),
+        given.alloc,
+        given.bytes.sent,
+        given.bytes.received,
+        given.numbers.flags,
         &mut buffers.rows,
         &mut buffers.arrivals,
         &mut buffers.lost,
@@ -189,19 +175,19 @@ pub(crate) fn audit_all(alloc: Global, given: &Given<'_>, out: &mut String) -> R
         &mut refused,
         &mut end,
     );
-    put_status(out, status, &refused)?;
-    put_path_end(out, &end)?;
-    let form = form_of(given);
-    put_list_as(out, "rows", &buffers.rows, form)?;
-    put_list_as(out, "arrivals", &buffers.arrivals, form)?;
-    put_list_as(out, "lost", &buffers.lost, form)?;
-    put_list_as(out, "runs", &buffers.runs, form)
+    put_status(case, status, &refused);
+    put_path_end(case, &end);
+    let steps = given.numbers.steps;
+    put_list(case, "rows", &buffers.rows, steps);
+    put_list(case, "arrivals", &buffers.arrivals, steps);
+    put_list(case, "lost", &buffers.lost, steps);
+    put_list(case, "runs", &buffers.runs, steps);
 }
 
 /// Appends how an audit by payloads alone ends.
-fn put_aligned_end(out: &mut String, end: &AlignedEnd) -> Result<(), Fault> {
+fn put_aligned_end(case: &mut Case<'_>, end: &AlignedEnd) {
     put_all(
-        out,
+        case,
         &[
             "harts",
             "messages",
@@ -232,8 +218,8 @@ fn put_aligned_end(out: &mut String, end: &AlignedEnd) -> Result<(), Fault> {
             u64::from(end.has_first),
             u64::from(end.whole),
         ],
-    )?;
-    put_headers(out, &end.sent_header, &end.received_header)
+    );
+    put_headers(case, &end.sent_header, &end.received_header);
 }
 
 /// What buffers of an audit by payloads alone hold.
@@ -245,22 +231,18 @@ struct AlignedBuffers {
 }
 
 /// Buffers of the sizes that are given.
-fn aligned_buffers(alloc: Global, given: &Given<'_>) -> Result<AlignedBuffers, Fault> {
-    let kept = [KEPT; 20];
-    Ok(AlignedBuffers {
-        rows: Vec::from_elem(alloc, AlignedRow::of(&kept), given.size("rows"))?,
-        singles: Vec::from_elem(alloc, Single::of(&kept), given.size("singles"))?,
-        lost: Vec::from_elem(alloc, LostRun::of(&kept), given.size("lost"))?,
-    })
+fn aligned_buffers(case: &mut Case<'_>, given: &Given<'_>) -> AlignedBuffers {
+    let sizes = given.numbers;
+    AlignedBuffers {
+        rows: case.filled(AlignedRow::KEPT, sizes.rows),
+        singles: case.filled(Single::KEPT, sizes.singles),
+        lost: case.filled(LostRun::KEPT, sizes.lost),
+    }
 }
 
 /// Of all harts by payloads alone.
-pub(crate) fn audit_unnumbered(
-    alloc: Global,
-    given: &Given<'_>,
-    out: &mut String,
-) -> Result<(), Fault> {
-    let mut buffers = aligned_buffers(alloc, given)?;
+pub(crate) fn audit_unnumbered(case: &mut Case<'_>, given: &Given<'_>) {
+    let mut buffers = aligned_buffers(case, given);
     let mut refused = REFUSED;
     let mut end = AlignedEnd {
         harts: KEPT,
@@ -280,20 +262,20 @@ pub(crate) fn audit_unnumbered(
         whole: KEPT_32,
     };
     let status = ffi::tracebench_audit_unnumbered(
-        alloc,
-        given.bytes("sent"),
-        given.bytes("received"),
-        given.small("flags"),
+        given.alloc,
+        given.bytes.sent,
+        given.bytes.received,
+        given.numbers.flags,
         &mut buffers.rows,
         &mut buffers.singles,
         &mut buffers.lost,
         &mut refused,
         &mut end,
     );
-    put_status(out, status, &refused)?;
-    put_aligned_end(out, &end)?;
-    let form = form_of(given);
-    put_list_as(out, "rows", &buffers.rows, form)?;
-    put_list_as(out, "singles", &buffers.singles, form)?;
-    put_list_as(out, "lost", &buffers.lost, form)
+    put_status(case, status, &refused);
+    put_aligned_end(case, &end);
+    let steps = given.numbers.steps;
+    put_list(case, "rows", &buffers.rows, steps);
+    put_list(case, "singles", &buffers.singles, steps);
+    put_list(case, "lost", &buffers.lost, steps);
 }

@@ -11,16 +11,32 @@ pub(crate) type Record = [u64; 20];
 /// All numbers are 0.
 pub(crate) const NO_FIELDS: Record = [0; 20];
 
+/// What stands in each number before a call.
+pub(crate) const KEPT: u64 = 0x5a5a_5a5a_5a5a_5a5a;
+
+/// The same of 32, of 16 and of 8 bits.
+pub(crate) const KEPT_32: u32 = 0x5a5a_5a5a;
+
+pub(crate) const KEPT_16: u16 = 0x5a5a;
+
+const KEPT_8: u8 = 0x5a;
+
 /// A struct of numbers.
 pub(crate) trait Fields: Copy + Drop {
     /// The names of its fields.
-    fn names() -> &'static [&'static str];
+    const NAMES: &'static [&'static str];
+
+    /// The struct that no call wrote.
+    const KEPT: Self;
 
     /// Its numbers.
     fn record(&self) -> Record;
+}
 
+/// A struct of numbers that cases give.
+pub(crate) trait FromRecord: Fields {
     /// The struct with these numbers, of which each has the low bits that its field has place for.
-    fn of(record: &Record) -> Self;
+    fn of(record: Record) -> Self;
 }
 
 /// Numbers, and then 0.
@@ -47,23 +63,58 @@ fn low_8(number: u64) -> u8 {
     (number & 0xff) as u8
 }
 
+/// The event that no call wrote.
+const KEPT_EVENT: EventNumbers = EventNumbers {
+    kind: KEPT_32,
+    itype: KEPT_8,
+    privilege: KEPT_8,
+    cause: KEPT_8,
+    interrupt: KEPT_8,
+    address: KEPT,
+    tval: KEPT,
+};
+
+/// The counts of a hart that no call wrote.
+const KEPT_TALLY: HartTally = HartTally {
+    sent: KEPT,
+    came: KEPT,
+    lost: KEPT,
+    repeated: KEPT,
+    late: KEPT,
+    changed: KEPT,
+    whole: KEPT_32,
+};
+
 impl Fields for PacketNumbers {
-    fn names() -> &'static [&'static str] {
-        &[
-            "kind",
-            "taken",
-            "privilege",
-            "cause",
-            "interrupt",
-            "handler",
-            "mode",
-            "report",
-            "outcomes",
-            "map",
-            "address",
-            "tval",
-        ]
-    }
+    const NAMES: &'static [&'static str] = &[
+        "kind",
+        "taken",
+        "privilege",
+        "cause",
+        "interrupt",
+        "handler",
+        "mode",
+        "report",
+        "outcomes",
+        "map",
+        "address",
+        "tval",
+    ];
+
+    const KEPT: PacketNumbers = PacketNumbers {
+        kind: KEPT_32,
+        taken: KEPT_32,
+        privilege: KEPT_32,
+        cause: KEPT_32,
+        interrupt: KEPT_32,
+        handler: KEPT_32,
+        mode: KEPT_32,
+        report: KEPT_32,
+        outcomes: KEPT_32,
+        map: KEPT_32,
+        address: KEPT,
+        tval: KEPT,
+    };
 
     fn record(&self) -> Record {
         padded(&[
@@ -81,37 +132,54 @@ impl Fields for PacketNumbers {
             self.tval,
         ])
     }
+}
 
-    fn of(record: &Record) -> PacketNumbers {
+impl FromRecord for PacketNumbers {
+    fn of(record: Record) -> PacketNumbers {
+        let [
+            kind,
+            taken,
+            privilege,
+            cause,
+            interrupt,
+            handler,
+            mode,
+            report,
+            outcomes,
+            map,
+            address,
+            tval,
+            ..
+        ] = record;
         PacketNumbers {
-            kind: low_32(record[0]),
-            taken: low_32(record[1]),
-            privilege: low_32(record[2]),
-            cause: low_32(record[3]),
-            interrupt: low_32(record[4]),
-            handler: low_32(record[5]),
-            mode: low_32(record[6]),
-            report: low_32(record[7]),
-            outcomes: low_32(record[8]),
-            map: low_32(record[9]),
-            address: record[10],
-            tval: record[11],
+            kind: low_32(kind),
+            taken: low_32(taken),
+            privilege: low_32(privilege),
+            cause: low_32(cause),
+            interrupt: low_32(interrupt),
+            handler: low_32(handler),
+            mode: low_32(mode),
+            report: low_32(report),
+            outcomes: low_32(outcomes),
+            map: low_32(map),
+            address,
+            tval,
         }
     }
 }
 
 impl Fields for EventNumbers {
-    fn names() -> &'static [&'static str] {
-        &[
-            "kind",
-            "itype",
-            "privilege",
-            "cause",
-            "interrupt",
-            "address",
-            "tval",
-        ]
-    }
+    const NAMES: &'static [&'static str] = &[
+        "kind",
+        "itype",
+        "privilege",
+        "cause",
+        "interrupt",
+        "address",
+        "tval",
+    ];
+
+    const KEPT: EventNumbers = KEPT_EVENT;
 
     fn record(&self) -> Record {
         padded(&[
@@ -124,47 +192,59 @@ impl Fields for EventNumbers {
             self.tval,
         ])
     }
+}
 
-    fn of(record: &Record) -> EventNumbers {
-        event_in(&[
-            record[0], record[1], record[2], record[3], record[4], record[5], record[6],
-        ])
+impl FromRecord for EventNumbers {
+    fn of(record: Record) -> EventNumbers {
+        let [kind, itype, privilege, cause, interrupt, address, tval, ..] = record;
+        event_in([kind, itype, privilege, cause, interrupt, address, tval])
     }
 }
 
 /// The event with these numbers.
-fn event_in(numbers: &[u64; 7]) -> EventNumbers {
+fn event_in(numbers: [u64; 7]) -> EventNumbers {
+    let [kind, itype, privilege, cause, interrupt, address, tval] = numbers;
     EventNumbers {
-        kind: low_32(numbers[0]),
-        itype: low_8(numbers[1]),
-        privilege: low_8(numbers[2]),
-        cause: low_8(numbers[3]),
-        interrupt: low_8(numbers[4]),
-        address: numbers[5],
-        tval: numbers[6],
+        kind: low_32(kind),
+        itype: low_8(itype),
+        privilege: low_8(privilege),
+        cause: low_8(cause),
+        interrupt: low_8(interrupt),
+        address,
+        tval,
     }
 }
 
 impl Fields for EncoderNumbers {
-    fn names() -> &'static [&'static str] {
-        &[
-            "between",
-            "left",
-            "mode",
-            "holds",
-            "due",
-            "outcomes",
-            "map",
-            "reported",
-            "held_kind",
-            "held_itype",
-            "held_privilege",
-            "held_cause",
-            "held_interrupt",
-            "held_address",
-            "held_tval",
-        ]
-    }
+    const NAMES: &'static [&'static str] = &[
+        "between",
+        "left",
+        "mode",
+        "holds",
+        "due",
+        "outcomes",
+        "map",
+        "reported",
+        "held_kind",
+        "held_itype",
+        "held_privilege",
+        "held_cause",
+        "held_interrupt",
+        "held_address",
+        "held_tval",
+    ];
+
+    const KEPT: EncoderNumbers = EncoderNumbers {
+        between: KEPT_16,
+        left: KEPT_16,
+        mode: KEPT_32,
+        holds: KEPT_32,
+        due: KEPT_32,
+        outcomes: KEPT_32,
+        map: KEPT_32,
+        reported: KEPT,
+        held: KEPT_EVENT,
+    };
 
     fn record(&self) -> Record {
         padded(&[
@@ -185,47 +265,88 @@ impl Fields for EncoderNumbers {
             self.held.tval,
         ])
     }
+}
 
-    fn of(record: &Record) -> EncoderNumbers {
+impl FromRecord for EncoderNumbers {
+    fn of(record: Record) -> EncoderNumbers {
+        let [
+            between,
+            left,
+            mode,
+            holds,
+            due,
+            outcomes,
+            map,
+            reported,
+            held_kind,
+            held_itype,
+            held_privilege,
+            held_cause,
+            held_interrupt,
+            held_address,
+            held_tval,
+            ..
+        ] = record;
         EncoderNumbers {
-            between: low_16(record[0]),
-            left: low_16(record[1]),
-            mode: low_32(record[2]),
-            holds: low_32(record[3]),
-            due: low_32(record[4]),
-            outcomes: low_32(record[5]),
-            map: low_32(record[6]),
-            reported: record[7],
-            held: event_in(&[
-                record[8], record[9], record[10], record[11], record[12], record[13], record[14],
+            between: low_16(between),
+            left: low_16(left),
+            mode: low_32(mode),
+            holds: low_32(holds),
+            due: low_32(due),
+            outcomes: low_32(outcomes),
+            map: low_32(map),
+            reported,
+            held: event_in([
+                held_kind,
+                held_itype,
+                held_privilege,
+                held_cause,
+                held_interrupt,
+                held_address,
+                held_tval,
             ]),
         }
     }
 }
 
 impl Fields for HartNumbers {
-    fn names() -> &'static [&'static str] {
-        &[
-            "phase",
-            "mode",
-            "is_announced",
-            "announced",
-            "has_last",
-            "waits",
-            "outcomes",
-            "map",
-            "delta",
-            "reported",
-            "last_kind",
-            "last_itype",
-            "last_privilege",
-            "last_cause",
-            "last_interrupt",
-            "last_address",
-            "last_tval",
-            "expected",
-        ]
-    }
+    const NAMES: &'static [&'static str] = &[
+        "phase",
+        "mode",
+        "is_announced",
+        "announced",
+        "has_last",
+        "waits",
+        "outcomes",
+        "map",
+        "delta",
+        "reported",
+        "last_kind",
+        "last_itype",
+        "last_privilege",
+        "last_cause",
+        "last_interrupt",
+        "last_address",
+        "last_tval",
+        "expected",
+    ];
+
+    const KEPT: HartNumbers = HartNumbers {
+        decoder: DecoderNumbers {
+            phase: KEPT_32,
+            mode: KEPT_32,
+            is_announced: KEPT_32,
+            announced: KEPT_32,
+            has_last: KEPT_32,
+            waits: KEPT_32,
+            outcomes: KEPT_32,
+            map: KEPT_32,
+            delta: KEPT,
+            reported: KEPT,
+            last: KEPT_EVENT,
+        },
+        expected: KEPT,
+    };
 
     fn record(&self) -> Record {
         padded(&[
@@ -249,53 +370,77 @@ impl Fields for HartNumbers {
             self.expected,
         ])
     }
+}
 
-    fn of(record: &Record) -> HartNumbers {
+impl FromRecord for HartNumbers {
+    fn of(record: Record) -> HartNumbers {
+        let [
+            phase,
+            mode,
+            is_announced,
+            announced,
+            has_last,
+            waits,
+            outcomes,
+            map,
+            delta,
+            reported,
+            last_kind,
+            last_itype,
+            last_privilege,
+            last_cause,
+            last_interrupt,
+            last_address,
+            last_tval,
+            expected,
+            ..
+        ] = record;
         HartNumbers {
             decoder: DecoderNumbers {
-                phase: low_32(record[0]),
-                mode: low_32(record[1]),
-                is_announced: low_32(record[2]),
-                announced: low_32(record[3]),
-                has_last: low_32(record[4]),
-                waits: low_32(record[5]),
-                outcomes: low_32(record[6]),
-                map: low_32(record[7]),
-                delta: record[8],
-                reported: record[9],
-                last: event_in(&[
-                    record[10], record[11], record[12], record[13], record[14], record[15],
-                    record[16],
+                phase: low_32(phase),
+                mode: low_32(mode),
+                is_announced: low_32(is_announced),
+                announced: low_32(announced),
+                has_last: low_32(has_last),
+                waits: low_32(waits),
+                outcomes: low_32(outcomes),
+                map: low_32(map),
+                delta,
+                reported,
+                last: event_in([
+                    last_kind,
+                    last_itype,
+                    last_privilege,
+                    last_cause,
+                    last_interrupt,
+                    last_address,
+                    last_tval,
                 ]),
             },
-            expected: record[17],
+            expected,
         }
     }
 }
 
 impl Fields for HartEnd {
-    fn names() -> &'static [&'static str] {
-        &["end", "closed"]
-    }
+    const NAMES: &'static [&'static str] = &["end", "closed"];
+
+    const KEPT: HartEnd = HartEnd {
+        end: KEPT,
+        closed: KEPT_32,
+    };
 
     fn record(&self) -> Record {
         padded(&[self.end, u64::from(self.closed)])
     }
-
-    fn of(record: &Record) -> HartEnd {
-        HartEnd {
-            end: record[0],
-            closed: low_32(record[1]),
-        }
-    }
 }
 
 impl Fields for HartTally {
-    fn names() -> &'static [&'static str] {
-        &[
-            "sent", "came", "lost", "repeated", "late", "changed", "whole",
-        ]
-    }
+    const NAMES: &'static [&'static str] = &[
+        "sent", "came", "lost", "repeated", "late", "changed", "whole",
+    ];
+
+    const KEPT: HartTally = KEPT_TALLY;
 
     fn record(&self) -> Record {
         padded(&[
@@ -308,52 +453,50 @@ impl Fields for HartTally {
             u64::from(self.whole),
         ])
     }
-
-    fn of(record: &Record) -> HartTally {
-        HartTally {
-            sent: record[0],
-            came: record[1],
-            lost: record[2],
-            repeated: record[3],
-            late: record[4],
-            changed: record[5],
-            whole: low_32(record[6]),
-        }
-    }
 }
 
 impl Fields for HartRowNumbers {
-    fn names() -> &'static [&'static str] {
-        &[
-            "sent", "came", "lost", "repeated", "late", "changed", "whole", "strange", "runs",
-            "longest", "latest",
-        ]
-    }
+    const NAMES: &'static [&'static str] = &[
+        "sent", "came", "lost", "repeated", "late", "changed", "whole", "strange", "runs",
+        "longest", "latest",
+    ];
+
+    const KEPT: HartRowNumbers = HartRowNumbers {
+        tally: KEPT_TALLY,
+        strange: KEPT,
+        runs: KEPT,
+        longest: KEPT,
+        latest: KEPT,
+    };
 
     fn record(&self) -> Record {
-        let mut record = self.tally.record();
-        record[7] = self.strange;
-        record[8] = self.runs;
-        record[9] = self.longest;
-        record[10] = self.latest;
-        record
-    }
-
-    fn of(record: &Record) -> HartRowNumbers {
-        HartRowNumbers {
-            tally: HartTally::of(record),
-            strange: record[7],
-            runs: record[8],
-            longest: record[9],
-            latest: record[10],
-        }
+        let tally = &self.tally;
+        padded(&[
+            tally.sent,
+            tally.came,
+            tally.lost,
+            tally.repeated,
+            tally.late,
+            tally.changed,
+            u64::from(tally.whole),
+            self.strange,
+            self.runs,
+            self.longest,
+            self.latest,
+        ])
     }
 }
 
 impl Fields for Arrival {
-    fn names() -> &'static [&'static str] {
-        &["hart", "number", "fate", "by", "offset"]
-    }
+    const NAMES: &'static [&'static str] = &["hart", "number", "fate", "by", "offset"];
+
+    const KEPT: Arrival = Arrival {
+        hart: KEPT_16,
+        number: KEPT,
+        fate: KEPT_32,
+        by: KEPT,
+        offset: KEPT,
+    };
 
     fn record(&self) -> Record {
         padded(&[
@@ -364,57 +507,49 @@ impl Fields for Arrival {
             self.offset,
         ])
     }
-
-    fn of(record: &Record) -> Arrival {
-        Arrival {
-            hart: low_16(record[0]),
-            number: record[1],
-            fate: low_32(record[2]),
-            by: record[3],
-            offset: record[4],
-        }
-    }
 }
 
 impl Fields for LostRun {
-    fn names() -> &'static [&'static str] {
-        &["first", "last", "hart"]
-    }
+    const NAMES: &'static [&'static str] = &["first", "last", "hart"];
+
+    const KEPT: LostRun = LostRun {
+        first: KEPT,
+        last: KEPT,
+        hart: KEPT,
+    };
 
     fn record(&self) -> Record {
         padded(&[self.first, self.last, self.hart])
     }
-
-    fn of(record: &Record) -> LostRun {
-        LostRun {
-            first: record[0],
-            last: record[1],
-            hart: record[2],
-        }
-    }
 }
 
 impl Fields for ByteRun {
-    fn names() -> &'static [&'static str] {
-        &["offset", "count"]
-    }
+    const NAMES: &'static [&'static str] = &["offset", "count"];
+
+    const KEPT: ByteRun = ByteRun {
+        offset: KEPT,
+        count: KEPT,
+    };
 
     fn record(&self) -> Record {
         padded(&[self.offset, self.count])
     }
-
-    fn of(record: &Record) -> ByteRun {
-        ByteRun {
-            offset: record[0],
-            count: record[1],
-        }
-    }
 }
 
 impl Fields for AlignedRow {
-    fn names() -> &'static [&'static str] {
-        &["sent", "came", "lost", "extra", "runs", "longest", "whole"]
-    }
+    const NAMES: &'static [&'static str] = &[
+        "sent", "came", "lost", "extra", "runs", "longest", "whole",
+    ];
+
+    const KEPT: AlignedRow = AlignedRow {
+        sent: KEPT,
+        came: KEPT,
+        lost: KEPT,
+        extra: KEPT,
+        runs: KEPT,
+        longest: KEPT,
+        whole: KEPT_32,
+    };
 
     fn record(&self) -> Record {
         padded(&[
@@ -427,24 +562,18 @@ impl Fields for AlignedRow {
             u64::from(self.whole),
         ])
     }
-
-    fn of(record: &Record) -> AlignedRow {
-        AlignedRow {
-            sent: record[0],
-            came: record[1],
-            lost: record[2],
-            extra: record[3],
-            runs: record[4],
-            longest: record[5],
-            whole: low_32(record[6]),
-        }
-    }
 }
 
 impl Fields for Single {
-    fn names() -> &'static [&'static str] {
-        &["place", "hart", "fate", "number", "skips"]
-    }
+    const NAMES: &'static [&'static str] = &["place", "hart", "fate", "number", "skips"];
+
+    const KEPT: Single = Single {
+        place: KEPT,
+        hart: KEPT_16,
+        fate: KEPT_32,
+        number: KEPT,
+        skips: KEPT,
+    };
 
     fn record(&self) -> Record {
         padded(&[
@@ -454,15 +583,5 @@ impl Fields for Single {
             self.number,
             self.skips,
         ])
-    }
-
-    fn of(record: &Record) -> Single {
-        Single {
-            place: record[0],
-            hart: low_16(record[1]),
-            fate: low_32(record[2]),
-            number: record[3],
-            skips: record[4],
-        }
     }
 }

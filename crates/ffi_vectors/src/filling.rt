@@ -1,13 +1,12 @@
 //! Calls that hand out bytes.
 
 use crate::arguments::Given;
-use crate::fields::{Fields, Record, padded};
-use crate::said::{Fault, KEPT, KEPT_32, Said};
-use crate::writing::{put_all, put_list, put_name};
+use crate::fields::{Fields, KEPT, KEPT_32, NO_FIELDS, Record};
+use crate::writing::{Said, put_all, put_list};
+use cases::Case;
 use ffi::{
     DecodeAllEnd, DecodeEnd, DumpEnd, ExplainEnd, HartEnd, HeaderNumbers, LogPlace, TextEnd,
 };
-use std::alloc::Global;
 
 /// What a buffer has before a call.
 const FILL: u8 = 0xaa;
@@ -29,34 +28,31 @@ static EXPLAINED: [&str; 4] = ["status", "wanted", "row", "fault"];
 static LINES: [&str; 3] = ["status", "wanted", "line"];
 
 /// A text's end that no call wrote.
-fn text_end() -> TextEnd {
-    TextEnd {
-        harts: KEPT,
-        unclosed: KEPT,
-        place: KEPT,
-        fault: KEPT_32,
-        whole: KEPT_32,
-    }
-}
+const TEXT_END: TextEnd = TextEnd {
+    harts: KEPT,
+    unclosed: KEPT,
+    place: KEPT,
+    fault: KEPT_32,
+    whole: KEPT_32,
+};
 
 /// A log's place that no call wrote.
-fn log_place() -> LogPlace {
-    LogPlace {
-        log: KEPT,
-        row: KEPT,
-    }
-}
+const LOG_PLACE: LogPlace = LogPlace {
+    log: KEPT,
+    row: KEPT,
+};
 
 /// What a call said that hands out bytes alone.
 fn said_bytes(status: u32, wanted: u64) -> Said {
-    Said::of(&WANTED, padded(&[u64::from(status), wanted]))
+    Said::of(&WANTED, &[u64::from(status), wanted], NO_FIELDS)
 }
 
 /// What a call over logs said.
 fn said_place(status: u32, wanted: u64, place: &LogPlace) -> Said {
     Said::of(
         &PLACE,
-        padded(&[u64::from(status), wanted, place.log, place.row]),
+        &[u64::from(status), wanted, place.log, place.row],
+        NO_FIELDS,
     )
 }
 
@@ -64,7 +60,7 @@ fn said_place(status: u32, wanted: u64, place: &LogPlace) -> Said {
 fn said_text(status: u32, wanted: u64, end: &TextEnd, place: &LogPlace) -> Said {
     Said::of(
         &TEXT,
-        padded(&[
+        &[
             u64::from(status),
             wanted,
             end.harts,
@@ -74,7 +70,8 @@ fn said_text(status: u32, wanted: u64, end: &TextEnd, place: &LogPlace) -> Said 
             u64::from(end.whole),
             place.log,
             place.row,
-        ]),
+        ],
+        NO_FIELDS,
     )
 }
 
@@ -87,9 +84,9 @@ fn pack(given: &Given<'_>, buffer: &mut [u8]) -> Said {
 fn write_message(given: &Given<'_>, buffer: &mut [u8]) -> Said {
     let mut wanted = KEPT;
     let status = ffi::tracebench_write_message(
-        given.short("hart"),
-        given.number("number"),
-        given.bytes("payload"),
+        given.numbers.hart,
+        given.numbers.number,
+        given.bytes.payload,
         buffer,
         &mut wanted,
     );
@@ -99,9 +96,9 @@ fn write_message(given: &Given<'_>, buffer: &mut [u8]) -> Said {
 fn write_header(given: &Given<'_>, buffer: &mut [u8]) -> Said {
     let mut wanted = KEPT;
     let header = HeaderNumbers {
-        mode: given.small("mode"),
-        period: given.short("period"),
-        harts: given.short("harts"),
+        mode: given.numbers.mode,
+        period: given.numbers.period,
+        harts: given.numbers.harts,
     };
     let status = ffi::tracebench_write_header(&header, buffer, &mut wanted);
     said_bytes(status, wanted)
@@ -113,49 +110,49 @@ fn version(buffer: &mut [u8]) -> Said {
     said_bytes(status, wanted)
 }
 
-fn capture_of_lines(alloc: Global, given: &Given<'_>, buffer: &mut [u8]) -> Said {
+fn capture_of_lines(given: &Given<'_>, buffer: &mut [u8]) -> Said {
     let mut wanted = KEPT;
     let mut line = KEPT;
     let status = ffi::tracebench_capture_of_lines(
-        alloc,
-        given.bytes("text"),
-        given.small("version"),
-        given.small("mode"),
-        given.short("period"),
-        given.short("harts"),
+        given.alloc,
+        given.bytes.text,
+        given.numbers.version,
+        given.numbers.mode,
+        given.numbers.period,
+        given.numbers.harts,
         buffer,
         &mut wanted,
         &mut line,
     );
-    Said::of(&LINES, padded(&[u64::from(status), wanted, line]))
+    Said::of(&LINES, &[u64::from(status), wanted, line], NO_FIELDS)
 }
 
-fn encode(alloc: Global, given: &Given<'_>, buffer: &mut [u8]) -> Said {
+fn encode(given: &Given<'_>, buffer: &mut [u8]) -> Said {
     let mut wanted = KEPT;
-    let mut place = log_place();
-    let status = if given.in_pieces() {
+    let mut place = LOG_PLACE;
+    let status = if given.in_pieces {
         ffi::tracebench_encode_over_pieces(
-            alloc,
+            given.alloc,
             &given.pieces,
-            &given.joined.bytes,
-            &given.joined.ends,
-            given.short("period"),
-            given.small("mode"),
-            given.small("version"),
+            &given.joined,
+            &given.ends,
+            given.numbers.period,
+            given.numbers.mode,
+            given.numbers.version,
             buffer,
             &mut wanted,
             &mut place,
         )
     } else {
         ffi::tracebench_encode(
-            alloc,
-            given.base(),
-            given.bytes("image"),
-            &given.joined.bytes,
-            &given.joined.ends,
-            given.short("period"),
-            given.small("mode"),
-            given.small("version"),
+            given.alloc,
+            given.numbers.base,
+            given.bytes.image,
+            &given.joined,
+            &given.ends,
+            given.numbers.period,
+            given.numbers.mode,
+            given.numbers.version,
             buffer,
             &mut wanted,
             &mut place,
@@ -164,30 +161,30 @@ fn encode(alloc: Global, given: &Given<'_>, buffer: &mut [u8]) -> Said {
     said_place(status, wanted, &place)
 }
 
-fn measure(alloc: Global, given: &Given<'_>, buffer: &mut [u8]) -> Said {
+fn measure(given: &Given<'_>, buffer: &mut [u8]) -> Said {
     let mut wanted = KEPT;
-    let mut place = log_place();
-    let status = if given.in_pieces() {
+    let mut place = LOG_PLACE;
+    let status = if given.in_pieces {
         ffi::tracebench_measure_over_pieces(
-            alloc,
+            given.alloc,
             &given.pieces,
-            &given.joined.bytes,
-            &given.joined.ends,
-            given.short("period"),
-            given.small("mode"),
+            &given.joined,
+            &given.ends,
+            given.numbers.period,
+            given.numbers.mode,
             buffer,
             &mut wanted,
             &mut place,
         )
     } else {
         ffi::tracebench_measure(
-            alloc,
-            given.base(),
-            given.bytes("image"),
-            &given.joined.bytes,
-            &given.joined.ends,
-            given.short("period"),
-            given.small("mode"),
+            given.alloc,
+            given.numbers.base,
+            given.bytes.image,
+            &given.joined,
+            &given.ends,
+            given.numbers.period,
+            given.numbers.mode,
             buffer,
             &mut wanted,
             &mut place,
@@ -196,7 +193,7 @@ fn measure(alloc: Global, given: &Given<'_>, buffer: &mut [u8]) -> Said {
     said_place(status, wanted, &place)
 }
 
-fn decode(alloc: Global, given: &Given<'_>, buffer: &mut [u8]) -> Said {
+fn decode(given: &Given<'_>, buffer: &mut [u8]) -> Said {
     let mut wanted = KEPT;
     let mut end = DecodeEnd {
         harts: KEPT,
@@ -204,25 +201,25 @@ fn decode(alloc: Global, given: &Given<'_>, buffer: &mut [u8]) -> Said {
         fault: KEPT_32,
         closed: KEPT_32,
     };
-    let status = if given.in_pieces() {
+    let status = if given.in_pieces {
         ffi::tracebench_decode_over_pieces(
-            alloc,
+            given.alloc,
             &given.pieces,
-            given.short("harts"),
-            given.bytes("capture"),
-            given.short("hart"),
+            given.numbers.harts,
+            given.bytes.capture,
+            given.numbers.hart,
             buffer,
             &mut wanted,
             &mut end,
         )
     } else {
         ffi::tracebench_decode(
-            alloc,
-            given.base(),
-            given.bytes("image"),
-            given.short("harts"),
-            given.bytes("capture"),
-            given.short("hart"),
+            given.alloc,
+            given.numbers.base,
+            given.bytes.image,
+            given.numbers.harts,
+            given.bytes.capture,
+            given.numbers.hart,
             buffer,
             &mut wanted,
             &mut end,
@@ -230,30 +227,31 @@ fn decode(alloc: Global, given: &Given<'_>, buffer: &mut [u8]) -> Said {
     };
     Said::of(
         &DECODED,
-        padded(&[
+        &[
             u64::from(status),
             wanted,
             end.harts,
             end.place,
             u64::from(end.fault),
             u64::from(end.closed),
-        ]),
+        ],
+        NO_FIELDS,
     )
 }
 
-fn decode_all(alloc: Global, given: &Given<'_>, buffer: &mut [u8], ends: &mut [HartEnd]) -> Said {
+fn decode_all(given: &Given<'_>, buffer: &mut [u8], ends: &mut [HartEnd]) -> Said {
     let mut wanted = KEPT;
     let mut end = DecodeAllEnd {
         harts: KEPT,
         place: KEPT,
         fault: KEPT_32,
     };
-    let status = if given.in_pieces() {
+    let status = if given.in_pieces {
         ffi::tracebench_decode_all_over_pieces(
-            alloc,
+            given.alloc,
             &given.pieces,
-            given.short("harts"),
-            given.bytes("capture"),
+            given.numbers.harts,
+            given.bytes.capture,
             buffer,
             &mut wanted,
             ends,
@@ -261,11 +259,11 @@ fn decode_all(alloc: Global, given: &Given<'_>, buffer: &mut [u8], ends: &mut [H
         )
     } else {
         ffi::tracebench_decode_all(
-            alloc,
-            given.base(),
-            given.bytes("image"),
-            given.short("harts"),
-            given.bytes("capture"),
+            given.alloc,
+            given.numbers.base,
+            given.bytes.image,
+            given.numbers.harts,
+            given.bytes.capture,
             buffer,
             &mut wanted,
             ends,
@@ -280,17 +278,23 @@ fn decode_all(alloc: Global, given: &Given<'_>, buffer: &mut [u8], ends: &mut [H
         u64::from(end.fault),
         KEPT,
     ];
-    Said::of(&DECODED, padded(&numbers))
+    Said::of(&DECODED, &numbers, NO_FIELDS)
 }
 
-fn dump(alloc: Global, given: &Given<'_>, buffer: &mut [u8]) -> Said {
+fn dump(given: &Given<'_>, buffer: &mut [u8]) -> Said {
     let mut wanted = KEPT;
     let mut end = DumpEnd {
         place: KEPT,
         fault: KEPT_32,
         bad: KEPT_32,
     };
-    let status = ffi::tracebench_dump(alloc, given.bytes("capture"), buffer, &mut wanted, &mut end);
+    let status = ffi::tracebench_dump(
+        given.alloc,
+        given.bytes.capture,
+        buffer,
+        &mut wanted,
+        &mut end,
+    );
     let numbers = [
         u64::from(status),
         wanted,
@@ -298,19 +302,19 @@ fn dump(alloc: Global, given: &Given<'_>, buffer: &mut [u8]) -> Said {
         u64::from(end.fault),
         u64::from(end.bad),
     ];
-    Said::of(&DUMPED, padded(&numbers))
+    Said::of(&DUMPED, &numbers, NO_FIELDS)
 }
 
-fn explain(alloc: Global, given: &Given<'_>, buffer: &mut [u8]) -> Said {
+fn explain(given: &Given<'_>, buffer: &mut [u8]) -> Said {
     let mut wanted = KEPT;
     let mut end = ExplainEnd {
         row: KEPT,
         fault: KEPT_32,
     };
-    let log = given.bytes("log");
-    let status = if given.in_pieces() {
+    let log = given.bytes.log;
+    let status = if given.in_pieces {
         ffi::tracebench_explain_over_pieces(
-            alloc,
+            given.alloc,
             &given.pieces,
             log,
             buffer,
@@ -319,9 +323,9 @@ fn explain(alloc: Global, given: &Given<'_>, buffer: &mut [u8]) -> Said {
         )
     } else {
         ffi::tracebench_explain(
-            alloc,
-            given.base(),
-            given.bytes("image"),
+            given.alloc,
+            given.numbers.base,
+            given.bytes.image,
             log,
             buffer,
             &mut wanted,
@@ -330,116 +334,117 @@ fn explain(alloc: Global, given: &Given<'_>, buffer: &mut [u8]) -> Said {
     };
     Said::of(
         &EXPLAINED,
-        padded(&[u64::from(status), wanted, end.row, u64::from(end.fault)]),
+        &[u64::from(status), wanted, end.row, u64::from(end.fault)],
+        NO_FIELDS,
     )
 }
 
-fn list(alloc: Global, given: &Given<'_>, buffer: &mut [u8]) -> Said {
+fn list(given: &Given<'_>, buffer: &mut [u8]) -> Said {
     let mut wanted = KEPT;
-    let mut end = text_end();
-    let status = if given.in_pieces() {
+    let mut end = TEXT_END;
+    let status = if given.in_pieces {
         ffi::tracebench_list_over_pieces(
-            alloc,
+            given.alloc,
             &given.pieces,
-            given.short("harts"),
-            given.bytes("capture"),
-            given.bytes("symbols"),
-            given.small("format"),
+            given.numbers.harts,
+            given.bytes.capture,
+            given.bytes.symbols,
+            given.numbers.format,
             buffer,
             &mut wanted,
             &mut end,
         )
     } else {
         ffi::tracebench_list(
-            alloc,
-            given.base(),
-            given.bytes("image"),
-            given.short("harts"),
-            given.bytes("capture"),
-            given.bytes("symbols"),
-            given.small("format"),
+            given.alloc,
+            given.numbers.base,
+            given.bytes.image,
+            given.numbers.harts,
+            given.bytes.capture,
+            given.bytes.symbols,
+            given.numbers.format,
             buffer,
             &mut wanted,
             &mut end,
         )
     };
-    said_text(status, wanted, &end, &log_place())
+    said_text(status, wanted, &end, &LOG_PLACE)
 }
 
-fn list_salvaged(alloc: Global, given: &Given<'_>, buffer: &mut [u8]) -> Said {
+fn list_salvaged(given: &Given<'_>, buffer: &mut [u8]) -> Said {
     let mut wanted = KEPT;
-    let mut end = text_end();
-    let status = if given.in_pieces() {
+    let mut end = TEXT_END;
+    let status = if given.in_pieces {
         ffi::tracebench_list_salvaged_over_pieces(
-            alloc,
+            given.alloc,
             &given.pieces,
-            given.short("harts"),
-            given.bytes("capture"),
-            given.bytes("symbols"),
-            given.small("format"),
+            given.numbers.harts,
+            given.bytes.capture,
+            given.bytes.symbols,
+            given.numbers.format,
             buffer,
             &mut wanted,
             &mut end,
         )
     } else {
         ffi::tracebench_list_salvaged(
-            alloc,
-            given.base(),
-            given.bytes("image"),
-            given.short("harts"),
-            given.bytes("capture"),
-            given.bytes("symbols"),
-            given.small("format"),
+            given.alloc,
+            given.numbers.base,
+            given.bytes.image,
+            given.numbers.harts,
+            given.bytes.capture,
+            given.bytes.symbols,
+            given.numbers.format,
             buffer,
             &mut wanted,
             &mut end,
         )
     };
-    said_text(status, wanted, &end, &log_place())
+    said_text(status, wanted, &end, &LOG_PLACE)
 }
 
-fn salvage(alloc: Global, given: &Given<'_>, buffer: &mut [u8]) -> Said {
+fn salvage(given: &Given<'_>, buffer: &mut [u8]) -> Said {
     let mut wanted = KEPT;
-    let mut end = text_end();
-    let status = if given.in_pieces() {
+    let mut end = TEXT_END;
+    let status = if given.in_pieces {
         ffi::tracebench_salvage_over_pieces(
-            alloc,
+            given.alloc,
             &given.pieces,
-            given.short("harts"),
-            given.bytes("capture"),
-            given.small("format"),
+            given.numbers.harts,
+            given.bytes.capture,
+            given.numbers.format,
             buffer,
             &mut wanted,
             &mut end,
         )
     } else {
         ffi::tracebench_salvage(
-            alloc,
-            given.base(),
-            given.bytes("image"),
-            given.short("harts"),
-            given.bytes("capture"),
-            given.small("format"),
+            given.alloc,
+            given.numbers.base,
+            given.bytes.image,
+            given.numbers.harts,
+            given.bytes.capture,
+            given.numbers.format,
             buffer,
             &mut wanted,
             &mut end,
         )
     };
-    said_text(status, wanted, &end, &log_place())
+    said_text(status, wanted, &end, &LOG_PLACE)
 }
 
-fn compare(alloc: Global, given: &Given<'_>, buffer: &mut [u8]) -> Said {
+fn compare(given: &Given<'_>, buffer: &mut [u8]) -> Said {
     let mut wanted = KEPT;
-    let mut end = text_end();
-    let mut place = log_place();
-    let status = if given.in_pieces() {
+    let mut end = TEXT_END;
+    let mut place = LOG_PLACE;
+    let status = if given.in_pieces {
         ffi::tracebench_compare_over_pieces(
-            alloc,
+            given.alloc,
             &given.pieces,
-            given.short("harts"),
-            given.bytes("capture"),
-            &given.joined.bytes,
-            &given.joined.ends,
+            given.numbers.harts,
+            given.bytes.capture,
+            &given.joined,
+            &given.ends,
             buffer,
             &mut wanted,
             &mut end,
@@ -447,13 +452,13 @@ fn compare(alloc: Global, given: &Given<'_>, buffer: &mut [u8]) -> Said {
         )
     } else {
         ffi::tracebench_compare(
-            alloc,
-            given.base(),
-            given.bytes("image"),
-            given.short("harts"),
-            given.bytes("capture"),
-            &given.joined.bytes,
-            &given.joined.ends,
+            given.alloc,
+            given.numbers.base,
+            given.bytes.image,
+            given.numbers.harts,
+            given.bytes.capture,
+            &given.joined,
+            &given.ends,
             buffer,
             &mut wanted,
             &mut end,
@@ -464,31 +469,37 @@ fn compare(alloc: Global, given: &Given<'_>, buffer: &mut [u8]) -> Said {
 }
 
 /// Makes the call that a verb names.
-fn call(
-    alloc: Global,
+fn call(verb: &str, given: &Given<'_>, buffer: &mut [u8], ends: &mut [HartEnd]) -> Option<Said> {
+    Some(match verb {
+        "pack" => pack(given, buffer),
+        "write_message" => write_message(given, buffer),
+        "write_header" => write_header(given, buffer),
+        "version" => version(buffer),
+        "capture_of_lines" => capture_of_lines(given, buffer),
+        "encode" => encode(given, buffer),
+        "measure" => measure(given, buffer),
+        _ => return call_on_capture(verb, given, buffer, ends),
+    })
+}
+
+/// Makes the call that a verb names, of those over captures.
+fn call_on_capture(
     verb: &str,
     given: &Given<'_>,
     buffer: &mut [u8],
     ends: &mut [HartEnd],
 ) -> Option<Said> {
-    match verb {
-        "pack" => Some(pack(given, buffer)),
-        "write_message" => Some(write_message(given, buffer)),
-        "write_header" => Some(write_header(given, buffer)),
-        "version" => Some(version(buffer)),
-        "capture_of_lines" => Some(capture_of_lines(alloc, given, buffer)),
-        "encode" => Some(encode(alloc, given, buffer)),
-        "measure" => Some(measure(alloc, given, buffer)),
-        "decode" => Some(decode(alloc, given, buffer)),
-        "decode_all" => Some(decode_all(alloc, given, buffer, ends)),
-        "dump" => Some(dump(alloc, given, buffer)),
-        "explain" => Some(explain(alloc, given, buffer)),
-        "list" => Some(list(alloc, given, buffer)),
-        "list_salvaged" => Some(list_salvaged(alloc, given, buffer)),
-        "salvage" => Some(salvage(alloc, given, buffer)),
-        "compare" => Some(compare(alloc, given, buffer)),
-        _ => None,
-    }
+    Some(match verb {
+        "decode" => decode(given, buffer),
+        "decode_all" => decode_all(given, buffer, ends),
+        "dump" => dump(given, buffer),
+        "explain" => explain(given, buffer),
+        "list" => list(given, buffer),
+        "list_salvaged" => list_salvaged(given, buffer),
+        "salvage" => salvage(given, buffer),
+        "compare" => compare(given, buffer),
+        _ => return None,
+    })
 }
 
 /// Whether a verb hands out bytes that are no text.
@@ -497,18 +508,6 @@ fn is_binary(verb: &str) -> bool {
         verb,
         "pack" | "write_message" | "write_header" | "capture_of_lines" | "encode"
     )
-}
-
-/// Appends bytes as hexadecimal digits.
-fn put_digits(out: &mut String, bytes: &[u8]) -> Result<(), Fault> {
-    if bytes.is_empty() {
-        return Ok(());
-    }
-    put_name(out, "bytes=")?;
-    for byte in bytes {
-        write!(out, "{byte:02x}")?;
-    }
-    Ok(())
 }
 
 /// The last so many lines of a text.
@@ -523,72 +522,75 @@ fn last_lines(text: &str, count: usize) -> &str {
     text.get(from..).unwrap_or(text)
 }
 
+/// Appends a text, or its last lines.
+fn put_lines(case: &mut Case<'_>, given: &Given<'_>, bytes: &[u8]) {
+    let mut text = str::from_utf8(bytes).unwrap_or("no text");
+    if let Some(count) = given.numbers.tail.or(given.numbers.last) {
+        text = last_lines(text, count);
+    }
+    if !text.is_empty() {
+        case.put("\n");
+        case.put(text);
+    }
+}
+
 /// Appends what was handed out: that it is what was due, its last lines, all of it, or its digits.
-fn put_handed(out: &mut String, verb: &str, given: &Given<'_>, bytes: &[u8]) -> Result<(), Fault> {
-    if given.has("due") && bytes == given.bytes("due") {
-        return put_name(out, "due");
+fn put_handed(case: &mut Case<'_>, verb: &str, given: &Given<'_>, bytes: &[u8]) {
+    if given.bytes.due == Some(bytes) {
+        case.put_word("due");
+    } else if !is_binary(verb) {
+        put_lines(case, given, bytes);
+    } else if !bytes.is_empty() {
+        case.put_word("bytes=");
+        case.put_digits(bytes);
     }
-    if is_binary(verb) {
-        return put_digits(out, bytes);
-    }
-    let text = str::from_utf8(bytes).unwrap_or("no text");
-    let shown = if given.has("tail") || given.has("last") {
-        last_lines(text, given.size("tail").max(given.size("last")))
-    } else {
-        text
-    };
-    if !shown.is_empty() {
-        out.push('\n')?;
-        out.push_str(shown)?;
-    }
-    Ok(())
 }
 
 /// The numbers of what a call said that are shown: with `tail` not how much it has to hand out.
 pub(crate) fn shown_numbers(given: &Given<'_>, said: &Said) -> Record {
     let mut numbers = said.numbers;
-    if given.has("tail") {
+    if given.numbers.tail.is_some() {
         numbers[1] = KEPT;
     }
     numbers
 }
 
+/// Whether no call wrote these bytes.
+fn is_filled(bytes: &[u8]) -> bool {
+    for byte in bytes {
+        if *byte != FILL {
+            return false;
+        }
+    }
+    true
+}
+
 /// Appends what a call said, and what it handed out in a buffer.
-fn put_said(
-    out: &mut String,
-    verb: &str,
-    given: &Given<'_>,
-    said: &Said,
-    buffer: &[u8],
-    ends: &[HartEnd],
-) -> Result<(), Fault> {
-    put_all(out, said.names, &shown_numbers(given, said))?;
-    put_list(out, "ends", ends)?;
-    let count = if said.numbers[0] == 0 {
+fn put_said(case: &mut Case<'_>, verb: &str, given: &Given<'_>, said: &Said, buffer: &[u8]) {
+    let count = if said.status() == 0 {
         said.count().min(buffer.len())
     } else {
         0
     };
     let (front, rest) = buffer.split_at(count);
-    if rest.iter().any(|byte| *byte != FILL) {
-        put_name(out, "spilled")?;
+    if !is_filled(rest) {
+        case.put_word("spilled");
     }
-    put_handed(out, verb, given, front)
+    put_handed(case, verb, given, front);
 }
 
 /// Makes the call that a verb names with a buffer of so many bytes, and appends what it said.
 pub(crate) fn fill(
-    alloc: Global,
+    case: &mut Case<'_>,
     verb: &str,
     given: &Given<'_>,
     room: usize,
-    out: &mut String,
-) -> Result<Option<Said>, Fault> {
-    let mut buffer = Vec::from_elem(alloc, FILL, room)?;
-    let mut ends = Vec::from_elem(alloc, HartEnd::of(&[KEPT; 20]), given.size("places"))?;
-    let said = call(alloc, verb, given, &mut buffer, &mut ends);
-    if let Some(said) = &said {
-        put_said(out, verb, given, said, &buffer, &ends)?;
-    }
-    Ok(said)
+) -> Option<Said> {
+    let mut buffer = case.filled(FILL, room);
+    let mut ends = case.filled(HartEnd::KEPT, given.numbers.places);
+    let said = call(verb, given, &mut buffer, &mut ends)?;
+    put_all(case, said.names, &shown_numbers(given, &said));
+    put_list(case, "ends", &ends, false);
+    put_said(case, verb, given, &said, &buffer);
+    Some(said)
 }

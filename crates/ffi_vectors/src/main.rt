@@ -21,21 +21,20 @@
 mod arguments;
 mod audits;
 mod building;
+mod calls;
 mod fields;
 mod filling;
 mod looking;
-mod player;
 mod rooms;
-mod said;
 mod stepping;
 mod store;
 mod writing;
 
-use player::Player;
+use crate::store::Store;
 use std::io;
 use std::process::ExitCode;
 
 fn main(rt: HostRuntime) -> io::Result<ExitCode> {
-    let mut player = Player::new(rt.alloc());
-    cases::play(&rt, &mut player)
+    let mut store = Store::new(rt.alloc());
+    cases::play(&rt, &mut store)
 }

@@ -1,31 +1,21 @@
 //! Calls that go event by event or payload by payload, and so keep a state.
 
 use crate::arguments::Given;
-use crate::fields::{Fields, NO_FIELDS, Record, padded};
-use crate::said::{Fault, KEPT, Said};
-use crate::writing::{put_all, put_list, put_name, put_struct};
+use crate::fields::{Fields, KEPT};
+use crate::writing::{Said, put_all, put_list, put_state};
+use cases::Case;
 use ffi::{EncoderNumbers, EventNumbers, HartNumbers, PacketNumbers};
-use std::alloc::Global;
 
 static COUNT: [&str; 3] = ["status", "count", "missing"];
 
 static TAKEN: [&str; 3] = ["status", "count", "taken"];
 
-/// What a call said, with the state after it.
-fn said_of(names: &'static [&'static str], numbers: &[u64], state: Record) -> Said {
-    Said {
-        names,
-        numbers: padded(numbers),
-        state,
-    }
-}
-
-fn push(alloc: Global, given: &Given<'_>, packets: &mut [PacketNumbers]) -> Said {
+fn push(given: &Given<'_>, packets: &mut [PacketNumbers]) -> Said {
     let mut state = given.encoder;
     let mut count = KEPT;
-    let status = if given.in_pieces() {
+    let status = if given.in_pieces {
         ffi::tracebench_push_over_pieces(
-            alloc,
+            given.alloc,
             &given.pieces,
             &mut state,
             &given.event,
@@ -34,23 +24,23 @@ fn push(alloc: Global, given: &Given<'_>, packets: &mut [PacketNumbers]) -> Said
         )
     } else {
         ffi::tracebench_push(
-            given.base(),
-            given.bytes("image"),
+            given.numbers.base,
+            given.bytes.image,
             &mut state,
             &given.event,
             packets,
             &mut count,
         )
     };
-    said_of(&COUNT, &[u64::from(status), count, KEPT], state.record())
+    Said::of(&COUNT, &[u64::from(status), count, KEPT], state.record())
 }
 
-fn push_checked(alloc: Global, given: &Given<'_>, packets: &mut [PacketNumbers]) -> Said {
+fn push_checked(given: &Given<'_>, packets: &mut [PacketNumbers]) -> Said {
     let mut state = given.encoder;
     let mut count = KEPT;
-    let status = if given.in_pieces() {
+    let status = if given.in_pieces {
         ffi::tracebench_push_checked_over_pieces(
-            alloc,
+            given.alloc,
             &given.pieces,
             &mut state,
             &given.event,
@@ -59,24 +49,24 @@ fn push_checked(alloc: Global, given: &Given<'_>, packets: &mut [PacketNumbers])
         )
     } else {
         ffi::tracebench_push_checked(
-            given.base(),
-            given.bytes("image"),
+            given.numbers.base,
+            given.bytes.image,
             &mut state,
             &given.event,
             packets,
             &mut count,
         )
     };
-    said_of(&COUNT, &[u64::from(status), count, KEPT], state.record())
+    Said::of(&COUNT, &[u64::from(status), count, KEPT], state.record())
 }
 
-fn push_all(alloc: Global, given: &Given<'_>, packets: &mut [PacketNumbers]) -> Said {
+fn push_all(given: &Given<'_>, packets: &mut [PacketNumbers]) -> Said {
     let mut state = given.encoder;
     let mut taken = KEPT;
     let mut count = KEPT;
-    let status = if given.in_pieces() {
+    let status = if given.in_pieces {
         ffi::tracebench_push_all_over_pieces(
-            alloc,
+            given.alloc,
             &given.pieces,
             &mut state,
             &given.events,
@@ -86,8 +76,8 @@ fn push_all(alloc: Global, given: &Given<'_>, packets: &mut [PacketNumbers]) -> 
         )
     } else {
         ffi::tracebench_push_all(
-            given.base(),
-            given.bytes("image"),
+            given.numbers.base,
+            given.bytes.image,
             &mut state,
             &given.events,
             packets,
@@ -95,14 +85,14 @@ fn push_all(alloc: Global, given: &Given<'_>, packets: &mut [PacketNumbers]) -> 
             &mut count,
         )
     };
-    said_of(&TAKEN, &[u64::from(status), count, taken], state.record())
+    Said::of(&TAKEN, &[u64::from(status), count, taken], state.record())
 }
 
-fn finish(alloc: Global, given: &Given<'_>, packets: &mut [PacketNumbers]) -> Said {
+fn finish(given: &Given<'_>, packets: &mut [PacketNumbers]) -> Said {
     let mut count = KEPT;
-    let status = if given.in_pieces() {
+    let status = if given.in_pieces {
         ffi::tracebench_finish_over_pieces(
-            alloc,
+            given.alloc,
             &given.pieces,
             &given.encoder,
             packets,
@@ -110,14 +100,14 @@ fn finish(alloc: Global, given: &Given<'_>, packets: &mut [PacketNumbers]) -> Sa
         )
     } else {
         ffi::tracebench_finish(
-            given.base(),
-            given.bytes("image"),
+            given.numbers.base,
+            given.bytes.image,
             &given.encoder,
             packets,
             &mut count,
         )
     };
-    said_of(
+    Said::of(
         &COUNT,
         &[u64::from(status), count, KEPT],
         given.encoder.record(),
@@ -133,15 +123,15 @@ fn push_each(given: &Given<'_>, packets: &mut [PacketNumbers]) -> Said {
         let mut count = 0;
         let rest = packets.get_mut(seen..).unwrap_or(&mut []);
         let status = ffi::tracebench_push(
-            given.base(),
-            given.bytes("image"),
+            given.numbers.base,
+            given.bytes.image,
             &mut state,
             event,
             rest,
             &mut count,
         );
         if status != 0 {
-            return said_of(
+            return Said::of(
                 &TAKEN,
                 &[u64::from(status), seen as u64, taken],
                 state.record(),
@@ -150,238 +140,213 @@ fn push_each(given: &Given<'_>, packets: &mut [PacketNumbers]) -> Said {
         seen = seen.saturating_add(count.min(2) as usize);
         taken = taken.saturating_add(1);
     }
-    said_of(&TAKEN, &[0, seen as u64, taken], state.record())
+    Said::of(&TAKEN, &[0, seen as u64, taken], state.record())
 }
 
-fn feed(alloc: Global, given: &Given<'_>, events: &mut [EventNumbers]) -> Said {
-    let mut hart = given.hart;
+fn feed(given: &Given<'_>, events: &mut [EventNumbers]) -> Said {
+    let mut hart = given.hart_state;
     let mut count = KEPT;
-    let status = if given.in_pieces() {
+    let status = if given.in_pieces {
         ffi::tracebench_feed_over_pieces(
-            alloc,
+            given.alloc,
             &given.pieces,
             &mut hart.decoder,
-            given.bytes("payload"),
+            given.bytes.payload,
             events,
             &mut count,
         )
     } else {
         ffi::tracebench_feed(
-            alloc,
-            given.base(),
-            given.bytes("image"),
+            given.alloc,
+            given.numbers.base,
+            given.bytes.image,
             &mut hart.decoder,
-            given.bytes("payload"),
+            given.bytes.payload,
             events,
             &mut count,
         )
     };
-    said_of(&COUNT, &[u64::from(status), count, KEPT], hart.record())
+    Said::of(&COUNT, &[u64::from(status), count, KEPT], hart.record())
 }
 
-fn feed_all(alloc: Global, given: &Given<'_>, events: &mut [EventNumbers]) -> Said {
-    let mut hart = given.hart;
+fn feed_all(given: &Given<'_>, events: &mut [EventNumbers]) -> Said {
+    let mut hart = given.hart_state;
     let mut taken = KEPT;
     let mut count = KEPT;
-    let status = if given.in_pieces() {
+    let status = if given.in_pieces {
         ffi::tracebench_feed_all_over_pieces(
-            alloc,
+            given.alloc,
             &given.pieces,
             &mut hart.decoder,
-            &given.joined.bytes,
-            &given.joined.ends,
+            &given.joined,
+            &given.ends,
             events,
             &mut taken,
             &mut count,
         )
     } else {
         ffi::tracebench_feed_all(
-            alloc,
-            given.base(),
-            given.bytes("image"),
+            given.alloc,
+            given.numbers.base,
+            given.bytes.image,
             &mut hart.decoder,
-            &given.joined.bytes,
-            &given.joined.ends,
+            &given.joined,
+            &given.ends,
             events,
             &mut taken,
             &mut count,
         )
     };
-    said_of(&TAKEN, &[u64::from(status), count, taken], hart.record())
+    Said::of(&TAKEN, &[u64::from(status), count, taken], hart.record())
 }
 
-fn receive(alloc: Global, given: &Given<'_>, events: &mut [EventNumbers]) -> Said {
-    let mut hart = given.hart;
+fn receive(given: &Given<'_>, events: &mut [EventNumbers]) -> Said {
+    let mut hart = given.hart_state;
     let mut count = KEPT;
     let mut missing = KEPT;
-    let status = if given.in_pieces() {
+    let status = if given.in_pieces {
         ffi::tracebench_receive_over_pieces(
-            alloc,
+            given.alloc,
             &given.pieces,
             &mut hart,
-            given.number("number"),
-            given.bytes("payload"),
+            given.numbers.number,
+            given.bytes.payload,
             events,
             &mut count,
             &mut missing,
         )
     } else {
         ffi::tracebench_receive(
-            alloc,
-            given.base(),
-            given.bytes("image"),
+            given.alloc,
+            given.numbers.base,
+            given.bytes.image,
             &mut hart,
-            given.number("number"),
-            given.bytes("payload"),
+            given.numbers.number,
+            given.bytes.payload,
             events,
             &mut count,
             &mut missing,
         )
     };
-    said_of(&COUNT, &[u64::from(status), count, missing], hart.record())
+    Said::of(&COUNT, &[u64::from(status), count, missing], hart.record())
 }
 
 /// Makes the call that a verb names, of those that hand out packets.
-fn call_for_packets(
-    alloc: Global,
-    verb: &str,
-    given: &Given<'_>,
-    packets: &mut [PacketNumbers],
-) -> Option<Said> {
+fn call_for_packets(verb: &str, given: &Given<'_>, packets: &mut [PacketNumbers]) -> Said {
     match verb {
-        "push" => Some(push(alloc, given, packets)),
-        "push_checked" => Some(push_checked(alloc, given, packets)),
-        "push_all" => Some(push_all(alloc, given, packets)),
-        "push_each" => Some(push_each(given, packets)),
-        "finish" => Some(finish(alloc, given, packets)),
-        _ => None,
+        "push" => push(given, packets),
+        "push_checked" => push_checked(given, packets),
+        "push_all" => push_all(given, packets),
+        "push_each" => push_each(given, packets),
+        _ => finish(given, packets),
     }
 }
 
 /// Makes the call that a verb names, of those that hand out events.
-fn call_for_events(
-    alloc: Global,
-    verb: &str,
-    given: &Given<'_>,
-    events: &mut [EventNumbers],
-) -> Option<Said> {
+fn call_for_events(verb: &str, given: &Given<'_>, events: &mut [EventNumbers]) -> Said {
     match verb {
-        "feed" => Some(feed(alloc, given, events)),
-        "feed_all" => Some(feed_all(alloc, given, events)),
-        "receive" => Some(receive(alloc, given, events)),
-        _ => None,
+        "feed" => feed(given, events),
+        "feed_all" => feed_all(given, events),
+        _ => receive(given, events),
     }
 }
 
 /// The elements of a buffer that are shown: the first so many with `show`, the last so many with `last`, or all.
 fn shown<'b, T>(given: &Given<'_>, items: &'b [T]) -> &'b [T] {
-    if given.has("last") {
-        let from = items.len().saturating_sub(given.size("last"));
+    if let Some(count) = given.numbers.last {
+        let from = items.len().saturating_sub(count);
         return items.get(from..).unwrap_or(items);
     }
-    if given.has("show") {
-        return items.get(..given.size("show")).unwrap_or(items);
-    }
-    items
+    let count = given.numbers.show.unwrap_or(items.len());
+    items.get(..count).unwrap_or(items)
 }
 
 /// Appends what a call said, the elements that it wrote, and the state if it is another one. Where only some elements
 /// are shown, the state is not.
 fn put_said<S: Fields, T: Fields>(
-    out: &mut String,
+    case: &mut Case<'_>,
     (given, name): (&Given<'_>, &str),
     said: &Said,
     before: &S,
     items: &[T],
-) -> Result<(), Fault> {
-    put_all(out, said.names, &said.numbers)?;
-    put_list(out, name, shown(given, items))?;
-    let all = !given.has("show") && !given.has("last");
+) {
+    put_all(case, said.names, &said.numbers);
+    put_list(case, name, shown(given, items), false);
+    let all = given.numbers.show.is_none() && given.numbers.last.is_none();
     if all && said.state != before.record() {
-        put_struct::<S>(out, "state", &said.state)?;
+        put_state::<S>(case, &said.state);
     }
-    Ok(())
 }
 
 /// Makes the call that a verb names with a buffer of so many packets, and appends what it said.
 pub(crate) fn fill_packets(
-    alloc: Global,
+    case: &mut Case<'_>,
     verb: &str,
     given: &Given<'_>,
     room: usize,
-    out: &mut String,
-) -> Result<Option<Said>, Fault> {
-    let mut packets = Vec::from_elem(alloc, PacketNumbers::of(&[KEPT; 20]), room)?;
-    let said = call_for_packets(alloc, verb, given, &mut packets);
-    if let Some(said) = &said {
-        put_said(out, (given, "packets"), said, &given.encoder, &packets)?;
-    }
-    Ok(said)
+) -> Option<Said> {
+    let mut packets = case.filled(PacketNumbers::KEPT, room);
+    let said = call_for_packets(verb, given, &mut packets);
+    put_said(case, (given, "packets"), &said, &given.encoder, &packets);
+    Some(said)
 }
 
 /// Makes the call that a verb names with a buffer of so many events, and appends what it said.
 pub(crate) fn fill_events(
-    alloc: Global,
+    case: &mut Case<'_>,
     verb: &str,
     given: &Given<'_>,
     room: usize,
-    out: &mut String,
-) -> Result<Option<Said>, Fault> {
-    let mut events = Vec::from_elem(alloc, EventNumbers::of(&[KEPT; 20]), room)?;
-    let said = call_for_events(alloc, verb, given, &mut events);
-    if let Some(said) = &said {
-        put_said(out, (given, "events"), said, &given.hart, &events)?;
-    }
-    Ok(said)
+) -> Option<Said> {
+    let mut events = case.filled(EventNumbers::KEPT, room);
+    let said = call_for_events(verb, given, &mut events);
+    put_said(case, (given, "events"), &said, &given.hart_state, &events);
+    Some(said)
 }
 
 /// Pushes events at once, and by a call for each: `same`, the status and how many are taken where both say the same.
-pub(crate) fn push_both(alloc: Global, given: &Given<'_>, out: &mut String) -> Result<(), Fault> {
-    let mut once = String::new(alloc);
-    let mut each = String::new(alloc);
-    let said = fill_packets(alloc, "push_all", given, given.size("room"), &mut once)?;
-    fill_packets(alloc, "push_each", given, given.size("room"), &mut each)?;
-    if once.as_str() != each.as_str() {
-        write!(out, "{once} and {each}")?;
-        return Ok(());
+pub(crate) fn push_both(case: &mut Case<'_>, given: &Given<'_>) {
+    let room = given.numbers.room.unwrap_or(0);
+    let mut once = case.again();
+    let said = fill_packets(&mut once, "push_all", given, room);
+    let mut each = case.again();
+    let _ = fill_packets(&mut each, "push_each", given, room);
+    if let Some(said) = said {
+        let mut numbers = said.numbers;
+        numbers[1] = KEPT;
+        put_all(case, &TAKEN, &numbers);
     }
-    let mut numbers = said.map_or(NO_FIELDS, |said| said.numbers);
-    numbers[1] = KEPT;
-    put_all(out, &TAKEN, &numbers)?;
-    put_name(out, "same")
+    case.put_word("same");
+    case.join(&once);
+    case.put_other("by a call for each", &each, once.came.as_str());
 }
 
 /// A new encoder, and the packet that opens its trace.
-pub(crate) fn encoder(given: &Given<'_>, out: &mut String) -> Result<(), Fault> {
-    let mut state = EncoderNumbers::of(&[KEPT; 20]);
-    let mut opening = PacketNumbers::of(&[KEPT; 20]);
-    let status = ffi::tracebench_encoder(
-        given.short("period"),
-        given.small("mode"),
-        &mut state,
-        &mut opening,
-    );
-    put_all(out, &COUNT, &[u64::from(status)])?;
-    put_list(out, "opening", &[opening])?;
-    put_list(out, "state", &[state])
+pub(crate) fn encoder(case: &mut Case<'_>, given: &Given<'_>) {
+    let mut state = EncoderNumbers::KEPT;
+    let mut opening = PacketNumbers::KEPT;
+    let (period, mode) = (given.numbers.period, given.numbers.mode);
+    let status = ffi::tracebench_encoder(period, mode, &mut state, &mut opening);
+    put_all(case, &COUNT, &[u64::from(status)]);
+    put_list(case, "opening", &[opening], false);
+    put_list(case, "state", &[state], false);
 }
 
 /// A new decoder.
-pub(crate) fn decoder(out: &mut String) -> Result<(), Fault> {
+pub(crate) fn decoder(case: &mut Case<'_>) {
     // Each field of the decoder holds another number before.
-    let mut hart = HartNumbers::of(&[KEPT; 20]);
+    let mut hart = HartNumbers::KEPT;
     hart.expected = 0;
     ffi::tracebench_decoder(&mut hart.decoder);
-    put_struct::<HartNumbers>(out, "state", &hart.record())
+    put_state::<HartNumbers>(case, &hart.record());
 }
 
 /// Lets a hart go on at a number.
-pub(crate) fn resume(given: &Given<'_>, out: &mut String) -> Result<(), Fault> {
-    let mut hart = given.hart;
-    let status = ffi::tracebench_resume(&mut hart, given.number("number"), given.small("mode"));
-    put_all(out, &COUNT, &[u64::from(status)])?;
-    if hart.record() != given.hart.record() {
-        put_struct::<HartNumbers>(out, "state", &hart.record())?;
+pub(crate) fn resume(case: &mut Case<'_>, given: &Given<'_>) {
+    let mut hart = given.hart_state;
+    let status = ffi::tracebench_resume(&mut hart, given.numbers.number, given.numbers.mode);
+    put_all(case, &COUNT, &[u64::from(status)]);
+    if hart.record() != given.hart_state.record() {
+        put_state::<HartNumbers>(case, &hart.record());
     }
-    Ok(())
 }

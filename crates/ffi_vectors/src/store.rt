@@ -1,6 +1,6 @@
 //! What has a name: buffers, and texts of events and states.
 
-use crate::said::Fault;
+use cases::Case;
 use std::alloc::Global;
 use std::collections::BTreeMap;
 
@@ -26,12 +26,6 @@ impl Store {
         }
     }
 
-    /// The text of this name; it is empty where there is none.
-    pub(crate) fn text(&self, name: &str) -> &str {
-        let bytes = self.get(name).unwrap_or(&[]);
-        str::from_utf8(bytes).unwrap_or("")
-    }
-
     /// Takes the bytes of this name out. There is none where it was not there.
     pub(crate) fn take(&mut self, alloc: Global, name: &str) -> Vec<u8> {
         match self.buffers.remove(name) {
@@ -41,8 +35,14 @@ impl Store {
     }
 
     /// Gives bytes a name.
-    pub(crate) fn put(&mut self, name: String, bytes: Vec<u8>) -> Result<(), Fault> {
-        self.buffers.insert(name, bytes)?;
-        Ok(())
+    pub(crate) fn put(&mut self, case: &mut Case<'_>, name: &str, bytes: Vec<u8>) {
+        match String::from_str(case.alloc, name) {
+            Ok(name) => {
+                if self.buffers.insert(name, bytes).is_err() {
+                    case.no_memory();
+                }
+            }
+            Err(_) => case.no_memory(),
+        }
     }
 }

@@ -1,83 +1,101 @@
-//! How what calls say is written.
+//! What calls say, in numbers, and how it is written.
 
-use crate::fields::{Fields, NO_FIELDS, Record};
-use crate::said::{Fault, KEPT, is_kept};
+use crate::fields::{Fields, KEPT, KEPT_16, KEPT_32, NO_FIELDS, Record, padded};
+use cases::Case;
+
+/// What a call said: its status, how much it has to hand out, and more, by names; and the state after it.
+#[derive(Clone, Copy)]
+pub(crate) struct Said {
+    pub(crate) names: &'static [&'static str],
+    pub(crate) numbers: Record,
+    pub(crate) state: Record,
+}
+
+impl Said {
+    /// Numbers by these names.
+    pub(crate) fn of(names: &'static [&'static str], numbers: &[u64], state: Record) -> Said {
+        Said {
+            names,
+            numbers: padded(numbers),
+            state,
+        }
+    }
+
+    /// The status.
+    pub(crate) fn status(&self) -> u64 {
+        let [status, ..] = self.numbers;
+        status
+    }
+
+    /// How much a call has to hand out.
+    pub(crate) fn count(&self) -> usize {
+        let [_, count, ..] = self.numbers;
+        count.min(1 << 32) as usize
+    }
+}
 
 /// From here on numbers are hexadecimal.
 const HEXADECIMAL: u64 = 1 << 24;
 
-/// Appends a number.
-fn put_number(out: &mut String, number: u64) -> Result<(), Fault> {
-    if number < HEXADECIMAL {
-        write!(out, "{number}")?;
+/// Appends a number under a name.
+fn put_number(case: &mut Case<'_>, name: &str, number: u64) {
+    case.put(name);
+    let done = if number < HEXADECIMAL {
+        write!(case.came, "={number}")
     } else {
-        write!(out, "0x{number:x}")?;
-    }
-    Ok(())
-}
-
-/// Appends the name of what comes next, after a space where it is not the first.
-pub(crate) fn put_name(out: &mut String, name: &str) -> Result<(), Fault> {
-    if !out.is_empty() {
-        out.push(' ')?;
-    }
-    out.push_str(name)?;
-    Ok(())
+        write!(case.came, "=0x{number:x}")
+    };
+    case.note(done);
 }
 
 /// Appends the numbers that a call wrote, by their names.
-pub(crate) fn put_all(out: &mut String, names: &[&str], numbers: &[u64]) -> Result<(), Fault> {
+pub(crate) fn put_all(case: &mut Case<'_>, names: &[&str], numbers: &[u64]) {
     for (name, number) in names.iter().zip(numbers) {
-        if !is_kept(*number) {
-            put_name(out, name)?;
-            out.push('=')?;
-            put_number(out, *number)?;
+        let is_kept = *number == KEPT
+            || *number == u64::from(KEPT_32)
+            || *number == u64::from(KEPT_16);
+        if !is_kept {
+            case.put_word("");
+            put_number(case, name, *number);
         }
     }
-    Ok(())
 }
 
 /// Appends a struct's numbers that are not 0, by their names.
-fn put_record(out: &mut String, names: &[&str], record: &Record) -> Result<(), Fault> {
-    let mut mark = '{';
+fn put_record(case: &mut Case<'_>, names: &[&str], record: &Record) {
+    let mut is_first = true;
+    case.put("{");
     for (name, number) in names.iter().zip(record) {
         if *number != 0 {
-            out.push(mark)?;
-            mark = ',';
-            out.push_str(name)?;
-            out.push('=')?;
-            put_number(out, *number)?;
+            if !is_first {
+                case.put(",");
+            }
+            is_first = false;
+            put_number(case, name, *number);
         }
     }
-    out.push_str(if mark == '{' { "{}" } else { "}" })?;
-    Ok(())
+    case.put("}");
 }
 
-/// Appends a struct under a name.
-pub(crate) fn put_struct<T: Fields>(
-    out: &mut String,
-    name: &str,
-    record: &Record,
-) -> Result<(), Fault> {
-    put_name(out, name)?;
-    out.push('=')?;
-    put_record(out, T::names(), record)
+/// Appends the state after a call.
+pub(crate) fn put_state<T: Fields>(case: &mut Case<'_>, record: &Record) {
+    case.put_word("state=");
+    put_record(case, T::NAMES, record);
 }
 
-/// How a list is written.
-#[derive(Clone, Copy)]
-pub(crate) enum Form {
-    /// Each element.
-    Elements,
-    /// The first element, and by how much each further one differs from the one before.
-    Steps,
+/// The numbers of an element; 0 where there is none.
+fn own_record<T: Fields>(items: &[T], place: usize) -> Record {
+    match items.get(place) {
+        Some(item) => item.record(),
+        None => NO_FIELDS,
+    }
 }
 
-/// The numbers that are written of an element.
-fn record_at<T: Fields>(items: &[T], place: usize, form: Form) -> Record {
-    let mut record = items.get(place).map_or(NO_FIELDS, |item| item.record());
-    if let (Form::Steps, Some(before)) = (form, place.checked_sub(1)) {
-        let before = items.get(before).map_or(NO_FIELDS, |item| item.record());
+/// The numbers that are written of an element: its own, or by steps how much they differ from those of the one before.
+fn record_at<T: Fields>(items: &[T], place: usize, steps: bool) -> Record {
+    let mut record = own_record(items, place);
+    if steps && place > 0 {
+        let before = own_record(items, place - 1);
         for (number, other) in record.iter_mut().zip(&before) {
             *number = number.wrapping_sub(*other);
         }
@@ -86,9 +104,9 @@ fn record_at<T: Fields>(items: &[T], place: usize, form: Form) -> Record {
 }
 
 /// How many elements in a row from a place on are written with these numbers.
-fn equal_ones<T: Fields>(items: &[T], from: usize, form: Form, first: &Record) -> usize {
+fn equal_ones<T: Fields>(items: &[T], from: usize, steps: bool, first: &Record) -> usize {
     for place in from..items.len() {
-        if record_at(items, place, form) != *first {
+        if record_at(items, place, steps) != *first {
             return place - from;
         }
     }
@@ -96,33 +114,33 @@ fn equal_ones<T: Fields>(items: &[T], from: usize, form: Form, first: &Record) -
 }
 
 /// Appends elements, of which equal ones in a row are counted. Those that no call wrote are `-`.
-fn put_items<T: Fields>(out: &mut String, items: &[T], form: Form) -> Result<(), Fault> {
-    let kept = T::of(&[KEPT; 20]).record();
+fn put_items<T: Fields>(case: &mut Case<'_>, items: &[T], steps: bool) {
+    let kept = T::KEPT.record();
     let mut begins: usize = 0;
     for place in 0..items.len() {
         if place == begins {
-            let record = record_at(items, place, form);
-            let count = equal_ones(items, place, form, &record).max(1);
+            let record = record_at(items, place, steps);
+            let count = equal_ones(items, place, steps, &record).max(1);
             begins = begins.saturating_add(count);
             if place > 0 {
-                out.push(';')?;
+                case.put(";");
             }
             if count > 1 {
-                write!(out, "{count}*")?;
+                case.put_shown(count);
+                case.put("*");
             }
             if record == kept {
-                out.push('-')?;
+                case.put("-");
             } else {
-                put_record(out, T::names(), &record)?;
+                put_record(case, T::NAMES, &record);
             }
         }
     }
-    Ok(())
 }
 
 /// How many elements there are up to the last that a call wrote.
 fn written<T: Fields>(items: &[T]) -> usize {
-    let kept = T::of(&[KEPT; 20]).record();
+    let kept = T::KEPT.record();
     let mut count = 0;
     for (place, item) in items.iter().enumerate() {
         if item.record() != kept {
@@ -132,23 +150,14 @@ fn written<T: Fields>(items: &[T]) -> usize {
     count
 }
 
-/// Appends the elements of a buffer up to the last that a call wrote, under a name, if there is one.
-pub(crate) fn put_list<T: Fields>(out: &mut String, name: &str, items: &[T]) -> Result<(), Fault> {
-    put_list_as(out, name, items, Form::Elements)
-}
-
-/// Does so in a form.
-pub(crate) fn put_list_as<T: Fields>(
-    out: &mut String,
-    name: &str,
-    items: &[T],
-    form: Form,
-) -> Result<(), Fault> {
+/// Appends the elements of a buffer up to the last that a call wrote, under a name, if there is one: each, or by steps
+/// the first, and by how much each further one differs from the one before.
+pub(crate) fn put_list<T: Fields>(case: &mut Case<'_>, name: &str, items: &[T], steps: bool) {
     let items = items.get(..written(items)).unwrap_or(items);
     if items.is_empty() {
-        return Ok(());
+        return;
     }
-    put_name(out, name)?;
-    out.push('=')?;
-    put_items(out, items, form)
+    case.put_word(name);
+    case.put("=");
+    put_items(case, items, steps);
 }

@@ -2,3 +2,11 @@ pub mod Frame
 pub mod Taken
 pub mod Spans
 pub mod Written
+pub mod GuidedTaken
+pub mod Passages
+pub mod Counted
+pub mod Amid
+pub mod Borrowed
+pub mod Start
+pub mod Harts
+pub mod Search

@@ -9,3 +9,5 @@ pub mod RuleSteps
 pub mod LiveSteps
 pub mod PassSteps
 pub mod NewPorts
+mod TurnsLemmas
+mod WordLemmas

@@ -2,8 +2,8 @@
 use Rattle.std.proofs.Common.{◌≡◌, ◌+◌, ◌++◌, ◌∙◌, ℕ, Bool, List, [], ◌∷◌, Option, Some, None, length, refl, sym, ap, subst}
 use Rattle.std.specs.Prelude.{All}
 use Rattle.std.proofs.lemmas.List.Elements.{All-head, All-tail}
-use Rattle.hart_range.proofs.Selecting.{all_selected, every_hart_selects}
-use Rattle.hart_range.specs.Range.{every_hart, selected}
+use Rattle.message.proofs.Selecting.{all_selected, every_hart_selects}
+use Rattle.message.specs.Range.{every_hart, selected}
 use Rattle.rvclass.specs.Words.{Words}
 use Rattle.payload.specs.declared.mode.Mode.{Mode}
 use Rattle.message.specs.Accepted.{AreAccepted, newcomers}

@@ -8,8 +8,8 @@ use Rattle.std.proofs.lemmas.List.Elements.{All-nil, All-push}
 use Rattle.std.proofs.lemmas.Option.{same_Some}
 use Rattle.output.specs.Begun.{AppendsBeginning}
 use Rattle.output.proofs.Beginnings.{begun_behind}
-use Rattle.hart_range.specs.Range.{selected, selects}
-use Rattle.hart_range.specs.declared.range.HartRange.{HartRange}
+use Rattle.message.specs.Range.{selected, selects}
+use Rattle.message.specs.declared.range.HartRange.{HartRange}
 use Rattle.rvclass.specs.Words.{Words}
 use Rattle.payload.specs.declared.mode.Mode.{Mode}
 use Rattle.decoder.specs.declared.fault.DecodeFault.TheVariants as decoding

@@ -1,6 +1,6 @@
 -- What is written of a listing of some harts that does not reach its end.
 use Rattle.std.specs.Prelude.{ℕ, ◌≡◌, ◌++◌, Bool, List, Option, None}
-use Rattle.hart_range.specs.declared.range.HartRange.{HartRange}
+use Rattle.message.specs.declared.range.HartRange.{HartRange}
 use Rattle.rvclass.specs.Words.{Words}
 use Rattle.captures.specs.declared.outcome.CaptureFault.{CaptureFault}
 use Rattle.listing.specs.ListingOf.{IsListingOf}

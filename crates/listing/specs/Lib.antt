@@ -8,3 +8,11 @@ pub mod Placed
 pub mod ListingOf
 pub mod BegunOf
 pub mod steps
+pub mod Packets
+pub mod Rows
+pub mod Cells
+pub mod Table
+pub mod Part
+pub mod TableOf
+pub mod PartOf
+pub mod ReadBack

@@ -1,7 +1,7 @@
 -- The text of the listing of some harts of a capture.
 use Rattle.std.specs.Prelude.{ℕ, ◌≡◌, ◌+◌, ◌++◌, All, Bool, true, false, List, [], Option, Some, None, length, replicate}
-use Rattle.hart_range.specs.Range.{every_hart, selected, selects}
-use Rattle.hart_range.specs.declared.range.HartRange.{HartRange}
+use Rattle.message.specs.Range.{every_hart, selected, selects}
+use Rattle.message.specs.declared.range.HartRange.{HartRange}
 use Rattle.retire.specs.declared.event.Event.{Event}
 use Rattle.rvclass.specs.Words.{Words}
 use Rattle.payload.specs.declared.mode.Mode.{Mode}

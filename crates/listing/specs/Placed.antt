@@ -1,7 +1,7 @@
 -- Messages with their places in a capture, and the lines of some of these.
 use Rattle.std.specs.Prelude.{ℕ, ◌+◌, ◌++◌, List, [], ◌∷◌, Option, filter, length}
-use Rattle.hart_range.specs.Range.{selects}
-use Rattle.hart_range.specs.declared.range.HartRange.{HartRange}
+use Rattle.message.specs.Range.{selects}
+use Rattle.message.specs.declared.range.HartRange.{HartRange}
 use Rattle.payload.specs.declared.mode.Mode.{Mode}
 use Rattle.message.specs.Capture.{message_bytes}
 use Rattle.message.specs.declared.message.Message.{Message}

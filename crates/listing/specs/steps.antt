@@ -2,3 +2,5 @@
 pub mod Message
 pub mod Part
 pub mod Started
+pub mod Writing
+pub mod Parts

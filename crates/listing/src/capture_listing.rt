@@ -18,8 +18,7 @@ use crate::lines::write_offset_line;
 use crate::message_listing::list_selected;
 use crate::outcome::Listed;
 use captures::{CaptureFault, write_header_line};
-use hart_range::HartRange;
-use message::{HEADER_SIZE, Header, MessageFault, Messages};
+use message::{HEADER_SIZE, HartRange, Header, MessageFault, Messages, Unwatched, Watch};
 use payload::Mode;
 use receiver::Receiver;
 use retire::WriteFault;
@@ -27,7 +26,6 @@ use rvclass::ProgramOver;
 use std::alloc::Allocator;
 use std::io::Write;
 use symbols::Symbols;
-use watching::{Unwatched, Watch};
 
 /// Writes what each message of a capture says and settles. Of a capture of version 2 the first line is that of its
 /// header, as [`dump_capture`](captures::dump_capture) writes it. Then comes a line for each message, in the capture's

@@ -12,8 +12,7 @@ ghost use Rattle.listing.specs.Listing.{naming_mode};
 ghost use Rattle.listing.specs.steps.Message.{IsJudged, IsJudgedOf, ReceivedSome};
 
 use crate::lines::{write_effect_line, write_fault_line};
-use hart_range::HartRange;
-use message::Message;
+use message::{HartRange, Message};
 use payload::Mode;
 use receiver::{ReceiveFault, Receiver};
 use retire::{Event, WriteFault};

@@ -17,7 +17,7 @@ use Rattle.log_streams.specs.Refusing.{MayStop}
 use Rattle.log_streams.specs.declared.logs_fault.LogsFault.{LogsFault}
 use Rattle.log_streams.specs.declared.stop.Stop.{Stop}
 use Rattle.log_streams.specs.declared.stop.Stop.TheVariants as stop
-use Rattle.files.specs.Known.{Content}
+use Rattle.log_streams.specs.Known.{Content}
 use Rattle.rvclass.specs.Image.{Image}
 use Rattle.output.specs.Begun.{AppendsBeginning}
 use Rattle.output.proofs.Beginnings.{begun_between}

@@ -9,7 +9,7 @@ use Rattle.message.specs.Version.{most_harts}
 use Rattle.message.specs.declared.header.Header.{Header}
 use Rattle.message.specs.declared.header.Version.{Version}
 use Rattle.message.specs.declared.header.Version.TheVariants.{One, Two}
-use Rattle.subcommands.specs.declared.words.Encode.{Encode}
+use Rattle.command_inputs.specs.declared.words.Encode.{Encode}
 use Rattle.log_commands.proofs.PartLogs.{limit_there, part_there}
 use Rattle.log_commands.specs.Faults.{Fault}
 use Rattle.log_commands.specs.Parts.{all_harts, asked_part, first_hart, most_logs}

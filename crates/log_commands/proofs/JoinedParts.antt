@@ -15,7 +15,7 @@ use Rattle.message.specs.declared.header.Header.{Header}
 use Rattle.message.specs.declared.header.Version.{Version}
 use Rattle.message.specs.declared.message.Message.{Message}
 use Rattle.payload.specs.declared.mode.Mode.{Mode}
-use Rattle.subcommands.specs.declared.words.Encode.{Encode}
+use Rattle.command_inputs.specs.declared.words.Encode.{Encode}
 use Rattle.log_commands.specs.Encoding.{written}
 use Rattle.log_commands.specs.Joining.{AllLogsAreOnePart, AreParts, AsksPart, PartRun, PartsAreJoined, complete_text}
 use Rattle.log_commands.specs.Joining.{logs_of_runs, text_of_runs}

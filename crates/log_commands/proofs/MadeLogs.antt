@@ -12,7 +12,7 @@ use Rattle.captures.proofs.MessageTexts.{capture_is}
 use Rattle.captures.specs.HexLines.{hex_line}
 use Rattle.captures.specs.Messages.{messages_of_harts}
 use Rattle.encoder.specs.Payloads.{payloads}
-use Rattle.files.specs.Known.{Content}
+use Rattle.log_streams.specs.Known.{Content}
 use Rattle.legalpath.specs.ProgramLog.{ProgramLog, program_log}
 use Rattle.log_streams.specs.Made.{AreMade, IsMadeOf}
 use Rattle.log_streams.specs.declared.illegal_row.IllegalRow.{IllegalRow}
@@ -26,7 +26,7 @@ use Rattle.message.specs.declared.message.Message.{Message}
 use Rattle.payload.specs.declared.mode.Mode.{Mode}
 use Rattle.retire.specs.declared.event.Event.{Event}
 use Rattle.rvclass.specs.Image.{Image}
-use Rattle.subcommands.specs.declared.words.Encode.{Encode}
+use Rattle.command_inputs.specs.declared.words.Encode.{Encode}
 use Rattle.command_inputs.proofs.StreamLemmas.{legal_stopped, log_read_in, parted_at}
 use Rattle.command_inputs.specs.Faults.{Path, stop_fault}
 use Rattle.command_inputs.specs.FoundLogs.{AreLegalLogsUpTo, IsFirstRefusedUpTo, IsLegalLogUpTo}

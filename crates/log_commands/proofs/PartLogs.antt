@@ -7,9 +7,9 @@ use Rattle.command_inputs.specs.Found.{base_at}
 use Rattle.command_inputs.specs.Order.{logs_fault}
 use Rattle.command_inputs.specs.declared.fault.Fault.TheVariants as fault
 use Rattle.command_inputs.specs.declared.status.Status.{Status}
-use Rattle.files.specs.Known.{Content}
+use Rattle.log_streams.specs.Known.{Content}
 use Rattle.legalpath.specs.ProgramLog.{ProgramLog}
-use Rattle.subcommands.specs.declared.words.Encode.{Encode}
+use Rattle.command_inputs.specs.declared.words.Encode.{Encode}
 use Rattle.log_commands.specs.Encoding.{AreLogsOf, ArePartLogs, CanEncode, Encodes, encode_fault}
 use Rattle.log_commands.specs.Faults.{Fault, Printed}
 use Rattle.log_commands.specs.Parts.{asked_part, most_logs, part_fault}

@@ -2,12 +2,12 @@
 use Rattle.std.proofs.Common.{◌≡◌, ◌⊎◌, inl, inr, refl, ℕ, sym, ap, List, Ok, Err}
 use Rattle.std.specs.Result.{result_map_both}
 use Rattle.funnel.specs.declared.turn.Turn.{Turn}
-use Rattle.schedule.specs.Schedule.{schedule_of}
-use Rattle.schedule.specs.declared.fault.ScheduleFault.{ScheduleFault}
-use Rattle.schedule.specs.declared.fault.ScheduleFault.TheVariants as schedule
+use Rattle.funnel.specs.Schedule.{schedule_of}
+use Rattle.funnel.specs.declared.schedule_fault.ScheduleFault.{ScheduleFault}
+use Rattle.funnel.specs.declared.schedule_fault.ScheduleFault.TheVariants as schedule
 use Rattle.command_inputs.specs.Faults.{Path}
 use Rattle.command_inputs.specs.Found.{IsRead}
-use Rattle.files.specs.Known.{Content}
+use Rattle.log_streams.specs.Known.{Content}
 use Rattle.command_inputs.specs.declared.fault.Fault.TheVariants as fault
 use Rattle.log_commands.specs.Faults.{Fault, schedule_fault}
 use Rattle.log_commands.specs.declared.reason.LogReason.{LogReason}

@@ -10,10 +10,10 @@ use Rattle.bench.specs.Stopping.{NamesOpen}
 use Rattle.bench.specs.declared.config.Config.{Config}
 use Rattle.bench.specs.declared.outcome.HartOutcome.{HartOutcome}
 use Rattle.bench.specs.declared.stop.Stop.{Stop}
-use Rattle.subcommands.specs.declared.words.Bench.{Bench}
+use Rattle.command_inputs.specs.declared.words.Bench.{Bench}
 use Rattle.command_inputs.specs.FurtherPieces.{base_number}
 use Rattle.command_inputs.specs.FoundLogs.{AreAskedLogs}
-use Rattle.files.specs.Known.{Content}
+use Rattle.log_streams.specs.Known.{Content}
 use Rattle.command_inputs.specs.Meaning.{writing_at_once}
 use Rattle.command_inputs.specs.Order.{logs_fault}
 use Rattle.command_inputs.specs.Printed.{First}

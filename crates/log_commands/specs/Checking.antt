@@ -11,13 +11,13 @@ use Rattle.message.specs.Version.{most_harts}
 use Rattle.message.specs.declared.header.Version.TheVariants.{Two}
 use Rattle.retire.specs.declared.event.Event.{Event}
 use Rattle.rvclass.specs.Image.{Image}
-use Rattle.subcommands.specs.declared.words.Check.{Check}
+use Rattle.command_inputs.specs.declared.words.Check.{Check}
 use Rattle.command_inputs.specs.FurtherPieces.{base_number}
 use Rattle.command_inputs.specs.Faults.{Path}
 use Rattle.command_inputs.specs.Found.{IsAskedProgram}
 use Rattle.command_inputs.specs.FoundLogs.{IsLogUpTo}
 use Rattle.command_inputs.specs.Judged.{IsJudgedUpTo, Judged}
-use Rattle.files.specs.Known.{Content}
+use Rattle.log_streams.specs.Known.{Content}
 use Rattle.command_inputs.specs.Order.{logs_fault}
 use Rattle.command_inputs.specs.Printed.{First, IsPrinted}
 use Rattle.command_inputs.specs.declared.status.Status.{Status}

@@ -1,12 +1,12 @@
 -- What `encode` prints, and how it ends.
 use Rattle.std.specs.Prelude.{⊤, ◌≡◌, ℕ, List, Option, Result, Ok, length}
 use Rattle.legalpath.specs.ProgramLog.{ProgramLog}
-use Rattle.subcommands.specs.declared.words.Encode.{Encode}
+use Rattle.command_inputs.specs.declared.words.Encode.{Encode}
 use Rattle.command_inputs.specs.FurtherPieces.{base_number}
 use Rattle.command_inputs.specs.Finding.{After}
 use Rattle.command_inputs.specs.Found.{IsBase}
 use Rattle.command_inputs.specs.FoundLogs.{AreAskedLogsUpTo}
-use Rattle.files.specs.Known.{Content}
+use Rattle.log_streams.specs.Known.{Content}
 use Rattle.command_inputs.specs.Meaning.{writing_at_once}
 use Rattle.command_inputs.specs.Printed.{First}
 use Rattle.command_inputs.specs.declared.status.Status.TheVariants.{Whole}

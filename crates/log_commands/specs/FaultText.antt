@@ -2,7 +2,7 @@
 use Rattle.std.specs.Prelude.{ℕ, ◌++◌, List, codes}
 use Rattle.std.specs.Fmt.{decimal}
 use Rattle.bench.specs.SetupText.{setup_text}
-use Rattle.schedule.specs.FaultText.{schedule_fault_text}
+use Rattle.funnel.specs.FaultText.{schedule_fault_text}
 use Rattle.log_commands.specs.declared.reason.LogReason.{LogReason}
 use Rattle.log_commands.specs.declared.reason.LogReason.TheVariants.{FirstAlone, FirstHart, ManyHarts, Schedule, Unsent}
 

@@ -2,8 +2,8 @@
 use Rattle.std.specs.Prelude.{Result}
 use Rattle.bench.specs.declared.setup.Setup.{Setup}
 use Rattle.bench.specs.declared.setup.Setup.TheVariants as setup
-use Rattle.schedule.specs.declared.fault.ScheduleFault.{ScheduleFault}
-use Rattle.schedule.specs.declared.fault.ScheduleFault.TheVariants as schedule
+use Rattle.funnel.specs.declared.schedule_fault.ScheduleFault.{ScheduleFault}
+use Rattle.funnel.specs.declared.schedule_fault.ScheduleFault.TheVariants as schedule
 use Rattle.command_inputs.specs.Faults as inputs
 use Rattle.command_inputs.specs.Finding as finding
 use Rattle.command_inputs.specs.Meaning as meaning

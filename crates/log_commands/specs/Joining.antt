@@ -7,7 +7,7 @@ use Rattle.captures.specs.Versions.{capture_of}
 use Rattle.legalpath.specs.ProgramLog.{ProgramLog}
 use Rattle.message.specs.declared.header.Version.{Version}
 use Rattle.payload.specs.declared.mode.Mode.{Mode}
-use Rattle.subcommands.specs.declared.words.Encode.{Encode}
+use Rattle.command_inputs.specs.declared.words.Encode.{Encode}
 use Rattle.log_commands.specs.Encoding.{written}
 use Rattle.log_commands.specs.Parts.{first_hart}
 

@@ -4,10 +4,10 @@ use Rattle.legalpath.specs.ProgramLog.{ProgramLog}
 use Rattle.measuring.specs.Table.{measures_table}
 use Rattle.message.specs.Version.{most_harts}
 use Rattle.message.specs.declared.header.Version.TheVariants.{Two}
-use Rattle.subcommands.specs.declared.words.Measure.{Measure}
+use Rattle.command_inputs.specs.declared.words.Measure.{Measure}
 use Rattle.command_inputs.specs.FurtherPieces.{base_number}
 use Rattle.command_inputs.specs.FoundLogs.{AreAskedLogsUpTo}
-use Rattle.files.specs.Known.{Content}
+use Rattle.log_streams.specs.Known.{Content}
 use Rattle.command_inputs.specs.Meaning.{writing_at_once}
 use Rattle.command_inputs.specs.Order.{logs_fault}
 use Rattle.command_inputs.specs.Printed.{First}

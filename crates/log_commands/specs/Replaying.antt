@@ -9,18 +9,18 @@ use Rattle.message.specs.Version.{most_harts}
 use Rattle.message.specs.declared.header.Version.TheVariants.{Two}
 use Rattle.message.specs.declared.message.Message.{Message}
 use Rattle.funnel.specs.declared.turn.Turn.{Turn}
-use Rattle.schedule.specs.Schedule.{schedule_of}
+use Rattle.funnel.specs.Schedule.{schedule_of}
 use Rattle.bench.specs.Got.{Got, HasGot, got_after, kept}
 use Rattle.bench.specs.Replayed.{replayed}
 use Rattle.bench.specs.Report.{is_whole, report_text}
 use Rattle.bench.specs.declared.stop.Stop.{Stop}
 use Rattle.bench.specs.declared.stop.Stop.TheVariants as stop
-use Rattle.subcommands.specs.declared.words.Replay.{Replay}
+use Rattle.command_inputs.specs.declared.words.Replay.{Replay}
 use Rattle.command_inputs.specs.FurtherPieces.{base_number}
 use Rattle.command_inputs.specs.Faults.{Path}
 use Rattle.command_inputs.specs.Found.{IsRead}
 use Rattle.command_inputs.specs.FoundLogs.{AreAskedLogs}
-use Rattle.files.specs.Known.{Content}
+use Rattle.log_streams.specs.Known.{Content}
 use Rattle.command_inputs.specs.Meaning.{writing_at_once}
 use Rattle.command_inputs.specs.Order.{logs_fault}
 use Rattle.command_inputs.specs.Printed.{First}

@@ -19,7 +19,7 @@ use crate::reason::{Fault, of_setup};
 use crate::reporting::end_with_report;
 use crate::rooms::rooms_of;
 use bench::{Config, Open, Outcome, run_in_rooms};
-use command_inputs::{Files, Status};
+use command_inputs::{Bench, Files, Status};
 use funnel::MOST_PORTS;
 use legalpath::LegalLog;
 use side_by_side::drop_side_by_side;
@@ -27,7 +27,6 @@ use std::alloc::Global;
 use std::io::Write;
 use std::sync::Wait;
 use std::thread::Threads;
-use subcommands::Bench;
 
 /// Sends each hart's log through the funnel from a thread of its own, once all logs are found legal, and writes the
 /// report of what is received of them. All is done where each log comes back complete. A stop is printed in the report,

@@ -19,16 +19,14 @@ ghost use Rattle.command_inputs.specs.declared.fault.Fault.TheVariants as Fault;
 use crate::counting::Counting;
 use crate::most::most_of;
 use crate::reason::Fault;
-use command_inputs::{Status, asked_program, begin_progress};
-use files::Files;
-use log_streams::{IllegalRow, MadeLogs, made_of_logs};
+use command_inputs::{Check, Status, asked_program, begin_progress};
+use log_streams::{Files, IllegalRow, MadeLogs, made_of_logs};
 use message::MOST_HARTS;
 use output::write_text;
 use rvclass::ProgramOver;
 use std::alloc::Global;
 use std::io::Write;
 use std::thread::Threads;
-use subcommands::Check;
 
 /// Writes a line for each log, which says whether it is legal, and below that of an illegal one, if it is asked for, a
 /// line that explains the first illegal row. Returns that all is done where all logs are legal, and else that the input
@@ -65,7 +63,7 @@ where
         asked.image,
         paths,
     )?;
-    let ended = check_all(alloc, rt, files, &program, asked, paths, out);
+    let ended = check_all(alloc, rt, files, &program, asked, out);
     out.flush()?;
     ended
 }
@@ -77,20 +75,20 @@ fn check_all<'a, F: Files + Sync, O: Write, R: Threads + Sync>(
     files: &F,
     program: &ProgramOver,
     asked: &Check<'a>,
-    paths: &[&'a str],
     out: &mut O,
 ) -> Result<Status, Fault<'a>>
 where
     F::Reader: Send,
     ensures printed { PrintsUnlessDenied
-        (WritesLines (most_of asked.now.long) (F.content files.now) asked.now.explain program.now paths.now) ⊤ result
+        (WritesLines (most_of asked.now.long) (F.content files.now) asked.now.explain program.now asked.now.logs.items) ⊤
+        result
         (O.contents out.old) (O.contents out.new) }
     ensures begun { result ≡ Err Fault.Memory → AppendsFirstLines (most_of asked.now.long) (F.content files.now)
-        asked.now.explain program.now paths.now (O.contents out.old) (O.contents out.new) }
-    ensures cut { BeginsPrinted
-        (WritesFirstLines (most_of asked.now.long) (F.content files.now) asked.now.explain program.now paths.now)
-        (O.contents out.old) (O.contents out.new) }
+        asked.now.explain program.now asked.now.logs.items (O.contents out.old) (O.contents out.new) }
+    ensures cut { BeginsPrinted (WritesFirstLines (most_of asked.now.long) (F.content files.now) asked.now.explain
+        program.now asked.now.logs.items) (O.contents out.old) (O.contents out.new) }
 {
+    let paths = asked.logs.as_slice();
     let most = most_of(asked.long);
     begin_progress(files, asked.progress, paths);
     let MadeLogs {

@@ -6,7 +6,7 @@ ghost use Rattle.legalpath.specs.ProgramLog.{program_log};
 ghost use Rattle.message.specs.Version.{most_harts};
 ghost use Rattle.output.specs.Begun.{AppendsBeginning};
 ghost use Rattle.rvclass.specs.Fetch.{words_of};
-ghost use Rattle.hart_encoding.specs.HasEncoded.{HasEncoded};
+ghost use Rattle.captures.specs.HasEncoded.{HasEncoded};
 ghost use Rattle.command_inputs.specs.FurtherPieces.{base_number};
 ghost use Rattle.command_inputs.specs.Begun.{IsCutOf};
 ghost use Rattle.command_inputs.specs.FoundLogs.{AreLegalLogsUpTo};
@@ -25,12 +25,10 @@ use crate::made::all_made;
 use crate::most::most_of;
 use crate::parts::{all_harts, first_hart, hart_at, limit_of};
 use crate::reason::Fault;
-use captures::{CaptureBytes, Form, HexLines, write_start};
-use command_inputs::{Status, asked_program, begin_progress};
-use files::Files;
-use hart_encoding::HartMessages;
+use captures::{CaptureBytes, Form, HartMessages, HexLines, write_start};
+use command_inputs::{Encode, Status, asked_program, begin_progress};
 use legalpath::PathFault;
-use log_streams::{IllegalRow, LogTask, made_of_logs};
+use log_streams::{Files, IllegalRow, LogTask, made_of_logs};
 use output::write_bytes;
 use payload::Mode;
 use retire::Event;
@@ -38,7 +36,6 @@ use rvclass::ProgramOver;
 use std::alloc::{AllocError, Global};
 use std::io::Write;
 use std::thread::Threads;
-use subcommands::Encode;
 
 /// Writes the messages of each hart's log, once all logs are legal: as a capture of the version that is asked for, or
 /// as lines of hexadecimal. The version limits the count of logs in both cases. A log may have 4,294,967,295 rows where

@@ -5,7 +5,7 @@ ghost use Rattle.legalpath.specs.ProgramLog.{ProgramLog};
 ghost use Rattle.command_inputs.specs.FurtherPieces.{base_number};
 ghost use Rattle.command_inputs.specs.Begun.{IsCutOf};
 ghost use Rattle.command_inputs.specs.FoundLogs.{AreAskedLogs};
-ghost use Rattle.files.specs.Known.{Content};
+ghost use Rattle.log_streams.specs.Known.{Content};
 ghost use Rattle.command_inputs.specs.Order.{logs_fault};
 ghost use Rattle.command_inputs.specs.Printed.{First, PrintsUnlessDenied};
 ghost use Rattle.log_commands.specs.Faults.{Once, Printed, final_status};

@@ -24,10 +24,9 @@ ghost use Rattle.command_inputs.specs.declared.fault.Fault.TheVariants as Fault;
 use crate::made::all_made;
 use crate::most::most_of;
 use crate::reason::Fault;
-use command_inputs::{Status, asked_program, begin_progress};
-use files::Files;
+use command_inputs::{Measure, Status, asked_program, begin_progress};
 use legalpath::PathFault;
-use log_streams::{IllegalRow, LogTask, made_of_logs};
+use log_streams::{Files, IllegalRow, LogTask, made_of_logs};
 use measuring::{LogMeasures, write_measures_of};
 use message::MOST_HARTS;
 use payload::Mode;
@@ -36,7 +35,6 @@ use rvclass::ProgramOver;
 use std::alloc::{AllocError, Global};
 use std::io::Write;
 use std::thread::Threads;
-use subcommands::Measure;
 
 /// Writes the table of what each hart's log costs, once all logs are found legal: how many packets of each kind it has
 /// at the period and in the mode, and how many bytes their payloads take. A log may have 4,294,967,295 rows where long

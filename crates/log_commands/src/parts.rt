@@ -5,8 +5,7 @@ ghost use Rattle.log_commands.specs.Parts.{all_harts, asked_part, first_hart, mo
 ghost use Rattle.log_commands.specs.steps.Parts.{limit_of};
 
 use crate::reason::{Fault, LogReason};
-use command_inputs::base_of;
-use subcommands::Encode;
+use command_inputs::{Encode, base_of};
 
 /// How many logs there may be. The error is that there is no part that is asked for, that a base is no number, or
 /// that the first hart is not one of all.

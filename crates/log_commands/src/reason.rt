@@ -6,7 +6,7 @@ ghost use Rattle.log_commands.specs.Faults.{log_reason_status, schedule_fault, u
 
 use bench::Setup;
 use command_inputs::{Reason, Status};
-use schedule::ScheduleFault;
+use funnel::ScheduleFault;
 use std::fmt;
 
 /// Why a subcommand that reads logs stops.

@@ -18,15 +18,13 @@ use crate::legal_logs::{AskedLogs, OnLogs, over_legal_logs};
 use crate::reason::{Fault, of_schedule, of_setup};
 use crate::reporting::end_with_report;
 use bench::{Config, Outcome};
-use command_inputs::{Files, Status, content_of};
-use funnel::Turn;
+use command_inputs::{Files, Replay, Status, content_of};
+use funnel::{Turn, read_schedule};
 use legalpath::LegalLog;
 use message::MOST_HARTS;
-use schedule::read_schedule;
 use std::alloc::Global;
 use std::io::Write;
 use std::thread::Threads;
-use subcommands::Replay;
 
 /// Sends each hart's log through the funnel as the schedule says, once all logs are found legal, and writes the report
 /// of what is received of them. All is done where each log comes back complete. A stop is printed in the report, and the status

@@ -10,8 +10,8 @@ use Rattle.retire.specs.declared.fault.LogFault.{LogFault}
 use Rattle.retire.specs.declared.fault.LogFault.TheVariants.{Read}
 use Rattle.retire.specs.declared.log_reader.LogReader.{LogReader}
 use Rattle.rvclass.specs.Image.{Image}
-use Rattle.files.specs.Gave.{First, Gave, IsGiven, Whole}
-use Rattle.files.specs.Known.{IsOpened, Known, MayHold, MayLack, Absent, Present, Unknown}
+use Rattle.log_streams.specs.Gave.{First, Gave, IsGiven, Whole}
+use Rattle.log_streams.specs.Known.{IsOpened, Known, MayHold, MayLack, Absent, Present, Unknown}
 use Rattle.log_streams.specs.Made.{IsMadeOf, IsMadeOfGiven, IsMadeOfRead}
 use Rattle.log_streams.specs.Read.{IsReadFrom, IsReadIn}
 use Rattle.log_streams.specs.steps.Confirmed.{IsConfirmedBy}

@@ -5,8 +5,8 @@ use Rattle.std.specs.Borrow.{Bor}
 use Rattle.retire.specs.declared.event.Event.{Event}
 use Rattle.retire.specs.declared.fault.LogFault.TheVariants.{Memory}
 use Rattle.rvclass.specs.Image.{Image}
-use Rattle.files.specs.Gave.{Gave}
-use Rattle.files.specs.Known.{Content}
+use Rattle.log_streams.specs.Gave.{Gave}
+use Rattle.log_streams.specs.Known.{Content}
 use Rattle.log_streams.specs.Made.{AreMade, AreMadeBy, AreMadeOfGiven, IsMadeOf, IsMadeOfGiven}
 use Rattle.log_streams.specs.declared.illegal_row.IllegalRow.{IllegalRow}
 use Rattle.log_streams.specs.declared.logs_fault.LogsFault.{LogsFault}

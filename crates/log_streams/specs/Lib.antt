@@ -4,3 +4,5 @@ pub mod Next
 pub mod Read
 pub mod Refusing
 pub mod steps
+pub mod Gave
+pub mod Known

@@ -7,8 +7,8 @@ use Rattle.retire.specs.declared.fault.LogFault.{LogFault}
 use Rattle.retire.specs.declared.fault.LogFault.TheVariants.{Memory, Read}
 use Rattle.rvclass.specs.Fetch.{words_of}
 use Rattle.rvclass.specs.Image.{Image}
-use Rattle.files.specs.Gave.{Gave}
-use Rattle.files.specs.Known.{Content, Known, MayLack}
+use Rattle.log_streams.specs.Gave.{Gave}
+use Rattle.log_streams.specs.Known.{Content, Known, MayLack}
 use Rattle.log_streams.specs.Illegal.{IsIllegalRow}
 use Rattle.legalpath.specs.LegalUpTo.{IsLegalUpTo}
 use Rattle.log_streams.specs.Read.{IsReadFrom, IsReadIn}

@@ -4,8 +4,8 @@ use Rattle.retire.specs.Log.{log_up_to, records_of}
 use Rattle.retire.specs.declared.event.Event.{Event}
 use Rattle.retire.specs.declared.fault.LogFault.{LogFault}
 use Rattle.retire.specs.declared.fault.LogFault.TheVariants.{Read}
-use Rattle.files.specs.Gave.{First, Gave, IsGiven, Whole}
-use Rattle.files.specs.Known.{Known, MayHold, MayLack}
+use Rattle.log_streams.specs.Gave.{First, Gave, IsGiven, Whole}
+use Rattle.log_streams.specs.Known.{Known, MayHold, MayLack}
 
 -- A log of at most so many rows, in a file of which this is known, has these events, or this fault.
 pub record IsReadIn (known : Known) (most : ℕ) (found : Result (List Event) LogFault) : Type 0 where

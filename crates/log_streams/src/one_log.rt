@@ -1,7 +1,7 @@
 //! The log at a path.
 
 ghost use Rattle.std.specs.Prelude.{◌≡◌, IfErr, None, true};
-ghost use Rattle.files.specs.Gave.{First, Gave, IsGiven, Whole};
+ghost use Rattle.log_streams.specs.Gave.{First, Gave, IsGiven, Whole};
 ghost use Rattle.log_streams.specs.Made.{IsMadeOf, IsMadeOfGiven};
 ghost use Rattle.log_streams.specs.Refusing.{MayStop};
 ghost use Rattle.log_streams.specs.steps.Confirmed.{IsConfirmedBy};
@@ -11,7 +11,7 @@ use crate::reading::made_of;
 use crate::stop::Stop;
 use crate::task::LogTask;
 use crate::watched::{Origin, Watched};
-use files::{FileFault, Files};
+use crate::{FileFault, Files};
 use retire::{Event, LogFault, LogReader, PieceBuffer, Source};
 use rvclass::ProgramOver;
 use std::alloc::Global;

@@ -1,6 +1,6 @@
 //! Which logs can be read beside others.
 
-use files::Files;
+use crate::Files;
 use std::alloc::{AllocError, Global};
 
 /// The places of logs, by what their files are.

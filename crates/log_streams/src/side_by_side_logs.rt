@@ -5,6 +5,7 @@ ghost use Rattle.log_streams.specs.Made.{AreMade, AreMadeOfGiven};
 ghost use Rattle.log_streams.specs.Refusing.{MayStop};
 ghost use Rattle.log_streams.specs.declared.stop.Stop.TheVariants as stop;
 
+use crate::Files;
 use crate::in_order::{by_place, take_made};
 use crate::logs_fault::LogsFault;
 use crate::made::MadeLogs;
@@ -13,7 +14,6 @@ use crate::stop::Stop;
 use crate::task::LogTask;
 use crate::work::Work;
 use crate::worker::entries_of;
-use files::Files;
 use retire::LogFault;
 use rvclass::ProgramOver;
 use side_by_side::processors;

@@ -1,10 +1,10 @@
 //! A file that a log is read from, and what it gave.
 
 ghost use Rattle.std.specs.Prelude.{⊤, ◌≡◌, None, true};
-ghost use Rattle.files.specs.Gave.{First, Gave, IsGiven, Whole};
+ghost use Rattle.log_streams.specs.Gave.{First, Gave, IsGiven, Whole};
 
 use crate::file_at::FileAt;
-use files::{FileFault, FileReader, Files};
+use crate::{FileFault, FileReader, Files};
 use retire::{Source, SourceFault};
 use std::marker::{Brand, PhantomData};
 

@@ -2,12 +2,12 @@
 
 ghost use Rattle.log_streams.specs.steps.Allowed.{AreEntries, MayBeMadeIn};
 
+use crate::Files;
 use crate::entry::Entry;
 use crate::one_log::made_of_file;
 use crate::places::Places;
 use crate::task::LogTask;
 use crate::worker::Worker;
-use files::Files;
 use rvclass::ProgramOver;
 use std::alloc::Global;
 use std::sync::atomic::{AtomicUsize, Ordering};

@@ -19,11 +19,10 @@ use crate::fault::LossyFault;
 use crate::hart_trace::HartTrace;
 use crate::part::HartPieces;
 use decoder::DecodeFault;
-use message::{Demux, Message};
+use message::{Demux, Message, Unwatched, Watch};
 use payload::{Mode, Packet};
 use rvclass::ProgramOver;
 use std::alloc::{AllocError, Allocator};
-use watching::{Unwatched, Watch};
 
 /// A new trace for each of so many harts: nothing is under way.
 fn new_traces<A: Allocator + Copy>(

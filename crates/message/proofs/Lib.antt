@@ -16,3 +16,5 @@ pub mod ReadBack
 pub mod SettingsRead
 pub mod StartsRead
 pub mod Writes
+pub mod Selecting
+mod Spelling

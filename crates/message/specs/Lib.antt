@@ -12,3 +12,5 @@ pub mod Accepted
 pub mod Lossy
 pub mod FaultText
 pub mod steps
+pub mod Range
+pub mod Text

@@ -5,6 +5,13 @@
 //! writes and [`read_start`] reads. [`Messages`] reads both from bytes in memory. [`Demux`] takes the messages of
 //! several harts. It accepts only those that come in each hart's order, or, where some may be lost, those with rising
 //! numbers. Only [`Demux::new`] takes memory.
+//!
+//! A [`HartRange`] says which harts of a capture are looked at, [`range_of`] reads it from a text as `0-3` or `5`, and
+//! [`HartRange::ALL`] is every hart. Messages of other harts are passed over: what is printed, counted and checked is
+//! what the messages of the harts in the range give, in their order.
+//!
+//! A call that goes over the messages of a capture takes a [`Watch`], and tells it after each message. [`Unwatched`] is
+//! for callers who do not want to know how far the messages are worked through.
 #![tactic(auto)]
 
 mod capacity;
@@ -14,8 +21,12 @@ mod hart;
 mod head;
 mod header;
 mod in_memory;
+mod laws;
 mod message;
+mod range;
+mod range_reading;
 mod reading;
+mod watch;
 mod writing;
 
 pub use capacity::MOST_CAPACITY;
@@ -25,6 +36,10 @@ pub use hart::Hart;
 pub use head::HEAD;
 pub use header::{HEADER_SIZE, Header, MOST_HARTS, Start, Version};
 pub use in_memory::Messages;
+pub use laws::all_harts_select_every_message;
 pub use message::Message;
+pub use range::HartRange;
+pub use range_reading::range_of;
 pub use reading::{read_message, read_start};
+pub use watch::{Unwatched, Watch};
 pub use writing::{write_header, write_message};

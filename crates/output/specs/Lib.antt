@@ -1,2 +1,5 @@
 pub mod Begun
 pub mod steps
+pub mod Fields
+pub mod Quoted
+pub mod ReadBack

@@ -1,8 +1,8 @@
 -- What `audit` prints, from what each of its steps found.
 use Rattle.std.proofs.Common.{◌≡◌, ◌⊎◌, ◌∙◌, inr, ℕ, List, Option, Result, Ok, Err, ap, refl, subst, sym}
 use Rattle.std.specs.Prelude.{⊤}
-use Rattle.hart_range.specs.declared.range.HartRange.{HartRange}
-use Rattle.subcommands.specs.declared.words.Audit.{Audit}
+use Rattle.message.specs.declared.range.HartRange.{HartRange}
+use Rattle.command_inputs.specs.declared.words.Audit.{Audit}
 use Rattle.auditing.specs.Sent.{IsSent, IsSentFault, harts_of}
 use Rattle.auditing.specs.declared.fault.SentFault.{SentFault}
 use Rattle.command_inputs.proofs.Beginnings.{cut_leads}
@@ -10,7 +10,7 @@ use Rattle.command_inputs.proofs.Runs.{ends_silently, leads_on}
 use Rattle.command_inputs.specs.Begun.{IsCutOf}
 use Rattle.command_inputs.specs.Finding.{After}
 use Rattle.command_inputs.specs.Found.{IsRead}
-use Rattle.files.specs.Known.{Content}
+use Rattle.log_streams.specs.Known.{Content}
 use Rattle.command_inputs.specs.Printed.{PrintsUnlessDenied, silent}
 use Rattle.path_commands.specs.Faults.{Fault, Printed, sent_fault}
 use Rattle.command_inputs.specs.declared.fault.Fault.TheVariants as fault

@@ -4,23 +4,23 @@ use Rattle.std.proofs.Common.{refl, sym, ap, subst, append-nil}
 use Rattle.std.proofs.lemmas.List.{map-append}
 use Rattle.std.proofs.lemmas.List.Sums.{sum_by-cons}
 use Rattle.std.specs.Prelude.{◌&&◌, cond, is_some, nat_lt, not}
-use Rattle.alike.specs.declared.by.By.{By}
+use Rattle.payload.specs.declared.by.By.{By}
 use Rattle.captures.proofs.HeaderFaults.{has_header, marked_by}
 use Rattle.captures.proofs.WholeCaptures.{HasRead, front_stops, never_both, whole_only}
 use Rattle.captures.specs.NoMessage.{BeginsNoHeader, BeginsNone}
 use Rattle.captures.specs.Whole.{BeginsWith, IsFront, IsWhole}
 use Rattle.captures.specs.declared.capture_reading.ReadFault.TheVariants as read
 use Rattle.captures.specs.steps.Reading.{AreReadUpTo}
-use Rattle.hart_range.specs.Range.{selected, selects}
-use Rattle.hart_range.specs.declared.range.HartRange.{HartRange}
+use Rattle.message.specs.Range.{selected, selects}
+use Rattle.message.specs.declared.range.HartRange.{HartRange}
 use Rattle.message.specs.Capture.{capture}
 use Rattle.message.specs.Cut.{HasBadLength, IsCut}
 use Rattle.message.specs.declared.fault.MessageFault.{MessageFault}
 use Rattle.message.specs.declared.fault.MessageFault.TheVariants as fault
 use Rattle.message.specs.declared.header.Header.{Header}
 use Rattle.message.specs.declared.message.Message.{Message}
-use Rattle.searching.specs.Start.{IsStart}
-use Rattle.unnumbered.specs.Split.{AreSplit}
+use Rattle.frames.specs.Start.{IsStart}
+use Rattle.path_match.specs.Split.{AreSplit}
 use Rattle.auditing.specs.Sent.{harts_of}
 use Rattle.path_commands.specs.Unnumbered.{strangers_among}
 use Rattle.path_commands.specs.declared.by_hart.ByHart.{ByHart}

@@ -1,17 +1,18 @@
 -- How RECEIVED reads, from how it begins.
-use Rattle.std.proofs.Common.{◌≡◌, ℕ, Bool, List, [], Option, drop, refl, ◌∙◌}
-use Rattle.alike.specs.declared.by.By.{By}
-use Rattle.hart_range.specs.declared.range.HartRange.{HartRange}
+use Rattle.std.proofs.Common.{◌≡◌, ℕ, List, Option, drop, refl, ◌∙◌}
+use Rattle.payload.specs.declared.by.By.{By}
+use Rattle.message.specs.declared.range.HartRange.{HartRange}
 use Rattle.message.specs.declared.fault.MessageFault.{MessageFault}
 use Rattle.message.specs.declared.header.Header.{Header}
 use Rattle.message.specs.declared.message.Message.{Message}
-use Rattle.resuming.specs.Counted.{messages_in}
-use Rattle.resuming.specs.Passages.{Left, spans_from, spans_left}
-use Rattle.searching.specs.Start.{IsStart, first_place}
+use Rattle.frames.specs.Counted.{messages_in}
+use Rattle.frames.specs.Passages.{Left, spans_from, spans_left}
+use Rattle.frames.specs.Start.{IsStart, first_place}
 use Rattle.auditing.specs.Known.{known_all}
 use Rattle.auditing.specs.Seen.{sight_of}
-use Rattle.path_commands.specs.AuditText.{span_lines}
-use Rattle.path_commands.specs.Audited.{Came, IsCame}
+use Rattle.path_commands.specs.Came.{Came, IsCame}
+use Rattle.path_commands.specs.Rows.{front_rows}
+use Rattle.path_commands.specs.declared.report.Report.{Report}
 use Rattle.path_commands.specs.steps.Noting.{noted_of}
 
 -- RECEIVED of these bytes, which begin with this header or with none.
@@ -33,11 +34,10 @@ module _ (own how : By) (sent : List Message) (bytes : List ℕ) (header : Optio
   pub spans_are : spans_left (sight_of own sent) left ≡ (came_of how sent bytes header fault).spans
   spans_are = left_is ∙ (λ i. spans_from (sight_of (by_is i) sent) (from_is i) (drop (from_is i) bytes))
 
-  -- The lines are those.
-  pub lines_are : (harts : HartRange) (summary : Bool)
-      → span_lines own harts summary sent [] (spans_left (sight_of own sent) left)
-      ≡ span_lines how harts summary sent [] (came_of how sent bytes header fault).spans
-  lines_are harts summary = λ i. span_lines (by_is i) harts summary sent [] (spans_are i)
+  -- The rows are those.
+  pub rows_are : (report : Report) → front_rows own report sent (spans_left (sight_of own sent) left)
+      ≡ front_rows how report sent (came_of how sent bytes header fault).spans
+  rows_are report = λ i. front_rows (by_is i) report sent (spans_are i)
 
   -- What is noted is of those.
   pub notes_are : (harts : HartRange)

@@ -1,10 +1,10 @@
 -- What `audit` prints, from the format and the harts that are asked for.
 use Rattle.std.proofs.Common.{◌≡◌, inr, refl, subst, sym, Bool, List, ℕ, Option, Some, None, Result, Ok, Err}
-use Rattle.files.specs.Known.{Content}
-use Rattle.hart_range.specs.declared.range.HartRange.{HartRange}
-use Rattle.subcommands.specs.declared.words.Audit.{Audit}
-use Rattle.subcommands.specs.declared.words.Format.{Format}
-use Rattle.subcommands.specs.declared.words.Format.TheVariants.{Csv, Other, Text}
+use Rattle.log_streams.specs.Known.{Content}
+use Rattle.message.specs.declared.range.HartRange.{HartRange}
+use Rattle.command_inputs.specs.declared.words.Audit.{Audit}
+use Rattle.command_inputs.specs.declared.words.Format.{Format}
+use Rattle.command_inputs.specs.declared.words.Format.TheVariants.{Csv, Other, Text}
 use Rattle.command_inputs.proofs.Beginnings.{cut_leads}
 use Rattle.command_inputs.proofs.Runs.{ends_silently, leads_on}
 use Rattle.command_inputs.specs.Begun.{IsCutOf}

@@ -4,9 +4,9 @@ use Rattle.std.proofs.Common.{ap, subst, ◌∙◌, arith}
 use Rattle.std.specs.Prelude.{◌&&◌, min}
 use Rattle.std.specs.Io.KnownBytes.{Appends}
 use Rattle.std.specs.List.{flat_map, list_all, range_with_len}
-use Rattle.hart_range.specs.declared.range.HartRange.{HartRange}
+use Rattle.message.specs.declared.range.HartRange.{HartRange}
 use Rattle.output.specs.Begun.{AppendsBeginning}
-use Rattle.tables.proofs.Parts.{HasWritten, part_all, part_begun, part_more}
+use Rattle.output.proofs.FieldParts.{HasWritten, part_all, part_begun, part_more}
 use Rattle.path_commands.specs.OnlyHarts.{harts_among}
 
 -- The next hart and those behind it.

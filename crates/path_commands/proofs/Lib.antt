@@ -9,9 +9,7 @@ pub mod MatchedRuns
 pub mod Notes
 pub mod PlainRows
 pub mod Rests
-pub mod SpanLines
+pub mod SpanRows
 pub mod Sums
-pub mod TableFronts
-pub mod TableRests
-pub mod TableRuns
-pub mod TableSpans
+mod CaptureRuns
+mod CaptureSteps

@@ -1,24 +1,20 @@
 -- What an audit prints of messages that carry no numbers, from what each of its steps found.
-use Rattle.std.proofs.Common.{◌≡◌, ◌⊎◌, inl, inr, ◌∙◌, ℕ, Bool, true, false, List, [], Option, Some, None, Result, Ok, Err}
-use Rattle.std.proofs.Common.{refl, sym, subst, length}
+use Rattle.std.proofs.Common.{◌≡◌, ◌⊎◌, inl, inr, ℕ, true, false, List, [], Option, Some, None, Result, Ok, Err}
+use Rattle.std.proofs.Common.{refl, sym, subst}
 use Rattle.std.proofs.KnownBytes.{Appends-nil}
-use Rattle.std.specs.Prelude.{⊤, ◌&&◌, ◌==◌, IfErr, IfOk, is_some, not}
+use Rattle.std.specs.Prelude.{⊤, IfErr, IfOk, is_some}
 use Rattle.output.specs.Begun.{AppendsBeginning}
-use Rattle.alignment.specs.Matches.{Flags}
-use Rattle.hart_range.specs.Range.{selected}
-use Rattle.hart_range.specs.declared.range.HartRange.{HartRange}
+use Rattle.path_match.specs.Matches.{Flags}
+use Rattle.message.specs.Range.{selected}
+use Rattle.message.specs.declared.range.HartRange.{HartRange}
 use Rattle.message.specs.declared.fault.MessageFault.{MessageFault}
 use Rattle.message.specs.declared.header.Header.{Header}
 use Rattle.message.specs.declared.message.Message.{Message}
 use Rattle.captures.specs.Whole.{IsFront}
-use Rattle.searching.specs.Start.{IsStart}
-use Rattle.subcommands.specs.declared.words.Audit.{Audit}
-use Rattle.subcommands.specs.declared.words.Format.{Format}
-use Rattle.subcommands.specs.declared.words.Format.TheVariants.{Csv, Other, Text}
+use Rattle.frames.specs.Start.{IsStart}
+use Rattle.command_inputs.specs.declared.words.Audit.{Audit}
 use Rattle.auditing.specs.Sent.{harts_of}
-use Rattle.unnumbered.specs.Aligned.{AreAligned}
-use Rattle.unnumbered.specs.Counted.{total_of}
-use Rattle.unnumbered.specs.declared.line.Line.{Line}
+use Rattle.path_match.specs.Aligned.{AreAligned}
 use Rattle.command_inputs.proofs.Runs.{prints}
 use Rattle.command_inputs.specs.Begun.{IsCutOf}
 use Rattle.command_inputs.specs.Printed.{PrintsUnlessDenied}
@@ -27,17 +23,15 @@ use Rattle.command_inputs.specs.Finding.{After}
 use Rattle.command_inputs.specs.Found.{IsRead}
 use Rattle.command_inputs.specs.declared.fault.Fault.TheVariants as fault
 use Rattle.command_inputs.specs.declared.status.Status.{Status}
-use Rattle.files.specs.Known.{Content}
+use Rattle.log_streams.specs.Known.{Content}
 use Rattle.path_commands.proofs.ByHartLemmas.{starts_well}
-use Rattle.path_commands.specs.AlignedRows.{aligned_table}
-use Rattle.path_commands.specs.Audited.{WritesAligned}
 use Rattle.path_commands.specs.Faults.{Fault}
-use Rattle.path_commands.specs.Sides.{IsFoundSent, Sent, by_packets, heads_differ}
-use Rattle.path_commands.specs.Unnumbered.{IsUnnumberedCame, UnnumberedCame, end_of_unnumbered}
-use Rattle.path_commands.specs.Unnumbered.{is_read_whole, is_whole_unnumbered, lines_of, strangers_among}
-use Rattle.path_commands.specs.UnnumberedText.{unnumbered_text}
+use Rattle.path_commands.specs.Rows.{report_of}
+use Rattle.path_commands.specs.Sides.{IsFoundSent, Sent, by_packets}
+use Rattle.path_commands.specs.Unnumbered.{IsUnnumberedCame, UnnumberedCame, WritesAligned, end_of_unnumbered}
+use Rattle.path_commands.specs.Unnumbered.{unnumbered_audit}
 use Rattle.path_commands.specs.declared.reason.PathReason.{PathReason}
-use Rattle.path_commands.specs.steps.Matching.{EndsUnnumbered, audit_in, report_in}
+use Rattle.path_commands.specs.steps.Matching.{EndsUnnumbered}
 
 module _ (bytes : List ℕ) (header : Option Header) where
   -- RECEIVED has no valid header.
@@ -77,37 +71,13 @@ err_in_words P Q leads (Err e) holds = leads e holds
 pub none_begun : (text : List ℕ) (old : Option (List ℕ)) → AppendsBeginning text old old
 none_begun text old = record { text = []; rest = text; parted = refl; appended = Appends-nil old }
 
-module _ (harts : HartRange) (summary : Bool) (header : Option Header) (came : UnnumberedCame) (all : List Flags)
-    (lines : List Line) (strangers : ℕ) (unlike read whole : Bool) (lines_is : lines ≡ lines_of harts came all)
-    (strangers_is : strangers ≡ strangers_among harts (length all) came.messages)
-    (unlike_is : unlike ≡ heads_differ header came.header came.fault)
-    (read_is : read ≡ is_read_whole came)
-    (is : whole ≡ ((total_of all).whole && (strangers == 0) && not unlike && read)) where
-  pub whole_is : whole ≡ is_whole_unnumbered harts header came all
-  whole_is = is ∙ (λ i. (total_of all).whole && (strangers_is i == 0) && not (unlike_is i) && read_is i)
-
-  -- The text is that of the definition.
-  pub text_is : (format : Format)
-      → report_in format harts summary all lines (length came.messages) strangers unlike whole
-      ≡ audit_in format harts summary header came all
-  text_is Csv = λ i.
-      aligned_table harts summary all (lines_is i) (length came.messages) (strangers_is i) (unlike_is i) (whole_is i)
-  text_is Text = λ i. unnumbered_text harts summary all (lines_is i) (strangers_is i) (unlike_is i) (whole_is i)
-  text_is Other = λ i. unnumbered_text harts summary all (lines_is i) (strangers_is i) (unlike_is i) (whole_is i)
-
 module _ (asked : Audit) (harts : HartRange) (sent : Sent) (bytes : List ℕ) (came : UnnumberedCame)
     (is_came : IsUnnumberedCame bytes came) (all : List Flags)
     (aligned : AreAligned (by_packets asked.packets) (harts_of sent.header sent.messages) (selected harts sent.messages)
     (selected harts came.messages) all)
   where
-    -- The text in a format, and how the run ends, are what is written in it.
-    writes : (format : Format) → WritesAligned format asked harts sent bytes (record {
-      text = audit_in format harts asked.summary sent.header came all;
-      ended = end_of_unnumbered asked.received harts sent.header came all;
-    })
-    writes Csv = record { came = came; is_came = is_came; all = all; aligned = aligned; text = refl; ended = refl }
-    writes Text = record { came = came; is_came = is_came; all = all; aligned = aligned; text = refl; ended = refl }
-    writes Other = record { came = came; is_came = is_came; all = all; aligned = aligned; text = refl; ended = refl }
+    abbrev text : List ℕ
+    text = unnumbered_audit (report_of asked.format asked harts) sent.header came all
 
     -- What was written, or the failure, is what is printed.
     pub matched_printed : (ended : Result Status Fault) (old new : Option (List ℕ))
@@ -121,25 +91,17 @@ module _ (asked : Audit) (harts : HartRange) (sent : Sent) (bytes : List ℕ) (c
         (inl (inr (refl, tt)))
     matched_printed ended old new (inr (inr rest)) =
         prints (WritesAligned asked.format asked harts sent bytes) ⊤ ended old new (record {
-          text = audit_in asked.format harts asked.summary sent.header came all;
-          prints =
-              subst (λ e. WritesAligned asked.format asked harts sent bytes (record {
-                text = audit_in asked.format harts asked.summary sent.header came all;
-                ended = e;
-              })) (sym rest.1) (writes asked.format);
+          text = text;
+          prints = record { came = came; is_came = is_came; all = all; aligned = aligned; text = refl; ended = rest.1 };
           appended = rest.0;
         })
 
     -- A beginning of it is a cut.
-    pub matched_cut : (old new : Option (List ℕ))
-        → AppendsBeginning (audit_in asked.format harts asked.summary sent.header came all) old new
+    pub matched_cut : (old new : Option (List ℕ)) → AppendsBeginning text old new
         → IsCutOf (WritesAligned asked.format asked harts sent bytes) old new
     matched_cut old new begun = inr (record {
-      printed = record {
-        text = audit_in asked.format harts asked.summary sent.header came all;
-        ended = end_of_unnumbered asked.received harts sent.header came all;
-      };
-      prints = writes asked.format;
+      printed = record { text = text; ended = end_of_unnumbered asked.received harts sent.header came all };
+      prints = record { came = came; is_came = is_came; all = all; aligned = aligned; text = refl; ended = refl };
       begun = begun;
     })
 

@@ -3,10 +3,10 @@ use Rattle.std.proofs.Common.{ℕ, List, [], Bool, true, false, Option, codes, r
 use Rattle.std.specs.Fmt.{decimal}
 use Rattle.auditing.specs.declared.finding.Finding.{Finding}
 use Rattle.auditing.specs.declared.finding.Finding.TheVariants as finding
-use Rattle.unnumbered.specs.declared.line.Line.{Line}
-use Rattle.unnumbered.specs.declared.line.Line.TheVariants as line
-use Rattle.tables.proofs.PlainFields.{IsPlain, bytes_plain, decimal_plain, number_plain, plain_read}
-use Rattle.tables.specs.ReadBack.{IsReadBack}
+use Rattle.path_match.specs.declared.line.Line.{Line}
+use Rattle.path_match.specs.declared.line.Line.TheVariants as line
+use Rattle.output.proofs.PlainFields.{IsPlain, bytes_plain, decimal_plain, number_plain, plain_read}
+use Rattle.output.specs.ReadBack.{IsReadBack}
 use Rattle.path_commands.specs.AlignedRows.{aligned_all_fields, aligned_fields, arrival_fields}
 use Rattle.path_commands.specs.AuditRows.{all_fields, by_field, bytes_fields, came_field, columns, fate_field}
 use Rattle.path_commands.specs.AuditRows.{hart_fields, headers_field, message_fields, result_fields, run_fields, sent_field}

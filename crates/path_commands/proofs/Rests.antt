@@ -1,121 +1,135 @@
--- What stands behind the lines of the messages, part by part.
-use Rattle.std.proofs.Common.{◌≡◌, ℕ, ◌++◌, Bool, List, Option, ap, length, subst, ◌∙◌}
+-- What is behind the rows of the messages, part by part.
+use Rattle.std.proofs.Common.{◌≡◌, ℕ, ◌++◌, Bool, List, Option, ap, length, refl, subst, ◌∙◌}
 use Rattle.std.specs.Prelude.{◌&&◌, ◌==◌, is_none, not}
 use Rattle.std.proofs.KnownBytes.{Appends-trans}
 use Rattle.std.specs.Io.KnownBytes.{Appends}
 use Rattle.output.specs.Begun.{AppendsBeginning}
 use Rattle.output.proofs.Beginnings.{begun_behind, begun_between, begun_in_front}
-use Rattle.alike.specs.declared.by.By.{By}
-use Rattle.hart_range.specs.declared.range.HartRange.{HartRange}
 use Rattle.message.specs.declared.message.Message.{Message}
-use Rattle.resuming.specs.Counted.{bytes_in, messages_in, runs_in}
+use Rattle.frames.specs.Counted.{messages_in}
 use Rattle.auditing.specs.Known.{known_all}
-use Rattle.auditing.specs.Sent.{harts_of}
-use Rattle.path_commands.specs.AuditText.{all_lost_lines, ending_text, row_lines, total_of, unless_summary}
-use Rattle.path_commands.specs.Audited.{Came, behind_findings, is_undamaged, is_whole_result}
-use Rattle.path_commands.specs.OnlyHarts.{first_of, harts_among, strangers_of}
+use Rattle.auditing.specs.Ledger.{Ledger}
+use Rattle.path_commands.specs.AuditText.{total_of, unless_summary}
+use Rattle.path_commands.specs.Came.{Came, is_undamaged, is_whole_result}
+use Rattle.path_commands.specs.OnlyHarts.{harts_among}
+use Rattle.path_commands.specs.Rows.{all_run_rows, ending_of, ending_row, hart_rows, rows_behind}
 use Rattle.path_commands.specs.Sides.{Sent, heads_differ}
-use Rattle.path_commands.specs.steps.Reading.{HasArrived}
+use Rattle.path_commands.specs.declared.ending.Ending.{Ending}
 use Rattle.path_commands.specs.declared.received.Arrived.{Arrived}
+use Rattle.path_commands.specs.declared.report.Report.{Report}
 use Rattle.path_commands.specs.declared.total.Total.{Total}
+use Rattle.path_commands.specs.steps.Ending.{HasArrived}
 
-module _ (how : By) (harts : HartRange) (summary : Bool) (sent : Sent) (came : Came) (count : ℕ)
-    (counted : count ≡ harts_of sent.header sent.messages) where
+-- What is counted, by how RECEIVED was read.
+abbrev pub counted : Arrived → ℕ → Total → Bool → Bool → Ending
+counted arrived harts total unlike whole = record {
+  harts = harts;
+  total = total;
+  messages = arrived.read.messages;
+  strangers = arrived.noted.strangers;
+  bytes = arrived.read.bytes;
+  runs = arrived.read.runs;
+  unlike = unlike;
+  first = arrived.noted.first;
+  whole = whole;
+}
+
+module _ (path : Ledger) (report : Report) (sent : List Message) (arrived : Arrived) (came : Came)
+    (has : HasArrived report.harts sent path arrived came) where
+  abbrev both : Sent
+  both = record { header = path.header; messages = sent }
+
   abbrev known : List Message
-  known = known_all how sent.messages
+  known = known_all path.by sent
 
   abbrev received : List Message
-  received = known_all how (messages_in came.spans)
+  received = known_all path.by (messages_in came.spans)
 
-  -- The harts, by the count of those of SENT.
-  abbrev among : ℕ → List ℕ
-  among c = harts_among harts c
+  abbrev its : Ending
+  its = ending_of path.by report.harts both came
+
+  -- The parts, by the count of the harts.
+  abbrev lost_of : ℕ → List ℕ
+  lost_of count =
+      unless_summary report.summary (all_run_rows report.format known received (harts_among report.harts count))
+
+  abbrev rows_of : ℕ → List ℕ
+  rows_of count = hart_rows report.format known received (harts_among report.harts count)
 
   abbrev lost : List ℕ
-  lost = unless_summary summary (all_lost_lines known received (among (harts_of sent.header sent.messages)))
+  lost = lost_of (length path.harts)
 
   abbrev rows : List ℕ
-  rows = row_lines known received (among (harts_of sent.header sent.messages))
+  rows = rows_of (length path.harts)
 
-  abbrev ending : List ℕ
-  ending =
-      ending_text (length (among (harts_of sent.header sent.messages))) (total_of known received (among
-      (harts_of sent.header sent.messages)))
-      (strangers_of harts known received) (bytes_in came.spans) (runs_in came.spans)
-      (heads_differ sent.header came.header came.fault) (first_of harts known received)
-      (is_whole_result how harts sent came)
+  -- They are those of the definition.
+  parts_are : (last : Ending) → last ≡ its
+      → lost ++ (rows ++ ending_row report.format last) ≡ rows_behind path.by report both came
+  parts_are last is = λ i.
+      lost_of (has.audits.count i) ++ (rows_of (has.audits.count i) ++ ending_row report.format (is i))
 
   -- A beginning of the first part.
-  pub begun_lost : (old new : Option (List ℕ))
-      → AppendsBeginning (unless_summary summary (all_lost_lines known received (among count))) old new
-      → AppendsBeginning (behind_findings how harts summary sent came) old new
+  pub begun_lost : (old new : Option (List ℕ)) → AppendsBeginning lost old new
+      → AppendsBeginning (rows_behind path.by report both came) old new
   begun_lost old new begun =
-      begun_in_front lost (rows ++ ending) old new
-      (subst (λ c. AppendsBeginning (unless_summary summary (all_lost_lines known received
-      (among c))) old new) counted begun)
+      subst (λ text. AppendsBeginning text old new) (parts_are its refl)
+      (begun_in_front lost (rows ++ ending_row report.format its) old new begun)
 
   -- Of the second.
-  pub begun_rows : (old mid new : Option (List ℕ))
-      → Appends old mid (unless_summary summary (all_lost_lines known received (among count)))
-      → AppendsBeginning (row_lines known received (among count)) mid new
-      → AppendsBeginning (behind_findings how harts summary sent came) old new
+  pub begun_rows : (old mid new : Option (List ℕ)) → Appends old mid lost → AppendsBeginning rows mid new
+      → AppendsBeginning (rows_behind path.by report both came) old new
   begun_rows old mid new first begun =
-      begun_between lost rows ending old mid new
-      (subst (λ c. Appends old mid (unless_summary summary (all_lost_lines known received (among c)))) counted first)
-      (subst (λ c. AppendsBeginning (row_lines known received (among c)) mid new) counted begun)
+      subst (λ text. AppendsBeginning text old new) (parts_are its refl)
+      (begun_between lost rows (ending_row report.format its) old mid new first begun)
 
-  module _ (arrived : Arrived) (has : HasArrived arrived came) (total : Total) (unlike undamaged whole : Bool)
-      (strangers : ℕ) (first_one : Option ℕ) (all_is : total ≡ total_of known received (among count))
-      (strangers_is : strangers ≡ strangers_of harts known received)
-      (unlike_is : unlike ≡ heads_differ sent.header arrived.header arrived.fault)
-      (undamaged_is : undamaged ≡ (is_none arrived.fault && (arrived.bytes == 0)))
-      (first_is : first_one ≡ first_of harts known received)
-      (is : whole ≡ (total.whole && (strangers == 0) && not unlike && undamaged)) where
-    total_is : total ≡ total_of known received (among (harts_of sent.header sent.messages))
-    total_is = all_is ∙ ap (λ c. total_of known received (among c)) counted
+  module _ (last : Ending) (is : last ≡ its) (old first second new : Option (List ℕ)) (one : Appends old first lost)
+      (two : Appends first second rows) where
+    -- Of the last.
+    pub begun_ending : AppendsBeginning (ending_row report.format last) second new
+        → AppendsBeginning (rows_behind path.by report both came) old new
+    begun_ending begun =
+        subst (λ text. AppendsBeginning text old new) (parts_are last is)
+        (begun_behind lost (rows ++ ending_row report.format last) old first new one
+        (begun_behind rows (ending_row report.format last) first second new two begun))
 
-    unlike_came : unlike ≡ heads_differ sent.header came.header came.fault
-    unlike_came = unlike_is ∙ (λ i. heads_differ sent.header (has.header i) (has.fault i))
+    -- All of it.
+    pub all_written : Appends second new (ending_row report.format last)
+        → Appends old new (rows_behind path.by report both came)
+    all_written three =
+        subst (Appends old new) (parts_are last is)
+        (Appends-trans old first new lost (rows ++ ending_row report.format last) one
+        (Appends-trans first second new rows (ending_row report.format last) two three))
+
+  module _ (harts : ℕ) (total : Total) (unlike undamaged whole : Bool)
+      (harts_is : harts ≡ length (harts_among report.harts (length path.harts)))
+      (total_is : total ≡ total_of known received (harts_among report.harts (length path.harts)))
+      (unlike_is : unlike ≡ heads_differ path.header arrived.header arrived.fault)
+      (undamaged_is : undamaged ≡ (is_none arrived.fault && (arrived.read.bytes == 0)))
+      (is : whole ≡ (total.whole && (arrived.noted.strangers == 0) && not unlike && undamaged)) where
+    all_is : total ≡ its.total
+    all_is = total_is ∙ ap (λ count. total_of known received (harts_among report.harts count)) has.audits.count
+
+    unlike_came : unlike ≡ its.unlike
+    unlike_came = unlike_is ∙ (λ i. heads_differ path.header (has.header i) (has.fault i))
 
     undamaged_came : undamaged ≡ is_undamaged came
     undamaged_came = undamaged_is ∙ (λ i. is_none (has.fault i) && (has.bytes i == 0))
 
     -- The result is whole, by what is counted.
-    pub whole_is : whole ≡ is_whole_result how harts sent came
-    whole_is = is ∙ (λ i. (total_is i).whole && (strangers_is i == 0) && not (unlike_came i) && undamaged_came i)
+    pub whole_is : whole ≡ is_whole_result path.by report.harts both came
+    whole_is =
+        is ∙ (λ i. (all_is i).whole && ((has.noted i).strangers == 0) && not (unlike_came i) && undamaged_came i)
 
-    -- The last part is that of the definition.
-    ending_is : ending_text (length (among count)) total strangers arrived.bytes arrived.runs unlike first_one whole ≡
-        ending
-    ending_is = λ i.
-        ending_text (length (among (counted i))) (total_is i) (strangers_is i) (has.bytes i) (has.runs i)
-        (unlike_came i) (first_is i)
-        (whole_is i)
-
-    -- A beginning of the last part.
-    pub begun_ending : (old first second new : Option (List ℕ))
-        → Appends old first (unless_summary summary (all_lost_lines known received (among count)))
-        → Appends first second (row_lines known received (among count))
-        → AppendsBeginning (ending_text (length (among count)) total strangers arrived.bytes arrived.runs unlike
-        first_one whole) second new
-        → AppendsBeginning (behind_findings how harts summary sent came) old new
-    begun_ending old first second new one two begun =
-        begun_behind lost (rows ++ ending) old first new
-        (subst (λ c. Appends old first (unless_summary summary (all_lost_lines known received (among c)))) counted one)
-        (begun_behind rows ending first second new
-        (subst (λ c. Appends first second (row_lines known received (among c))) counted two)
-        (subst (λ text. AppendsBeginning text second new) ending_is begun))
-
-    -- All of it.
-    pub all_written : (old first second new : Option (List ℕ))
-        → Appends old first (unless_summary summary (all_lost_lines known received (among count)))
-        → Appends first second (row_lines known received (among count))
-        → Appends second new (ending_text (length
-        (among count)) total strangers arrived.bytes arrived.runs unlike first_one whole)
-        → Appends old new (behind_findings how harts summary sent came)
-    all_written old first second new one two three =
-        Appends-trans old first new lost (rows ++ ending)
-        (subst (λ c. Appends old first (unless_summary summary (all_lost_lines known received (among c)))) counted one)
-        (Appends-trans first second new rows ending
-        (subst (λ c. Appends first second (row_lines known received (among c))) counted two)
-        (subst (Appends second new) ending_is three))
+    -- What is counted is what is found.
+    pub ending_is : counted arrived harts total unlike whole ≡ its
+    ending_is = λ i. record {
+      harts = (harts_is ∙ ap (λ count. length (harts_among report.harts count)) has.audits.count) i;
+      total = all_is i;
+      messages = has.messages i;
+      strangers = (has.noted i).strangers;
+      bytes = has.bytes i;
+      runs = has.runs i;
+      unlike = unlike_came i;
+      first = (has.noted i).first;
+      whole = whole_is i;
+    }

@@ -1,29 +1,19 @@
--- The text of an audit.
-use Rattle.std.specs.Prelude.{ℕ, ◌==◌, ◌||◌, ◌++◌, nat_lt, not, Bool, true, false, if◌then◌else◌, List, [], ◌∷◌}
-use Rattle.std.specs.Prelude.{Option, Some, None, codes, length}
+-- The lines of an audit as text.
+use Rattle.std.specs.Prelude.{ℕ, ◌==◌, ◌||◌, ◌++◌, nat_lt, not, Bool, true, false, if◌then◌else◌, List, [], Option}
+use Rattle.std.specs.Prelude.{Some, None, codes}
 use Rattle.std.specs.Fmt.{decimal}
-use Rattle.std.specs.List.{flat_map, list_all, sum_by}
-use Rattle.alike.specs.declared.by.By.{By}
-use Rattle.frames.specs.declared.span.Span.{Span}
-use Rattle.frames.specs.declared.span.Span.TheVariants.{Frame, Bytes}
-use Rattle.hart_range.specs.Range.{selects}
-use Rattle.hart_range.specs.declared.range.HartRange.{HartRange}
+use Rattle.std.specs.List.{list_all, sum_by}
 use Rattle.message.specs.declared.header.Header.{Header}
 use Rattle.message.specs.declared.message.Message.{Message}
 use Rattle.receiver.specs.Agreeing.{differ}
-use Rattle.captures.specs.Offsets.{bytes_line}
-use Rattle.resuming.specs.Counted.{messages_in}
-use Rattle.auditing.specs.Findings.{Found, finding_of, is_plain}
 use Rattle.auditing.specs.HartRows.{row_of}
-use Rattle.auditing.specs.Known.{known_all, known_one}
-use Rattle.auditing.specs.Losing.{lost_runs}
-use Rattle.auditing.specs.SentPayload.{payload_sent}
 use Rattle.auditing.specs.Tallies.{tally_of}
 use Rattle.auditing.specs.declared.finding.Finding.{Finding}
 use Rattle.auditing.specs.declared.finding.Finding.TheVariants as finding
 use Rattle.auditing.specs.declared.lost.Lost.{Lost}
 use Rattle.auditing.specs.declared.row.HartRow.{HartRow}
-use Rattle.tables.specs.Fields.{bytes_text}
+use Rattle.output.specs.Fields.{bytes_text}
+use Rattle.path_commands.specs.declared.ending.Ending.{Ending}
 use Rattle.path_commands.specs.declared.total.Total.{Total}
 
 -- The payload that was sent, none where there is no such message.
@@ -40,43 +30,17 @@ finding_text sent came finding.Repeat = codes "repeat"
 finding_text sent came (finding.Late by) = codes "late by " ++ decimal by
 finding_text sent came (finding.InOrder skips) = codes "skips " ++ decimal skips
 
--- The line of a message at a place of RECEIVED: its hart, its number and what is found of it.
-abbrev pub finding_line : List Message → ℕ → Found → List ℕ
-finding_line sent place one =
-    codes "message " ++ (decimal place ++ (codes ": hart " ++ (decimal one.message.hart ++ (codes " number "
-    ++ (decimal one.message.number ++ (codes ": "
-    ++ (finding_text (payload_sent sent one.message.hart one.message.number) one.message.payload one.finding
-    ++ codes "\n")))))))
-
--- A message that is in order and skips no number has no line, and in a summary none has.
-abbrev pub line_or_none : Bool → List Message → ℕ → Found → List ℕ
-line_or_none summary sent place one =
-    if summary || is_plain one.finding then [] else finding_line sent place one
+-- The line of a message at a place of RECEIVED, with this hart and this number, of which this was found. SENT has the
+-- first payload, and the second came.
+abbrev pub finding_line : ℕ → ℕ → ℕ → Finding → Option (List ℕ) → List ℕ → List ℕ
+finding_line place hart number its sent came =
+    codes "message " ++ (decimal place ++ (codes ": hart " ++ (decimal hart ++ (codes " number "
+    ++ (decimal number ++ (codes ": " ++ (finding_text sent came its ++ codes "\n")))))))
 
 -- Lines that a summary leaves out.
 abbrev pub unless_summary : Bool → List ℕ → List ℕ
 unless_summary true lines = []
 unless_summary false lines = lines
-
--- The line of a message after these, or of a run of bytes. A message is compared with those that were sent by what their
--- payloads are known by, and its place counts the messages before it, whatever their harts are. One that is not of the
--- harts that are asked for has no line.
-abbrev pub span_line : By → HartRange → Bool → List Message → List Message → Span → List ℕ
-span_line how harts summary sent before (Frame offset message) =
-    if selects harts message.hart then
-    line_or_none summary sent (length before) (record {
-      message = message;
-      finding = finding_of (known_all how sent) (known_all how before) (known_one how message);
-    })
-    else []
-span_line how harts summary sent before (Bytes offset count) = unless_summary summary (bytes_line offset count)
-
--- The lines of messages and of runs of bytes, after these messages.
-abbrev pub span_lines : By → HartRange → Bool → List Message → List Message → List Span → List ℕ
-span_lines how harts summary sent before [] = []
-span_lines how harts summary sent before (span ∷ more) =
-    span_line how harts summary sent before span
-    ++ span_lines how harts summary sent (before ++ messages_in (span ∷ [])) more
 
 -- The numbers of a run of numbers that were lost.
 abbrev pub numbers_text : Lost → List ℕ
@@ -87,10 +51,6 @@ numbers_text run =
 -- The line of a run of numbers of a hart that were lost.
 abbrev pub lost_line : ℕ → Lost → List ℕ
 lost_line hart run = codes "hart " ++ (decimal hart ++ (numbers_text run ++ codes " lost\n"))
-
--- The lines of the runs of a hart.
-abbrev pub lost_lines : ℕ → List Lost → List ℕ
-lost_lines hart runs = flat_map (lost_line hart) runs
 
 -- Whether a hart is whole.
 abbrev pub verdict_text : Bool → List ℕ
@@ -174,19 +134,12 @@ result_line whole = codes "result: " ++ (verdict_text whole ++ codes "\n")
 
 -- What follows the lines of the harts: all of them together, how many strangers came, how many bytes of no message,
 -- whether headers differ, the first message that is not in order or skips a number, and the result.
-abbrev pub ending_text : ℕ → Total → ℕ → ℕ → ℕ → Bool → Option ℕ → Bool → List ℕ
-ending_text harts total strangers bytes runs unlike first whole =
-    all_line harts total
-    ++ (strangers_line strangers
-    ++ (damage_line bytes runs ++ (headers_line unlike ++ (first_line first ++ result_line whole))))
-
--- The lines of the numbers of these harts that were lost.
-abbrev pub all_lost_lines : List Message → List Message → List ℕ → List ℕ
-all_lost_lines sent received harts = flat_map (λ hart. lost_lines hart (lost_runs sent received hart)) harts
-
--- The lines of these harts.
-abbrev pub row_lines : List Message → List Message → List ℕ → List ℕ
-row_lines sent received harts = flat_map (λ hart. row_text hart (row_of sent received hart)) harts
+abbrev pub ending_text : Ending → List ℕ
+ending_text ending =
+    all_line ending.harts ending.total
+    ++ (strangers_line ending.strangers
+    ++ (damage_line ending.bytes ending.runs
+    ++ (headers_line ending.unlike ++ (first_line ending.first ++ result_line ending.whole))))
 
 -- These harts are all whole.
 abbrev pub are_whole : List Message → List Message → List ℕ → Bool

@@ -1,14 +1,14 @@
 -- RECEIVED, read by what was sent, and whether an audit of it finds all whole.
 use Rattle.std.specs.Prelude.{◌≡◌, ℕ, ◌==◌, ◌&&◌, not, Bool, is_none, List, Option, drop}
-use Rattle.alike.specs.declared.by.By.{By}
+use Rattle.payload.specs.declared.by.By.{By}
 use Rattle.frames.specs.declared.span.Span.{Span}
-use Rattle.hart_range.specs.declared.range.HartRange.{HartRange}
+use Rattle.message.specs.declared.range.HartRange.{HartRange}
 use Rattle.message.specs.declared.fault.MessageFault.{MessageFault}
 use Rattle.message.specs.declared.header.Header.{Header}
 use Rattle.message.specs.declared.message.Message.{Message}
-use Rattle.resuming.specs.Counted.{bytes_in, messages_in}
-use Rattle.resuming.specs.Passages.{spans_from}
-use Rattle.searching.specs.Start.{IsStart, first_place}
+use Rattle.frames.specs.Counted.{bytes_in, messages_in}
+use Rattle.frames.specs.Passages.{spans_from}
+use Rattle.frames.specs.Start.{IsStart, first_place}
 use Rattle.auditing.specs.Known.{known_all}
 use Rattle.auditing.specs.Seen.{sight_of}
 use Rattle.auditing.specs.Sent.{harts_of}

@@ -5,11 +5,14 @@ pub mod Sides
 pub mod OnlyHarts
 pub mod Came
 pub mod AuditRows
-pub mod AuditTable
+pub mod Rows
 pub mod UnnumberedText
 pub mod Unnumbered
 pub mod AlignedRows
-pub mod AlignedTable
+pub mod MatchedRows
 pub mod ReadBack
 pub mod Audited
 pub mod steps
+pub mod LineFaults
+pub mod LineFaultText
+pub mod Capturing

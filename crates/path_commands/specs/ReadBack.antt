@@ -3,10 +3,10 @@ use Rattle.std.specs.Prelude.{ℕ, Bool, List, Option}
 use Rattle.auditing.specs.declared.finding.Finding.{Finding}
 use Rattle.auditing.specs.declared.lost.Lost.{Lost}
 use Rattle.auditing.specs.declared.row.HartRow.{HartRow}
-use Rattle.unnumbered.specs.declared.counting.AlignedTotal.{AlignedTotal}
-use Rattle.unnumbered.specs.declared.counting.HartCounts.{HartCounts}
-use Rattle.unnumbered.specs.declared.line.Line.{Line}
-use Rattle.tables.specs.ReadBack.{IsReadBack}
+use Rattle.path_match.specs.declared.counting.AlignedTotal.{AlignedTotal}
+use Rattle.path_match.specs.declared.counting.HartCounts.{HartCounts}
+use Rattle.path_match.specs.declared.line.Line.{Line}
+use Rattle.output.specs.ReadBack.{IsReadBack}
 use Rattle.path_commands.specs.AlignedRows.{aligned_all_fields, aligned_fields, arrival_fields}
 use Rattle.path_commands.specs.AuditRows as row
 use Rattle.path_commands.specs.declared.total.Total.{Total}

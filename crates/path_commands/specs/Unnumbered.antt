@@ -2,25 +2,31 @@
 use Rattle.std.specs.Prelude.{ℕ, ◌≡◌, ◌==◌, ◌&&◌, nat_lt, not, Bool, is_none, List, [], Option, Some, None, Result, Err}
 use Rattle.std.specs.Prelude.{length, map}
 use Rattle.std.specs.List.{count_by, filter}
-use Rattle.alignment.specs.Matches.{Flags}
-use Rattle.hart_range.specs.Range.{selected, selects}
-use Rattle.hart_range.specs.declared.range.HartRange.{HartRange}
+use Rattle.path_match.specs.Matches.{Flags}
+use Rattle.message.specs.Range.{selected, selects}
+use Rattle.message.specs.declared.range.HartRange.{HartRange}
 use Rattle.message.specs.declared.fault.MessageFault.{MessageFault}
 use Rattle.message.specs.declared.header.Header.{Header}
 use Rattle.message.specs.declared.message.Message.{Message}
 use Rattle.captures.specs.NoMessage.{BeginsNoHeader}
 use Rattle.captures.specs.Whole.{IsCutBehind, IsWhole}
-use Rattle.subcommands.specs.declared.words.Audit.{Audit}
+use Rattle.command_inputs.specs.declared.words.Audit.{Audit}
+use Rattle.command_inputs.specs.declared.words.Format.{Format}
 use Rattle.auditing.specs.Sent.{harts_of}
-use Rattle.unnumbered.specs.Aligned.{AreAligned}
-use Rattle.unnumbered.specs.Arrivals.{arrival_lines}
-use Rattle.unnumbered.specs.Counted.{total_of}
-use Rattle.unnumbered.specs.declared.line.Line.{Line}
+use Rattle.path_match.specs.Aligned.{AreAligned}
+use Rattle.path_match.specs.Arrivals.{arrival_lines}
+use Rattle.path_match.specs.Counted.{total_of}
+use Rattle.path_match.specs.declared.line.Line.{Line}
 use Rattle.command_inputs.specs.Faults.{Path}
 use Rattle.command_inputs.specs.declared.status.Status.{Status}
 use Rattle.path_commands.specs.Faults.{Fault, Printed, unread_fault}
+use Rattle.path_commands.specs.MatchedRows.{matched_report}
+use Rattle.path_commands.specs.OnlyHarts.{harts_among}
+use Rattle.path_commands.specs.Rows.{report_of}
 use Rattle.path_commands.specs.Sides.{Sent, by_packets, end_of_audit, heads_differ}
-use Rattle.path_commands.specs.UnnumberedText.{hart_of, unnumbered_text}
+use Rattle.path_commands.specs.UnnumberedText.{first_place_of, hart_of}
+use Rattle.path_commands.specs.declared.matched_rows.MatchedTotal.{MatchedTotal}
+use Rattle.path_commands.specs.declared.report.Report.{Report}
 
 -- RECEIVED, read by the lengths of its messages: its header, if it has a valid one; why it has none, where it begins as a
 -- capture of version 2; its messages up to the first place where there is no message; and why there is none, if reading
@@ -77,11 +83,22 @@ lines_of harts came all =
     filter (λ one. selects harts (hart_of one))
     (arrival_lines all (map (λ (message : Message). message.hart) came.messages))
 
--- The text of the audit of these harts, by SENT's header and the alignments.
-abbrev pub unnumbered_audit : HartRange → Bool → Option Header → UnnumberedCame → List Flags → List ℕ
-unnumbered_audit harts summary header came all =
-    unnumbered_text harts summary all (lines_of harts came all) (strangers_among harts (length all) came.messages)
-    (heads_differ header came.header came.fault) (is_whole_unnumbered harts header came all)
+-- What is found of all messages of these harts together, by SENT's header and the alignments.
+abbrev pub matched_total : HartRange → Option Header → UnnumberedCame → List Flags → MatchedTotal
+matched_total harts header came all = record {
+  harts = length (harts_among harts (length all));
+  total = total_of all;
+  messages = length came.messages;
+  strangers = strangers_among harts (length all) came.messages;
+  unlike = heads_differ header came.header came.fault;
+  first = first_place_of (lines_of harts came all);
+  whole = is_whole_unnumbered harts header came all;
+}
+
+-- The audit, by SENT's header and the alignments.
+abbrev pub unnumbered_audit : Report → Option Header → UnnumberedCame → List Flags → List ℕ
+unnumbered_audit report header came all =
+    matched_report report all (lines_of report.harts came all) (matched_total report.harts header came all)
 
 -- The end at the place where there is no message, after so many, if reading ends there; else at RECEIVED's header, where
 -- it is cut or not valid; else by whether the result is whole.
@@ -94,14 +111,15 @@ abbrev pub end_of_unnumbered : Path → HartRange → Option Header → Unnumber
 end_of_unnumbered received harts header came all =
     end_of_reading received came.stop (length came.messages) came.fault (is_whole_unnumbered harts header came all)
 
--- What became of the messages of these harts of SENT in these bytes of RECEIVED is written, by the payloads alone: the
--- messages of these harts are aligned, and the text and the end are those of the alignments. Of another hart none is.
-pub record WritesUnnumbered (asked : Audit) (harts : HartRange) (sent : Sent) (bytes : List ℕ) (printed : Printed)
-    : Type 0 where
+-- What became of the messages of these harts of SENT in these bytes of RECEIVED is written in this format, by the
+-- payloads alone: the messages of these harts are aligned, and the text and the end are those of the alignments. Of
+-- another hart none is.
+pub record WritesAligned (format : Format) (asked : Audit) (harts : HartRange) (sent : Sent) (bytes : List ℕ)
+    (printed : Printed) : Type 0 where
   pub came : UnnumberedCame
   pub is_came : IsUnnumberedCame bytes came
   pub all : List Flags
   pub aligned : AreAligned (by_packets asked.packets) (harts_of sent.header sent.messages)
       (selected harts sent.messages) (selected harts came.messages) all
-  pub text : printed.text ≡ unnumbered_audit harts asked.summary sent.header came all
+  pub text : printed.text ≡ unnumbered_audit (report_of format asked harts) sent.header came all
   pub ended : printed.ended ≡ end_of_unnumbered asked.received harts sent.header came all

@@ -1,22 +1,19 @@
--- The text of an audit of messages that carry no numbers.
-use Rattle.std.specs.Prelude.{ℕ, ◌+◌, ◌++◌, nat_lt, Bool, if◌then◌else◌, List, [], ◌∷◌, Option, Some, None, codes, length}
+-- The lines of an audit of messages that carry no numbers, as text.
+use Rattle.std.specs.Prelude.{ℕ, ◌+◌, ◌++◌, nat_lt, Bool, if◌then◌else◌, List, [], ◌∷◌, Option, Some, None, codes}
 use Rattle.std.specs.Fmt.{decimal}
-use Rattle.std.specs.List.{flat_map}
-use Rattle.alignment.specs.Matches.{Flags}
-use Rattle.hart_range.specs.Range.{selects}
-use Rattle.hart_range.specs.declared.range.HartRange.{HartRange}
-use Rattle.auditing.specs.HartRows.{longest_of}
+use Rattle.path_match.specs.Matches.{Flags}
+use Rattle.message.specs.Range.{selects}
+use Rattle.message.specs.declared.range.HartRange.{HartRange}
 use Rattle.auditing.specs.Losing.{runs_of}
 use Rattle.auditing.specs.Unset.{lost_in}
 use Rattle.auditing.specs.declared.lost.Lost.{Lost}
-use Rattle.unnumbered.specs.Counted.{counts_of, total_of}
-use Rattle.unnumbered.specs.declared.counting.AlignedTotal.{AlignedTotal}
-use Rattle.unnumbered.specs.declared.counting.HartCounts.{HartCounts}
-use Rattle.unnumbered.specs.declared.line.Line.{Line}
-use Rattle.unnumbered.specs.declared.line.Line.TheVariants as line
-use Rattle.path_commands.specs.AuditText.{first_line, headers_line, lost_lines, result_line, runs_line, strangers_line}
-use Rattle.path_commands.specs.AuditText.{unless_summary, verdict_text}
-use Rattle.path_commands.specs.OnlyHarts.{harts_among}
+use Rattle.path_match.specs.declared.counting.AlignedTotal.{AlignedTotal}
+use Rattle.path_match.specs.declared.counting.HartCounts.{HartCounts}
+use Rattle.path_match.specs.declared.line.Line.{Line}
+use Rattle.path_match.specs.declared.line.Line.TheVariants as line
+use Rattle.path_commands.specs.AuditText.{first_line, headers_line, result_line, runs_line, strangers_line}
+use Rattle.path_commands.specs.AuditText.{verdict_text}
+use Rattle.path_commands.specs.declared.matched_rows.MatchedTotal.{MatchedTotal}
 
 -- The line of a message of RECEIVED: its place, its hart and what is to be said of it.
 abbrev pub arrival_text : Line → List ℕ
@@ -41,10 +38,6 @@ of_selected harts text hart flags = if selects harts hart then text hart flags e
 abbrev pub unmatched_runs : Flags → List Lost
 unmatched_runs flags = runs_of (lost_in 0 flags.sent)
 
--- The lines of the numbers of a hart that are lost.
-abbrev pub unmatched_lines : ℕ → Flags → List ℕ
-unmatched_lines hart flags = lost_lines hart (unmatched_runs flags)
-
 -- How many messages were sent and came, how many are lost and extra, and whether all is whole.
 abbrev pub aligned_text : ℕ → ℕ → ℕ → ℕ → Bool → List ℕ
 aligned_text sent came lost extra whole =
@@ -57,11 +50,9 @@ aligned_row hart counts =
     codes "hart " ++ (decimal hart ++ (codes ": "
     ++ aligned_text counts.sent counts.came counts.lost counts.extra counts.whole))
 
--- The lines of a hart: its counts, and the runs of its lost numbers.
-abbrev pub aligned_lines : ℕ → Flags → List ℕ
-aligned_lines hart flags =
-    aligned_row hart (counts_of flags)
-    ++ runs_line hart (length (unmatched_runs flags)) (longest_of (unmatched_runs flags))
+-- The lines of a hart: its counts, and the runs of its lost numbers and the longest of them.
+abbrev pub aligned_lines : ℕ → HartCounts → ℕ → ℕ → List ℕ
+aligned_lines hart counts runs longest = aligned_row hart counts ++ runs_line hart runs longest
 
 -- The line of all harts together, where there is more than one.
 abbrev pub aligned_all : ℕ → AlignedTotal → List ℕ
@@ -89,21 +80,7 @@ first_place_of (one ∷ more) = Some (place_of one)
 
 -- What follows the lines of the harts: all of them together, how many strangers came, whether headers differ, the first
 -- message that is a stranger, is extra or skips a number, and the result.
-abbrev pub aligned_ending : ℕ → AlignedTotal → ℕ → Bool → Option ℕ → Bool → List ℕ
-aligned_ending harts total strangers unlike first whole =
-    aligned_all harts total
-    ++ (strangers_line strangers ++ (headers_line unlike ++ (first_line first ++ result_line whole)))
-
--- The lines of single messages and of the numbers that are lost.
-abbrev pub single_lines : List Flags → List Line → List ℕ
-single_lines all lines = flat_map arrival_text lines ++ texts_from unmatched_lines 0 all
-
--- The text of an audit of these harts, by the alignments of all harts, where no message of another hart is aligned, and
--- by what is to be said of the messages of RECEIVED. So many strangers came, headers differ or not, and the result is
--- whole or not. A summary has no lines of single messages and of numbers that are lost.
-abbrev pub unnumbered_text : HartRange → Bool → List Flags → List Line → ℕ → Bool → Bool → List ℕ
-unnumbered_text harts summary all lines strangers unlike whole =
-    unless_summary summary (single_lines all lines)
-    ++ (texts_from (of_selected harts aligned_lines) 0 all
-    ++ aligned_ending (length (harts_among harts (length all))) (total_of all) strangers unlike (first_place_of lines)
-    whole)
+abbrev pub aligned_ending : MatchedTotal → List ℕ
+aligned_ending its =
+    aligned_all its.harts its.total
+    ++ (strangers_line its.strangers ++ (headers_line its.unlike ++ (first_line its.first ++ result_line its.whole)))

@@ -3,4 +3,4 @@ pub mod Reading
 pub mod Noting
 pub mod Summing
 pub mod Matching
-pub mod Tabling
+pub mod Ready

@@ -1,18 +1,17 @@
 //! The messages of a capture by hart, read from its bytes. The messages themselves are not kept.
 
 ghost use Rattle.std.specs.Prelude.{ℕ, ◌≡◌, ◌++◌, [], ◌∷◌, IfOk, List, OnOk, length};
-ghost use Rattle.hart_range.specs.Range.{selected};
+ghost use Rattle.message.specs.Range.{selected};
 ghost use Rattle.message.specs.declared.message.Message.{Message as AnyMessage};
 ghost use Rattle.captures.specs.Whole.{IsFront};
 ghost use Rattle.captures.specs.steps.Reading.{AreReadUpTo};
-ghost use Rattle.unnumbered.specs.Split.{AreSplit};
+ghost use Rattle.path_match.specs.Split.{AreSplit};
 ghost use Rattle.path_commands.specs.steps.Matching.{IsByHart};
 
-use alike::By;
-use hart_range::HartRange;
-use message::{Header, Message, MessageFault, Messages};
+use message::{HartRange, Header, Message, MessageFault, Messages};
+use path_match::SentPayloads;
+use payload::By;
 use std::alloc::{AllocError, Global};
-use unnumbered::SentPayloads;
 
 /// Messages by hart.
 #[derive(Drop)]

@@ -12,11 +12,10 @@ ghost use Rattle.command_inputs.specs.declared.fault.Fault.TheVariants as Fault;
 use crate::comparing::audit_numbered;
 use crate::matching::audit_unnumbered;
 use crate::reason::Fault;
-use command_inputs::{Files, Status, check_format, harts_asked};
-use hart_range::HartRange;
+use command_inputs::{Audit as Asked, Files, Status, check_format, harts_asked};
+use message::HartRange;
 use std::alloc::Global;
 use std::io::Write;
-use subcommands::Audit as Asked;
 
 /// Writes what became of the messages of SENT in RECEIVED: a line for each message of RECEIVED that is not in order or
 /// skips a number and for each run of bytes of no message, one for each longest run of numbers of a hart that were

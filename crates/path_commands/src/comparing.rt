@@ -6,40 +6,36 @@ ghost use Rattle.output.specs.Begun.{AppendsBeginning};
 ghost use Rattle.message.specs.declared.message.Message.{Message as AnyMessage};
 ghost use Rattle.auditing.specs.Audits.{Audits as IsAudit};
 ghost use Rattle.auditing.specs.Known.{known_all};
-ghost use Rattle.resuming.specs.Counted.{messages_in};
 ghost use Rattle.command_inputs.specs.Begun.{IsCutOf};
 ghost use Rattle.command_inputs.specs.Printed.{PrintsUnlessDenied};
 ghost use Rattle.path_commands.specs.Faults.{final_status};
-ghost use Rattle.path_commands.specs.AuditText.{all_lost_lines, row_lines, total_of, unless_summary};
-ghost use Rattle.path_commands.specs.Audited.{AuditsBy, Came, CanAuditHarts, WritesAudit, WritesNumbered};
-ghost use Rattle.path_commands.specs.Audited.{behind_findings};
+ghost use Rattle.path_commands.specs.AuditText.{total_of, unless_summary};
+ghost use Rattle.path_commands.specs.Audited.{AuditsBy, CanAuditHarts, WritesNumbered};
+ghost use Rattle.path_commands.specs.Came.{Came};
 ghost use Rattle.path_commands.specs.OnlyHarts.{harts_among};
+ghost use Rattle.path_commands.specs.Rows.{all_run_rows, hart_rows, rows_behind};
 ghost use Rattle.path_commands.specs.Sides.{by_packets};
-ghost use Rattle.path_commands.specs.steps.Ending.{EndsRest};
-ghost use Rattle.path_commands.specs.steps.Noting.{noted_of};
-ghost use Rattle.path_commands.specs.steps.Reading.{HasArrived};
+ghost use Rattle.path_commands.specs.steps.Ending.{EndsRest, HasArrived};
 ghost use Rattle.command_inputs.specs.declared.fault.Fault.TheVariants as Fault;
 
 use crate::ending::Ending;
 use crate::hart_check::{check_hart, count_among, past_among};
-use crate::lines::RowText;
-use crate::lost_lines::write_lost;
+use crate::lost_rows::write_lost;
 use crate::noting::Noted;
 use crate::reason::{Fault, sent_fault};
 use crate::received::{Arrived, begin_spans, write_spans};
+use crate::report::Report;
+use crate::rows::{CountsRow, EndingRow};
 use crate::sides::{are_unlike, by_packets, ended, is_whole};
-use crate::tabling::write_table;
 use crate::total::Total;
 use auditing::Audit;
-use command_inputs::{Files, MessageProgress, Status, content_of};
-use hart_range::HartRange;
+use command_inputs::{Audit as Asked, Files, MessageProgress, Status, content_of};
+use frames::{Resuming, first_place, start_of};
+use message::HartRange;
 use output::write_text;
-use resuming::Resuming;
-use searching::{first_place, start_of};
 use std::alloc::Global;
 use std::io;
 use std::io::Write;
-use subcommands::{Audit as Asked, Format};
 
 /// As [`crate::audit`], by the numbers of the messages.
 pub(crate) fn audit_numbered<'a, F: Files, O: Write>(
@@ -67,11 +63,11 @@ pub(crate) fn audit_numbered<'a, F: Files, O: Write>(
     check_hart(asked, harts, path.harts())?;
     let received = content_of(files, asked.received)?;
     let progress = MessageProgress::new(&*files, asked.progress);
-    write_numbered(&progress, &mut path, asked, harts, received.as_slice(), out)
+    write_audit(&progress, &mut path, asked, harts, received.as_slice(), out)
 }
 
 /// Writes what became of the messages of SENT in these bytes of RECEIVED, in the format that is asked for.
-fn write_numbered<'a, F: Files, O: Write>(
+fn write_audit<'a, F: Files, O: Write>(
     progress: &MessageProgress<'_, F>,
     path: &mut Audit<'_>,
     asked: &Asked<'a>,
@@ -90,167 +86,131 @@ fn write_numbered<'a, F: Files, O: Write>(
         (record { header = path.old.header; messages = sent }) bytes.now)
         (O.contents out.old) (O.contents out.new) }
 {
-    match asked.format {
-        Format::Csv => write_table(progress, path, asked, harts, bytes, out),
-        Format::Text => write_audit(progress, path, asked, harts, bytes, out),
-        Format::Other => write_audit(progress, path, asked, harts, bytes, out),
-    }
-}
-
-/// Writes what became of the messages of SENT in these bytes of RECEIVED.
-fn write_audit<'a, F: Files, O: Write>(
-    progress: &MessageProgress<'_, F>,
-    path: &mut Audit<'_>,
-    asked: &Asked<'a>,
-    harts: HartRange,
-    bytes: &[u8],
-    out: &mut O,
-) -> Result<Status, Fault<'a>>
-    ensures ended { final_status result ≢ Status.Refused }
-    ensures memory { result ≢ Err Fault.Memory }
-    ensures printed { (sent : List AnyMessage) → IsAudit sent [] path.old → path.old.by ≡ by_packets asked.now.packets
-        → PrintsUnlessDenied (WritesAudit asked.now harts
-        (record { header = path.old.header; messages = sent }) bytes.now) ⊤ result
-        (O.contents out.old) (O.contents out.new) }
-    ensures cut { (sent : List AnyMessage) → IsAudit sent [] path.old → path.old.by ≡ by_packets asked.now.packets
-        → IsCutOf (WritesAudit asked.now harts (record { header = path.old.header; messages = sent }) bytes.now)
-        (O.contents out.old) (O.contents out.new) }
-{
+    let report = Report {
+        format: asked.format,
+        harts,
+        summary: asked.summary,
+    };
     let start = start_of(bytes);
     let from = first_place(start.header);
     begin_spans(progress, path, bytes, from);
     let mut noted = Noted::NONE;
-    let read = write_spans(
-        progress,
-        path,
-        &mut noted,
-        Resuming::new(bytes, from),
-        harts,
-        asked.summary,
-        out,
-    )?;
+    let spans = Resuming::new(bytes, from);
+    let read = write_spans(progress, path, &mut noted, spans, report, out)?;
     let arrived = Arrived {
         header: start.header,
         fault: start.fault,
-        bytes: read.bytes,
-        runs: read.runs,
-    };
-    write_rest(
-        path,
-        asked.received,
-        arrived,
+        read,
         noted,
-        harts,
-        asked.summary,
-        out,
-    )
+    };
+    write_rest(path, asked.received, arrived, report, out)
 }
 
-/// Writes what follows the lines of the messages, and returns how the run ends. RECEIVED, at this path, was read so,
-/// and this was noted of the messages of these harts.
+/// Writes what follows the rows of the messages, and returns how the run ends. RECEIVED, at this path, was read so.
 fn write_rest<'a, O: Write>(
     path: &Audit<'_>,
     received: &'a str,
     arrived: Arrived,
-    noted: Noted,
-    harts: HartRange,
-    summary: bool,
+    report: Report,
     out: &mut O,
 ) -> Result<Status, Fault<'a>>
     ensures ended { final_status result ≢ Status.Refused }
     ensures memory { result ≢ Err Fault.Memory }
-    ensures written { (sent : List AnyMessage) (came : Came) → IsAudit sent (messages_in came.spans) path.now
-        → length (messages_in came.spans) < 2 ^ 64 → HasArrived arrived came
-        → noted ≡ noted_of harts (known_all path.now.by sent) (known_all path.now.by (messages_in came.spans))
-        → EndsRest path.now.by harts received.entry summary
-        (record { header = path.now.header; messages = sent }) came result
+    ensures written { (sent : List AnyMessage) (came : Came) → HasArrived report.harts sent path.now arrived came
+        → EndsRest path.now.by report received.entry (record { header = path.now.header; messages = sent }) came result
         (O.contents out.old) (O.contents out.new) }
-    ensures begun { (sent : List AnyMessage) (came : Came) → IsAudit sent (messages_in came.spans) path.now
-        → length (messages_in came.spans) < 2 ^ 64 → HasArrived arrived came
-        → noted ≡ noted_of harts (known_all path.now.by sent) (known_all path.now.by (messages_in came.spans))
-        → AppendsBeginning (behind_findings path.now.by harts summary
-        (record { header = path.now.header; messages = sent }) came)
+    ensures begun { (sent : List AnyMessage) (came : Came) → HasArrived report.harts sent path.now arrived came
+        → AppendsBeginning (rows_behind path.now.by report (record { header = path.now.header; messages = sent }) came)
         (O.contents out.old) (O.contents out.new) }
 {
-    write_runs(path, harts, summary, out)?;
-    let total = write_rows(path, harts, out)?;
+    write_runs(path, report, out)?;
+    let total = write_rows(path, report, out)?;
     let unlike = are_unlike(path.header(), arrived.header, arrived.fault);
-    let whole = is_whole(total.whole, noted.strangers, unlike, arrived.is_undamaged());
-    let ending = Ending {
-        harts: count_among(harts, path.harts()),
-        total,
-        strangers: noted.strangers,
-        bytes: arrived.bytes,
-        runs: arrived.runs,
+    let whole = is_whole(
+        total.whole,
+        arrived.noted.strangers,
         unlike,
-        first: noted.first,
+        arrived.is_undamaged(),
+    );
+    let ending = Ending {
+        harts: count_among(report.harts, path.harts()),
+        total,
+        messages: arrived.read.messages,
+        strangers: arrived.noted.strangers,
+        bytes: arrived.read.bytes,
+        runs: arrived.read.runs,
+        unlike,
+        first: arrived.noted.first,
         whole,
     };
-    write_text(out, ending)?;
+    let row = EndingRow {
+        format: report.format,
+        ending,
+    };
+    write_text(out, row)?;
     out.flush()?;
     ended(received, arrived.fault, whole)
 }
 
-/// Writes the lines of the numbers of each of these harts that were lost, but none in a summary.
-fn write_runs<O: Write>(
-    path: &Audit<'_>,
-    harts: HartRange,
-    summary: bool,
-    out: &mut O,
-) -> io::Result<()>
+/// Writes the rows of the numbers of each hart that were lost, but none in a summary.
+fn write_runs<O: Write>(path: &Audit<'_>, report: Report, out: &mut O) -> io::Result<()>
     ensures text { (sent received : List AnyMessage) → IsAudit sent received path.now
         → OnOk result (Appends (O.contents out.old) (O.contents out.new)
-        (unless_summary summary (all_lost_lines (known_all path.now.by sent) (known_all path.now.by received)
-        (harts_among harts (length path.now.harts))))) }
+        (unless_summary report.summary (all_run_rows report.format (known_all path.now.by sent)
+        (known_all path.now.by received) (harts_among report.harts (length path.now.harts))))) }
     ensures begun { (sent received : List AnyMessage) → IsAudit sent received path.now
-        → AppendsBeginning (unless_summary summary (all_lost_lines (known_all path.now.by sent) (known_all path.now.by received)
-        (harts_among harts (length path.now.harts))))
+        → AppendsBeginning (unless_summary report.summary (all_run_rows report.format (known_all path.now.by sent)
+        (known_all path.now.by received) (harts_among report.harts (length path.now.harts))))
         (O.contents out.old) (O.contents out.new) }
 {
-    if summary {
+    if report.summary {
         return Ok(());
     }
-    write_losses(path, harts, out)
+    write_losses(path, report, out)
 }
 
-/// Writes the lines of the numbers of each of these harts that were lost.
-fn write_losses<O: Write>(path: &Audit<'_>, harts: HartRange, out: &mut O) -> io::Result<()>
+/// Writes the rows of the numbers of each hart that were lost.
+fn write_losses<O: Write>(path: &Audit<'_>, report: Report, out: &mut O) -> io::Result<()>
     ensures text { (sent received : List AnyMessage) → IsAudit sent received path.now
         → OnOk result (Appends (O.contents out.old) (O.contents out.new)
-        (all_lost_lines (known_all path.now.by sent) (known_all path.now.by received)
-        (harts_among harts (length path.now.harts)))) }
+        (all_run_rows report.format (known_all path.now.by sent) (known_all path.now.by received)
+        (harts_among report.harts (length path.now.harts)))) }
     ensures begun { (sent received : List AnyMessage) → IsAudit sent received path.now
-        → AppendsBeginning (all_lost_lines (known_all path.now.by sent) (known_all path.now.by received)
-        (harts_among harts (length path.now.harts)))
+        → AppendsBeginning (all_run_rows report.format (known_all path.now.by sent) (known_all path.now.by received)
+        (harts_among report.harts (length path.now.harts)))
         (O.contents out.old) (O.contents out.new) }
 {
-    let past = past_among(harts, path.harts());
-    for hart in usize::from(harts.first)..past {
-        write_lost(path.lost(hart), hart, out)?;
+    let past = past_among(report.harts, path.harts());
+    for hart in usize::from(report.harts.first)..past {
+        write_lost(report.format, path.lost(hart), hart, out)?;
     }
     Ok(())
 }
 
-/// Writes the lines of each of these harts, and returns what is found of all together.
-fn write_rows<O: Write>(path: &Audit<'_>, harts: HartRange, out: &mut O) -> io::Result<Total>
+/// Writes the rows of each hart, and returns what is found of all together.
+fn write_rows<O: Write>(path: &Audit<'_>, report: Report, out: &mut O) -> io::Result<Total>
     ensures total { (sent received : List AnyMessage) → IsAudit sent received path.now → length received < 2 ^ 64
         → IfOk result (λ total. total ≡ total_of (known_all path.now.by sent) (known_all path.now.by received)
-        (harts_among harts (length path.now.harts))) }
+        (harts_among report.harts (length path.now.harts))) }
     ensures text { (sent received : List AnyMessage) → IsAudit sent received path.now → length received < 2 ^ 64
         → OnOk result (Appends (O.contents out.old) (O.contents out.new)
-        (row_lines (known_all path.now.by sent) (known_all path.now.by received)
-        (harts_among harts (length path.now.harts)))) }
+        (hart_rows report.format (known_all path.now.by sent) (known_all path.now.by received)
+        (harts_among report.harts (length path.now.harts)))) }
     ensures begun { (sent received : List AnyMessage) → IsAudit sent received path.now → length received < 2 ^ 64
-        → AppendsBeginning (row_lines (known_all path.now.by sent) (known_all path.now.by received)
-        (harts_among harts (length path.now.harts)))
+        → AppendsBeginning (hart_rows report.format (known_all path.now.by sent) (known_all path.now.by received)
+        (harts_among report.harts (length path.now.harts)))
         (O.contents out.old) (O.contents out.new) }
 {
     let mut total = Total::new();
-    let past = past_among(harts, path.harts());
-    for hart in usize::from(harts.first)..past {
+    let past = past_among(report.harts, path.harts());
+    for hart in usize::from(report.harts.first)..past {
         let row = path.row(hart);
         total = total.add(row);
-        let text = RowText { hart, row };
+        let text = CountsRow {
+            format: report.format,
+            hart,
+            row,
+        };
         write_text(out, text)?;
     }
     Ok(total)

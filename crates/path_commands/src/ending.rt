@@ -7,13 +7,15 @@ ghost use Rattle.path_commands.specs.AuditText.{strangers_line, verdict_text};
 use crate::total::Total;
 use std::fmt;
 
-/// The last lines of an audit.
+/// What is found of all messages together.
 #[derive(Clone, Copy)]
 pub(crate) struct Ending {
     /// How many harts SENT has.
     pub(crate) harts: usize,
     /// What is found of all of them together.
     pub(crate) total: Total,
+    /// How many messages RECEIVED has.
+    pub(crate) messages: u64,
     /// How many strangers came.
     pub(crate) strangers: u64,
     /// How many bytes of RECEIVED are of no message.
@@ -28,26 +30,29 @@ pub(crate) struct Ending {
     pub(crate) whole: bool,
 }
 
-impl fmt::Display for Ending {
-    ghost output = { λ ending. Some (ending_text ending.harts ending.total ending.strangers ending.bytes ending.runs ending.unlike
-        ending.first ending.whole) };
+/// The last lines of an audit.
+#[derive(Clone, Copy)]
+pub(crate) struct EndingLines(pub(crate) Ending);
+
+impl fmt::Display for EndingLines {
+    ghost output = { λ lines. Some (ending_text lines.0) };
 
     fn fmt<W: fmt::Write>(&self, f: &mut fmt::Formatter<W>) -> fmt::Result {
         let all = AllLine {
-            harts: self.harts,
-            total: self.total,
+            harts: self.0.harts,
+            total: self.0.total,
         };
         let others = StrangersLine {
-            strangers: self.strangers,
+            strangers: self.0.strangers,
         };
         let damage = DamageLine {
-            bytes: self.bytes,
-            runs: self.runs,
+            bytes: self.0.bytes,
+            runs: self.0.runs,
         };
         let closing = Closing {
-            unlike: self.unlike,
-            first: self.first,
-            whole: self.whole,
+            unlike: self.0.unlike,
+            first: self.0.first,
+            whole: self.0.whole,
         };
         write!(f, "{all}{others}{damage}{closing}")
     }

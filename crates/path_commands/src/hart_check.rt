@@ -1,13 +1,13 @@
 //! Which harts of SENT are asked for.
 
 ghost use Rattle.std.specs.Prelude.{◌≡◌, ◌≢◌, ◌≤◌, ◌+◌, IfErr, length, min};
-ghost use Rattle.hart_range.specs.Range.{has_below, selects};
+ghost use Rattle.message.specs.Range.{has_below, selects};
 ghost use Rattle.path_commands.specs.OnlyHarts.{hart_at, harts_among};
 ghost use Rattle.command_inputs.specs.declared.fault.Fault.TheVariants as Fault;
 
 use crate::reason::{Fault, PathReason};
-use hart_range::HartRange;
-use subcommands::Audit as Asked;
+use command_inputs::Audit as Asked;
+use message::HartRange;
 
 /// Stops where SENT, which has so many harts, has none of those that are asked for.
 pub(crate) fn check_hart<'a>(

@@ -14,15 +14,13 @@ ghost use Rattle.command_inputs.specs.declared.fault.Fault.TheVariants as Fault;
 use crate::by_hart::{ByHart, read_by_hart};
 use crate::reason::{Fault, sent_fault};
 use crate::sides::by_packets;
-use alike::By;
 use auditing::Audit;
-use command_inputs::{Files, content_of};
-use hart_range::HartRange;
-use message::{Header, MessageFault};
-use searching::start_of;
+use command_inputs::{Audit as Asked, Files, content_of};
+use frames::start_of;
+use message::{HartRange, Header, MessageFault};
+use path_match::SentPayloads;
+use payload::By;
 use std::alloc::{AllocError, Global};
-use subcommands::Audit as Asked;
-use unnumbered::SentPayloads;
 
 /// What is kept of SENT.
 #[derive(Drop)]

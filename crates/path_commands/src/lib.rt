@@ -1,29 +1,34 @@
-//! The subcommand of `tracebench` that audits a path: [`audit`] writes what became of the messages of a capture.
+//! The subcommands of `tracebench` over messages alone, without a program: [`audit`] writes what became of the messages
+//! of a capture, and [`capture`] makes a capture of a user's own lines.
 #![tactic(auto)]
 
 mod aligned_rows;
-mod aligned_tabling;
 mod by_hart;
+mod capturing;
 mod choosing;
 mod comparing;
 mod ending;
 mod hart_check;
 mod keeping;
 mod laws;
+mod line_reason;
 mod lines;
-mod lost_lines;
+mod lost_rows;
 mod matched_lines;
 mod matched_report;
+mod matched_rows;
 mod matching;
 mod noting;
 mod reason;
 mod received;
+mod report;
+mod rows;
 mod sides;
 mod table_rows;
-mod table_spans;
-mod tabling;
 mod total;
 
+pub use capturing::capture;
 pub use choosing::audit;
 pub use laws::rows_are_read_back;
+pub use line_reason::LineReason;
 pub use reason::{Fault, PathReason};

@@ -1,13 +1,12 @@
-//! The lines of messages and of harts.
+//! What is in the lines of messages and of harts.
 
 ghost use Rattle.std.specs.Prelude.{◌≡◌, Some, option_map};
-ghost use Rattle.path_commands.specs.AuditText.{finding_text, late_line, lost_line};
-ghost use Rattle.path_commands.specs.AuditText.{numbers_text, row_counts, row_text, runs_line};
+ghost use Rattle.path_commands.specs.AuditText.{finding_text, late_line, row_counts, runs_line};
 
 use crate::ending::verdict_text;
-use auditing::{Finding, HartRow, Lost};
+use auditing::{Finding, HartRow};
+use output::Digits;
 use std::fmt;
-use tables::Digits;
 
 /// What is found of a message, where SENT has the first payload and the second came.
 #[derive(Clone, Copy)]
@@ -36,58 +35,10 @@ impl fmt::Display for FindingText<'_> {
     }
 }
 
-/// The line of a run of numbers of a hart that were lost.
-#[derive(Clone, Copy)]
-pub(crate) struct LostLine {
-    pub(crate) hart: usize,
-    pub(crate) run: Lost,
-}
-
-impl fmt::Display for LostLine {
-    ghost output = { λ line. Some (lost_line line.hart line.run) };
-
-    fn fmt<W: fmt::Write>(&self, f: &mut fmt::Formatter<W>) -> fmt::Result {
-        let hart = self.hart;
-        let first = self.run.first;
-        let last = self.run.last;
-        if first == last {
-            write!(f, "hart {hart}: number {first} lost\n")
-        } else {
-            write!(f, "hart {hart}: numbers {first} to {last} lost\n")
-        }
-    }
-}
-
-/// The lines of a hart.
-#[derive(Clone, Copy)]
-pub(crate) struct RowText {
-    pub(crate) hart: usize,
-    pub(crate) row: HartRow,
-}
-
-impl fmt::Display for RowText {
-    ghost output = { λ text. Some (row_text text.hart text.row) };
-
-    fn fmt<W: fmt::Write>(&self, f: &mut fmt::Formatter<W>) -> fmt::Result {
-        let hart = self.hart;
-        let counts = RowCounts { row: self.row };
-        let runs = RunsLine {
-            hart,
-            runs: self.row.runs,
-            longest: self.row.longest,
-        };
-        let late = LateLine {
-            hart,
-            latest: self.row.latest,
-        };
-        write!(f, "hart {hart}: {counts}{runs}{late}")
-    }
-}
-
 /// What the line of a hart says after the hart.
 #[derive(Clone, Copy)]
-struct RowCounts {
-    row: HartRow,
+pub(crate) struct RowCounts {
+    pub(crate) row: HartRow,
 }
 
 impl fmt::Display for RowCounts {
@@ -138,9 +89,9 @@ impl fmt::Display for RunsLine {
 
 /// The line of the most by which a message of a hart is late, where one is.
 #[derive(Clone, Copy)]
-struct LateLine {
-    hart: usize,
-    latest: u64,
+pub(crate) struct LateLine {
+    pub(crate) hart: usize,
+    pub(crate) latest: u64,
 }
 
 impl fmt::Display for LateLine {

@@ -1,13 +1,12 @@
 //! The lines of messages and of harts that carry no numbers.
 
 ghost use Rattle.std.specs.Prelude.{◌≡◌, Some};
-ghost use Rattle.path_commands.specs.AuditText.{runs_line};
 ghost use Rattle.path_commands.specs.UnnumberedText.{aligned_all, aligned_row, aligned_text, arrival_text};
 ghost use Rattle.path_commands.specs.UnnumberedText.{hart_of, place_of};
 
 use crate::ending::verdict_text;
+use path_match::{AlignedTotal, HartCounts, Line};
 use std::fmt;
-use unnumbered::{AlignedTotal, HartCounts, Line};
 
 /// The line of a message.
 #[derive(Clone, Copy)]

@@ -1,75 +1,66 @@
-//! The report on messages that carry no numbers, written line by line.
+//! The report on messages that carry no numbers, written row by row.
 
-ghost use Rattle.std.specs.Prelude.{◌≡◌, ◌++◌, OnOk, Some};
+ghost use Rattle.std.specs.Prelude.{◌≡◌, OnOk};
 ghost use Rattle.std.specs.Io.KnownBytes.{Appends};
 ghost use Rattle.std.specs.List.{flat_map};
 ghost use Rattle.output.specs.Begun.{AppendsBeginning};
-ghost use Rattle.path_commands.specs.AuditText.{runs_line, unless_summary};
-ghost use Rattle.path_commands.specs.UnnumberedText.{aligned_ending, aligned_lines, aligned_row, arrival_text};
-ghost use Rattle.path_commands.specs.UnnumberedText.{first_place_of, of_selected, single_lines, texts_from};
-ghost use Rattle.path_commands.specs.UnnumberedText.{unmatched_lines, unnumbered_text};
+ghost use Rattle.path_commands.specs.AuditText.{unless_summary};
+ghost use Rattle.path_commands.specs.MatchedRows.{arrival_row, counts_row, matched_report, matched_rows, own_row};
+ghost use Rattle.path_commands.specs.MatchedRows.{single_rows, unmatched_rows};
+ghost use Rattle.path_commands.specs.UnnumberedText.{first_place_of, of_selected, texts_from};
 
-use crate::ending::{Closing, StrangersLine};
-use crate::hart_check::{count_among, is_among};
-use crate::lines::RunsLine;
-use crate::lost_lines::write_lost;
-use crate::matched_lines::{AlignedAll, AlignedRow, ArrivalText, place_of};
-use alignment::Alignment;
+use crate::hart_check::is_among;
+use crate::lost_rows::write_lost;
+use crate::matched_lines::place_of;
+use crate::matched_rows::{ArrivalRow, MatchedRow, MatchedTotal, TotalRow};
+use crate::report::Report;
+use crate::rows::FrontRow;
 use auditing::{LostRuns, run_lengths};
-use hart_range::HartRange;
+use command_inputs::Format;
 use output::write_text;
+use path_match::{Alignment, Line, counts_of};
+use std::io;
 use std::io::Write;
-use std::{fmt, io};
-use unnumbered::{Line, counts_of, total_of};
 
-/// What is found of the messages of RECEIVED.
-#[derive(Clone, Copy)]
-pub(crate) struct Matched<'m> {
-    /// The harts that are asked for.
-    pub(crate) harts: HartRange,
-    /// The alignments of the harts of SENT.
-    pub(crate) all: &'m [Alignment],
-    /// What is to be said of the messages of RECEIVED.
-    pub(crate) lines: &'m [Line],
-    /// How many strangers came.
-    pub(crate) strangers: u64,
-    /// Whether headers differ.
-    pub(crate) unlike: bool,
-    /// Whether the result is whole.
-    pub(crate) whole: bool,
-}
-
-/// Writes all lines of the report.
+/// Writes the report, by the alignments of the harts of SENT, by what is to be said of messages of RECEIVED, and by
+/// what is found of all together.
 pub(crate) fn write_report<O: Write>(
-    found: Matched<'_>,
-    summary: bool,
+    report: Report,
+    all: &[Alignment],
+    lines: &[Line],
+    its: MatchedTotal,
     out: &mut O,
 ) -> io::Result<()>
     ensures text { OnOk result (Appends (O.contents out.old) (O.contents out.new)
-        (unnumbered_text found.entry.harts summary found.entry.all.now found.entry.lines.now found.entry.strangers
-        found.entry.unlike
-        found.entry.whole)) }
-    ensures begun { AppendsBeginning
-        (unnumbered_text found.entry.harts summary found.entry.all.now found.entry.lines.now found.entry.strangers
-        found.entry.unlike
-        found.entry.whole)
+        (matched_report report all.now lines.now its)) }
+    ensures begun { AppendsBeginning (matched_report report all.now lines.now its)
         (O.contents out.old) (O.contents out.new) }
 {
-    write_singles(found.all, found.lines, summary, out)?;
-    write_aligned(found.harts, found.all, out)?;
-    let ending = AlignedEnding {
-        all: AlignedAll {
-            harts: count_among(found.harts, found.all.len()),
-            total: total_of(found.all),
-        },
-        strangers: found.strangers,
-        closing: Closing {
-            unlike: found.unlike,
-            first: first_of(found.lines),
-            whole: found.whole,
-        },
+    let front = FrontRow(report.format);
+    write_text(out, front)?;
+    write_matched_rows(report, all, lines, its, out)
+}
+
+/// Writes the rows of the report.
+fn write_matched_rows<O: Write>(
+    report: Report,
+    all: &[Alignment],
+    lines: &[Line],
+    its: MatchedTotal,
+    out: &mut O,
+) -> io::Result<()>
+    ensures text { OnOk result (Appends (O.contents out.old) (O.contents out.new)
+        (matched_rows report all.now lines.now its)) }
+    ensures begun { AppendsBeginning (matched_rows report all.now lines.now its)
+        (O.contents out.old) (O.contents out.new) }
+{
+    write_singles(report, all, lines, out)?;
+    write_aligned(report, all, out)?;
+    let row = TotalRow {
+        format: report.format,
+        its,
     };
-    write_text(out, ending)?;
+    write_text(out, row)?;
     out.flush()?;
     Ok(())
 }
@@ -84,142 +75,102 @@ pub(crate) fn first_of(lines: &[Line]) -> Option<u64>
     }
 }
 
-/// The last lines of the report.
-#[derive(Clone, Copy)]
-struct AlignedEnding {
-    all: AlignedAll,
-    strangers: u64,
-    closing: Closing,
-}
-
-impl fmt::Display for AlignedEnding {
-    ghost output = { λ ending. Some (aligned_ending ending.all.harts ending.all.total ending.strangers
-        ending.closing.unlike ending.closing.first ending.closing.whole) };
-
-    fn fmt<W: fmt::Write>(&self, f: &mut fmt::Formatter<W>) -> fmt::Result {
-        let all = self.all;
-        let others = StrangersLine {
-            strangers: self.strangers,
-        };
-        let closing = self.closing;
-        write!(f, "{all}{others}{closing}")
-    }
-}
-
-/// Writes the lines of single messages and of the numbers that are lost, but none in a summary.
+/// Writes the rows of single messages and of the numbers that are lost, but none in a summary.
 fn write_singles<O: Write>(
+    report: Report,
     all: &[Alignment],
     lines: &[Line],
-    summary: bool,
     out: &mut O,
 ) -> io::Result<()>
     ensures text { OnOk result (Appends (O.contents out.old) (O.contents out.new)
-        (unless_summary summary (single_lines all.now lines.now))) }
-    ensures begun { AppendsBeginning (unless_summary summary (single_lines all.now lines.now))
+        (unless_summary report.summary (single_rows report.format all.now lines.now))) }
+    ensures begun { AppendsBeginning (unless_summary report.summary (single_rows report.format all.now lines.now))
         (O.contents out.old) (O.contents out.new) }
 {
-    if summary {
+    if report.summary {
         return Ok(());
     }
-    write_arrivals(lines, out)?;
-    write_unmatched(all, out)
+    write_arrivals(report.format, lines, out)?;
+    write_unmatched(report.format, all, out)
 }
 
-/// Writes the lines of single messages.
-fn write_arrivals<O: Write>(lines: &[Line], out: &mut O) -> io::Result<()>
-    ensures text { OnOk result (Appends (O.contents out.old) (O.contents out.new) (flat_map arrival_text lines.now)) }
-    ensures begun { AppendsBeginning (flat_map arrival_text lines.now) (O.contents out.old) (O.contents out.new) }
+/// Writes the rows of single messages.
+fn write_arrivals<O: Write>(format: Format, lines: &[Line], out: &mut O) -> io::Result<()>
+    ensures text { OnOk result (Appends (O.contents out.old) (O.contents out.new)
+        (flat_map (arrival_row format) lines.now)) }
+    ensures begun { AppendsBeginning (flat_map (arrival_row format) lines.now)
+        (O.contents out.old) (O.contents out.new) }
 {
     for line in lines {
-        write_arrival(line, out)?;
+        write_arrival(format, line, out)?;
     }
     Ok(())
 }
 
-/// Writes the line of a message.
-fn write_arrival<O: Write>(line: &Line, out: &mut O) -> io::Result<()>
-    ensures text { OnOk result (Appends (O.contents out.old) (O.contents out.new) (arrival_text line.now)) }
-    ensures begun { AppendsBeginning (arrival_text line.now) (O.contents out.old) (O.contents out.new) }
+/// Writes the row of a message.
+fn write_arrival<O: Write>(format: Format, line: &Line, out: &mut O) -> io::Result<()>
+    ensures text { OnOk result (Appends (O.contents out.old) (O.contents out.new) (arrival_row format line.now)) }
+    ensures begun { AppendsBeginning (arrival_row format line.now) (O.contents out.old) (O.contents out.new) }
 {
-    write_text(out, ArrivalText(*line))
+    write_text(
+        out,
+        ArrivalRow {
+            format,
+            line: *line,
+        },
+    )
 }
 
-/// Writes the lines of the numbers of each hart that are lost.
-fn write_unmatched<O: Write>(all: &[Alignment], out: &mut O) -> io::Result<()>
+/// Writes the rows of the numbers of each hart that are lost.
+fn write_unmatched<O: Write>(format: Format, all: &[Alignment], out: &mut O) -> io::Result<()>
     ensures text { OnOk result (Appends (O.contents out.old) (O.contents out.new)
-        (texts_from unmatched_lines 0 all.now)) }
-    ensures begun { AppendsBeginning (texts_from unmatched_lines 0 all.now) (O.contents out.old) (O.contents out.new) }
-{
-    for hart in 0..all.len() {
-        write_lost(LostRuns::new(all[hart].sent()), hart, out)?;
-    }
-    Ok(())
-}
-
-/// Writes the lines of each of these harts.
-fn write_aligned<O: Write>(harts: HartRange, all: &[Alignment], out: &mut O) -> io::Result<()>
-    ensures text { OnOk result (Appends (O.contents out.old) (O.contents out.new)
-        (texts_from (of_selected harts aligned_lines) 0 all.now)) }
-    ensures begun { AppendsBeginning (texts_from (of_selected harts aligned_lines) 0 all.now) (O.contents out.old)
-        (O.contents out.new) }
-{
-    for hart in 0..all.len() {
-        write_hart(harts, hart, &all[hart], out)?;
-    }
-    Ok(())
-}
-
-/// Writes the lines of a hart with this alignment, if it is one of these.
-fn write_hart<O: Write>(
-    harts: HartRange,
-    hart: usize,
-    own: &Alignment,
-    out: &mut O,
-) -> io::Result<()>
-    ensures text { OnOk result (Appends (O.contents out.old) (O.contents out.new)
-        (of_selected harts aligned_lines hart own.now)) }
-    ensures begun { AppendsBeginning (of_selected harts aligned_lines hart own.now)
+        (texts_from (unmatched_rows format) 0 all.now)) }
+    ensures begun { AppendsBeginning (texts_from (unmatched_rows format) 0 all.now)
         (O.contents out.old) (O.contents out.new) }
 {
-    if !is_among(harts, hart) {
+    for hart in 0..all.len() {
+        write_lost(format, LostRuns::new(all[hart].sent()), hart, out)?;
+    }
+    Ok(())
+}
+
+/// Writes the rows of each hart that is asked for.
+fn write_aligned<O: Write>(report: Report, all: &[Alignment], out: &mut O) -> io::Result<()>
+    ensures text { OnOk result (Appends (O.contents out.old) (O.contents out.new)
+        (texts_from (of_selected report.harts (own_row report.format)) 0 all.now)) }
+    ensures begun { AppendsBeginning (texts_from (of_selected report.harts (own_row report.format)) 0 all.now)
+        (O.contents out.old) (O.contents out.new) }
+{
+    for hart in 0..all.len() {
+        write_hart(report, hart, &all[hart], out)?;
+    }
+    Ok(())
+}
+
+/// Writes the rows of a hart with this alignment, if it is asked for.
+fn write_hart<O: Write>(report: Report, hart: usize, own: &Alignment, out: &mut O) -> io::Result<()>
+    ensures text { OnOk result (Appends (O.contents out.old) (O.contents out.new)
+        (of_selected report.harts (own_row report.format) hart own.now)) }
+    ensures begun { AppendsBeginning (of_selected report.harts (own_row report.format) hart own.now)
+        (O.contents out.old) (O.contents out.new) }
+{
+    if !is_among(report.harts, hart) {
         return Ok(());
     }
-    write_text(out, aligned_text_of(hart, own))
+    write_text(out, matched_row_of(report.format, hart, own))
 }
 
-/// The lines of a hart.
-#[derive(Clone, Copy)]
-struct AlignedText {
-    row: AlignedRow,
-    runs: RunsLine,
-}
-
-impl fmt::Display for AlignedText {
-    ghost output = { λ text. Some (aligned_row text.row.hart text.row.counts
-        ++ runs_line text.runs.hart text.runs.runs text.runs.longest) };
-
-    fn fmt<W: fmt::Write>(&self, f: &mut fmt::Formatter<W>) -> fmt::Result {
-        let row = self.row;
-        let runs = self.runs;
-        write!(f, "{row}{runs}")
-    }
-}
-
-/// The lines of a hart with this alignment.
-fn aligned_text_of(hart: usize, own: &Alignment) -> AlignedText
-    ensures { aligned_row result.row.hart result.row.counts
-        ++ runs_line result.runs.hart result.runs.runs result.runs.longest ≡ aligned_lines hart own.now }
+/// The row of a hart with this alignment.
+fn matched_row_of(format: Format, hart: usize, own: &Alignment) -> MatchedRow
+    ensures { counts_row result.format result.hart result.counts result.runs result.longest
+        ≡ own_row format hart own.now }
 {
     let lengths = run_lengths(own.sent());
-    AlignedText {
-        row: AlignedRow {
-            hart,
-            counts: counts_of(own),
-        },
-        runs: RunsLine {
-            hart,
-            runs: lengths.runs,
-            longest: lengths.longest,
-        },
+    MatchedRow {
+        format,
+        hart,
+        counts: counts_of(own),
+        runs: lengths.runs,
+        longest: lengths.longest,
     }
 }

@@ -1,43 +1,38 @@
 //! The subcommand `audit`, by the payloads of the messages alone.
 
-ghost use Rattle.std.specs.Prelude.{⊤, ◌≡◌, ◌≢◌, ℕ, Err, IfOk, List, OnOk, length};
-ghost use Rattle.std.specs.Io.KnownBytes.{Appends};
+ghost use Rattle.std.specs.Prelude.{⊤, ◌≡◌, ◌≢◌, ℕ, Err, IfOk, List, length};
 ghost use Rattle.message.specs.declared.message.Message.{Message as AnyMessage};
 ghost use Rattle.output.specs.Begun.{AppendsBeginning};
 ghost use Rattle.std.specs.List.{filter};
-ghost use Rattle.hart_range.specs.Range.{selects};
-ghost use Rattle.unnumbered.specs.Aligned.{AreAligned};
-ghost use Rattle.unnumbered.specs.Arrivals.{arrival_lines};
-ghost use Rattle.unnumbered.specs.Split.{AreSplit};
+ghost use Rattle.message.specs.Range.{selects};
+ghost use Rattle.path_match.specs.Aligned.{AreAligned};
+ghost use Rattle.path_match.specs.Arrivals.{arrival_lines};
+ghost use Rattle.path_match.specs.Split.{AreSplit};
 ghost use Rattle.command_inputs.specs.Begun.{IsCutOf};
 ghost use Rattle.command_inputs.specs.Printed.{PrintsUnlessDenied};
-ghost use Rattle.path_commands.specs.Audited.{AuditsBy, CanAuditHarts, WritesAligned};
+ghost use Rattle.path_commands.specs.Audited.{AuditsBy, CanAuditHarts};
 ghost use Rattle.path_commands.specs.Faults.{final_status};
 ghost use Rattle.path_commands.specs.Sides.{by_packets};
-ghost use Rattle.path_commands.specs.Unnumbered.{end_of_reading};
+ghost use Rattle.path_commands.specs.Rows.{report_of};
+ghost use Rattle.path_commands.specs.Unnumbered.{WritesAligned, end_of_reading, unnumbered_audit};
 ghost use Rattle.path_commands.specs.UnnumberedText.{hart_of};
-ghost use Rattle.path_commands.specs.steps.Matching.{EndsUnnumbered, IsByHart, IsKept, audit_in, came_with, report_in};
-ghost use Rattle.path_commands.specs.steps.Matching.{strangers_of};
+ghost use Rattle.path_commands.specs.steps.Matching.{EndsUnnumbered, IsByHart, IsKept, came_with, strangers_of};
 ghost use Rattle.command_inputs.specs.declared.fault.Fault.TheVariants as Fault;
 
-use crate::aligned_tabling::write_aligned_table;
 use crate::by_hart::ByHart;
-use crate::hart_check::check_hart;
+use crate::hart_check::{check_hart, count_among};
 use crate::keeping::{KeptSent, Received, read_received, read_sent};
 use crate::matched_lines::hart_of;
-use crate::matched_report::{Matched, write_report};
+use crate::matched_report::{first_of, write_report};
+use crate::matched_rows::MatchedTotal;
 use crate::reason::{Fault, unread_fault};
+use crate::report::Report;
 use crate::sides::{are_unlike, by_packets, ended, is_whole};
-use alignment::Alignment;
-use command_inputs::{Files, MessageProgress, Status, content_of};
-use hart_range::HartRange;
-use message::{Header, MessageFault};
+use command_inputs::{Audit as Asked, Files, MessageProgress, Status, content_of};
+use message::{HartRange, Header, MessageFault, Watch};
+use path_match::{Alignment, Line, lines_by_hart, total_of};
 use std::alloc::{AllocError, Global};
-use std::io;
 use std::io::Write;
-use subcommands::{Audit as Asked, Format};
-use unnumbered::{Line, lines_by_hart, total_of};
-use watching::Watch;
 
 /// As [`crate::audit`], by the payloads of the messages alone.
 pub(crate) fn audit_unnumbered<'a, F: Files, O: Write>(
@@ -142,50 +137,34 @@ fn write_found<'a, O: Write>(
         → EndsUnnumbered asked.now harts header (came_with came.now messages) all.now result
         (O.contents out.old) (O.contents out.new) }
     ensures begun { (messages : List AnyMessage) → IsByHart harts messages came.now.lists
-        → AppendsBeginning
-        (audit_in asked.now.format harts asked.now.summary header (came_with came.now messages) all.now)
+        → AppendsBeginning (unnumbered_audit (report_of asked.now.format asked.now harts) header
+        (came_with came.now messages) all.now)
         (O.contents out.old) (O.contents out.new) }
 {
     let own = came.lists.harts.as_slice();
-    let lines = lines_among(alloc, harts, all, own)?;
+    let kept = lines_among(alloc, harts, all, own)?;
+    let lines = kept.as_slice();
     let strangers = strangers_among(harts, all.len(), own);
     let unlike = are_unlike(header, came.header, came.fault);
-    let whole = is_whole(total_of(all).whole, strangers, unlike, came.is_read_whole());
-    let found = Matched {
-        harts,
-        all,
-        lines: lines.as_slice(),
+    let total = total_of(all);
+    let whole = is_whole(total.whole, strangers, unlike, came.is_read_whole());
+    let count = own.len() as u64;
+    let its = MatchedTotal {
+        harts: count_among(harts, all.len()),
+        total,
+        messages: count,
         strangers,
         unlike,
+        first: first_of(lines),
         whole,
     };
-    let count = own.len() as u64;
-    write_report_in(asked.format, found, count, asked.summary, out)?;
+    let report = Report {
+        format: asked.format,
+        harts,
+        summary: asked.summary,
+    };
+    write_report(report, all, lines, its, out)?;
     ended_reading(asked.received, came.stop, count, came.fault, whole)
-}
-
-/// Writes the report on so many messages in this format.
-fn write_report_in<O: Write>(
-    format: Format,
-    found: Matched<'_>,
-    messages: u64,
-    summary: bool,
-    out: &mut O,
-) -> io::Result<()>
-    ensures text { OnOk result (Appends (O.contents out.old) (O.contents out.new)
-        (report_in format found.entry.harts summary found.entry.all.now found.entry.lines.now messages
-        found.entry.strangers
-        found.entry.unlike found.entry.whole)) }
-    ensures begun { AppendsBeginning
-        (report_in format found.entry.harts summary found.entry.all.now found.entry.lines.now messages
-        found.entry.strangers
-        found.entry.unlike found.entry.whole)
-        (O.contents out.old) (O.contents out.new) }
-{
-    match format {
-        Format::Csv => write_aligned_table(found, messages, summary, out),
-        Format::Text | Format::Other => write_report(found, summary, out),
-    }
 }
 
 /// What is to be said of messages of these harts, one after the other, where it is of the harts of the range.

@@ -6,8 +6,7 @@ ghost use Rattle.path_commands.specs.Faults.{path_reason_status, damaged_fault, 
 
 use auditing::SentFault;
 use command_inputs::{Reason, Status};
-use hart_range::HartRange;
-use message::MessageFault;
+use message::{HartRange, MessageFault};
 use std::fmt;
 
 /// Why `audit` stops.

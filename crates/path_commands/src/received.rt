@@ -1,33 +1,33 @@
-//! The messages of RECEIVED and the bytes between them, written line by line.
+//! The messages of RECEIVED and the bytes between them, written row by row.
 
 ghost use Rattle.std.specs.Prelude.{◌≡◌, ◌<◌, ◌≤◌, ◌^◌, ◌∷◌, ◌++◌, ◌==◌, ◌&&◌, IfErr, IfOk, List, [], OnOk, is_none, length};
 ghost use Rattle.std.specs.Io.KnownBytes.{Appends};
 ghost use Rattle.output.specs.Begun.{AppendsBeginning};
-ghost use Rattle.captures.specs.Offsets.{bytes_line};
 ghost use Rattle.message.specs.declared.message.Message.{Message as AnyMessage};
 ghost use Rattle.auditing.specs.Audits.{Audits as IsAudit};
 ghost use Rattle.auditing.specs.Known.{known_all};
 ghost use Rattle.auditing.specs.Seen.{sight_of};
-ghost use Rattle.resuming.specs.Borrowed.{message_of, span_of};
-ghost use Rattle.resuming.specs.Counted.{bytes_in, messages_in, runs_in};
-ghost use Rattle.resuming.specs.Passages.{spans_left};
-ghost use Rattle.path_commands.specs.AuditText.{finding_line, span_line, span_lines, unless_summary};
+ghost use Rattle.frames.specs.Borrowed.{message_of, span_of};
+ghost use Rattle.frames.specs.Counted.{bytes_in, messages_in, runs_in};
+ghost use Rattle.frames.specs.Passages.{spans_left};
+ghost use Rattle.path_commands.specs.AuditText.{unless_summary};
+ghost use Rattle.path_commands.specs.Rows.{bytes_row, found_row, front_rows, span_row};
 ghost use Rattle.path_commands.specs.steps.Noting.{none_noted, noted_more, noted_of};
 ghost use Rattle.path_commands.specs.steps.Reading.{progress_after};
 
-use crate::lines::FindingText;
 use crate::noting::Noted;
+use crate::report::Report;
+use crate::rows::{FrontRow, MessageRow};
+use crate::table_rows::BytesRow;
 use auditing::{Audit, Finding};
 use captures::write_bytes_line;
-use command_inputs::MessageProgress;
-use files::Files;
-use hart_range::HartRange;
-use message::{Header, MessageFault};
+use command_inputs::{Format, MessageProgress};
+use frames::{BorrowedMessage, Passage, Resuming};
+use log_streams::Files;
+use message::{Header, MessageFault, Watch};
 use output::write_text;
-use resuming::{BorrowedMessage, Passage, Resuming};
 use retire::WriteFault;
 use std::io::Write;
-use watching::Watch;
 
 /// How far RECEIVED is read.
 #[derive(Clone, Copy)]
@@ -75,18 +75,18 @@ pub(crate) struct Arrived {
     pub(crate) header: Option<Header>,
     /// Why it has none, where it begins as a capture of version 2 does.
     pub(crate) fault: Option<MessageFault>,
-    /// How many bytes are of no message.
-    pub(crate) bytes: u64,
-    /// How many runs they are in.
-    pub(crate) runs: u64,
+    /// How many messages, bytes of no message and runs of these it has.
+    pub(crate) read: Progress,
+    /// What is found of the messages of the harts that are asked for.
+    pub(crate) noted: Noted,
 }
 
 impl Arrived {
     /// Whether it is read without damage.
     pub(crate) fn is_undamaged(self) -> bool
-        ensures { result ≡ (is_none self.fault && (self.bytes == 0)) }
+        ensures { result ≡ (is_none self.fault && (self.read.bytes == 0)) }
     {
-        self.fault.is_none() && self.bytes == 0
+        self.fault.is_none() && self.read.bytes == 0
     }
 }
 
@@ -117,15 +117,14 @@ fn messages_in(path: &Audit<'_>, bytes: &[u8], from: usize) -> u64 {
     read.messages
 }
 
-/// Takes the messages of RECEIVED that are left, and writes their lines, as [`take_spans`] does. Ends what
-/// [`begin_spans`] began.
+/// Writes the names of the columns in a table, takes the messages of RECEIVED that are left, and writes their rows, as
+/// [`take_spans`] does. Ends what [`begin_spans`] began.
 pub(crate) fn write_spans<F: Files, O: Write>(
     progress: &MessageProgress<'_, F>,
     path: &mut Audit<'_>,
     noted: &mut Noted,
     spans: Resuming<'_>,
-    harts: HartRange,
-    summary: bool,
+    report: Report,
     out: &mut O,
 ) -> Result<Progress, WriteFault>
     requires fresh { noted.old ≡ none_noted }
@@ -133,35 +132,35 @@ pub(crate) fn write_spans<F: Files, O: Write>(
         → IfOk result (λ progress. IsAudit sent (messages_in (spans_left (sight_of path.old.by sent) spans.entry)) path.new
         × (progress.bytes ≡ bytes_in (spans_left (sight_of path.old.by sent) spans.entry))
         × (progress.runs ≡ runs_in (spans_left (sight_of path.old.by sent) spans.entry))
-        × (length (messages_in (spans_left (sight_of path.old.by sent) spans.entry)) ≤ length spans.entry.bytes)) }
+        × (length (messages_in (spans_left (sight_of path.old.by sent) spans.entry)) ≤ length spans.entry.bytes)
+        × (progress.messages ≡ length (messages_in (spans_left (sight_of path.old.by sent) spans.entry)))) }
     ensures noted { (sent : List AnyMessage) → IsAudit sent [] path.old → length spans.entry.bytes < 2 ^ 64
-        → OnOk result (noted.new ≡ noted_of harts (known_all path.old.by sent)
+        → OnOk result (noted.new ≡ noted_of report.harts (known_all path.old.by sent)
         (known_all path.old.by (messages_in (spans_left (sight_of path.old.by sent) spans.entry)))) }
     ensures by { path.new.by ≡ path.old.by }
     ensures header { path.new.header ≡ path.old.header }
     ensures text { (sent : List AnyMessage) → IsAudit sent [] path.old → length spans.entry.bytes < 2 ^ 64
         → OnOk result (Appends (O.contents out.old) (O.contents out.new)
-        (span_lines path.old.by harts summary sent [] (spans_left (sight_of path.old.by sent) spans.entry))) }
+        (front_rows path.old.by report sent (spans_left (sight_of path.old.by sent) spans.entry))) }
     ensures begun { (sent : List AnyMessage) → IsAudit sent [] path.old → length spans.entry.bytes < 2 ^ 64
-        → AppendsBeginning (span_lines path.old.by harts summary sent [] (spans_left
-        (sight_of path.old.by sent) spans.entry))
+        → AppendsBeginning (front_rows path.old.by report sent (spans_left (sight_of path.old.by sent) spans.entry))
         (O.contents out.old) (O.contents out.new) }
     ensures fault { IfErr result (λ fault. fault ≡ WriteFault.Write) }
 {
-    let read = take_spans(progress, path, noted, spans, harts, summary, out);
+    let read = take_spans(progress, path, noted, spans, report, out);
     progress.end();
     read
 }
 
-/// Takes the messages of RECEIVED that are left, and writes a line for each that is not in order or skips a number, and
-/// for each run of bytes between them, but none in a summary. Returns how far it was read then.
+/// Writes the names of the columns in a table. Then it takes the messages of RECEIVED that are left, and writes a row
+/// for each that is not in order or skips a number, and for each run of bytes between them, but none in a summary.
+/// Returns how far it was read then.
 fn take_spans<V: Watch, O: Write>(
     watch: &V,
     path: &mut Audit<'_>,
     noted: &mut Noted,
     spans: Resuming<'_>,
-    harts: HartRange,
-    summary: bool,
+    report: Report,
     out: &mut O,
 ) -> Result<Progress, WriteFault>
     requires fresh { noted.old ≡ none_noted }
@@ -169,25 +168,27 @@ fn take_spans<V: Watch, O: Write>(
         → IfOk result (λ progress. IsAudit sent (messages_in (spans_left (sight_of path.old.by sent) spans.entry)) path.new
         × (progress.bytes ≡ bytes_in (spans_left (sight_of path.old.by sent) spans.entry))
         × (progress.runs ≡ runs_in (spans_left (sight_of path.old.by sent) spans.entry))
-        × (length (messages_in (spans_left (sight_of path.old.by sent) spans.entry)) ≤ length spans.entry.bytes)) }
+        × (length (messages_in (spans_left (sight_of path.old.by sent) spans.entry)) ≤ length spans.entry.bytes)
+        × (progress.messages ≡ length (messages_in (spans_left (sight_of path.old.by sent) spans.entry)))) }
     ensures noted { (sent : List AnyMessage) → IsAudit sent [] path.old → length spans.entry.bytes < 2 ^ 64
-        → OnOk result (noted.new ≡ noted_of harts (known_all path.old.by sent)
+        → OnOk result (noted.new ≡ noted_of report.harts (known_all path.old.by sent)
         (known_all path.old.by (messages_in (spans_left (sight_of path.old.by sent) spans.entry)))) }
     ensures by { path.new.by ≡ path.old.by }
     ensures header { path.new.header ≡ path.old.header }
     ensures text { (sent : List AnyMessage) → IsAudit sent [] path.old → length spans.entry.bytes < 2 ^ 64
         → OnOk result (Appends (O.contents out.old) (O.contents out.new)
-        (span_lines path.old.by harts summary sent [] (spans_left (sight_of path.old.by sent) spans.entry))) }
+        (front_rows path.old.by report sent (spans_left (sight_of path.old.by sent) spans.entry))) }
     ensures begun { (sent : List AnyMessage) → IsAudit sent [] path.old → length spans.entry.bytes < 2 ^ 64
-        → AppendsBeginning (span_lines path.old.by harts summary sent [] (spans_left
-        (sight_of path.old.by sent) spans.entry))
+        → AppendsBeginning (front_rows path.old.by report sent (spans_left (sight_of path.old.by sent) spans.entry))
         (O.contents out.old) (O.contents out.new) }
     ensures fault { IfErr result (λ fault. fault ≡ WriteFault.Write) }
 {
+    let front = FrontRow(report.format);
+    write_text(out, front)?;
     let mut left = spans;
     let mut progress = Progress::START;
     while let Some(passage) = left.next_passage(&*path) {
-        write_passage(path, noted, passage, progress.messages, harts, summary, out)?;
+        write_passage(path, noted, passage, progress.messages, report, out)?;
         progress = progress.after(passage);
         note(watch, passage);
     }
@@ -195,101 +196,110 @@ fn take_spans<V: Watch, O: Write>(
 }
 
 /// Tells of the message of a passage, if there is one.
-pub(crate) fn note<V: Watch>(watch: &V, passage: Passage<'_>) {
+fn note<V: Watch>(watch: &V, passage: Passage<'_>) {
     if matches!(passage, Passage::Message { .. }) {
         watch.note(1);
     }
 }
 
-/// Takes the message of a passage, and writes its line or that of the passage's bytes, where it has one. So many messages
-/// were taken before.
+/// Takes the message of a passage, and writes its row or that of the passage's bytes, where it has one. So many
+/// messages were taken before.
 #[inline(always)]
 fn write_passage<O: Write>(
     path: &mut Audit<'_>,
     noted: &mut Noted,
     passage: Passage<'_>,
     place: u64,
-    harts: HartRange,
-    summary: bool,
+    report: Report,
     out: &mut O,
 ) -> Result<(), WriteFault>
     ensures audits { (sent received : List AnyMessage) → IsAudit sent received path.old
         → IsAudit sent (received ++ messages_in (span_of passage.entry ∷ [])) path.new }
     ensures noted { (sent received : List AnyMessage) → IsAudit sent received path.old
         → OnOk result (noted.new
-        ≡ noted_more path.old.by harts sent received noted.old place (span_of passage.entry)) }
+        ≡ noted_more path.old.by report.harts sent received noted.old place (span_of passage.entry)) }
     ensures by { path.new.by ≡ path.old.by }
     ensures header { path.new.header ≡ path.old.header }
     ensures text { (sent received : List AnyMessage) → IsAudit sent received path.old → place ≡ length received
         → OnOk result (Appends (O.contents out.old) (O.contents out.new)
-        (span_line path.old.by harts summary sent received (span_of passage.entry))) }
+        (span_row path.old.by report sent received (span_of passage.entry))) }
     ensures begun { (sent received : List AnyMessage) → IsAudit sent received path.old → place ≡ length received
-        → AppendsBeginning (span_line path.old.by harts summary sent received (span_of passage.entry))
+        → AppendsBeginning (span_row path.old.by report sent received (span_of passage.entry))
         (O.contents out.old) (O.contents out.new) }
     ensures fault { IfErr result (λ fault. fault ≡ WriteFault.Write) }
 {
     match passage {
         Passage::Message { message, .. } => {
             let finding = path.examine_borrowed(message);
-            if !harts.selects(message.hart) {
+            if !report.harts.selects(message.hart) {
                 return Ok(());
             }
             *noted = noted.after(place, finding);
-            if summary || finding.is_plain() {
+            if report.summary || finding.is_plain() {
                 return Ok(());
             }
-            write_finding(path, place, message, finding, out)
+            write_finding(path, place, message, finding, report.format, out)
         }
-        Passage::Bytes { offset, count } => write_run(offset as u64, count as u64, summary, out),
+        Passage::Bytes { offset, count } => write_run(offset as u64, count as u64, report, out),
     }
 }
 
-/// Writes the line of a run of bytes of no message, but none in a summary.
+/// Writes the row of a run of bytes of no message, but none in a summary.
 fn write_run<O: Write>(
     offset: u64,
     count: u64,
-    summary: bool,
+    report: Report,
     out: &mut O,
 ) -> Result<(), WriteFault>
     ensures text { OnOk result (Appends (O.contents out.old) (O.contents out.new)
-        (unless_summary summary (bytes_line offset count))) }
-    ensures begun { AppendsBeginning (unless_summary summary (bytes_line offset count))
+        (unless_summary report.summary (bytes_row report.format offset count))) }
+    ensures begun { AppendsBeginning (unless_summary report.summary (bytes_row report.format offset count))
         (O.contents out.old) (O.contents out.new) }
     ensures fault { IfErr result (λ fault. fault ≡ WriteFault.Write) }
 {
-    if summary {
+    if report.summary {
         return Ok(());
     }
-    write_bytes_line(out, offset, count)
+    match report.format {
+        Format::Csv => {
+            let row = BytesRow { offset, count };
+            write_text(out, row)?;
+            Ok(())
+        }
+        Format::Text | Format::Other => write_bytes_line(out, offset, count),
+    }
 }
 
-/// Writes the line of a message at this place.
+/// Writes the row of a message at this place.
 #[inline(never)]
 fn write_finding<O: Write>(
     path: &Audit<'_>,
     place: u64,
     message: BorrowedMessage<'_>,
     finding: Finding,
+    format: Format,
     out: &mut O,
 ) -> Result<(), WriteFault>
     ensures text { (sent received : List AnyMessage) → IsAudit sent received path.now
         → OnOk result (Appends (O.contents out.old) (O.contents out.new)
-        (finding_line sent place (record { message = message_of message.entry; finding = finding }))) }
+        (found_row format sent place (record { message = message_of message.entry; finding = finding }))) }
     ensures begun { (sent received : List AnyMessage) → IsAudit sent received path.now
-        → AppendsBeginning (finding_line sent place (record { message = message_of message.entry; finding = finding }))
+        → AppendsBeginning
+        (found_row format sent place (record { message = message_of message.entry; finding = finding }))
         (O.contents out.old) (O.contents out.new) }
     ensures fault { IfErr result (λ fault. fault ≡ WriteFault.Write) }
 {
     let hart = message.hart;
     let number = message.number;
-    let text = FindingText {
+    let row = MessageRow {
+        format,
+        place,
+        hart,
+        number,
         finding,
         sent: path.sent(hart, number),
         came: message.payload,
     };
-    write_text(
-        out,
-        format_args!("message {place}: hart {hart} number {number}: {text}\n"),
-    )?;
+    write_text(out, row)?;
     Ok(())
 }

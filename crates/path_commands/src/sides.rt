@@ -6,9 +6,9 @@ ghost use Rattle.path_commands.specs.Sides.{by_packets, end_of_audit, heads_diff
 ghost use Rattle.command_inputs.specs.declared.fault.Fault.TheVariants as Fault;
 
 use crate::reason::{Fault, damaged_fault};
-use alike::By;
 use command_inputs::Status;
 use message::{Header, MessageFault};
+use payload::By;
 
 /// What payloads are compared by.
 pub(crate) fn by_packets(packets: bool) -> By

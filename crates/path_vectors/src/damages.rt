@@ -1,13 +1,12 @@
-//! Captures that are damaged at random, read on by what was sent (`resuming`), against a reading of the text of the
+//! Captures that are damaged at random, read on by what was sent (`frames`), against a reading of the text of the
 //! formats alone.
 
-use crate::arguments::{Fault, number};
-use crate::audits::{Sent, capture_of};
+use crate::audits::capture_of;
 use crate::lists::Random;
 use auditing::Audit;
-use frames::Span;
-use resuming::Resuming;
-use std::alloc::{AllocError, Global};
+use cases::{Case, add_message};
+use frames::{Resuming, Span};
+use message::Message;
 
 /// A message that begins at a place, and the place after it.
 #[derive(Clone, Copy)]
@@ -52,35 +51,35 @@ fn begun_at(bytes: &[u8], at: usize) -> Option<Begun<'_>> {
     })
 }
 
-/// The byte that was sent with the hart and the number of a message, if they were.
-fn byte_sent(sent: &[Sent], begun: Begun<'_>) -> Option<u8> {
+/// The message that was sent with the hart and the number of a message, if one was.
+fn sent_as<'s>(sent: &'s [Message], begun: Begun<'_>) -> Option<&'s Message> {
     for one in sent {
         if u64::from(one.hart) == begun.hart && one.number == begun.number {
-            return Some(one.byte);
+            return Some(one);
         }
     }
     None
 }
 
 /// Whether a message begins at a place that was sent.
-fn is_sent_at(sent: &[Sent], bytes: &[u8], at: usize) -> bool {
-    match begun_at(bytes, at) {
-        Some(begun) => match byte_sent(sent, begun) {
-            Some(byte) => begun.payload == [byte].as_slice(),
-            None => false,
-        },
+fn is_sent_at(sent: &[Message], bytes: &[u8], at: usize) -> bool {
+    let Some(begun) = begun_at(bytes, at) else {
+        return false;
+    };
+    match sent_as(sent, begun) {
+        Some(one) => begun.payload == one.payload.bytes(),
         None => false,
     }
 }
 
 /// Whether a message before this place is kept, though it was not sent.
-fn is_backed(sent: &[Sent], bytes: &[u8], at: usize) -> bool {
+fn is_backed(sent: &[Message], bytes: &[u8], at: usize) -> bool {
     if at >= bytes.len() {
         return true;
     }
     match begun_at(bytes, at) {
         Some(begun) => {
-            byte_sent(sent, begun).is_some()
+            sent_as(sent, begun).is_some()
                 || begun.after >= bytes.len()
                 || begun_at(bytes, begun.after).is_some()
         }
@@ -89,7 +88,7 @@ fn is_backed(sent: &[Sent], bytes: &[u8], at: usize) -> bool {
 }
 
 /// The first place behind this one at which a message begins that was sent, or the count of bytes.
-fn next_sent(sent: &[Sent], bytes: &[u8], at: usize) -> usize {
+fn next_sent(sent: &[Message], bytes: &[u8], at: usize) -> usize {
     for place in at.saturating_add(1)..bytes.len() {
         if is_sent_at(sent, bytes, place) {
             return place;
@@ -99,7 +98,7 @@ fn next_sent(sent: &[Sent], bytes: &[u8], at: usize) -> usize {
 }
 
 /// What is at a place.
-fn passage_at(sent: &[Sent], bytes: &[u8], at: usize) -> Passage {
+fn passage_at(sent: &[Message], bytes: &[u8], at: usize) -> Passage {
     match begun_at(bytes, at) {
         Some(begun) if is_sent_at(sent, bytes, at) || is_backed(sent, bytes, begun.after) => {
             Passage {
@@ -127,12 +126,12 @@ fn is_passage(span: &Span, at: usize, wanted: Passage) -> bool {
 }
 
 /// Whether a passage is the one that a span is of.
-fn is_borrowed(span: &Span, passage: Option<resuming::Passage<'_>>) -> bool {
+fn is_borrowed(span: &Span, passage: Option<frames::Passage<'_>>) -> bool {
     match (span, passage) {
         (
             Span::Frame { offset, message },
             Some(
-                resuming::Passage::Message {
+                frames::Passage::Message {
                     offset: at,
                     message: own,
                 },
@@ -146,7 +145,7 @@ fn is_borrowed(span: &Span, passage: Option<resuming::Passage<'_>>) -> bool {
         (
             Span::Bytes { offset, count },
             Some(
-                resuming::Passage::Bytes {
+                frames::Passage::Bytes {
                     offset: at,
                     count: own,
                 },
@@ -157,46 +156,48 @@ fn is_borrowed(span: &Span, passage: Option<resuming::Passage<'_>>) -> bool {
 }
 
 /// Up to 12 messages of up to 3 harts, each the next of its hart. Their bytes may be lengths of payloads.
-fn draw_sent(alloc: Global, random: &mut Random) -> Result<Vec<Sent>, AllocError> {
-    let mut sent: Vec<Sent> = Vec::new(alloc);
+fn draw_sent(case: &mut Case<'_>, random: &mut Random) -> Vec<Message> {
+    let mut sent = Vec::new(case.alloc);
+    let mut numbers = [0u64; 3];
     for _ in 0..random.below(13) {
-        let hart = u16::from(random.byte(3));
-        let own = sent.iter().filter(|one| one.hart == hart);
-        let number = own.count() as u64;
+        let hart = random.byte(3);
         let byte = random.byte(4);
-        sent.push(Sent { hart, number, byte })?;
+        if let Some(number) = numbers.get_mut(usize::from(hart)) {
+            add_message(case, &mut sent, (u16::from(hart), *number), &[byte]);
+            *number = number.saturating_add(1);
+        }
     }
-    Ok(sent)
+    sent
 }
 
 /// Bytes with one damage: a byte lost, added or made another, or some zeroed.
-fn damaged(alloc: Global, random: &mut Random, bytes: &[u8]) -> Result<Vec<u8>, AllocError> {
+fn damaged(case: &mut Case<'_>, random: &mut Random, bytes: &[u8]) -> Vec<u8> {
     let what = random.below(5);
     let at = random.below((bytes.len() as u64).saturating_add(1)) as usize;
     let other = random.byte(21);
-    let mut left = Vec::new(alloc);
+    let mut left = Vec::new(case.alloc);
     for (place, byte) in bytes.iter().enumerate() {
         if place == at && (what == 1 || what == 2) {
-            left.push(other)?;
+            case.push(&mut left, other);
         }
         if place >= at && place < at.saturating_add(16) && what == 3 {
-            left.push(0)?;
+            case.push(&mut left, 0);
         } else if place != at || what == 1 || what == 4 {
-            left.push(*byte)?;
+            case.push(&mut left, *byte);
         }
     }
-    Ok(left)
+    left
 }
 
 /// What comes of bytes after three damages.
-fn damaged_thrice(alloc: Global, random: &mut Random, bytes: &[u8]) -> Result<Vec<u8>, AllocError> {
-    let first = damaged(alloc, random, bytes)?;
-    let second = damaged(alloc, random, first.as_slice())?;
-    damaged(alloc, random, second.as_slice())
+fn damaged_thrice(case: &mut Case<'_>, random: &mut Random, bytes: &[u8]) -> Vec<u8> {
+    let first = damaged(case, random, bytes);
+    let second = damaged(case, random, first.as_slice());
+    damaged(case, random, second.as_slice())
 }
 
 /// The first place at which the spans of what came are not the passages.
-fn difference(audit: &Audit<'_>, sent: &[Sent], came: &[u8]) -> Option<usize> {
+fn difference(audit: &Audit<'_>, sent: &[Message], came: &[u8]) -> Option<usize> {
     let mut left = Resuming::new(came, 0);
     let mut again = Resuming::new(came, 0);
     let mut at = 0;
@@ -219,25 +220,26 @@ fn difference(audit: &Audit<'_>, sent: &[Sent], came: &[u8]) -> Option<usize> {
 }
 
 /// The first place at which what came of a drawn capture is read otherwise.
-fn drawn_difference(alloc: Global, random: &mut Random) -> Result<Option<usize>, Fault> {
-    let sent = draw_sent(alloc, random)?;
-    let bytes = capture_of(alloc, sent.as_slice())?;
-    let came = damaged_thrice(alloc, random, bytes.as_slice())?;
-    let audit = Audit::new(alloc, bytes.as_slice()).map_err(|_| Fault("sent"))?;
-    Ok(difference(&audit, sent.as_slice(), came.as_slice()))
+fn drawn_difference(case: &mut Case<'_>, random: &mut Random) -> Option<usize> {
+    let sent = draw_sent(case, random);
+    let bytes = capture_of(case, sent.as_slice());
+    let came = damaged_thrice(case, random, bytes.as_slice());
+    match Audit::new(case.alloc, bytes.as_slice()) {
+        Ok(audit) => difference(&audit, sent.as_slice(), came.as_slice()),
+        Err(_) => Some(0),
+    }
 }
 
 /// `same`, or the places at which drawn captures are read otherwise.
-pub(crate) fn damages(alloc: Global, arguments: &str, came: &mut String) -> Result<(), Fault> {
-    let cases = number(arguments, "cases", 0)?;
-    let mut random = Random(number(arguments, "seed", 0)?);
-    for case in 0..cases {
-        if let Some(place) = drawn_difference(alloc, &mut random)? {
-            write!(came, "case {case}: place {place}\n")?;
+pub(crate) fn damages(case: &mut Case<'_>) {
+    let mut random = Random(case.number("seed", 0));
+    for drawn in 0..case.number("cases", 0) {
+        if let Some(place) = drawn_difference(case, &mut random) {
+            let done = write!(case.came, "case {drawn}: place {place}\n");
+            case.note(done);
         }
     }
-    if came.is_empty() {
-        came.push_str("same")?;
+    if case.came.is_empty() {
+        case.put("same");
     }
-    Ok(())
 }

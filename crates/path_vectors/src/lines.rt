@@ -1,86 +1,79 @@
 //! Captures that are made of a text's lines (`capture_lines`).
 
-use crate::arguments::{Fault, mode, number, push_bytes, quoted, small, value};
 use capture_lines::{LineFault, LinesFault, Settings, write_capture};
+use cases::{Case, text_of};
+use fault_injection::FailingWriter;
 use message::Version;
-use refusing::FailingWriter;
-use std::alloc::{AllocError, Global};
+use payload::Mode;
+use std::alloc::AllocError;
 use std::io::Write;
 
 /// The settings: `version=1`, `mode=diff`, `period=1024` and no count of harts, unless the arguments say otherwise.
-fn settings(arguments: &str) -> Result<Settings, Fault> {
-    let version = match value(arguments, "version") {
-        Some("2") => Version::Two,
+fn settings(case: &mut Case<'_>) -> Settings {
+    let version = match case.named("version") {
+        "2" => Version::Two,
         _ => Version::One,
     };
-    let harts = match small(arguments, "harts", 0)? {
+    let mode = match case.named("mode") {
+        "full" => Mode::Full,
+        _ => Mode::Differential,
+    };
+    let harts = match case.small("harts", 0) {
         0 => None,
         harts => Some(harts),
     };
-    Ok(Settings {
+    Settings {
         version,
-        mode: mode(arguments),
-        period: small(arguments, "period", 1024)?,
+        mode,
+        period: case.small("period", 1024),
         harts,
-    })
+    }
 }
 
-/// Writes the capture of a text.
+/// Writes the capture of a text, and returns its fault. Settings that are none are noted.
 fn write_lines<W: Write>(
+    case: &mut Case<'_>,
     settings: Settings,
     text: &[u8],
     sink: &mut W,
-) -> Result<Option<LinesFault>, Fault> {
-    if settings.period == 0 {
-        return Err(Fault("period"));
+) -> Option<LinesFault> {
+    let harts = settings.harts.unwrap_or(1);
+    if settings.period == 0 || harts == 0 || harts > settings.version.most_harts() {
+        case.unread();
+        return None;
     }
-    if let Some(harts) = settings.harts {
-        if harts == 0 || harts > settings.version.most_harts() {
-            return Err(Fault("harts"));
-        }
-    }
-    Ok(write_capture(settings, text, sink).err())
-}
-
-/// Appends a fault after what was written.
-fn push_fault(came: &mut String, fault: LinesFault) -> Result<(), AllocError> {
-    if !came.is_empty() {
-        came.push(' ')?;
-    }
-    write!(came, "{fault}")
+    write_capture(settings, text, sink).err()
 }
 
 /// The capture of a text, or what was written of it and the fault. With `calls=N` the writer takes a byte a call, and fails
 /// after so many calls.
-pub(crate) fn line(alloc: Global, arguments: &str, came: &mut String) -> Result<(), Fault> {
-    let settings = settings(arguments)?;
-    let calls = number(arguments, "calls", u64::MAX)? as usize;
+pub(crate) fn line(case: &mut Case<'_>) {
+    let settings = settings(case);
+    let calls = case.number("calls", u64::MAX) as usize;
     let most = if calls == usize::MAX { usize::MAX } else { 1 };
-    let text = quoted(alloc, arguments)?;
-    let held = Vec::new(alloc);
+    let text = text_of(case);
+    let held = Vec::new(case.alloc);
     let mut sink = FailingWriter { held, most, calls };
-    let fault = write_lines(settings, text.as_slice(), &mut sink)?;
-    push_bytes(came, sink.held.as_slice())?;
+    let fault = write_lines(case, settings, text.as_slice(), &mut sink);
+    case.put_digits(sink.held.as_slice());
     if let Some(fault) = fault {
-        push_fault(came, fault)?;
+        case.put_word(fault);
     }
-    Ok(())
 }
 
 /// The text of a fault.
-pub(crate) fn line_fault(arguments: &str, came: &mut String) -> Result<(), Fault> {
-    let why = match value(arguments, "why") {
-        Some("fields") => LineFault::Fields,
-        Some("hart-1") => LineFault::Hart(Version::One),
-        Some("hart-2") => LineFault::Hart(Version::Two),
-        Some("number") => LineFault::Number,
-        Some("bytes") => LineFault::Bytes,
-        Some("above") => LineFault::Above,
-        _ => return Err(Fault("why")),
+pub(crate) fn line_fault(case: &mut Case<'_>) {
+    let why = match case.named("why") {
+        "fields" => LineFault::Fields,
+        "hart-1" => LineFault::Hart(Version::One),
+        "hart-2" => LineFault::Hart(Version::Two),
+        "number" => LineFault::Number,
+        "bytes" => LineFault::Bytes,
+        "above" => LineFault::Above,
+        _ => return case.unread(),
     };
-    let line = number(arguments, "line", 0)?;
-    let fault = LinesFault::Line { line, why };
-    Ok(write!(came, "{fault}")?)
+    let line = case.number("line", 0);
+    case.put_shown(LinesFault::Line { line, why });
 }
 
 /// Adds so many lines, of harts 0 to 1,023 over and over. Each has its number, or none has.
@@ -111,17 +104,18 @@ fn add_capture(bytes: &mut Vec<u8>, lines: u64) -> Result<(), AllocError> {
 }
 
 /// Whether a long text has its capture.
-pub(crate) fn long_lines(alloc: Global, arguments: &str, came: &mut String) -> Result<(), Fault> {
-    let settings = settings(arguments)?;
-    let lines = number(arguments, "lines", 0)?;
-    let is_numbered = matches!(value(arguments, "numbers"), Some("yes"));
-    let mut text = String::new(alloc);
-    add_lines(&mut text, lines, is_numbered)?;
-    let mut wanted = Vec::new(alloc);
-    add_capture(&mut wanted, lines)?;
-    let mut bytes = Vec::new(alloc);
-    let fault = write_lines(settings, text.as_bytes(), &mut bytes)?;
+pub(crate) fn long_lines(case: &mut Case<'_>) {
+    let settings = settings(case);
+    let lines = case.number("lines", 0);
+    let is_numbered = case.named("numbers") == "yes";
+    let mut text = case.again();
+    let added = add_lines(&mut text.came, lines, is_numbered);
+    case.note(added);
+    let mut wanted = Vec::new(case.alloc);
+    let added = add_capture(&mut wanted, lines);
+    case.note(added);
+    let mut bytes = Vec::new(case.alloc);
+    let fault = write_lines(case, settings, text.came.as_bytes(), &mut bytes);
     let is_same = fault.is_none() && bytes.as_slice() == wanted.as_slice();
-    came.push_str(if is_same { "same" } else { "another capture" })?;
-    Ok(())
+    case.put(if is_same { "same" } else { "another capture" });
 }

@@ -5,12 +5,10 @@
 #![tactic(auto)]
 
 mod alignments;
-mod arguments;
 mod audits;
 mod damages;
 mod lines;
 mod lists;
-mod messages;
 mod naming;
 mod paths;
 mod salvages;

@@ -1,15 +1,12 @@
-//! What is said of messages that carry no numbers (`unnumbered`).
+//! What is said of messages that carry no numbers (`path_match`).
 
-use crate::arguments::{Fault, number, text, value};
-use crate::messages::{add, lettered, spelled};
-use alignment::Alignment;
-use alike::By;
-use message::Message;
-use std::alloc::{AllocError, Global};
-use unnumbered::{
-    Line, SentPayloads, aligned_harts, arrival_lines, counts_of, lines_by_hart, total_of,
+use cases::{Case, add_message, bytes_of};
+use message::{Message, Unwatched};
+use path_match::{
+    Alignment, Line, SentPayloads, aligned_harts, arrival_lines, counts_of, lines_by_hart, total_of,
 };
-use watching::Unwatched;
+use payload::By;
+use std::alloc::{AllocError, Global};
 
 /// What was sent, what came, and how they are compared.
 #[derive(Clone, Copy)]
@@ -29,145 +26,181 @@ fn split(alloc: Global, path: Path<'_>, messages: &[Message]) -> Result<SentPayl
     Ok(own)
 }
 
-/// The alignments of harts whose messages are split first.
-fn align_split(alloc: Global, path: Path<'_>) -> Result<Vec<Alignment>, Fault> {
+/// What is said of the messages that came, where they are split and aligned by hart alone.
+fn lines_split(alloc: Global, path: Path<'_>, harts: &[u16]) -> Result<Vec<Line>, AllocError> {
     let own = split(alloc, path, path.sent)?;
     let came = split(alloc, path, path.came)?;
     if came.harts() != own.harts() {
-        return Err(Fault("harts"));
+        return Ok(Vec::new(alloc));
     }
-    Ok(own.align_lists(alloc, &Unwatched, &came)?)
-}
-
-/// What is said of the messages that came, where they are split and aligned by hart alone.
-fn lines_split(alloc: Global, path: Path<'_>) -> Result<Vec<Line>, Fault> {
-    let mut harts = Vec::new(alloc);
-    for message in path.came {
-        harts.push(message.hart)?;
-    }
-    let all = align_split(alloc, path)?;
-    Ok(lines_by_hart(alloc, all.as_slice(), harts.as_slice())?)
+    let all = own.align_lists(alloc, &Unwatched, &came)?;
+    lines_by_hart(alloc, all.as_slice(), harts)
 }
 
 /// Appends what is counted of each hart, of harts in a row with equal counts once, and what is counted of all.
-fn push_counts(came: &mut String, all: &[Alignment]) -> Result<(), AllocError> {
+fn put_counts(case: &mut Case<'_>, all: &[Alignment]) {
     let mut times: u64 = 0;
     for (hart, own) in all.iter().enumerate() {
         let counts = counts_of(own);
         times = times.saturating_add(1);
         let next = all.get(hart.saturating_add(1));
         if !next.is_some_and(|next| counts_of(next) == counts) {
-            write!(came, "{times} x {counts:?}\n")?;
+            let done = write!(case.came, "{times} x {counts:?}\n");
+            case.note(done);
             times = 0;
         }
     }
-    let total = total_of(all);
-    write!(came, "{total:?}\n")
+    case.put_debug(total_of(all));
+    case.put("\n");
 }
 
-/// Appends what is said of the messages that came.
-fn push_lines(came: &mut String, lines: &[Line]) -> Result<(), AllocError> {
-    for line in lines {
-        write!(came, "{line:?}\n")?;
+/// Appends a line for each message that is a stranger, extra, or skips a number.
+fn put_lines(case: &mut Case<'_>, path: Path<'_>, lines: &[Line]) {
+    let mut harts = Vec::new(case.alloc);
+    for message in path.came {
+        case.push(&mut harts, message.hart);
     }
-    Ok(())
+    match lines_split(case.alloc, path, harts.as_slice()) {
+        Ok(split) if split.as_slice() == lines => {}
+        Ok(_) => case.put("other lines of split harts\n"),
+        Err(_) => case.no_memory(),
+    }
+    for line in lines {
+        let done = write!(case.came, "{line:?}\n");
+        case.note(done);
+    }
 }
 
 /// Appends what is said of a path: what is counted, and a line for each message that is a stranger, extra, or skips a
 /// number.
-fn push_path(alloc: Global, path: Path<'_>, came: &mut String) -> Result<(), Fault> {
-    let all = aligned_harts(alloc, path.harts, path.by, path.sent, path.came)?;
-    let lines = arrival_lines(alloc, all.as_slice(), path.came)?;
-    let split = lines_split(alloc, path)?;
-    if lines.as_slice() != split.as_slice() {
-        return Err(Fault("lines of split harts"));
+fn put_path(case: &mut Case<'_>, path: Path<'_>) {
+    let Ok(all) = aligned_harts(case.alloc, path.harts, path.by, path.sent, path.came) else {
+        return case.no_memory();
+    };
+    put_counts(case, all.as_slice());
+    match arrival_lines(case.alloc, all.as_slice(), path.came) {
+        Ok(lines) => put_lines(case, path, lines.as_slice()),
+        Err(_) => case.no_memory(),
     }
-    push_counts(came, all.as_slice())?;
-    push_lines(came, lines.as_slice())?;
-    Ok(())
+}
+
+/// The hart and the payload of a letter.
+fn meaning(letter: u8) -> (u16, u8) {
+    match letter {
+        b'A'..=b'Z' => (1, letter.to_ascii_lowercase()),
+        b'0'..=b'9' => (u16::from(letter - b'0'), b'a'),
+        _ => (0, letter),
+    }
+}
+
+/// The messages of a word. A small letter is a message of hart 0 and a large one the same payload of hart 1; a digit is
+/// the payload of `a` of the hart of that number. The numbers of a hart count its messages.
+fn lettered(case: &mut Case<'_>, word: &str) -> Vec<Message> {
+    let mut list = Vec::new(case.alloc);
+    let mut numbers = [0u64; 10];
+    for letter in word.as_bytes() {
+        let (hart, payload) = meaning(*letter);
+        if let Some(number) = numbers.get_mut(usize::from(hart)) {
+            add_message(case, &mut list, (hart, *number), &[payload]);
+            *number = number.saturating_add(1);
+        }
+    }
+    list
+}
+
+/// The messages of hart 0 with these payloads, each in hexadecimal, after a comma each but the first.
+fn spelled(case: &mut Case<'_>, word: &str) -> Vec<Message> {
+    let mut list = Vec::new(case.alloc);
+    for (number, digits) in word.split(',').enumerate() {
+        let payload = bytes_of(case, digits);
+        add_message(case, &mut list, (0, number as u64), payload.as_slice());
+    }
+    list
 }
 
 /// What is said of the messages of words, whose letters are messages.
-pub(crate) fn letters(alloc: Global, arguments: &str, came: &mut String) -> Result<(), Fault> {
-    let harts = number(arguments, "harts", 2)? as usize;
-    let left = lettered(alloc, text(arguments, "sent"))?;
-    let right = lettered(alloc, text(arguments, "came"))?;
+pub(crate) fn letters(case: &mut Case<'_>) {
+    let harts = case.number("harts", 2) as usize;
+    let (left, right) = (case.named("sent"), case.named("came"));
+    let left = lettered(case, left);
+    let right = lettered(case, right);
     let path = Path {
         by: By::Bytes,
         harts,
         sent: left.as_slice(),
         came: right.as_slice(),
     };
-    push_path(alloc, path, came)
+    put_path(case, path);
 }
 
 /// What is said of the messages of hart 0 with payloads in hexadecimal, compared by bytes or by packets.
-pub(crate) fn spellings(alloc: Global, arguments: &str, came: &mut String) -> Result<(), Fault> {
-    let by = match value(arguments, "by") {
-        Some("packets") => By::Packets,
+pub(crate) fn spellings(case: &mut Case<'_>) {
+    let by = match case.named("by") {
+        "packets" => By::Packets,
         _ => By::Bytes,
     };
-    let left = spelled(alloc, text(arguments, "sent"))?;
-    let right = spelled(alloc, text(arguments, "came"))?;
+    let (left, right) = (case.named("sent"), case.named("came"));
+    let left = spelled(case, left);
+    let right = spelled(case, right);
     let path = Path {
         by,
         harts: 1,
         sent: left.as_slice(),
         came: right.as_slice(),
     };
-    push_path(alloc, path, came)
+    put_path(case, path);
 }
 
 /// Adds two messages of a hart. The first of them does not come of hart 1,023.
-fn add_hart(sent: &mut Vec<Message>, came: &mut Vec<Message>, hart: u16) -> Result<(), Fault> {
+fn add_hart(case: &mut Case<'_>, sent: &mut Vec<Message>, came: &mut Vec<Message>, hart: u16) {
     let [low, high] = hart.to_le_bytes();
-    add(sent, hart, 0, &[low, high])?;
-    add(sent, hart, 1, &[low, high, 1])?;
+    add_message(case, sent, (hart, 0), &[low, high]);
+    add_message(case, sent, (hart, 1), &[low, high, 1]);
     if hart < 1023 {
-        add(came, hart, 9, &[low, high])?;
+        add_message(case, came, (hart, 9), &[low, high]);
     }
-    add(came, hart, 9, &[low, high, 1])
+    add_message(case, came, (hart, 9), &[low, high, 1]);
 }
 
 /// What is said where each of 1,024 harts sends two messages. The first of the last hart is lost, and two harts that sent
 /// nothing send one.
-pub(crate) fn many_harts(alloc: Global, came: &mut String) -> Result<(), Fault> {
-    let mut left = Vec::new(alloc);
-    let mut right = Vec::new(alloc);
+pub(crate) fn many_harts(case: &mut Case<'_>) {
+    let mut left = Vec::new(case.alloc);
+    let mut right = Vec::new(case.alloc);
     for hart in 0..1024u16 {
-        add_hart(&mut left, &mut right, hart)?;
+        add_hart(case, &mut left, &mut right, hart);
     }
-    add(&mut right, 1024, 9, &[0, 0])?;
-    add(&mut right, 65535, 9, &[255, 3])?;
+    add_message(case, &mut right, (1024, 9), &[0, 0]);
+    add_message(case, &mut right, (65535, 9), &[255, 3]);
     let path = Path {
         by: By::Bytes,
         harts: 1024,
         sent: left.as_slice(),
         came: right.as_slice(),
     };
-    push_path(alloc, path, came)
+    put_path(case, path);
 }
 
 /// What is said where hart 0 sends 70,002 messages, all of them different, and each 10,000th of them is lost, number 0
 /// too. Then hart 1 sends one, and one more comes of hart 0.
-pub(crate) fn many_messages(alloc: Global, came: &mut String) -> Result<(), Fault> {
-    let mut left = Vec::new(alloc);
-    let mut right = Vec::new(alloc);
+pub(crate) fn many_messages(case: &mut Case<'_>) {
+    let mut left = Vec::new(case.alloc);
+    let mut right = Vec::new(case.alloc);
     for number in 0..70_002u64 {
         let payload = number.to_le_bytes();
-        add(&mut left, 0, number, &payload)?;
+        add_message(case, &mut left, (0, number), &payload);
         if number % 10_000 != 0 {
-            add(&mut right, 0, 9, &payload)?;
+            add_message(case, &mut right, (0, 9), &payload);
         }
     }
-    add(&mut left, 1, 0, &[1])?;
-    add(&mut right, 1, 9, &[1])?;
-    add(&mut right, 0, 9, &[1])?;
+    add_message(case, &mut left, (1, 0), &[1]);
+    add_message(case, &mut right, (1, 9), &[1]);
+    add_message(case, &mut right, (0, 9), &[1]);
     let path = Path {
         by: By::Bytes,
         harts: 2,
         sent: left.as_slice(),
         came: right.as_slice(),
     };
-    push_path(alloc, path, came)
+    put_path(case, path);
 }

@@ -1,107 +1,119 @@
 //! What is salvaged of all harts of a capture, and what is done with each message (`salvaging`).
 
-use crate::arguments::{Fault, address, bytes, bytes_of, push_text, small, text, value};
-use frames::Span;
-use message::Message;
+use crate::spans::bytes_in;
+use cases::{Case, bytes_of};
+use frames::{Span, spans_of};
+use message::{Message, Unwatched};
 use payload::Mode;
 use rvclass::Program;
-use salvaged_lines::write_treated;
-use salvaged_table::write_salvaged_table;
-use salvaging::{Treated, salvage_watched, treat_watched};
-use searching::spans_of;
-use std::alloc::{AllocError, Global};
+use salvage_reports::{write_salvaged_table, write_treated, write_treated_table};
+use salvaging::{Salvaged, Treated, salvage_watched, treat_watched};
 use symbols::Symbols;
-use treated_table::write_treated_table;
-use watching::Unwatched;
 
-/// The program that begins at `base`.
-fn program_of(alloc: Global, arguments: &str) -> Result<Program, Fault> {
-    let base = address(arguments, "base")?;
-    let image = bytes_of(alloc, text(arguments, "image"))?;
-    Program::new(base, image).map_err(|_| Fault("program"))
+/// The program that begins at `base`, if there is one.
+fn program_of(case: &mut Case<'_>) -> Option<Program> {
+    let (base, image) = (case.named("base"), case.named("image"));
+    let base = case.hex(base);
+    let program = Program::new(base, bytes_of(case, image)).ok();
+    if program.is_none() {
+        case.unread();
+    }
+    program
 }
 
-/// Adds the messages of the frames of a capture without a header, and where they are.
-fn add_messages(
-    messages: &mut Vec<Message>,
-    offsets: &mut Vec<usize>,
-    capture: &[u8],
-) -> Result<(), AllocError> {
+/// The messages of the frames of a capture without a header.
+fn messages_in(case: &mut Case<'_>, capture: &[u8]) -> Vec<Message> {
+    let mut messages = Vec::new(case.alloc);
     for span in spans_of(capture, None) {
-        if let Span::Frame { offset, message } = span {
-            messages.push(message)?;
-            offsets.push(offset)?;
+        if let Span::Frame { message, .. } = span {
+            case.push(&mut messages, message);
         }
     }
-    Ok(())
+    messages
+}
+
+/// Where the frames of a capture without a header are.
+fn offsets_in(case: &mut Case<'_>, capture: &[u8]) -> Vec<usize> {
+    let mut offsets = Vec::new(case.alloc);
+    for span in spans_of(capture, None) {
+        if let Span::Frame { offset, .. } = span {
+            case.push(&mut offsets, offset);
+        }
+    }
+    offsets
 }
 
 /// Appends what is done with each message: as a table with `form=table`, or else as lines.
-fn push_treated(
-    alloc: Global,
-    arguments: &str,
-    capture: &[u8],
-    treated: &[Treated],
-    came: &mut String,
-) -> Result<(), Fault> {
-    let mut text = Vec::new(alloc);
+fn put_treated(case: &mut Case<'_>, capture: &[u8], treated: &[Treated]) {
+    let mut text = Vec::new(case.alloc);
     let spans = spans_of(capture, None);
-    let end = match value(arguments, "form") {
-        Some("table") => write_treated_table(None::<&Symbols>, None, spans, treated, &mut text),
+    let end = match case.named("form") {
+        "table" => write_treated_table(None::<&Symbols>, None, spans, treated, &mut text),
         _ => write_treated(None::<&Symbols>, None, spans, treated, &mut text),
     };
     if end.is_err() {
-        return Err(Fault("text"));
+        case.no_memory();
     }
-    push_text(came, text.as_slice())
+    case.put_text(text.as_slice());
 }
 
 /// What is done with each message of a capture without a header.
-pub(crate) fn treat(alloc: Global, arguments: &str, came: &mut String) -> Result<(), Fault> {
-    let harts = small(arguments, "harts", 1)?;
-    let capture = bytes(alloc, arguments)?;
-    let program = program_of(alloc, arguments)?;
-    let mut messages = Vec::new(alloc);
-    let mut offsets = Vec::new(alloc);
-    add_messages(&mut messages, &mut offsets, capture.as_slice())?;
+pub(crate) fn treat(case: &mut Case<'_>) {
+    let harts = case.small("harts", 1);
+    let capture = bytes_in(case);
+    let messages = messages_in(case, capture.as_slice());
+    let Some(program) = program_of(case) else {
+        return;
+    };
     let mode = Mode::Differential;
-    let treated = treat_watched(
-        alloc,
+    match treat_watched(
+        case.alloc,
         &program,
         harts,
         mode,
         messages.as_slice(),
         &Unwatched,
-    )?;
-    push_treated(
-        alloc,
-        arguments,
-        capture.as_slice(),
-        treated.as_slice(),
-        came,
-    )
+    ) {
+        Ok(treated) => put_treated(case, capture.as_slice(), treated.as_slice()),
+        Err(_) => case.no_memory(),
+    }
 }
 
-/// The table of what is salvaged of a capture of one hart without a header.
-pub(crate) fn salvage(alloc: Global, arguments: &str, came: &mut String) -> Result<(), Fault> {
-    let capture = bytes(alloc, arguments)?;
-    let program = program_of(alloc, arguments)?;
-    let mut messages = Vec::new(alloc);
-    let mut offsets = Vec::new(alloc);
-    add_messages(&mut messages, &mut offsets, capture.as_slice())?;
-    let mode = Mode::Differential;
-    let salvaged = salvage_watched(alloc, &program, 1, mode, messages.as_slice(), &Unwatched)?;
-    let mut table = Vec::new(alloc);
+/// Appends the table of what is salvaged of hart 0.
+fn put_salvaged(case: &mut Case<'_>, capture: &[u8], salvaged: &Salvaged) {
+    let offsets = offsets_in(case, capture);
+    let mut table = Vec::new(case.alloc);
     let end = write_salvaged_table(
         None,
-        spans_of(capture.as_slice(), None),
+        spans_of(capture, None),
         &[offsets],
         salvaged.harts.as_slice(),
         salvaged.strangers,
         &mut table,
     );
     if end.is_err() {
-        return Err(Fault("table"));
+        case.no_memory();
     }
-    push_text(came, table.as_slice())
+    case.put_text(table.as_slice());
+}
+
+/// The table of what is salvaged of a capture of one hart without a header.
+pub(crate) fn salvage(case: &mut Case<'_>) {
+    let capture = bytes_in(case);
+    let messages = messages_in(case, capture.as_slice());
+    let Some(program) = program_of(case) else {
+        return;
+    };
+    let mode = Mode::Differential;
+    match salvage_watched(
+        case.alloc,
+        &program,
+        1,
+        mode,
+        messages.as_slice(),
+        &Unwatched,
+    ) {
+        Ok(salvaged) => put_salvaged(case, capture.as_slice(), &salvaged),
+        Err(_) => case.no_memory(),
+    }
 }

@@ -1,56 +1,65 @@
 //! Messages that are known again among damaged bytes (`frames`), and the text of what is found (`searching`).
 
-use crate::arguments::{Fault, bytes, number, push_bytes, push_text, small};
-use frames::{Span, Spans, begins_frame};
-use searching::search_capture;
-use std::alloc::{AllocError, Global};
-use watching::Unwatched;
+use cases::{Case, bytes_of};
+use frames::{Span, Spans, begins_frame, search_capture};
+use message::Unwatched;
 
-/// Appends the line of a span.
-fn push_span(came: &mut String, span: &Span) -> Result<(), AllocError> {
-    match span {
-        Span::Frame { offset, message } => {
-            let hart = message.hart;
-            let number = message.number;
-            write!(came, "{offset}: {hart} {number} ")?;
-            push_bytes(came, message.payload.bytes())?;
+/// The bytes of all arguments without a name.
+pub(crate) fn bytes_in(case: &mut Case<'_>) -> Vec<u8> {
+    let mut bytes = Vec::new(case.alloc);
+    for word in case.text.split(' ') {
+        if !word.contains('=') {
+            let done = bytes.extend_from_slice(bytes_of(case, word).as_slice());
+            case.note(done);
         }
-        Span::Bytes { offset, count } => write!(came, "{offset}: {count} bytes")?,
     }
-    came.push('\n')
+    bytes
 }
 
-/// The spans of bytes from a place on, a line each: offset, hart, number and payload of a message, or the count of bytes
-/// that are of none.
-pub(crate) fn frames(alloc: Global, arguments: &str, came: &mut String) -> Result<(), Fault> {
-    let from = number(arguments, "from", 0)? as usize;
-    let known = small(arguments, "known", 2)?;
-    let bytes = bytes(alloc, arguments)?;
-    for span in Spans::new(bytes.as_slice(), from, known) {
-        push_span(came, &span)?;
+/// Appends the line of a span.
+fn put_span(case: &mut Case<'_>, span: &Span) {
+    match span {
+        Span::Frame { offset, message } => {
+            let (hart, number) = (message.hart, message.number);
+            let done = write!(case.came, "{offset}: {hart}.{number}:");
+            case.note(done);
+            case.put_digits(message.payload.bytes());
+        }
+        Span::Bytes { offset, count } => {
+            let done = write!(case.came, "{offset}: {count} bytes");
+            case.note(done);
+        }
     }
-    Ok(())
+    case.put("\n");
+}
+
+/// The spans of bytes from a place on, a line each: offset and message, or the count of bytes that are of none.
+pub(crate) fn frames(case: &mut Case<'_>) {
+    let from = case.number("from", 0) as usize;
+    let known = case.small("known", 2);
+    let bytes = bytes_in(case);
+    for span in Spans::new(bytes.as_slice(), from, known) {
+        put_span(case, &span);
+    }
 }
 
 /// Whether bytes begin with a frame.
-pub(crate) fn begins(alloc: Global, arguments: &str, came: &mut String) -> Result<(), Fault> {
-    let known = small(arguments, "known", 2)?;
-    let bytes = bytes(alloc, arguments)?;
+pub(crate) fn begins(case: &mut Case<'_>) {
+    let known = case.small("known", 2);
+    let bytes = bytes_in(case);
     let is_frame = begins_frame(bytes.as_slice(), known);
-    came.push_str(if is_frame { "yes" } else { "no" })?;
-    Ok(())
+    case.put(if is_frame { "yes" } else { "no" });
 }
 
 /// The text of what is found in a damaged capture, and `bad` where it is damaged.
-pub(crate) fn search(alloc: Global, arguments: &str, came: &mut String) -> Result<(), Fault> {
-    let bytes = bytes(alloc, arguments)?;
-    let mut text = Vec::new(alloc);
+pub(crate) fn search(case: &mut Case<'_>) {
+    let bytes = bytes_in(case);
+    let mut text = Vec::new(case.alloc);
     let found = search_capture(bytes.as_slice(), &mut text, &Unwatched);
-    push_text(came, text.as_slice())?;
-    let end = match found {
-        Ok(found) if found.fault.is_none() => { if found.bad { "bad" } else { "whole" } }
+    case.put_text(text.as_slice());
+    case.put(match found {
+        Ok(found) if found.fault.is_none() && found.bad => "bad",
+        Ok(found) if found.fault.is_none() => "whole",
         _ => "fault",
-    };
-    came.push_str(end)?;
-    Ok(())
+    });
 }

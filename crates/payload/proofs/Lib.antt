@@ -21,3 +21,4 @@ pub mod SyncBits
 pub mod TrapBits
 pub mod WideNumbers
 pub mod FirstByte
+pub mod SameLemmas

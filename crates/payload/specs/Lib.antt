@@ -15,3 +15,4 @@ pub mod steps
 pub mod Closing
 pub mod ClosedTrace
 pub mod AddressField
+pub mod Same

@@ -1,8 +1,8 @@
 -- A program to which a piece was added, or that was left as it was.
 use Rattle.std.proofs.Common.{◌≡◌, ℕ, List, Result, Ok, Err, IfOk, IfErr, sym, subst}
-use Rattle.memory.proofs.AddedLemmas.{added_memory}
-use Rattle.memory.specs.Adding.{add_piece}
-use Rattle.memory.specs.declared.fault.PieceFault.{PieceFault}
+use Rattle.rvclass.proofs.AddedPieceLemmas.{added_memory}
+use Rattle.rvclass.specs.Adding.{add_piece}
+use Rattle.rvclass.specs.declared.piece_fault.PieceFault.{PieceFault}
 use Rattle.rvclass.specs.Image.{Image, IsImage}
 
 pub still_image : (m n : Image) (base : ℕ) (bytes : List ℕ) (r : Result (Unit {0}) PieceFault) → IsImage m

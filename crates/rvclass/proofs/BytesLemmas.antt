@@ -1,6 +1,6 @@
 -- The bytes at an address decide the word there.
 use Rattle.std.proofs.Common.{◌≡◌, ℕ, ◌+◌, ◌*◌, ◌%◌, ◌^◌, ◌&&◌, ◌==◌, true, is_some, unwrap_or, sym, ◌∙◌}
-use Rattle.memory.specs.Fetch.{byte_at, half_at, has_bytes, word_at}
+use Rattle.rvclass.specs.FetchedBytes.{byte_at, half_at, has_bytes, word_at}
 use Rattle.rvclass.proofs.WordsLemmas.{chosen, word_is}
 use Rattle.rvclass.specs.Fetch.{is_compressed, is_longer, words_of}
 use Rattle.rvclass.specs.Image.{Image}

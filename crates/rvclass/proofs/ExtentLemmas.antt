@@ -1,9 +1,9 @@
 -- Where the pieces of an image end.
 use Rattle.std.proofs.Common.{◌≡◌, ℕ, zero, suc, ◌+◌, ◌^◌, ◌<◌, [], ◌∷◌, Option, IfSome, option_map, subst, sym}
 use Rattle.std.specs.List.{AllByRecursion, slice_get}
-use Rattle.memory.proofs.PlacedLemmas.{each_placed}
-use Rattle.memory.specs.Memory.{Memory, in_order}
-use Rattle.memory.specs.Piece.{IsPiece, extent_of}
+use Rattle.rvclass.proofs.PlacedLemmas.{each_placed}
+use Rattle.rvclass.specs.Memory.{Memory, in_order}
+use Rattle.rvclass.specs.Piece.{IsPiece, extent_of}
 use Rattle.rvclass.specs.Image.{Image, IsImage}
 
 each_in_order : (m : Memory) → AllByRecursion IsPiece m → AllByRecursion IsPiece (in_order m)

@@ -1,9 +1,9 @@
 -- The word at an address is the one of what is fetched there.
 use Rattle.std.proofs.Common.{◌≡◌, ℕ, ◌+◌, ◌%◌, ◌^◌, ◌&&◌, ◌==◌, not, if◌then◌else◌, Bool, true, false}
 use Rattle.std.proofs.Common.{Option, Some, None, option_map, is_some, refl, sym, ap, ◌∙◌}
-use Rattle.memory.specs.Fetch.{BeginsWithHalf, byte_at, fetched, half_at, has_bytes, word_at}
-use Rattle.memory.specs.declared.fetched.Fetched.{Fetched}
-use Rattle.memory.specs.declared.fetched.Fetched.TheVariants.{Word as FetchedWord, Half, Nothing}
+use Rattle.rvclass.specs.FetchedBytes.{BeginsWithHalf, byte_at, fetched, half_at, has_bytes, word_at}
+use Rattle.rvclass.specs.declared.fetched.Fetched.{Fetched}
+use Rattle.rvclass.specs.declared.fetched.Fetched.TheVariants.{Word as FetchedWord, Half, Nothing}
 use Rattle.rvclass.proofs.WordsLemmas.{chosen, word_is}
 use Rattle.rvclass.specs.Fetch.{is_compressed, is_longer, words_of}
 use Rattle.rvclass.specs.Image.{Image}

@@ -3,3 +3,15 @@ pub mod FetchLemmas
 pub mod AddedLemmas
 pub mod ExtentLemmas
 pub mod BytesLemmas
+pub mod OrderLemmas
+pub mod OrderedLemmas
+pub mod PieceBytesLemmas
+pub mod OverlapLemmas
+pub mod FetchedLemmas
+pub mod FoundLemmas
+pub mod PlacedLemmas
+pub mod AddedPieceLemmas
+pub mod CutLemmas
+pub mod OneLemmas
+pub mod HalvesLemmas
+pub mod CutLegalLemmas

@@ -2,11 +2,11 @@
 use Rattle.std.proofs.Common.{◌≡◌, ◌⊎◌, ℕ, ◌+◌, ◌/◌, ◌%◌, ◌^◌, ◌<◌, ◌≤◌, ◌&&◌, ◌==◌, not, if◌then◌else◌, Bool, true, false}
 use Rattle.std.proofs.Common.{Option, Some, None, is_some, refl, sym, ◌∙◌, arith, inl, inr, IfSome, subst}
 use Rattle.std.proofs.lemmas.Bool.Decides.{nat_tests}
-use Rattle.memory.proofs.BytesLemmas.{byte_below}
-use Rattle.memory.proofs.HalvesLemmas.{below_halves, below_higher, halves_few, second_byte}
-use Rattle.memory.specs.Fetch.{byte_at, half_at, has_bytes, word_at}
-use Rattle.memory.specs.Halves.{halves_below}
-use Rattle.memory.specs.Memory.{byte_count}
+use Rattle.rvclass.proofs.PieceBytesLemmas.{byte_below}
+use Rattle.rvclass.proofs.HalvesLemmas.{below_halves, below_higher, halves_few, second_byte}
+use Rattle.rvclass.specs.FetchedBytes.{byte_at, half_at, has_bytes, word_at}
+use Rattle.rvclass.specs.Halves.{halves_below}
+use Rattle.rvclass.specs.Memory.{byte_count}
 use Rattle.rvclass.specs.Fetch.{is_compressed, is_longer, words_of}
 use Rattle.rvclass.specs.Image.{Image, IsImage}
 use Rattle.rvclass.specs.Word16.{class16}

@@ -1,6 +1,6 @@
 -- The instructions of an image, by the RISC-V Unprivileged ISA's "Base Instruction-Length Encoding".
 use Rattle.std.specs.Prelude.{ℕ, ◌%◌, ◌==◌, not, if◌then◌else◌, Bool, Some, None}
-use Rattle.memory.specs.Fetch.{half_at, has_bytes, word_at}
+use Rattle.rvclass.specs.FetchedBytes.{half_at, has_bytes, word_at}
 use Rattle.rvclass.specs.Bits.{bits}
 use Rattle.rvclass.specs.Image.{Image}
 use Rattle.rvclass.specs.Word16.{class16}

@@ -1,7 +1,7 @@
 -- The image of a program in memory.
 use Rattle.std.specs.Prelude.{ℕ, List, [], ◌∷◌}
-use Rattle.memory.specs.Memory.{Memory, IsMemory}
-use Rattle.memory.specs.Piece.{piece_at}
+use Rattle.rvclass.specs.Memory.{Memory, IsMemory}
+use Rattle.rvclass.specs.Piece.{piece_at}
 
 -- The bytes of a program: pieces, each from a base address on.
 abbrev pub Image : Type 0

@@ -1,6 +1,6 @@
 -- The instructions of an image with their bits.
 use Rattle.std.specs.Prelude.{ℕ, ◌==◌, if◌then◌else◌, Option, option_map}
-use Rattle.memory.specs.Fetch.{half_at, word_at}
+use Rattle.rvclass.specs.FetchedBytes.{half_at, word_at}
 use Rattle.rvclass.specs.Fetch.{words_of}
 use Rattle.rvclass.specs.Image.{Image}
 use Rattle.rvclass.specs.Words.{Word}

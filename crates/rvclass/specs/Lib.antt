@@ -9,3 +9,9 @@ pub mod Instruction
 pub mod Program
 pub mod FaultText
 pub mod steps
+pub mod Piece
+pub mod Memory
+pub mod FetchedBytes
+pub mod Adding
+pub mod Halves
+pub mod PieceFaultText

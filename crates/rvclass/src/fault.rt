@@ -4,7 +4,7 @@ ghost use Rattle.std.specs.Prelude.{◌≡◌, Some};
 ghost use Rattle.rvclass.specs.FaultText.{program_fault_text};
 ghost use Rattle.rvclass.specs.steps.PieceFaults.{program_fault};
 
-use memory::PieceFault;
+use crate::PieceFault;
 use std::error::Error;
 use std::fmt;
 

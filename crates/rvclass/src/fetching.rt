@@ -3,12 +3,12 @@
 ghost use Rattle.std.specs.Prelude.{◌≡◌, ◌^◌, ◌<◌, None};
 ghost use Rattle.rvclass.specs.steps.ByFetch.{instruction_by_fetch, word_by_fetch, word_by_half};
 
+use crate::Fetched;
 use crate::bits::bits_of;
 use crate::class::Class;
 use crate::instruction::Instruction;
 use crate::word16::class_of_word16;
 use crate::word32::class_of_word32;
-use memory::Fetched;
 
 /// The class and the length of the instruction at an address where this was fetched.
 #[inline(always)]

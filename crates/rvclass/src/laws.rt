@@ -1,8 +1,8 @@
 //! What the definition of a program's instructions promises.
 
 ghost use Rattle.std.specs.Prelude.{ℕ, ◌≡◌, ◌+◌, ◌++◌, ◌∷◌, List, length};
-ghost use Rattle.memory.specs.Fetch.{byte_at};
-ghost use Rattle.memory.specs.Piece.{piece_at};
+ghost use Rattle.rvclass.specs.FetchedBytes.{byte_at};
+ghost use Rattle.rvclass.specs.Piece.{piece_at};
 ghost use Rattle.rvclass.specs.Fetch.{words_of};
 ghost use Rattle.rvclass.specs.Image.{Image};
 

@@ -1,11 +1,11 @@
 //! A program, and the instruction at each of its addresses.
 
 ghost use Rattle.std.specs.Prelude.{◌≡◌, ◌⊎◌, ◌↔◌, ◌+◌, ◌/◌, ◌%◌, ◌^◌, ◌<◌, ◌≤◌, length, vec_len, option_map, slice_get, IsOk, IfOk, IfErr, IfSome, Ok, Err};
-ghost use Rattle.memory.specs.Adding.{add_piece};
-ghost use Rattle.memory.specs.Halves.{halves_below};
-ghost use Rattle.memory.specs.Memory.{base_of, byte_count, in_order};
-ghost use Rattle.memory.specs.Piece.{extent_of};
-ghost use Rattle.memory.specs.declared.fault.PieceFault.TheVariants as PieceFault;
+ghost use Rattle.rvclass.specs.Adding.{add_piece};
+ghost use Rattle.rvclass.specs.Halves.{halves_below};
+ghost use Rattle.rvclass.specs.Memory.{base_of, byte_count, in_order};
+ghost use Rattle.rvclass.specs.Piece.{extent_of};
+ghost use Rattle.rvclass.specs.declared.piece_fault.PieceFault.TheVariants as PieceFault;
 ghost use Rattle.rvclass.specs.Fetch.{words_of};
 ghost use Rattle.rvclass.specs.Image.{Image, IsImage, image_at};
 ghost use Rattle.rvclass.specs.Instruction.{instruction_of};
@@ -16,7 +16,7 @@ use crate::class::Class;
 use crate::fault::{ProgramFault, fault_of_piece};
 use crate::fetching::{instruction_from, word_of};
 use crate::instruction::Instruction;
-use memory::{Memory, PieceFault};
+use crate::{Memory, PieceFault};
 use std::alloc::Global;
 use std::marker::Model;
 

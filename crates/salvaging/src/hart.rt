@@ -16,10 +16,10 @@ use crate::salvaged::SalvagedHart;
 use crate::trail::take_all;
 use crate::used::is_closed;
 use decoder::Lines;
+use message::Watch;
 use payload::Mode;
 use rvclass::ProgramOver;
 use std::alloc::{AllocError, Allocator};
-use watching::Watch;
 
 /// Salvages what is left of a hart, whose messages these are in the order in which they came. They are put in the order
 /// of their numbers, and what came with each number is read from their list as it is needed. Each message is told of.

@@ -18,12 +18,11 @@ use crate::distributing::{distribute, strangers};
 use crate::hart::salvage_hart;
 use crate::salvaged::{Salvaged, SalvagedHart};
 use decoder::Lines;
-use message::Message;
+use message::{Message, Unwatched, Watch};
 use payload::Mode;
 use rvclass::ProgramOver;
 use std::alloc::{AllocError, Allocator};
 use std::mem;
-use watching::{Unwatched, Watch};
 
 /// Salvages what is left of each hart, whose messages these are. Each list is taken out, so that it is dropped before
 /// the next hart's packets are decoded.

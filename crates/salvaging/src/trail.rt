@@ -26,13 +26,12 @@ use crate::part::{Part, push_gap, push_part};
 use crate::reason::Reason;
 use crate::used::next_used;
 use decoder::{DecodeFault, Decoder, Lines, Paths};
-use message::Message;
+use message::{Message, Watch};
 use payload::{Mode, Packet, Payload, unpack};
 use retire::Event;
 use rvclass::ProgramOver;
 use std::alloc::{AllocError, Allocator};
 use std::mem;
-use watching::Watch;
 
 /// A hart's decoder, the stretch under way, and what is left of the hart's log so far.
 #[derive(Drop)]

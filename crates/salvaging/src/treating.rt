@@ -15,12 +15,11 @@ use crate::distributing::{distribute, is_stranger, strangers};
 use crate::lookup::treated_at;
 use crate::sorting_out::{HartRows, sort_out};
 use crate::treatment::{Treated, Treatment};
-use message::Message;
+use message::{Message, Watch};
 use payload::Mode;
 use rvclass::ProgramOver;
 use std::alloc::{AllocError, Allocator};
 use std::mem;
-use watching::Watch;
 
 /// Sorts out the messages of each hart. Each list is taken out. Tells of the messages of each hart.
 fn sort_each<'a, A: Allocator + Copy, V: Watch>(

@@ -1,4 +1,4 @@
-//! Logs whose events are handed in piece by piece (`hart_encoding`): their messages are those of the complete log.
+//! Logs whose events are handed in piece by piece (`captures`): their messages are those of the complete log.
 
 mod handed_in;
 mod settings;

@@ -1,7 +1,7 @@
-//! Memories of a thousand pieces (`memory`), and of two where an allocation fails. Others are cases of `vectors`.
+//! Memories of a thousand pieces (`rvclass`), and of two where an allocation fails. Others are cases of `vectors`.
 
-use memory::{Fetched, Memory, PieceFault};
-use refusing::Refusing;
+use fault_injection::Refusing;
+use rvclass::{Fetched, Memory, PieceFault};
 use std::process::Abort;
 
 /// The number of pieces.

@@ -5,7 +5,7 @@ use crate::fixtures::{BASE, BRANCH_LOOP, log_of, program_of};
 use crate::same::same_at;
 use captures::{CaptureFault, CaptureOutcome, decode_capture};
 use decoder::DecodeFault;
-use refusing::Refusing;
+use fault_injection::Refusing;
 use std::alloc::{AllocError, Global};
 use std::process::Abort;
 

@@ -1,6 +1,6 @@
 //! Whole captures (`captures`): of worked logs with each byte changed, of long logs, to writers that fail, and as lines;
-//! the logs of their harts, written while they are decoded (`hart_rows`); and the first pass over them, with the harts
-//! side by side (`survey_threads`).
+//! the logs of their harts, written while they are decoded (`capture_index`); and the first pass over them, with the harts
+//! side by side (`parallel_decode`).
 
 mod by_bytes;
 mod changed;

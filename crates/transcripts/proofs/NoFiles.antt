@@ -1,15 +1,15 @@
 -- Where there is no file, nothing that words ask for is done: an image or a capture is read before anything is.
 use Rattle.std.proofs.Common.{◌≡◌, ◌≢◌, ◌∙◌, ◌⊎◌, ℕ, List, [], Option, Result, Ok, Err, ap, arith, inl, inr, map, refl}
 use Rattle.std.proofs.Common.{subst, sym}
-use Rattle.subcommands.specs.declared.words.Asked.{Asked}
-use Rattle.subcommands.specs.declared.words.Asked.TheVariants.{Audit, Bench, Check, Decode, Dump, Encode, Listing}
-use Rattle.subcommands.specs.declared.words.Asked.TheVariants as asked_for
-use Rattle.subcommands.specs.declared.words.Encode.{Encode as AskedEncode}
-use Rattle.subcommands.specs.declared.words.Asked.TheVariants.{Measure, Replay, Salvage}
+use Rattle.command_inputs.specs.declared.words.Asked.{Asked}
+use Rattle.command_inputs.specs.declared.words.Asked.TheVariants.{Audit, Bench, Check, Decode, Dump, Encode, Listing}
+use Rattle.command_inputs.specs.declared.words.Asked.TheVariants as asked_for
+use Rattle.command_inputs.specs.declared.words.Encode.{Encode as AskedEncode}
+use Rattle.command_inputs.specs.declared.words.Asked.TheVariants.{Measure, Replay, Salvage}
 use Rattle.log_commands.specs.Benching.{BenchesLogs}
 use Rattle.commands.specs.CarriedOut.{IsCarriedOut}
 use Rattle.log_commands.specs.Checking.{WritesLines}
-use Rattle.capture_commands.specs.Decoded.{DecodesHarts, WritesLogsOf}
+use Rattle.capture_commands.specs.Decoded.{WritesLogsOf}
 use Rattle.capture_commands.specs.Dumping.{DumpsHarts, WritesDumpOf}
 use Rattle.capture_commands.specs.Listed.{ListsHarts, WritesListed}
 use Rattle.capture_commands.specs.Salvaging.{SalvagesOf}
@@ -17,8 +17,8 @@ use Rattle.capture_commands.specs.Symbols.{AreSymbols}
 use Rattle.capture_commands.specs.declared.reason.CaptureReason.TheVariants as capture
 use Rattle.log_commands.specs.declared.reason.LogReason.TheVariants as log
 use Rattle.path_commands.specs.declared.reason.PathReason.TheVariants as audit
-use Rattle.compare_commands.specs.Comparing.{ComparesHarts}
-use Rattle.line_commands.specs.Capturing.{AreSettings, WritesCapture}
+use Rattle.capture_commands.specs.Comparing.{ComparesHarts}
+use Rattle.path_commands.specs.Capturing.{AreSettings, WritesCapture}
 use Rattle.commands.specs.Faults.{Fault, Printed, command_reason_status, final_status, status_of}
 use Rattle.commands.specs.Joined.{joined_end, joined_printed}
 use Rattle.commands.specs.declared.reason.CommandReason.{CommandReason}
@@ -30,7 +30,7 @@ use Rattle.command_inputs.specs.OnlyHarts.{IsOnly}
 use Rattle.command_inputs.specs.Found.{AreFew, IsAskedBase, IsAskedProgram, IsBase, IsFormat, IsImageAt, IsProgramAt}
 use Rattle.command_inputs.specs.Found.{IsRead, IsWithPieces, program_at}
 use Rattle.command_inputs.specs.FoundLogs.{AreAskedLogsUpTo, AreLegalLogsUpTo}
-use Rattle.files.specs.Known.{Content, content_in}
+use Rattle.log_streams.specs.Known.{Content, content_in}
 use Rattle.command_inputs.specs.Printed.{First, GoesOn, Printed as AnyPrinted}
 use Rattle.log_commands.specs.Measuring.{WritesTable}
 use Rattle.log_commands.specs.Most.{most_of}
@@ -43,7 +43,7 @@ use Rattle.command_inputs.specs.Status.{code_of}
 use Rattle.command_inputs.specs.declared.fault.Fault.{Fault as AnyFault}
 use Rattle.command_inputs.specs.declared.fault.Fault.TheVariants as fault
 use Rattle.command_inputs.specs.declared.status.Status.{Status}
-use Rattle.entry.specs.Words.{AreCarriedOut}
+use Rattle.commands.specs.Words.{AreCarriedOut}
 
 -- What is known where there is no file.
 abbrev none : Content
@@ -163,8 +163,12 @@ not_ended (Decode asked) status old new done =
     let own = done.prints.own in
     let ends = ends_so Capture done.text status own done.prints.is in
     not_first (IsBase asked.base.now asked.also.items) (λ base.
-    First (IsOnly asked.only) (DecodesHarts none asked base)) own status ends
-    (λ base is prints. not_first (IsOnly asked.only) (DecodesHarts none asked base) own status ends
+    First (IsOnly asked.only) (λ range.
+    First (IsProgramAt none base asked.image asked.also.items) (λ program.
+    First (IsRead none asked.capture) (WritesLogsOf asked.lossy asked.harts range program)))) own status ends
+    (λ base is prints. not_first (IsOnly asked.only) (λ range.
+    First (IsProgramAt none base asked.image asked.also.items) (λ program.
+    First (IsRead none asked.capture) (WritesLogsOf asked.lossy asked.harts range program))) own status ends
     (λ range found logs. not_first (IsProgramAt none base asked.image asked.also.items) (λ program.
     First (IsRead none asked.capture) (WritesLogsOf asked.lossy asked.harts range program)) own status ends
     (λ program made written. no_program base asked.image asked.also.items program made) logs) prints)

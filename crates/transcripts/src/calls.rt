@@ -1,10 +1,11 @@
 //! Calls of what shows progress, over a clock and a terminal in memory.
 
-use crate::parts::{malformed, number_of};
-use entry::{Amount, ProgressLine, is_due, is_looked_at};
-use std::alloc::Global;
+use crate::parts::add;
+use cases::Case;
+use commands::{Amount, ProgressLine, is_due, is_looked_at};
+use std::fmt::Display;
 use std::io;
-use std::io::{ErrorKind, Write};
+use std::io::ErrorKind;
 use std::rt::Clock;
 use std::sync::atomic::{AtomicU64, Ordering};
 use std::time::Duration;
@@ -53,44 +54,45 @@ impl Progress {
     /// - `looked BEFORE NOW`: whether the clock is looked at;
     /// - `new`: another line, which is not begun;
     /// - `begin MILLIS TOTAL`, `read MILLIS COUNT`, `messages MILLIS COUNT`, `end`: a call of the line at this time.
-    pub(crate) fn call(&mut self, alloc: Global, text: &str, out: &mut Vec<u8>) -> io::Result<()> {
+    pub(crate) fn call(&mut self, case: &mut Case<'_>, text: &str, out: &mut Vec<u8>) {
         let mut words = text.split_whitespace();
         let verb = words.next().unwrap_or("");
-        let first = number_of(words.next().unwrap_or("0"))?;
-        let second = number_of(words.next().unwrap_or("0"))?;
+        let first = case.decimal(words.next().unwrap_or("0"));
+        let second = case.decimal(words.next().unwrap_or("0"));
         match verb {
-            "amount" => writeln!(out, "{}", Amount::of(first, second)),
-            "due" => writeln!(out, "{}", is_due(first, second)),
-            "looked" => writeln!(out, "{}", is_looked_at(first, second)),
-            "new" => {
-                *self = Progress::new();
-                Ok(())
-            }
-            "end" => {
-                self.line.end(out);
-                Ok(())
-            }
-            _ => self.call_at(alloc, verb, first, second, out),
+            "amount" => add_shown(case, out, Amount::of(first, second)),
+            "due" => add_shown(case, out, is_due(first, second)),
+            "looked" => add_shown(case, out, is_looked_at(first, second)),
+            "new" => *self = Progress::new(),
+            "end" => self.line.end(out),
+            _ => self.call_at(case, verb, (first, second), out),
         }
     }
 
     /// Makes a call of the line at a time.
     fn call_at(
         &mut self,
-        alloc: Global,
+        case: &mut Case<'_>,
         verb: &str,
-        millis: u64,
-        count: u64,
+        (millis, count): (u64, u64),
         out: &mut Vec<u8>,
-    ) -> io::Result<()> {
+    ) {
         let Progress { line, clock } = self;
         clock.millis.store(millis, Ordering::SeqCst);
         match verb {
             "begin" => line.begin(clock, count),
-            "read" => line.add(clock, alloc, out, count as usize),
-            "messages" => line.add_messages(clock, alloc, out, count),
-            _ => return Err(malformed()),
+            "read" => line.add(clock, case.alloc, out, count as usize),
+            "messages" => line.add_messages(clock, case.alloc, out, count),
+            _ => case.unread(),
         }
-        Ok(())
     }
+}
+
+/// Appends a line with what has a text.
+pub(crate) fn add_shown<D: Display + Drop>(case: &mut Case<'_>, out: &mut Vec<u8>, shown: D) {
+    let mut line = case.again();
+    line.put_shown(shown);
+    line.put("\n");
+    case.join(&line);
+    add(case, out, line.came.as_bytes());
 }

@@ -3,7 +3,7 @@
 ghost use Rattle.std.specs.Prelude.{◌≢◌};
 
 use crate::shelf::Shelf;
-use entry::command;
+use commands::command;
 use std::sync::Wait;
 use std::thread::Threads;
 

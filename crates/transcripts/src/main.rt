@@ -13,7 +13,7 @@ mod requests;
 mod shelf;
 mod verdict;
 
-use entry::{Disk, Terminal};
+use commands::{Disk, Terminal};
 use std::io;
 use std::process::ExitCode;
 

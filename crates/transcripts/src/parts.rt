@@ -1,134 +1,120 @@
 //! What the lines of a transcript add to a content.
 
 use crate::shelf::Shelf;
-use std::alloc::{AllocError, Global};
-use std::io;
-use std::io::ErrorKind;
-
-/// The error of a line that has no meaning.
-pub(crate) fn malformed() -> io::Error {
-    io::Error::from(ErrorKind::InvalidData)
-}
-
-/// The number that a text of decimal digits is.
-pub(crate) fn number_of(text: &str) -> io::Result<u64> {
-    text.parse().map_err(|_| malformed())
-}
-
-/// The number that a text of hexadecimal digits is.
-fn hexadecimal(digits: &str) -> io::Result<u64> {
-    u64::from_str_radix(digits, 16).map_err(|_| malformed())
-}
+use cases::{Case, bytes_of};
 
 /// Both sides of the first separator in a text.
-fn split<'a>(text: &'a str, separator: &str) -> io::Result<(&'a str, &'a str)> {
-    text.split_once(separator).ok_or_else(malformed)
-}
-
-/// Appends the bytes that pairs of hexadecimal digits are; spaces may be anywhere between them.
-fn add_bytes(content: &mut Vec<u8>, digits: &str) -> io::Result<()> {
-    for word in digits.split_whitespace() {
-        for pair in word.as_bytes().chunks(2) {
-            let pair = str::from_utf8(pair).map_err(|_| malformed())?;
-            let byte = u8::from_str_radix(pair, 16).map_err(|_| malformed())?;
-            content.push(byte)?;
+fn split<'t>(case: &mut Case<'_>, text: &'t str, separator: &str) -> (&'t str, &'t str) {
+    match text.split_once(separator) {
+        Some(sides) => sides,
+        None => {
+            case.unread();
+            ("", "")
         }
     }
-    Ok(())
+}
+
+/// Appends bytes.
+pub(crate) fn add(case: &mut Case<'_>, content: &mut Vec<u8>, bytes: &[u8]) {
+    let done = content.extend_from_slice(bytes);
+    case.note(done);
 }
 
 /// Appends a message: its hart, its number, and the bytes of its payload after their count.
-fn add_message(content: &mut Vec<u8>, text: &str) -> io::Result<()> {
-    let (hart, rest) = split(text, " ")?;
-    let (number, payload) = split(rest, " ")?;
-    let [low, high, ..] = number_of(hart)?.to_le_bytes();
-    content.extend_from_slice(&[low, high])?;
-    content.extend_from_slice(&number_of(number)?.to_le_bytes())?;
-    content.push((payload.len() / 2).min(255) as u8)?;
-    add_bytes(content, payload)
+fn add_message(case: &mut Case<'_>, content: &mut Vec<u8>, text: &str) {
+    let (hart, rest) = split(case, text, " ");
+    let (number, digits) = split(case, rest, " ");
+    let [low, high, ..] = case.decimal(hart).to_le_bytes();
+    let number = case.decimal(number).to_le_bytes();
+    let payload = bytes_of(case, digits);
+    add(case, content, &[low, high]);
+    add(case, content, &number);
+    case.push(content, payload.len().min(255) as u8);
+    add(case, content, payload.as_slice());
 }
 
 /// Appends what a text means, by its form: `=` bytes, `~` a message, `<` a file, `+` the text itself, and else a line.
-fn add_form(shelf: &Shelf, content: &mut Vec<u8>, form: char, text: &str) -> io::Result<()> {
+fn add_form(case: &mut Case<'_>, shelf: &Shelf, content: &mut Vec<u8>, form: char, text: &str) {
     match form {
-        '=' => add_bytes(content, text),
-        '~' => add_message(content, text),
-        '<' => {
-            let bytes = shelf.content(text).ok_or_else(malformed)?;
-            Ok(content.extend_from_slice(bytes)?)
+        '=' => {
+            let bytes = bytes_of(case, text);
+            add(case, content, bytes.as_slice());
         }
-        '+' => Ok(content.extend_from_slice(text.as_bytes())?),
+        '~' => add_message(case, content, text),
+        '<' => match shelf.content(text) {
+            Some(bytes) => add(case, content, bytes),
+            None => case.unread(),
+        },
+        '+' => add(case, content, text.as_bytes()),
         _ => {
-            content.extend_from_slice(text.as_bytes())?;
-            Ok(content.push(b'\n')?)
+            add(case, content, text.as_bytes());
+            add(case, content, b"\n");
         }
     }
-}
-
-/// The text with a number for each `@`; `@{A+S}` is the hexadecimal number A, and S more for each number from 0 on,
-/// with eight digits at least.
-fn numbered(alloc: Global, text: &str, number: u64) -> io::Result<String> {
-    let mut whole = String::new(alloc);
-    for (i, part) in text.split('@').enumerate() {
-        if i == 0 {
-            whole.push_str(part)?;
-        } else {
-            push_numbered(&mut whole, part, number)?;
-        }
-    }
-    Ok(whole)
 }
 
 /// Appends the number before a part of a text, and the part without its step.
-fn push_numbered(whole: &mut String, part: &str, number: u64) -> io::Result<()> {
-    match part.strip_prefix('{') {
-        Some(rest) => {
-            let (first, rest) = split(rest, "+")?;
-            let (step, rest) = split(rest, "}")?;
-            let added = hexadecimal(step)?.wrapping_mul(number);
-            let sum = hexadecimal(first)?.wrapping_add(added);
-            Ok(write!(whole, "{sum:08x}{rest}")?)
+fn put_numbered(case: &mut Case<'_>, part: &str, number: u64) {
+    let Some(rest) = part.strip_prefix('{') else {
+        case.put_shown(number);
+        return case.put(part);
+    };
+    let (first, rest) = split(case, rest, "+");
+    let (step, rest) = split(case, rest, "}");
+    let added = case.hex(step).wrapping_mul(number);
+    let sum = case.hex(first).wrapping_add(added);
+    let done = write!(case.came, "{sum:08x}");
+    case.note(done);
+    case.put(rest);
+}
+
+/// Appends the text with a number for each `@`; `@{A+S}` is the hexadecimal number A, and S more for each number from 0
+/// on, with eight digits at least.
+fn put_whole(case: &mut Case<'_>, text: &str, number: u64) {
+    for (i, part) in text.split('@').enumerate() {
+        if i == 0 {
+            case.put(part);
+        } else {
+            put_numbered(case, part, number);
         }
-        None => Ok(write!(whole, "{number}{part}")?),
     }
 }
 
-/// Appends what a text means at each of the times from the first to before the end, in lines that `\n` separates.
-fn add_times(
-    alloc: Global,
+/// Appends what a text means at one of several times, in lines that `\n` separates.
+fn add_time(
+    case: &mut Case<'_>,
     shelf: &Shelf,
     content: &mut Vec<u8>,
-    (first, end): (u64, u64),
+    time: u64,
     (form, text): (char, &str),
-) -> io::Result<()> {
-    for time in first..end {
-        for line in text.split("\\n") {
-            let line = numbered(alloc, line, time)?;
-            add_form(shelf, content, form, line.as_str())?;
-        }
+) {
+    for line in text.split("\\n") {
+        let mut whole = case.again();
+        put_whole(&mut whole, line, time);
+        case.join(&whole);
+        add_form(case, shelf, content, form, whole.came.as_str());
     }
-    Ok(())
 }
 
 /// The first and last number of a range such as `1..11}`, and the text after it.
-pub(crate) fn range_at(text: &str) -> io::Result<(u64, u64, &str)> {
-    let (first, rest) = split(text, "..")?;
-    let (last, rest) = split(rest, "}")?;
-    Ok((number_of(first)?, number_of(last)?, rest))
+fn range_at<'t>(case: &mut Case<'_>, text: &'t str) -> (u64, u64, &'t str) {
+    let (first, rest) = split(case, text, "..");
+    let (last, rest) = split(case, rest, "}");
+    (case.decimal(first), case.decimal(last), rest)
 }
 
 /// The times that a text begins with, as a count or a range: the first, the number after the last, and the text after
 /// them.
-fn times_at(text: &str) -> io::Result<(u64, u64, &str)> {
+fn times_at<'t>(case: &mut Case<'_>, text: &'t str) -> (u64, u64, &'t str) {
     if let Some(range) = text.strip_prefix('{') {
-        let (first, last, rest) = range_at(range)?;
-        return Ok((first, last.saturating_add(1), rest));
+        let (first, last, rest) = range_at(case, range);
+        return (first, last.saturating_add(1), rest);
     }
     let digits = text
         .find(|c: char| !c.is_ascii_digit())
         .unwrap_or(text.len());
     let (count, rest) = text.split_at(digits);
-    Ok((0, number_of(count)?, rest))
+    (0, case.decimal(count), rest)
 }
 
 /// The form of a line, and the text after it, which a space may separate from it.
@@ -139,72 +125,57 @@ fn form_at(line: &str) -> (char, &str) {
 }
 
 /// Appends what a line means: a form and a text, or `*`, the times that they are meant, and both.
-pub(crate) fn add_line(
-    alloc: Global,
-    shelf: &Shelf,
-    content: &mut Vec<u8>,
-    line: &str,
-) -> io::Result<()> {
-    match line.strip_prefix('*') {
-        Some(counted) => {
-            let (first, end, rest) = times_at(counted)?;
-            add_times(alloc, shelf, content, (first, end), form_at(rest))
-        }
-        None => {
-            let (form, text) = form_at(line);
-            add_form(shelf, content, form, text)
-        }
-    }
-}
-
-/// Appends a character of an argument: `␣`, `␉` and `␤` are a blank, a tabulator and an end of line.
-fn push_character(word: &mut String, character: char) -> Result<(), AllocError> {
-    word.push(match character {
-        '␣' => ' ',
-        '␉' => '\t',
-        '␤' => '\n',
-        other => other,
-    })
-}
-
-/// Adds an argument, with this number for a range in braces.
-fn add_word(alloc: Global, words: &mut Vec<String>, word: &str, number: u64) -> io::Result<()> {
-    let mut text = String::new(alloc);
-    let (name, is_numbered) = match word.split_once('{') {
-        Some((name, _)) => (name, true),
-        None => (word, false),
+pub(crate) fn add_line(case: &mut Case<'_>, shelf: &Shelf, content: &mut Vec<u8>, line: &str) {
+    let Some(counted) = line.strip_prefix('*') else {
+        let (form, text) = form_at(line);
+        return add_form(case, shelf, content, form, text);
     };
+    let (first, end, rest) = times_at(case, counted);
+    for time in first..end {
+        add_time(case, shelf, content, time, form_at(rest));
+    }
+}
+
+/// Adds an argument, with this number for a range in braces. In it `␣`, `␉` and `␤` are a blank, a tabulator and an end
+/// of line.
+fn add_word(case: &mut Case<'_>, words: &mut Vec<String>, word: &str, number: u64) {
+    let mut text = case.again();
+    let (name, range) = word.split_once('{').unwrap_or((word, ""));
     for character in name.chars() {
-        push_character(&mut text, character)?;
+        let done = text.came.push(match character {
+            '␣' => ' ',
+            '␉' => '\t',
+            '␤' => '\n',
+            other => other,
+        });
+        text.note(done);
     }
-    if is_numbered {
-        write!(text, "{number}")?;
+    if !range.is_empty() {
+        text.put_shown(number);
     }
-    Ok(words.push(text)?)
+    case.join(&text);
+    case.push(words, text.came);
 }
 
 /// The arguments of a line, with this number for a range in braces; `COUNT*WORD` repeats an argument.
-pub(crate) fn words_of(alloc: Global, line: &str, number: u64) -> io::Result<Vec<String>> {
-    let mut words = Vec::new(alloc);
+pub(crate) fn words_of(case: &mut Case<'_>, line: &str, number: u64) -> Vec<String> {
+    let mut words = Vec::new(case.alloc);
     for word in line.split_whitespace() {
-        let (times, word) = match word.split_once('*') {
-            Some((count, word)) => (number_of(count)?, word),
-            None => (1, word),
-        };
+        let (times, word) = case.times(word);
         for _ in 0..times {
-            add_word(alloc, &mut words, word, number)?;
+            add_word(case, &mut words, word, number);
         }
     }
-    Ok(words)
+    words
 }
 
 /// The first and last number of the range in braces of a line, such as `{1..11}`; 0 and 0 where it has none.
-pub(crate) fn range_of(line: &str) -> io::Result<(u64, u64)> {
+pub(crate) fn range_of(case: &mut Case<'_>, line: &str) -> (u64, u64) {
     match line.split_once('{') {
         Some((_, rest)) => {
-            let (first, last, _) = range_at(rest)?;
-            Ok((first, last))
+            let (first, last, _) = range_at(case, rest);
+            (first, last)
         }
-        None => Ok((0, 0)),
+        None => (0, 0),
     }
 }

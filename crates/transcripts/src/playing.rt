@@ -1,18 +1,18 @@
 //! Transcripts, played.
 
+use crate::calls::add_shown;
 use crate::content::run_over_none;
 use crate::failing::FailsAt;
 use crate::parts::{range_of, words_of};
 use crate::reading::{Page, Run, WAYS, Way, ends_run};
-use crate::requests::push_asked;
+use crate::requests::put_asked;
 use crate::shelf::Shelf;
 use crate::verdict::{Outcome, Verdict};
-use cases::{DataFile, Tally, data_files};
+use cases::{Case, DataFile, Tally, data_files};
 use cli::asked;
-use commands::Files;
-use entry::command;
+use commands::{Files, command};
 use std::alloc::{AllocError, Global};
-use std::io::{ErrorKind, Write};
+use std::io::ErrorKind;
 use std::process::ExitCode;
 use std::rt::{Env, Files as Host};
 use std::sync::Wait;
@@ -68,8 +68,9 @@ where
         if ends_run(line) {
             end_run(rt, disk, tally, place.0, &mut page, way)?;
         }
-        let read = page.read_line(rt.alloc(), place.1, line);
-        count_malformed(rt, tally, place, line, read)?;
+        let mut notes = Case::new(rt.alloc(), "");
+        page.read_line(&mut notes, place.1, line);
+        count_malformed(rt, tally, place, line, &notes)?;
     }
     end_run(rt, disk, tally, file.name.as_str(), &mut page, way)
 }
@@ -80,15 +81,12 @@ fn count_malformed(
     tally: &mut Tally,
     place: (&str, usize),
     line: &str,
-    read: io::Result<()>,
+    notes: &Case<'_>,
 ) -> io::Result<()> {
-    match read {
-        Ok(()) => Ok(()),
-        Err(error) if error.kind() == ErrorKind::InvalidData => {
-            tally.count(rt, place, "a line with a meaning", line)
-        }
-        Err(error) => Err(error),
+    if notes.is_read()? {
+        return Ok(());
     }
+    tally.count(rt, place, "a line with a meaning", line)
 }
 
 /// Plays the run that is under way, if it is played in this way. No run is under way then.
@@ -105,8 +103,9 @@ where
 {
     if !page.run.line.is_empty() && way.is_among(page.ways) {
         let place = (name, page.run.number);
-        let played = play_run(rt, disk, tally, place, page, way);
-        count_malformed(rt, tally, place, page.run.line, played)?;
+        let mut notes = Case::new(rt.alloc(), "");
+        play_run(rt, disk, tally, place, page, way, &mut notes)?;
+        count_malformed(rt, tally, place, page.run.line, &notes)?;
     }
     page.run = Run::new(rt.alloc(), 0, "");
     Ok(())
@@ -120,14 +119,15 @@ fn play_run<R: Host + Eprint + AllocGlobal + Threads + Wait + Sync, D: Files + S
     place: (&str, usize),
     page: &mut Page<'_>,
     way: Way,
+    notes: &mut Case<'_>,
 ) -> io::Result<()>
 where
     D::Reader: Send,
 {
-    let (first, last) = range_of(page.run.line)?;
+    let (first, last) = range_of(notes, page.run.line);
     for number in first..last.saturating_add(1) {
         let mut verdict = Verdict::new(rt.alloc());
-        play_number(rt, disk, page, way, number, &mut verdict)?;
+        play_number(rt, disk, page, way, number, notes, &mut verdict)?;
         let Verdict { wanted, came } = verdict;
         tally.count(rt, place, wanted.as_str(), came.as_str())?;
     }
@@ -141,20 +141,21 @@ fn play_number<R: Host + AllocGlobal + Threads + Wait + Sync, D: Files + Sync>(
     page: &mut Page<'_>,
     way: Way,
     number: u64,
+    notes: &mut Case<'_>,
     verdict: &mut Verdict,
 ) -> io::Result<()>
 where
     D::Reader: Send,
 {
     if let Some(text) = page.run.line.strip_prefix("& ") {
-        return is_called(rt, disk, page, text, verdict);
+        return is_called(rt, disk, page, text, notes, verdict);
     }
     if let Some(line) = page.run.line.strip_prefix('%') {
-        let words = words_of(rt.alloc(), line, number)?;
+        let words = words_of(notes, line, number);
         return Ok(is_asked(rt.alloc(), words.as_slice(), &page.run, verdict)?);
     }
     let line = page.run.line.strip_prefix('$').unwrap_or("");
-    let mut words = words_of(rt.alloc(), line, number)?;
+    let mut words = words_of(notes, line, number);
     if matches!(way, Way::Shown) && is_among(words.as_slice(), &READERS) {
         words.push(String::from_str(rt.alloc(), "--progress")?)?;
     }
@@ -177,15 +178,16 @@ fn is_called<R: Host + AllocGlobal, D: Files>(
     disk: &D,
     page: &mut Page<'_>,
     text: &str,
+    notes: &mut Case<'_>,
     verdict: &mut Verdict,
 ) -> io::Result<()> {
     let mut out = Vec::new(rt.alloc());
     match text.strip_prefix("regular ") {
         Some(path) => {
             put_file(rt, &page.shelf, path)?;
-            writeln!(out, "{}", disk.is_regular(path))?;
+            add_shown(notes, &mut out, disk.is_regular(path));
         }
-        None => page.progress.call(rt.alloc(), text, &mut out)?,
+        None => page.progress.call(notes, text, &mut out),
     }
     let came = (0, out.as_slice(), b"".as_slice());
     Ok(verdict.ends(0, page.run.outcome(), came)?)
@@ -198,13 +200,17 @@ fn is_asked(
     run: &Run<'_>,
     verdict: &mut Verdict,
 ) -> Result<(), AllocError> {
-    let mut out = String::new(alloc);
-    let mut err = String::new(alloc);
+    let mut out = Case::new(alloc, "");
+    let mut err = Case::new(alloc, "");
     match asked(alloc, words) {
-        Ok(request) => push_asked(&mut out, &request)?,
-        Err(error) => write!(err, "{error}")?,
+        Ok(request) => put_asked(&mut out, &request),
+        Err(error) => err.put_shown(error),
     }
-    verdict.ends(0, run.outcome(), (0, out.as_bytes(), err.as_bytes()))
+    if out.is_failed() || err.is_failed() {
+        return Err(AllocError);
+    }
+    let came = (0, out.came.as_bytes(), err.came.as_bytes());
+    verdict.ends(0, run.outcome(), came)
 }
 
 /// Whether the subcommand of a line is one of these.

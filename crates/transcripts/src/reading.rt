@@ -26,11 +26,11 @@
 //! often than its arguments name it, and one of status 0 or 1 reads each as often. A request has no status.
 
 use crate::calls::Progress;
-use crate::parts::{add_line, malformed, number_of};
+use crate::parts::{add, add_line};
 use crate::shelf::Shelf;
 use crate::verdict::Outcome;
+use cases::Case;
 use std::alloc::Global;
-use std::io;
 
 /// How the runs of a transcript are played.
 #[derive(Clone, Copy)]
@@ -133,17 +133,15 @@ impl<'a> Run<'a> {
     }
 
     /// Adds to what is expected.
-    fn expect(&mut self, alloc: Global, shelf: &Shelf, line: &str) -> io::Result<()> {
+    fn expect(&mut self, case: &mut Case<'_>, shelf: &Shelf, line: &str) {
         if self.line.is_empty() {
-            return Err(malformed());
-        }
-        if let Some(text) = line.strip_prefix('>') {
-            add_line(alloc, shelf, &mut self.written, text)
+            case.unread();
+        } else if let Some(text) = line.strip_prefix('>') {
+            add_line(case, shelf, &mut self.written, text);
         } else if let Some(text) = line.strip_prefix('!') {
-            add_line(alloc, shelf, &mut self.reported, text)
+            add_line(case, shelf, &mut self.reported, text);
         } else {
-            self.status = number_of(line.strip_prefix("? ").ok_or_else(malformed)?)?;
-            Ok(())
+            self.status = case.decimal(line.strip_prefix("? ").unwrap_or(""));
         }
     }
 }
@@ -170,39 +168,36 @@ impl<'a> Page<'a> {
         }
     }
 
+    /// Adds to the newest file.
+    fn fill(&mut self, case: &mut Case<'_>, text: &str) {
+        let mut bytes = Vec::new(case.alloc);
+        add_line(case, &self.shelf, &mut bytes, text);
+        match self.shelf.newest() {
+            Some(file) => add(case, file, bytes.as_slice()),
+            None => case.unread(),
+        }
+    }
+
     /// Reads a line: it begins a file or a run, or adds to one.
-    pub(crate) fn read_line(
-        &mut self,
-        alloc: Global,
-        number: usize,
-        line: &'a str,
-    ) -> io::Result<()> {
+    pub(crate) fn read_line(&mut self, case: &mut Case<'_>, number: usize, line: &'a str) {
         if line.is_empty() || line.starts_with('#') {
-            return Ok(());
+            return;
         }
         if line.starts_with(['$', '%', '&']) {
-            self.run = Run::new(alloc, number, line);
-            return if self.ways.is_empty() {
-                Err(malformed())
-            } else {
-                Ok(())
-            };
-        }
-        if let Some(content) = line.strip_prefix('|') {
-            let mut bytes = Vec::new(alloc);
-            add_line(alloc, &self.shelf, &mut bytes, content)?;
-            let file = self.shelf.newest().ok_or_else(malformed)?;
-            return Ok(file.extend_from_slice(bytes.as_slice())?);
-        }
-        if let Some(name) = line.strip_prefix("file ") {
-            return Ok(self.shelf.begin(name)?);
-        }
-        match line.strip_prefix("played ") {
-            Some(names) if are_ways(names) => {
-                self.ways = names;
-                Ok(())
+            self.run = Run::new(case.alloc, number, line);
+            if self.ways.is_empty() {
+                case.unread();
             }
-            _ => self.run.expect(alloc, &self.shelf, line),
+        } else if let Some(content) = line.strip_prefix('|') {
+            self.fill(case, content);
+        } else if let Some(name) = line.strip_prefix("file ") {
+            let done = self.shelf.begin(name);
+            case.note(done);
+        } else {
+            match line.strip_prefix("played ") {
+                Some(names) if are_ways(names) => self.ways = names,
+                _ => self.run.expect(case, &self.shelf, line),
+            }
         }
     }
 }

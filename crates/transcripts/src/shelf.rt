@@ -1,7 +1,7 @@
 //! Files in memory.
 
 ghost use Rattle.std.specs.Prelude.{◌≡◌, ◌⊎◌, [], MatchOption, MatchResult, map, string_bytes};
-ghost use Rattle.files.specs.Known.{Absent, Present, content_in};
+ghost use Rattle.log_streams.specs.Known.{Absent, Present, content_in};
 
 use commands::{FileFault, FileReader, Files};
 use retire::Given;

@@ -1,12 +1,11 @@
 //! Cases of decoders (`decoder`), each in all ways of feeding.
 
-use crate::readers::{Sent, Stop, sent_of};
-use crate::writers::{add_rows, add_word};
+use cases::{Case, bytes_of, mode_of, outcomes_of, put_rows};
 use decoder::{DecodeFault, Decoder, Lines};
-use payload::Packet;
+use payload::{Packet, unpack};
 use retire::Event;
 use rvclass::Program;
-use std::alloc::{AllocError, Global};
+use std::alloc::Global;
 
 /// How a decoder is fed.
 #[derive(Clone, Copy)]
@@ -33,12 +32,34 @@ const OLD: Event = Event::Retire {
     privilege: 0,
 };
 
-/// Adds the events of a piece after its old one to a list, and takes them out of the piece.
-fn move_over(piece: &mut Vec<Event>, log: &mut Vec<Event>) -> Result<(), AllocError> {
+/// How a program is walked: by itself, and along its lines without leaps and with them.
+#[derive(Clone, Copy)]
+struct Walks<'p> {
+    program: &'p Program,
+    plain: &'p Lines<'p, Global>,
+    leaps: &'p Lines<'p, Global>,
+}
+
+/// A list with capacity for so many events after an old one.
+fn piece_for(case: &mut Case<'_>, room: usize) -> Vec<Event> {
+    match Vec::with_capacity(case.alloc, room.saturating_add(1)) {
+        Ok(mut piece) => {
+            case.push(&mut piece, OLD);
+            piece
+        }
+        Err(_) => {
+            case.no_memory();
+            Vec::new(case.alloc)
+        }
+    }
+}
+
+/// Moves the events of a piece after its old one to a list.
+fn move_over(case: &mut Case<'_>, piece: &mut Vec<Event>, log: &mut Vec<Event>) {
     let added = piece.as_slice().get(1..).unwrap_or(&[]);
-    log.extend_from_slice(added)?;
+    let done = log.extend_from_slice(added);
+    case.note(done);
     piece.truncate(1);
-    Ok(())
 }
 
 /// Whether a packet's events are all in its first piece, or none since there are more of them than it has capacity for.
@@ -49,153 +70,162 @@ fn is_first_piece(count: usize, piece: usize, room: usize) -> bool {
 /// Feeds a packet in pieces with capacity for so many events. What pieces without capacity leave is handed out at once.
 /// `None` is where a piece does not have as many events as it has to.
 fn feed_in_pieces(
-    alloc: Global,
+    case: &mut Case<'_>,
     lines: &Lines<'_, Global>,
     decoder: &mut Decoder,
     packet: &Packet,
     log: &mut Vec<Event>,
     room: usize,
-) -> Result<Option<Result<(), DecodeFault>>, AllocError> {
-    let mut piece = Vec::with_capacity(alloc, room.saturating_add(1))?;
-    piece.push(OLD)?;
+) -> Option<Result<(), DecodeFault>> {
+    let mut piece = piece_for(case, room);
     let mut left = match decoder.feed_in_pieces(lines.paths(), packet, &mut piece) {
         Ok(left) => left,
-        Err(fault) => return Ok((piece.as_slice() == [OLD].as_slice()).then_some(Err(fault))),
+        Err(fault) => return (piece.as_slice() == [OLD].as_slice()).then_some(Err(fault)),
     };
     let count = left.len();
     let mut right = is_first_piece(count, piece.len(), room) && left.is_empty() == (count == 0);
-    move_over(&mut piece, log)?;
+    move_over(case, &mut piece, log);
     for _ in 0..count {
         let before = left.len();
         left.next_piece(&mut piece);
         let handed = before.min(room);
         right &= piece.len() == handed.saturating_add(1);
         right &= left.len() == before.saturating_sub(handed);
-        move_over(&mut piece, log)?;
+        move_over(case, &mut piece, log);
     }
-    let mut last = Vec::with_capacity(alloc, left.len().saturating_add(1))?;
-    last.push(OLD)?;
+    let mut last = piece_for(case, left.len());
     left.next_piece(&mut last);
-    move_over(&mut last, log)?;
-    Ok((right && left.is_empty()).then_some(Ok(())))
+    move_over(case, &mut last, log);
+    (right && left.is_empty()).then_some(Ok(()))
 }
 
 /// Feeds a packet. `None` is where the call breaks its promise.
 fn feed(
-    alloc: Global,
-    (program, plain, leaps): (&Program, &Lines<'_, Global>, &Lines<'_, Global>),
+    case: &mut Case<'_>,
+    walks: Walks<'_>,
     decoder: &mut Decoder,
     packet: &Packet,
     log: &mut Vec<Event>,
     way: Way,
-) -> Result<Option<Result<(), DecodeFault>>, AllocError> {
+) -> Option<Result<(), DecodeFault>> {
     match way {
         Way::Full => {
-            *log = log.as_slice().to_vec(alloc)?;
-            Ok(Some(decoder.feed(program, packet, log)))
+            *log = case.copied(log.as_slice());
+            Some(decoder.feed(walks.program, packet, log))
         }
         Way::Ample => {
-            log.reserve(64)?;
-            Ok(Some(decoder.feed(program, packet, log)))
+            let done = log.reserve(64);
+            case.note(done);
+            Some(decoder.feed(walks.program, packet, log))
         }
-        Way::Leaps => Ok(Some(decoder.feed_by(leaps.paths(), packet, log))),
-        Way::Pieces(room) => feed_in_pieces(alloc, plain, decoder, packet, log, room),
-        Way::LeapsInPieces(room) => feed_in_pieces(alloc, leaps, decoder, packet, log, room),
+        Way::Leaps => Some(decoder.feed_by(walks.leaps.paths(), packet, log)),
+        Way::Pieces(room) => feed_in_pieces(case, walks.plain, decoder, packet, log, room),
+        Way::LeapsInPieces(room) => feed_in_pieces(case, walks.leaps, decoder, packet, log, room),
     }
 }
 
-/// What decoders gave: after each packet how many events the list has or the fault, and the events.
+/// What decoders give: after each packet how many events the list has or the fault, and the events.
 #[derive(Drop)]
-struct Given {
-    answers: String,
-    rows: String,
+struct Given<'a> {
+    answers: Case<'a>,
+    rows: Case<'a>,
 }
 
 /// Appends how many events the list has after a packet, or its fault. A fault leaves all as it was. A packet that closes
 /// the trace closes the decoder, and no other packet does.
-fn add_answer(
-    answers: &mut String,
+fn put_answer(
+    answers: &mut Case<'_>,
     packet: &Packet,
     answer: Result<(), DecodeFault>,
     (before, decoder): (&Decoder, &Decoder),
     (count, length): (usize, usize),
-) -> Result<(), AllocError> {
+) {
     let late = answer == Err(DecodeFault::AfterClose);
     let closes = late || packet.is_closing() && answer.is_ok();
     match answer {
-        Ok(()) => add_word(answers, length)?,
+        Ok(()) => answers.put_word(length),
         Err(fault) => {
-            add_word(answers, "")?;
-            write!(answers, "{fault:?}")?;
+            answers.put_word("");
+            answers.put_debug(fault);
             if count != length || decoder.state() != before.state() {
-                add_word(answers, "changed")?;
+                answers.put_word("changed");
             }
         }
     }
     if before.is_closed() != late || decoder.is_closed() != closes {
-        add_word(answers, "not closed right")?;
+        answers.put_word("not closed right");
     }
-    Ok(())
 }
 
-/// What is given in one way.
-fn fed(
-    alloc: Global,
-    walks: (&Program, &Lines<'_, Global>, &Lines<'_, Global>),
-    sent: &str,
-    way: Way,
-) -> Result<Given, Stop> {
-    let mut given = Given {
-        answers: String::new(alloc),
-        rows: String::new(alloc),
-    };
-    let mut decoder = Decoder::new();
-    let mut log = Vec::new(alloc);
-    for word in sent.split_whitespace() {
-        match sent_of(alloc, word)? {
-            Sent::Lost(mode) => {
-                decoder.resume(mode);
-                add_rows(&mut given.rows, log.as_slice())?;
-                add_word(&mut given.rows, "|")?;
-                add_word(&mut given.answers, "|")?;
-                log = Vec::new(alloc);
+impl Given<'_> {
+    /// Begins a stretch after packets that are lost.
+    fn lose(&mut self, log: &mut Vec<Event>) {
+        put_rows(&mut self.rows, log.as_slice());
+        self.rows.put_word("|");
+        self.answers.put_word("|");
+        *log = Vec::new(self.rows.alloc);
+    }
+
+    /// Takes the answer of a packet.
+    fn feed(
+        &mut self,
+        walks: Walks<'_>,
+        decoder: &mut Decoder,
+        packet: &Packet,
+        log: &mut Vec<Event>,
+        way: Way,
+    ) {
+        let before = *decoder;
+        let count = log.len();
+        let answers = &mut self.answers;
+        match feed(answers, walks, decoder, packet, log, way) {
+            Some(answer) => {
+                let counts = (count, log.len());
+                put_answer(answers, packet, answer, (&before, &*decoder), counts);
             }
-            Sent::Packet(packet) => {
-                let (before, count) = (decoder, log.len());
-                match feed(alloc, walks, &mut decoder, &packet, &mut log, way)? {
-                    Some(answer) => {
-                        let counts = (count, log.len());
-                        let both = (&before, &decoder);
-                        add_answer(&mut given.answers, &packet, answer, both, counts)?;
-                    }
-                    None => add_word(&mut given.answers, "other pieces")?,
-                }
-            }
+            None => answers.put_word("other pieces"),
         }
     }
-    add_rows(&mut given.rows, log.as_slice())?;
-    if decoder.is_closed() {
-        add_word(&mut given.rows, "closed")?;
+}
+
+/// The packet of an argument: `map:OUTCOMES`, or the payload of a packet.
+fn packet_in(case: &mut Case<'_>, word: &str) -> Option<Packet> {
+    if let Some(digits) = word.strip_prefix("map:") {
+        return Some(Packet::Map(outcomes_of(digits)));
     }
-    Ok(given)
+    let packet = unpack(bytes_of(case, word).as_slice()).ok();
+    if packet.is_none() {
+        case.unread();
+    }
+    packet
+}
+
+/// What is given in one way. `lost=MODE` begins a stretch.
+fn fed<'a>(case: &Case<'a>, walks: Walks<'_>, way: Way) -> Given<'a> {
+    let mut given = Given {
+        answers: case.again(),
+        rows: case.again(),
+    };
+    let mut decoder = Decoder::new();
+    let mut log = Vec::new(case.alloc);
+    for word in case.text.split_whitespace() {
+        if let Some(name) = word.strip_prefix("lost=") {
+            decoder.resume(mode_of(&mut given.rows, name));
+            given.lose(&mut log);
+        } else if let Some(packet) = packet_in(&mut given.rows, word) {
+            given.feed(walks, &mut decoder, &packet, &mut log, way);
+        }
+    }
+    put_rows(&mut given.rows, log.as_slice());
+    if decoder.is_closed() {
+        given.rows.put_word("closed");
+    }
+    given
 }
 
 /// Appends what is given in another way, if it is something else.
-fn add_other(
-    alloc: Global,
-    walks: (&Program, &Lines<'_, Global>, &Lines<'_, Global>),
-    sent: &str,
-    first: &Given,
-    way: Way,
-    came: &mut String,
-) -> Result<(), Stop> {
-    let other = fed(alloc, walks, sent, way)?;
-    if other.answers.as_str() == first.answers.as_str()
-        && other.rows.as_str() == first.rows.as_str()
-    {
-        return Ok(());
-    }
-    let (answers, rows) = (other.answers, other.rows);
+fn put_other(case: &mut Case<'_>, walks: Walks<'_>, first: &Given<'_>, way: Way) {
+    let other = fed(case, walks, way);
     let name = match way {
         Way::Full => "full",
         Way::Ample => "ample",
@@ -203,54 +233,54 @@ fn add_other(
         Way::Pieces(_) => "pieces",
         Way::LeapsInPieces(_) => "leaps in pieces",
     };
-    Ok(write!(came, ", {name}: {answers}, {rows}")?)
+    case.put_other(name, &other.answers, first.answers.came.as_str());
+    case.put_other(name, &other.rows, first.rows.came.as_str());
 }
 
-/// What is given, and in which other ways something else is.
-fn given_alike(
-    alloc: Global,
-    program: &Program,
-    text: &str,
-    differs: &mut String,
-) -> Result<Given, Stop> {
-    let plain = Lines::new(alloc, &*program);
-    let mut leaps = Lines::new(alloc, &*program);
-    leaps.find(alloc)?;
-    let walks = (program, &plain, &leaps);
-    let first = fed(alloc, walks, text, Way::Full)?;
-    for way in [Way::Ample, Way::Leaps] {
-        add_other(alloc, walks, text, &first, way, differs)?;
-    }
+/// Appends what is given in other ways, if it is something else.
+fn put_others(case: &mut Case<'_>, walks: Walks<'_>, first: &Given<'_>) {
+    put_other(case, walks, first, Way::Ample);
+    put_other(case, walks, first, Way::Leaps);
     for room in ROOMS {
-        for way in [Way::Pieces(room), Way::LeapsInPieces(room)] {
-            add_other(alloc, walks, text, &first, way, differs)?;
-        }
+        put_other(case, walks, first, Way::Pieces(room));
+        put_other(case, walks, first, Way::LeapsInPieces(room));
     }
-    Ok(first)
+}
+
+/// What is given of packets: their answers, or else their events.
+#[derive(Clone, Copy)]
+enum Asked {
+    Answers,
+    Rows,
+}
+
+/// Appends what is given, and in which other ways something else is.
+fn put_given(case: &mut Case<'_>, program: &Program, asked: Asked) {
+    let plain = Lines::new(case.alloc, &*program);
+    let mut leaps = Lines::new(case.alloc, &*program);
+    let done = leaps.find(case.alloc);
+    case.note(done);
+    let walks = Walks {
+        program,
+        plain: &plain,
+        leaps: &leaps,
+    };
+    let first = fed(case, walks, Way::Full);
+    case.join(&first.answers);
+    case.join(&first.rows);
+    match asked {
+        Asked::Answers => case.put(first.answers.came.as_str()),
+        Asked::Rows => case.put(first.rows.came.as_str()),
+    }
+    put_others(case, walks, &first);
 }
 
 /// `decode PAYLOADS`: the events of packets, and whether they close the trace. `lost=MODE` begins a stretch.
-pub(crate) fn decode_case(
-    alloc: Global,
-    program: &Program,
-    text: &str,
-    came: &mut String,
-) -> Result<(), Stop> {
-    let mut differs = String::new(alloc);
-    let given = given_alike(alloc, program, text, &mut differs)?;
-    came.push_str(given.rows.as_str())?;
-    Ok(came.push_str(differs.as_str())?)
+pub(crate) fn decode_case(case: &mut Case<'_>, program: &Program) {
+    put_given(case, program, Asked::Rows);
 }
 
 /// `answers PAYLOADS`: how many events the list has after each packet, or its fault.
-pub(crate) fn answers_case(
-    alloc: Global,
-    program: &Program,
-    text: &str,
-    came: &mut String,
-) -> Result<(), Stop> {
-    let mut differs = String::new(alloc);
-    let given = given_alike(alloc, program, text, &mut differs)?;
-    came.push_str(given.answers.as_str())?;
-    Ok(came.push_str(differs.as_str())?)
+pub(crate) fn answers_case(case: &mut Case<'_>, program: &Program) {
+    put_given(case, program, Asked::Answers);
 }

@@ -1,16 +1,15 @@
 //! Cases of messages of which some are lost (`losses`) or damaged (`salvaging`).
 
 use crate::encoding::{legal_log, settings_of, sourced};
-use crate::readers::{Stop, cut, decimal, decimal_u16, message, messages_of, mode_of};
-use crate::writers::{add_rows, add_word};
+use cases::{Case, add_message, messages_of, mode_of, put_rows};
 use losses::{HartPieces, LossyFault, Part, collect_lossy};
-use message::Message;
+use message::{Message, Unwatched};
 use payload::{Mode, Payload};
 use retire::Event;
 use rvclass::Program;
-use salvaging::{Part as Salvage, SalvagedHart, Treated, Treatment, salvage, treat_watched};
-use std::alloc::{AllocError, Global};
-use watching::Unwatched;
+use salvaging::{
+    Part as Salvage, Salvaged, SalvagedHart, Treated, Treatment, salvage, treat_watched,
+};
 
 /// Where events are in a log, at this place or after it.
 fn position_of(log: &[Event], events: &[Event], from: usize) -> Option<usize> {
@@ -26,288 +25,265 @@ fn position_of(log: &[Event], events: &[Event], from: usize) -> Option<usize> {
 
 /// Appends the places that events have in a log, from the first up to the one after the last; or the events where they
 /// are not there. Returns the place after them.
-fn add_places(
-    came: &mut String,
-    log: &[Event],
-    events: &[Event],
-    from: usize,
-) -> Result<usize, AllocError> {
+fn put_places(case: &mut Case<'_>, log: &[Event], events: &[Event], from: usize) -> usize {
     match position_of(log, events, from) {
         Some(first) => {
             let end = first.saturating_add(events.len());
-            write!(came, "{first:02}-{end:02}")?;
-            Ok(end)
+            let done = write!(case.came, "{first:02}-{end:02}");
+            case.note(done);
+            end
         }
         None => {
-            add_rows(came, events)?;
-            Ok(from)
+            put_rows(case, events);
+            from
         }
     }
 }
 
+/// Appends whether a hart is closed.
+fn put_end(case: &mut Case<'_>, closed: bool) {
+    case.put_word(if closed { "closed" } else { "open" });
+}
+
 /// Appends the parts of a hart, each stretch by its places in the log, and whether the hart is closed.
-fn add_pieces(came: &mut String, log: &[Event], pieces: &HartPieces) -> Result<(), AllocError> {
+fn put_pieces(case: &mut Case<'_>, log: &[Event], pieces: &HartPieces) {
     let mut from = 0;
     for part in pieces.parts.as_slice() {
         match part {
             Part::Gap(lost) => {
-                add_word(came, "gap")?;
-                add_word(came, *lost)?;
+                case.put_word("gap");
+                case.put_word(*lost);
             }
             Part::Stretch(events) => {
-                add_word(came, "")?;
-                from = add_places(came, log, events.as_slice(), from)?;
+                case.put_word("");
+                from = put_places(case, log, events.as_slice(), from);
             }
         }
     }
-    add_word(came, if pieces.closed { "closed" } else { "open" })
+    put_end(case, pieces.closed);
 }
 
-/// The texts of harts, one after the other. Harts with the same text are named together.
-#[derive(Drop)]
-struct Harts {
-    count: u64,
-    first: u64,
-    text: String,
+/// Appends the text of harts that are alike, from the first to before the end.
+fn put_alike(case: &mut Case<'_>, first: usize, end: usize, text: &str) {
+    let last = end.saturating_sub(1);
+    if first > 0 {
+        case.put("; ");
+    }
+    case.put_shown(first);
+    if first < last {
+        case.put("-");
+        case.put_shown(last);
+    }
+    case.put(": ");
+    case.put(text);
 }
 
-impl Harts {
-    /// No harts.
-    fn new(alloc: Global) -> Harts {
-        Harts {
-            count: 0,
-            first: 0,
-            text: String::new(alloc),
+/// Appends texts of harts, a line each. Harts with the same text are named together.
+fn put_harts(case: &mut Case<'_>, texts: &Case<'_>) {
+    case.join(texts);
+    let texts = texts.came.trim_end_matches('\n');
+    let (mut first, mut count) = (0usize, 0usize);
+    for (text, next) in texts.split('\n').zip(texts.split('\n').skip(1)) {
+        count = count.saturating_add(1);
+        if text != next {
+            put_alike(case, first, count, text);
+            first = count;
         }
     }
-
-    /// Appends the harts whose text is known.
-    fn end(&self, came: &mut String) -> Result<(), AllocError> {
-        let (first, last) = (self.first, self.count.saturating_sub(1));
-        if self.count == 0 {
-            return Ok(());
-        }
-        if first > 0 {
-            came.push_str("; ")?;
-        }
-        if first < last {
-            write!(came, "{first}-{last}: ")?;
-        } else {
-            write!(came, "{first}: ")?;
-        }
-        came.push_str(self.text.as_str())
-    }
-
-    /// Takes the text of the next hart.
-    fn take(&mut self, came: &mut String, text: String) -> Result<(), AllocError> {
-        if self.count == 0 || text.as_str() != self.text.as_str() {
-            self.end(came)?;
-            self.first = self.count;
-            self.text = text;
-        }
-        self.count = self.count.saturating_add(1);
-        Ok(())
+    let last = texts.rsplit_once('\n').unwrap_or(("", texts)).1;
+    if !last.is_empty() {
+        put_alike(case, first, count.saturating_add(1), last);
     }
 }
 
 /// Appends what is collected of harts.
-fn add_collected(
-    alloc: Global,
-    came: &mut String,
-    log: &[Event],
-    found: Result<Vec<HartPieces>, LossyFault>,
-) -> Result<(), AllocError> {
+fn put_collected(case: &mut Case<'_>, log: &[Event], found: Result<Vec<HartPieces>, LossyFault>) {
     let collected = match found {
         Ok(collected) => collected,
         Err(fault) => {
             if let LossyFault::Demux(place, _) | LossyFault::Decode(place, _) = fault {
-                write!(came, "message {place}: ")?;
+                let done = write!(case.came, "message {place}: ");
+                case.note(done);
             }
-            return write!(came, "{fault}");
+            return case.put_shown(fault);
         }
     };
-    let mut harts = Harts::new(alloc);
+    let mut texts = case.again();
     for pieces in collected.as_slice() {
-        let mut text = String::new(alloc);
-        add_pieces(&mut text, log, pieces)?;
-        harts.take(came, text)?;
+        put_pieces(&mut texts, log, pieces);
+        texts.put("\n");
     }
-    harts.end(came)
+    put_harts(case, &texts);
 }
 
-/// How many harts there are, a mode, and messages.
-fn sent_of(alloc: Global, text: &str) -> Result<(u16, Mode, Vec<Message>), Stop> {
-    let (harts, rest) = cut(text, ' ');
-    let (mode, rest) = cut(rest, ' ');
-    Ok((
-        decimal_u16(harts)?,
-        mode_of(mode)?,
-        messages_of(alloc, rest)?,
-    ))
+/// Reads how many harts there are, and a mode.
+fn harts_of(case: &mut Case<'_>) -> (u16, Mode) {
+    let (harts, mode) = (case.word(), case.word());
+    (case.short(harts), mode_of(case, mode))
 }
 
 /// `collect HARTS MODE MESSAGES`: what is left of the logs of harts, by places in the log.
-pub(crate) fn collect_case(
-    alloc: Global,
-    (program, log): (&Program, &[Event]),
-    text: &str,
-    came: &mut String,
-) -> Result<(), Stop> {
-    let (harts, mode, messages) = sent_of(alloc, text)?;
-    let found = collect_lossy(alloc, program, harts, mode, messages.as_slice());
-    Ok(add_collected(alloc, came, log, found)?)
+pub(crate) fn collect_case(case: &mut Case<'_>, (program, log): (&Program, &[Event])) {
+    let (harts, mode) = harts_of(case);
+    let messages = messages_of(case);
+    let found = collect_lossy(case.alloc, program, harts, mode, messages.as_slice());
+    put_collected(case, log, found);
 }
 
 /// Whether the message with this number is lost: it is one of these digits, or for `R/M` leaves the rest R by M.
-fn is_lost(lost: &str, number: u64) -> Result<bool, Stop> {
+fn is_lost(case: &mut Case<'_>, lost: &str, number: u64) -> bool {
     if let Some((rest, by)) = lost.split_once('/') {
-        let by = decimal(by)?;
-        return Ok(by > 0 && number % by == decimal(rest)?);
+        let (rest, by) = (case.decimal(rest), case.decimal(by));
+        return by > 0 && number % by == rest;
     }
     for digit in lost.bytes() {
         if u64::from(digit.wrapping_sub(b'0')) == number {
-            return Ok(true);
+            return true;
         }
     }
-    Ok(false)
+    false
 }
 
 /// The messages of hart 0 with these payloads, but for those that are lost.
-fn messages_but(alloc: Global, payloads: &[Payload], lost: &str) -> Result<Vec<Message>, Stop> {
-    let mut messages = Vec::new(alloc);
+fn messages_but(case: &mut Case<'_>, payloads: &[Payload], lost: &str) -> Vec<Message> {
+    let mut messages = Vec::new(case.alloc);
     for (number, payload) in payloads.iter().enumerate() {
         let number = number as u64;
-        if !is_lost(lost, number)? {
-            messages.push(message(0, number, payload.bytes())?)?;
+        if !is_lost(case, lost, number) {
+            add_message(case, &mut messages, (0, number), payload.bytes());
         }
     }
-    Ok(messages)
+    messages
 }
 
 /// `lossy PERIOD MODE LOST`: how many messages the log has, and what is left of it where these are lost.
-pub(crate) fn lossy_case(
-    alloc: Global,
-    (program, log): (&Program, &[Event]),
-    text: &str,
-    came: &mut String,
-) -> Result<(), Stop> {
-    let (period, mode, lost) = settings_of(text)?;
-    let legal = legal_log(alloc, program, log)?;
-    let payloads = sourced(alloc, &legal, period, mode)?;
-    let messages = messages_but(alloc, payloads.as_slice(), lost)?;
-    let found = collect_lossy(alloc, program, 1, mode, messages.as_slice());
-    let count = payloads.len();
-    write!(came, "of {count}: ")?;
-    Ok(add_collected(alloc, came, log, found)?)
+pub(crate) fn lossy_case(case: &mut Case<'_>, (program, log): (&Program, &[Event])) {
+    let settings = settings_of(case);
+    let Some(legal) = legal_log(case, program, log) else {
+        return;
+    };
+    let payloads = sourced(case, &legal, settings);
+    let lost = case.text;
+    let messages = messages_but(case, payloads.as_slice(), lost);
+    case.put("of ");
+    case.put_shown(payloads.len());
+    case.put(": ");
+    let found = collect_lossy(case.alloc, program, 1, settings.1, messages.as_slice());
+    put_collected(case, log, found);
 }
 
 /// Appends a part of what is salvaged, and returns the place in the log after it.
-fn add_part(
-    came: &mut String,
-    log: &[Event],
-    part: &Salvage,
-    from: usize,
-) -> Result<usize, AllocError> {
-    match part {
-        Salvage::Gap(lost) => write!(came, "gap {lost}")?,
-        Salvage::Stretch {
-            first,
-            last,
-            events,
-        } => {
-            write!(came, "{first}-{last}=")?;
-            return add_places(came, log, events.as_slice(), from);
-        }
-        Salvage::Bad { number, place, why } => write!(came, "bad {number}@{place} ({why})")?,
+fn put_part(case: &mut Case<'_>, log: &[Event], part: &Salvage, from: usize) -> usize {
+    let came = &mut case.came;
+    let done = match part {
+        Salvage::Gap(lost) => write!(came, "gap {lost}"),
+        Salvage::Stretch { first, last, .. } => write!(came, "{first}-{last}="),
+        Salvage::Bad { number, place, why } => write!(came, "bad {number}@{place} ({why})"),
         Salvage::Doubtful {
             number,
             first,
             second,
-        } => write!(came, "doubtful {number}@{first}@{second}")?,
-        Salvage::Alone { number, place } => write!(came, "alone {number}@{place}")?,
+        } => write!(came, "doubtful {number}@{first}@{second}"),
+        Salvage::Alone { number, place } => write!(came, "alone {number}@{place}"),
+    };
+    case.note(done);
+    match part {
+        Salvage::Stretch { events, .. } => put_places(case, log, events.as_slice(), from),
+        _ => from,
     }
-    Ok(from)
+}
+
+/// Appends how many messages are of a kind, if there are some.
+fn put_count(case: &mut Case<'_>, kind: &str, count: u64) {
+    if count > 0 {
+        case.put_word(kind);
+        case.put_word(count);
+    }
 }
 
 /// Appends what is salvaged of a hart: the numbers of each stretch with its places in the log, what else is left, how many
 /// messages are copies and late, and whether the hart is closed.
-fn add_hart(came: &mut String, log: &[Event], hart: &SalvagedHart) -> Result<(), AllocError> {
+fn put_hart(case: &mut Case<'_>, log: &[Event], hart: &SalvagedHart) {
     let mut from = 0;
     for part in hart.parts.as_slice() {
-        add_word(came, "")?;
-        from = add_part(came, log, part, from)?;
+        case.put_word("");
+        from = put_part(case, log, part, from);
     }
-    let (copies, late) = (hart.copies, hart.late);
-    if copies > 0 {
-        write!(came, " copies {copies}")?;
+    put_count(case, "copies", hart.copies as u64);
+    put_count(case, "late", hart.late as u64);
+    put_end(case, hart.closed);
+}
+
+/// Appends what is salvaged.
+fn put_salvaged(case: &mut Case<'_>, log: &[Event], salvaged: &Salvaged) {
+    let mut texts = case.again();
+    for hart in salvaged.harts.as_slice() {
+        put_hart(&mut texts, log, hart);
+        texts.put("\n");
     }
-    if late > 0 {
-        write!(came, " late {late}")?;
+    put_harts(case, &texts);
+    let strangers = salvaged.strangers;
+    if strangers > 0 {
+        let done = write!(case.came, "; {strangers} strangers");
+        case.note(done);
     }
-    add_word(came, if hart.closed { "closed" } else { "open" })
 }
 
 /// `salvage HARTS MODE MESSAGES`: what is salvaged of messages, by places in the log.
-pub(crate) fn salvage_case(
-    alloc: Global,
-    (program, log): (&Program, &[Event]),
-    text: &str,
-    came: &mut String,
-) -> Result<(), Stop> {
-    let (count, mode, messages) = sent_of(alloc, text)?;
-    let salvaged = salvage(alloc, program, count, mode, messages.as_slice())?;
-    let mut harts = Harts::new(alloc);
-    for hart in salvaged.harts.as_slice() {
-        let mut text = String::new(alloc);
-        add_hart(&mut text, log, hart)?;
-        harts.take(came, text)?;
+pub(crate) fn salvage_case(case: &mut Case<'_>, (program, log): (&Program, &[Event])) {
+    let (harts, mode) = harts_of(case);
+    let messages = messages_of(case);
+    match salvage(case.alloc, program, harts, mode, messages.as_slice()) {
+        Ok(salvaged) => put_salvaged(case, log, &salvaged),
+        Err(_) => case.no_memory(),
     }
-    harts.end(came)?;
-    let strangers = salvaged.strangers;
-    if strangers > 0 {
-        write!(came, "; {strangers} strangers")?;
-    }
-    Ok(())
 }
 
 /// Appends what is done with a message.
-fn add_treated(came: &mut String, treated: &Treated) -> Result<(), AllocError> {
+fn put_treated(case: &mut Case<'_>, treated: &Treated) {
     if treated.late {
-        add_word(came, "late")?;
+        case.put_word("late");
     }
     match treated.treatment {
-        Treatment::Stranger => add_word(came, "stranger"),
-        Treatment::Copy => add_word(came, "copy"),
-        Treatment::Doubtful => add_word(came, "doubtful"),
+        Treatment::Stranger => case.put_word("stranger"),
+        Treatment::Copy => case.put_word("copy"),
+        Treatment::Doubtful => case.put_word("doubtful"),
         Treatment::Bad(why) => {
-            add_word(came, "")?;
-            write!(came, "bad({why})")
+            case.put_word("bad(");
+            case.put_shown(why);
+            case.put(")");
         }
-        Treatment::Alone => add_word(came, "alone"),
-        Treatment::Passed => add_word(came, "passed"),
+        Treatment::Alone => case.put_word("alone"),
+        Treatment::Passed => case.put_word("passed"),
         Treatment::Taken(added) => {
             let (count, first, last) = (added.count, added.first, added.last);
-            add_word(came, count)?;
+            case.put_word(count);
             if count > 0 || first > 0 || last > 0 {
-                write!(came, "={first:x}-{last:x}")?;
+                let done = write!(case.came, "={first:x}-{last:x}");
+                case.note(done);
             }
-            Ok(())
         }
     }
 }
 
 /// `treat HARTS MODE MESSAGES`: what is done with each message. One that is taken adds so many events, from a place to
 /// another one.
-pub(crate) fn treat_case(
-    alloc: Global,
-    program: &Program,
-    text: &str,
-    came: &mut String,
-) -> Result<(), Stop> {
-    let (harts, mode, messages) = sent_of(alloc, text)?;
-    let all = treat_watched(alloc, program, harts, mode, messages.as_slice(), &Unwatched)?;
-    for treated in all.as_slice() {
-        add_treated(came, treated)?;
+pub(crate) fn treat_case(case: &mut Case<'_>, program: &Program) {
+    let (harts, mode) = harts_of(case);
+    let messages = messages_of(case);
+    match treat_watched(
+        case.alloc,
+        program,
+        harts,
+        mode,
+        messages.as_slice(),
+        &Unwatched,
+    ) {
+        Ok(all) => {
+            for treated in all.as_slice() {
+                put_treated(case, treated);
+            }
+        }
+        Err(_) => case.no_memory(),
     }
-    Ok(())
 }

@@ -1,72 +1,68 @@
 //! Cases of packets and payloads (`payload`).
 
-use crate::readers::{Stop, bytes_of, packet_of};
-use crate::writers::{add_bytes, add_word};
 use captures::ReadingText;
-use payload::{MOST_BYTES, Mode, PackFault, Packet, Payload, pack, unpack};
-use std::alloc::{AllocError, Global};
+use cases::{Case, bytes_of, packet_of};
+use payload::{MOST_BYTES, Mode, Payload, pack, unpack};
 
-/// The text of what bytes are.
-fn reading(alloc: Global, read: &Result<Packet, PackFault>) -> Result<String, AllocError> {
+/// Appends the text of what bytes are.
+fn put_reading(case: &mut Case<'_>, bytes: &[u8]) {
     let mode = Mode::Differential;
-    format!(in alloc; "{}", ReadingText { mode, read })
+    let read = &unpack(bytes);
+    case.put_shown(ReadingText { mode, read });
 }
 
 /// `pack PACKET`: the payload of a packet, or `outside` where it is outside the profile.
-pub(crate) fn pack_case(text: &str, came: &mut String) -> Result<(), Stop> {
-    let packet = packet_of(text)?;
+pub(crate) fn pack_case(case: &mut Case<'_>) {
+    let text = case.text;
+    let packet = packet_of(case, text);
     if !packet.in_profile() {
-        return Ok(add_word(came, "outside")?);
+        return case.put_word("outside");
     }
     let payload = pack(&packet);
-    add_bytes(came, payload.bytes())?;
+    case.put_bytes(payload.bytes());
     if unpack(payload.bytes()) != Ok(packet) {
-        add_word(came, "but it is not read back")?;
+        case.put_word("but it is not read back");
     }
-    Ok(())
 }
 
 /// Appends how the text of a payload changes where it has further bytes of this value, up to 18 in all.
-fn add_longer(
-    alloc: Global,
-    came: &mut String,
-    (bytes, text): (&mut Vec<u8>, &str),
-    fill: u8,
-) -> Result<(), Stop> {
+fn put_longer(case: &mut Case<'_>, bytes: &mut Vec<u8>, text: &str, fill: u8) {
     for _ in bytes.len()..MOST_BYTES {
-        bytes.push(fill)?;
-        let longer = reading(alloc, &unpack(bytes.as_slice()))?;
-        if longer.as_str() != text {
-            add_bytes(came, bytes.as_slice())?;
-            add_word(came, longer)?;
+        case.push(bytes, fill);
+        let mut longer = case.again();
+        put_reading(&mut longer, bytes.as_slice());
+        if longer.came.as_str() != text {
+            case.put_bytes(bytes.as_slice());
+            case.put_word("");
+            case.put_first(&longer);
         }
     }
-    Ok(())
 }
 
 /// `unpack BYTES`: the packet of a payload, as `dump` writes it. `unpack BYTES ..BYTE`: also where it has further bytes of
 /// this value, up to 18 in all.
-pub(crate) fn unpack_case(alloc: Global, text: &str, came: &mut String) -> Result<(), Stop> {
-    let (digits, fill) = text.split_once(" ..").unwrap_or((text, ""));
-    let mut bytes = bytes_of(alloc, digits)?;
-    let read = reading(alloc, &unpack(bytes.as_slice()))?;
-    came.push_str(read.as_str())?;
-    if let Some(fill) = bytes_of(alloc, fill)?.first() {
-        add_longer(alloc, came, (&mut bytes, read.as_str()), *fill)?;
+pub(crate) fn unpack_case(case: &mut Case<'_>) {
+    let (digits, fill) = case.text.split_once(" ..").unwrap_or((case.text, ""));
+    let mut bytes = bytes_of(case, digits);
+    let mut first = case.again();
+    put_reading(&mut first, bytes.as_slice());
+    case.put_first(&first);
+    if !fill.is_empty() {
+        let fill = case.byte_or_0(fill);
+        put_longer(case, &mut bytes, first.came.as_str(), fill);
     }
-    Ok(())
 }
 
 /// `payload BYTES`: the bytes of a payload again, and whether it closes a trace; or why it is none.
-pub(crate) fn payload_case(alloc: Global, text: &str, came: &mut String) -> Result<(), Stop> {
-    match Payload::new(bytes_of(alloc, text)?.as_slice()) {
+pub(crate) fn payload_case(case: &mut Case<'_>) {
+    let digits = case.text;
+    match Payload::new(bytes_of(case, digits).as_slice()) {
         Ok(payload) => {
-            add_bytes(came, payload.bytes())?;
+            case.put_bytes(payload.bytes());
             if payload.is_closing() {
-                add_word(came, "closes")?;
+                case.put_word("closes");
             }
         }
-        Err(fault) => add_word(came, fault)?,
+        Err(fault) => case.put_word(fault),
     }
-    Ok(())
 }

@@ -1,22 +1,24 @@
 //! Cases of logs and the paths that they take through a program (`legalpath`, `explaining`).
 
-use crate::readers::{Stop, cut, decimal, events_of};
-use crate::writers::{add_rows, add_text, add_word};
+use crate::texts::put_quoted;
+use cases::{Case, events_of};
 use explaining::{explain, explain_row};
 use legalpath::{LegalLog, Next, PathCheck, PathFault, check, successor};
 use retire::Event;
 use rvclass::Program;
-use std::alloc::{AllocError, Global};
 
 /// The most events of a log that is also checked in two pieces.
 const MOST_CUT: usize = 100;
 
-/// What a log is found to be.
-fn found(alloc: Global, log: &[Event], found: Result<(), PathFault>) -> Result<String, AllocError> {
-    let count = log.len();
+/// Appends what a log is found to be.
+fn put_found(case: &mut Case<'_>, log: &[Event], found: Result<(), PathFault>) {
     match found {
-        Ok(()) => format!(in alloc; "legal, {count} events"),
-        Err(fault) => format!(in alloc; "{fault}"),
+        Ok(()) => {
+            case.put("legal, ");
+            case.put_shown(log.len());
+            case.put(" events");
+        }
+        Err(fault) => case.put_shown(fault),
     }
 }
 
@@ -31,130 +33,104 @@ fn checked_in_pieces(program: &Program, front: &[Event], back: &[Event]) -> Resu
 }
 
 /// Appends where a log is cut into two pieces of which something else is found.
-fn add_cuts(
-    alloc: Global,
-    program: &Program,
-    log: &[Event],
-    wanted: &str,
-    came: &mut String,
-) -> Result<(), AllocError> {
+fn put_cuts(case: &mut Case<'_>, program: &Program, log: &[Event], wanted: &str) {
     for count in 0..log.len().saturating_add(1) {
         let (front, back) = log.split_at(count.min(log.len()));
-        let cut = found(alloc, log, checked_in_pieces(program, front, back))?;
-        if cut.as_str() != wanted {
-            write!(came, ", cut at {count}: {cut}")?;
-        }
+        let mut cut = case.again();
+        put_found(&mut cut, log, checked_in_pieces(program, front, back));
+        case.put_other("cut", &cut, wanted);
     }
-    Ok(())
 }
 
-/// Appends what else a list that is kept with its program is found to be, or where it is not given back.
-fn add_kept(
-    alloc: Global,
-    program: &Program,
-    log: &[Event],
-    wanted: &str,
-    came: &mut String,
-) -> Result<(), AllocError> {
-    let list = log.to_vec(alloc)?;
+/// Appends what a list that is kept with its program is found to be, and where it is not given back.
+fn put_kept(case: &mut Case<'_>, program: &Program, log: &[Event]) {
+    let list = case.copied(log);
     if list.len() > 1 << 24 {
-        return Ok(());
+        return case.unread();
     }
-    let (kept, events) = match LegalLog::new(program, list) {
+    let (found, is_kept) = match LegalLog::new(program, list) {
         Ok(legal) => {
-            let kept = legal.events() == log && legal.program().base() == program.base();
-            (found(alloc, log, Ok(()))?, kept)
+            let is_kept = legal.events() == log && legal.program().base() == program.base();
+            (Ok(()), is_kept)
         }
-        Err((fault, back)) => (found(alloc, log, Err(fault))?, back.as_slice() == log),
+        Err((fault, back)) => (Err(fault), back.as_slice() == log),
     };
-    if kept.as_str() != wanted || !events {
-        write!(came, ", kept: {kept}")?;
+    put_found(case, log, found);
+    if !is_kept {
+        case.put(", not given back");
     }
-    Ok(())
 }
 
 /// `check ROWS`: whether a log is legal, and the first fault of one that is not; so in two pieces, wherever it is cut, and
 /// where it is kept with its program.
-pub(crate) fn check_case(
-    alloc: Global,
-    program: &Program,
-    text: &str,
-    came: &mut String,
-) -> Result<(), Stop> {
-    let log = events_of(alloc, text)?;
+pub(crate) fn check_case(case: &mut Case<'_>, program: &Program) {
+    let log = events_of(case);
+    let log = log.as_slice();
     if log.len() > 1 << 24 {
-        return Err(Stop::Unread);
+        return case.unread();
     }
-    let wanted = found(alloc, log.as_slice(), check(program, log.as_slice()))?;
-    came.push_str(wanted.as_str())?;
+    let mut first = case.again();
+    put_found(&mut first, log, check(program, log));
+    case.put_first(&first);
     if log.len() <= MOST_CUT {
-        add_cuts(alloc, program, log.as_slice(), wanted.as_str(), came)?;
+        put_cuts(case, program, log, first.came.as_str());
     }
-    add_kept(alloc, program, log.as_slice(), wanted.as_str(), came)?;
-    Ok(())
+    let mut kept = case.again();
+    put_kept(&mut kept, program, log);
+    case.put_other("kept", &kept, first.came.as_str());
 }
 
 /// `successor ROW`: where an event leads.
-pub(crate) fn successor_case(
-    alloc: Global,
-    program: &Program,
-    text: &str,
-    came: &mut String,
-) -> Result<(), Stop> {
-    let log = events_of(alloc, text)?;
+pub(crate) fn successor_case(case: &mut Case<'_>, program: &Program) {
+    let log = events_of(case);
     let Some(event) = log.first() else {
-        return Err(Stop::Unread);
+        return case.unread();
     };
     match successor(program, event) {
-        Next::One(addr) => write!(came, "{addr:x}")?,
-        Next::Any => came.push_str("any")?,
-        Next::NoneInside => came.push_str("none")?,
+        Next::One(addr) => case.put_hex(addr),
+        Next::Any => case.put("any"),
+        Next::NoneInside => case.put("none"),
     }
-    Ok(())
 }
 
-/// Appends the lines that explain a fault of a log, and those of its row alone where they are others.
-fn add_explained(
-    alloc: Global,
-    program: &Program,
-    log: &[Event],
-    fault: PathFault,
-    came: &mut String,
-) -> Result<(), Stop> {
-    let row = fault.row as usize;
-    let (mut lines, mut own) = (Vec::new(alloc), Vec::new(alloc));
+/// Appends the lines that explain a fault of a log.
+fn put_explained(case: &mut Case<'_>, program: &Program, log: &[Event], fault: PathFault) {
+    let mut lines = Vec::new(case.alloc);
     if explain(program, log, fault, &mut lines).is_err() {
-        return Err(Stop::Memory);
+        case.no_memory();
     }
+    put_quoted(case, lines.as_slice());
+}
+
+/// Appends the lines that explain a fault of a log by its row and the one before it alone.
+fn put_row_explained(case: &mut Case<'_>, program: &Program, log: &[Event], fault: PathFault) {
+    let row = fault.row as usize;
+    let mut lines = Vec::new(case.alloc);
     if let Some(event) = log.get(row.wrapping_sub(1)) {
         let before = log.get(row.wrapping_sub(2)).copied();
-        if explain_row(program, before, event, fault, &mut own).is_err() {
-            return Err(Stop::Memory);
+        if explain_row(program, before, event, fault, &mut lines).is_err() {
+            case.no_memory();
         }
     }
-    add_text(came, lines.as_slice())?;
-    if lines.as_slice() != own.as_slice() {
-        add_text(came, own.as_slice())?;
-    }
-    Ok(())
+    put_quoted(case, lines.as_slice());
 }
 
 /// `explain ROWS`: why a log is not legal, and the lines that explain it.
-pub(crate) fn explain_case(
-    alloc: Global,
-    program: &Program,
-    text: &str,
-    came: &mut String,
-) -> Result<(), Stop> {
-    let log = events_of(alloc, text)?;
+pub(crate) fn explain_case(case: &mut Case<'_>, program: &Program) {
+    let log = events_of(case);
+    let log = log.as_slice();
     if log.len() > 1 << 24 {
-        return Err(Stop::Unread);
+        return case.unread();
     }
-    match check(program, log.as_slice()) {
-        Ok(()) => Ok(came.push_str("legal")?),
-        Err(fault) => {
-            add_word(came, fault)?;
-            add_explained(alloc, program, log.as_slice(), fault, came)
-        }
-    }
+    let Err(fault) = check(program, log) else {
+        return case.put("legal");
+    };
+    let mut whole = case.again();
+    put_explained(&mut whole, program, log, fault);
+    case.put_word(fault);
+    case.put_word("");
+    case.put_first(&whole);
+    let mut own = case.again();
+    put_row_explained(&mut own, program, log, fault);
+    case.put_other("by its row", &own, whole.came.as_str());
 }

@@ -1,10 +1,7 @@
 //! Cases of memories (`memory`) and of the instructions in them (`rvclass`).
 
-use crate::readers::{Stop, hex, piece_of};
-use crate::writers::add_word;
-use memory::{Fetched, Memory, PieceFault};
-use rvclass::{Class, Program, ProgramOver, Return};
-use std::alloc::{AllocError, Global};
+use cases::{Case, piece_of};
+use rvclass::{Class, Fetched, Memory, PieceFault, Program, ProgramOver, Return};
 
 /// A piece: its base and its bytes.
 type Piece = (u64, Vec<u8>);
@@ -17,249 +14,237 @@ enum Held {
 }
 
 /// Pieces, with a `+` between two of them.
-fn pieces_of(alloc: Global, text: &str) -> Result<Vec<Piece>, Stop> {
-    let mut pieces = Vec::new(alloc);
-    for piece in text.split('+') {
-        pieces.push(piece_of(alloc, piece)?)?;
+fn pieces_of(case: &mut Case<'_>, text: &str) -> Vec<Piece> {
+    let mut pieces = Vec::new(case.alloc);
+    for words in text.split('+') {
+        let piece = piece_of(case, words);
+        case.push(&mut pieces, piece);
     }
-    Ok(pieces)
+    pieces
 }
 
 /// The memory of one piece.
 fn memory_of<'b>(
-    alloc: Global,
+    case: &mut Case<'_>,
     (base, bytes): &'b Piece,
     held: Held,
-) -> Result<Result<Memory<'b>, PieceFault>, AllocError> {
-    Ok(match held {
-        Held::Owned => Memory::new(*base, bytes.as_slice().to_vec(alloc)?),
+) -> Result<Memory<'b>, PieceFault> {
+    match held {
+        Held::Owned => Memory::new(*base, case.copied(bytes.as_slice())),
         Held::Borrowed => Memory::borrowed(*base, bytes.as_slice()),
-    })
-}
-
-/// Adds a piece to a memory.
-fn add_piece<'b>(
-    alloc: Global,
-    memory: &mut Memory<'b>,
-    (base, bytes): &'b Piece,
-    held: Held,
-) -> Result<Result<(), PieceFault>, AllocError> {
-    Ok(match held {
-        Held::Owned => memory.add(alloc, *base, bytes.as_slice().to_vec(alloc)?),
-        Held::Borrowed => memory.add_borrowed(alloc, *base, bytes.as_slice()),
-    })
+    }
 }
 
 /// Appends why a piece is refused.
-fn add_refusal(came: &mut String, fault: PieceFault) -> Result<(), AllocError> {
-    add_word(came, fault)?;
-    came.push(';')
+fn put_refusal(case: &mut Case<'_>, added: Result<(), PieceFault>) {
+    if let Err(fault) = added {
+        case.put_word(fault);
+        case.put(";");
+    }
+}
+
+/// Adds a piece to a memory. Appends why it is refused.
+fn add_piece<'b>(
+    case: &mut Case<'_>,
+    memory: &mut Memory<'b>,
+    (base, bytes): &'b Piece,
+    held: Held,
+) {
+    let added = match held {
+        Held::Owned => memory.add(case.alloc, *base, case.copied(bytes.as_slice())),
+        Held::Borrowed => memory.add_borrowed(case.alloc, *base, bytes.as_slice()),
+    };
+    put_refusal(case, added);
 }
 
 /// Appends a base and how many bytes there are.
-fn add_extent(came: &mut String, base: u64, count: usize) -> Result<(), AllocError> {
-    add_word(came, "")?;
-    write!(came, "{base:x}+{count}")
+fn put_extent(case: &mut Case<'_>, base: u64, count: usize) {
+    case.put_word("");
+    case.put_hex(base);
+    case.put("+");
+    case.put_shown(count);
 }
 
 /// Appends the base of a memory and how many bytes it has, and so of each of its pieces.
-fn add_extents(came: &mut String, memory: &Memory<'_>) -> Result<(), AllocError> {
-    add_extent(came, memory.base(), memory.byte_count())?;
-    came.push(':')?;
+fn put_extents(case: &mut Case<'_>, memory: &Memory<'_>) {
+    put_extent(case, memory.base(), memory.byte_count());
+    case.put(":");
     for number in 0..memory.piece_count().saturating_add(1) {
         if let Some((base, count)) = memory.extent(number) {
-            add_extent(came, base, count)?;
+            put_extent(case, base, count);
         }
     }
-    Ok(())
 }
 
 /// Appends what is fetched at an address.
-fn add_fetched(came: &mut String, fetched: Fetched) -> Result<(), AllocError> {
+fn put_fetched(case: &mut Case<'_>, fetched: Fetched) {
     match fetched {
-        Fetched::Word(word) => write!(came, "{word:08x}"),
-        Fetched::Half(half) => write!(came, "{half:04x}"),
-        Fetched::Nothing => came.push('-'),
+        Fetched::Word(word) => case.put_digits(&word.to_be_bytes()),
+        Fetched::Half(half) => {
+            let done = write!(case.came, "{half:04x}");
+            case.note(done);
+        }
+        Fetched::Nothing => case.put("-"),
     }
 }
 
 /// Appends what stands at addresses: the byte, and what is fetched.
-fn add_standing(came: &mut String, memory: &Memory<'_>, addrs: &str) -> Result<(), Stop> {
+fn put_standing(case: &mut Case<'_>, memory: &Memory<'_>, addrs: &str) {
     let mut near = 0;
     for digits in addrs.split_whitespace() {
-        let addr = hex(digits)?;
+        let addr = case.hex(digits);
+        case.put(" ");
         match memory.byte_at(addr) {
-            Some(byte) => write!(came, " {byte:02x}/")?,
-            None => came.push_str(" -/")?,
+            Some(byte) => case.put_digits(&[byte]),
+            None => case.put("-"),
         }
+        case.put("/");
         let fetched = memory.fetch(addr);
         if memory.fetch_near(&mut near, addr) != fetched {
-            came.push_str("near/")?;
+            case.put("near/");
         }
-        add_fetched(came, fetched)?;
+        put_fetched(case, fetched);
     }
-    Ok(())
 }
 
-/// What is said of the memory of pieces, each of which is added to those before it: why one is refused, the extents of
-/// those that are not, and what stands at addresses.
-fn said_of_memory(
-    alloc: Global,
-    pieces: &[Piece],
-    addrs: &str,
-    held: Held,
-) -> Result<String, Stop> {
-    let mut said = String::new(alloc);
+/// Appends what is said of the memory of pieces, each of which is added to those before it: why one is refused, the
+/// extents of those that are not, and what stands at addresses.
+fn put_memory(case: &mut Case<'_>, pieces: &[Piece], addrs: &str, held: Held) {
     let Some((first, others)) = pieces.split_first() else {
-        return Err(Stop::Unread);
+        return case.unread();
     };
-    let mut memory = match memory_of(alloc, first, held)? {
+    let mut memory = match memory_of(case, first, held) {
         Ok(memory) => memory,
-        Err(fault) => {
-            add_refusal(&mut said, fault)?;
-            return Ok(said);
-        }
+        Err(fault) => return put_refusal(case, Err(fault)),
     };
     for piece in others {
-        if let Err(fault) = add_piece(alloc, &mut memory, piece, held)? {
-            add_refusal(&mut said, fault)?;
-        }
+        add_piece(case, &mut memory, piece, held);
     }
-    add_extents(&mut said, &memory)?;
-    add_standing(&mut said, &memory, addrs)?;
-    Ok(said)
+    put_extents(case, &memory);
+    put_standing(case, &memory, addrs);
 }
 
 /// `memory PIECES`, or `memory PIECES ? ADDRS`: the memory of pieces, and what stands at addresses, whether it has its
 /// bytes itself or not.
-pub(crate) fn memory_case(alloc: Global, text: &str, came: &mut String) -> Result<(), Stop> {
-    let (pieces, addrs) = text.split_once('?').unwrap_or((text, ""));
-    let pieces = pieces_of(alloc, pieces)?;
-    let owned = said_of_memory(alloc, pieces.as_slice(), addrs, Held::Owned)?;
-    let borrowed = said_of_memory(alloc, pieces.as_slice(), addrs, Held::Borrowed)?;
-    came.push_str(owned.as_str())?;
-    if owned.as_str() != borrowed.as_str() {
-        write!(came, ", borrowed: {borrowed}")?;
-    }
-    Ok(())
+pub(crate) fn memory_case(case: &mut Case<'_>) {
+    let text = case.part('?');
+    let addrs = case.text;
+    let pieces = pieces_of(case, text);
+    let mut owned = case.again();
+    put_memory(&mut owned, pieces.as_slice(), addrs, Held::Owned);
+    case.put_first(&owned);
+    let mut borrowed = case.again();
+    put_memory(&mut borrowed, pieces.as_slice(), addrs, Held::Borrowed);
+    case.put_other("borrowed", &borrowed, owned.came.as_str());
 }
 
-/// Appends an instruction of a program, by its bits and how control goes on from it.
-fn add_class(came: &mut String, class: Class) -> Result<(), AllocError> {
-    match class {
-        Class::Plain => came.push_str("plain"),
-        Class::Jump(to) => write!(came, "jump:{to:x}"),
-        Class::Branch(to) => write!(came, "branch:{to:x}"),
-        Class::Uninferable => came.push_str("uninferable"),
-        Class::TrapReturn(Return::Mret) => came.push_str("mret"),
-        Class::TrapReturn(Return::Sret) => came.push_str("sret"),
-        Class::NotRetirable => came.push_str("none"),
+/// Appends how control goes on from an instruction.
+fn put_class(case: &mut Case<'_>, class: Class) {
+    let (name, to) = match class {
+        Class::Plain => ("plain", None),
+        Class::Jump(to) => ("jump:", Some(to)),
+        Class::Branch(to) => ("branch:", Some(to)),
+        Class::Uninferable => ("uninferable", None),
+        Class::TrapReturn(Return::Mret) => ("mret", None),
+        Class::TrapReturn(Return::Sret) => ("sret", None),
+        Class::NotRetirable => ("none", None),
+    };
+    case.put(name);
+    if let Some(to) = to {
+        case.put_hex(to);
     }
 }
 
 /// Appends the instruction at an address: its bits, with as many digits as it has, and how control goes on from it.
-fn add_instruction(
-    came: &mut String,
-    program: &ProgramOver<'_>,
-    near: &mut usize,
-    addr: u64,
-) -> Result<(), AllocError> {
+fn put_instruction(case: &mut Case<'_>, program: &ProgramOver<'_>, near: &mut usize, addr: u64) {
     let found = program.at(addr);
     if program.at_near(near, addr) != found {
-        add_word(came, "near")?;
+        case.put_word("near");
     }
     let Some(one) = program.instruction(addr) else {
-        return add_word(came, if found.is_none() { "-" } else { "class" });
+        return case.put_word(if found.is_none() { "-" } else { "class" });
     };
-    let (code, class) = (one.code, one.class);
-    add_word(came, "")?;
-    match one.length {
-        2 => write!(came, "{code:04x}=")?,
-        _ => write!(came, "{code:08x}=")?,
+    case.put_word("");
+    match (one.length, one.code.to_be_bytes()) {
+        (2, [_, _, high, low]) => case.put_digits(&[high, low]),
+        (_, all) => case.put_digits(&all),
     }
-    if found != Some((class, one.length)) {
-        came.push_str("other ")?;
+    case.put("=");
+    if found != Some((one.class, one.length)) {
+        case.put("other ");
     }
-    add_class(came, class)
+    put_class(case, one.class);
 }
 
 /// Appends the extents of a program, and the instructions at addresses.
-fn add_program(came: &mut String, program: &ProgramOver<'_>, addrs: &str) -> Result<(), Stop> {
-    add_extent(came, program.base(), program.byte_count())?;
-    came.push(':')?;
+fn put_program(case: &mut Case<'_>, program: &ProgramOver<'_>, addrs: &str) {
+    put_extent(case, program.base(), program.byte_count());
+    case.put(":");
     for number in 0..program.piece_count().saturating_add(1) {
         if let Some((base, count)) = program.extent(number) {
-            add_extent(came, base, count)?;
+            put_extent(case, base, count);
         }
     }
     let mut near = 0;
     for digits in addrs.split_whitespace() {
-        add_instruction(came, program, &mut near, hex(digits)?)?;
+        let addr = case.hex(digits);
+        put_instruction(case, program, &mut near, addr);
     }
-    Ok(())
 }
 
-/// The program that has the bytes of pieces itself, if the first of them makes one. Why one is refused is appended.
-fn program_of(alloc: Global, pieces: &[Piece], said: &mut String) -> Result<Option<Program>, Stop> {
-    let Some(((base, bytes), others)) = pieces.split_first() else {
-        return Err(Stop::Unread);
-    };
-    let mut program = match Program::new(*base, bytes.as_slice().to_vec(alloc)?) {
+/// The program that has the bytes of pieces itself, if the first of them makes one. Appends why one is refused.
+fn program_of(case: &mut Case<'_>, pieces: &[Piece]) -> Option<Program> {
+    let ((base, bytes), others) = pieces.split_first()?;
+    let mut program = match Program::new(*base, case.copied(bytes.as_slice())) {
         Ok(program) => program,
         Err(fault) => {
-            add_word(said, fault)?;
-            return Ok(None);
+            case.put_word(fault);
+            return None;
         }
     };
     for (base, bytes) in others {
-        if let Err(fault) = program.add(alloc, *base, bytes.as_slice().to_vec(alloc)?) {
-            add_refusal(said, fault)?;
-        }
+        let added = program.add(case.alloc, *base, case.copied(bytes.as_slice()));
+        put_refusal(case, added);
     }
-    Ok(Some(program))
+    Some(program)
 }
 
-/// What is said of the program of pieces that it borrows.
-fn said_of_borrowed(alloc: Global, pieces: &[Piece], addrs: &str) -> Result<String, Stop> {
-    let mut said = String::new(alloc);
+/// Appends what is said of the program of pieces that it borrows.
+fn put_borrowed(case: &mut Case<'_>, pieces: &[Piece], addrs: &str) {
     let Some(((base, bytes), others)) = pieces.split_first() else {
-        return Err(Stop::Unread);
+        return case.unread();
     };
     let mut program = match ProgramOver::borrowed(*base, bytes.as_slice()) {
         Ok(program) => program,
-        Err(fault) => {
-            add_word(&mut said, fault)?;
-            return Ok(said);
-        }
+        Err(fault) => return case.put_word(fault),
     };
     for (base, bytes) in others {
-        if let Err(fault) = program.add_borrowed(alloc, *base, bytes.as_slice()) {
-            add_refusal(&mut said, fault)?;
-        }
+        let added = program.add_borrowed(case.alloc, *base, bytes.as_slice());
+        put_refusal(case, added);
     }
-    add_program(&mut said, &program, addrs)?;
-    Ok(said)
+    put_program(case, &program, addrs);
 }
 
 /// `program PIECES`: the program of the cases after it. `program PIECES ? ADDRS`: also its pieces and the instructions at
 /// addresses, whether it has its bytes itself or not. Why a piece is refused comes first.
-pub(crate) fn program_case(
-    alloc: Global,
-    text: &str,
-    came: &mut String,
-) -> Result<Option<Program>, Stop> {
-    let (pieces, addrs) = text.split_once('?').unwrap_or((text, ""));
-    let pieces = pieces_of(alloc, pieces)?;
-    let made = program_of(alloc, pieces.as_slice(), came)?;
-    if !text.contains('?') {
-        return Ok(made);
+pub(crate) fn program_case(case: &mut Case<'_>) -> Option<Program> {
+    let only_sets = !case.text.contains('?');
+    let text = case.part('?');
+    let addrs = case.text;
+    let pieces = pieces_of(case, text);
+    let mut owned = case.again();
+    let made = program_of(&mut owned, pieces.as_slice());
+    if let (false, Some(program)) = (only_sets, &made) {
+        put_program(&mut owned, program, addrs);
     }
-    if let Some(program) = &made {
-        add_program(came, program, addrs)?;
+    case.put_first(&owned);
+    if only_sets && made.is_some() {
+        case.sets();
     }
-    let borrowed = said_of_borrowed(alloc, pieces.as_slice(), addrs)?;
-    if came.as_str() != borrowed.as_str() {
-        write!(came, ", borrowed: {borrowed}")?;
+    if !only_sets {
+        let mut borrowed = case.again();
+        put_borrowed(&mut borrowed, pieces.as_slice(), addrs);
+        case.put_other("borrowed", &borrowed, owned.came.as_str());
     }
-    Ok(made)
+    made
 }

@@ -1,27 +1,23 @@
 //! Cases of the texts of logs (`retire`) and of schedules (`schedule`).
 
-use crate::readers::{Stop, cut, decimal, decimal_u16, events_of, text_of};
-use crate::writers::{add_rows, add_text, add_word};
-use funnel::Turn;
+use cases::{Case, events_of, put_rows, text_of};
+use funnel::{Turn, read_schedule};
 use retire::{
     Event, LogFault, LogReader, MOST_ROWS, PieceBuffer, ReaderSource, read_log,
     read_log_from_slice, write_log,
 };
-use schedule::read_schedule;
 use std::alloc::{AllocError, Global};
 use std::io::Read;
 
 /// The header of a log.
 const HEADER: &str = "addr,itype,priv,cause,tval\n";
 
-/// What is read of a text.
-fn read_text(alloc: Global, read: Result<Vec<Event>, LogFault>) -> Result<String, AllocError> {
-    let mut text = String::new(alloc);
+/// Appends what is read of a text.
+fn put_read(case: &mut Case<'_>, read: Result<Vec<Event>, LogFault>) {
     match read {
-        Ok(events) => add_rows(&mut text, events.as_slice())?,
-        Err(fault) => write!(text, "{fault}")?,
+        Ok(events) => put_rows(case, events.as_slice()),
+        Err(fault) => case.put_shown(fault),
     }
-    Ok(text)
 }
 
 /// What is read of a reader in pieces of so many bytes, of at most so many rows. A fault comes again, and each piece has a
@@ -54,79 +50,116 @@ fn read_in_pieces<R: Read + Drop>(
 }
 
 /// Appends where something else is read of a text that is cut into three parts, each of which comes in a call of its own,
-/// wherever it is cut: the part in the middle has up to three bytes.
-fn add_cuts(
-    alloc: Global,
-    text: &[u8],
-    most: u32,
-    wanted: &str,
-    came: &mut String,
-) -> Result<(), AllocError> {
+/// where the last begins at a place: the part in the middle has up to three bytes.
+fn put_cuts(case: &mut Case<'_>, text: &[u8], second: usize, most: u32, wanted: &str) {
     let limit = text.len().saturating_add(2);
-    for second in 0..text.len().saturating_add(1) {
-        let (before, last) = text.split_at(second.min(text.len()));
-        for first in second.saturating_sub(3)..second.saturating_add(1) {
-            let (front, middle) = before.split_at(first.min(before.len()));
-            let parts = front.chain(middle).chain(last);
-            let read = read_text(alloc, read_in_pieces(alloc, 1, most, parts, limit))?;
-            if read.as_str() != wanted {
-                write!(came, ", cut at {first} and {second}: {read}")?;
-            }
-        }
+    let (before, last) = text.split_at(second.min(text.len()));
+    for first in second.saturating_sub(3)..second.saturating_add(1) {
+        let (front, middle) = before.split_at(first.min(before.len()));
+        let parts = front.chain(middle).chain(last);
+        let mut cut = case.again();
+        put_read(&mut cut, read_in_pieces(case.alloc, 1, most, parts, limit));
+        case.put_other("cut", &cut, wanted);
     }
-    Ok(())
-}
-
-/// Appends what is read of a text otherwise, if it is something else.
-fn add_other(came: &mut String, how: &str, read: &str) -> Result<(), AllocError> {
-    if came.as_str() == read {
-        return Ok(());
-    }
-    write!(came, ", {how}: {read}")
 }
 
 /// `read "TEXT"`: the events of a log's text, from a reader, from memory, and in pieces.
-pub(crate) fn read_case(alloc: Global, quoted: &str, came: &mut String) -> Result<(), Stop> {
-    let text = text_of(alloc, quoted)?;
+pub(crate) fn read_case(case: &mut Case<'_>) {
+    let alloc = case.alloc;
+    let text = text_of(case);
     let text = text.as_slice();
-    let read = read_text(alloc, read_log(alloc, alloc, text))?;
-    came.push_str(read.as_str())?;
-    let in_memory = read_text(alloc, read_log_from_slice(alloc, alloc, text))?;
-    add_other(came, "in memory", in_memory.as_str())?;
+    let mut first = case.again();
+    put_read(&mut first, read_log(alloc, alloc, text));
+    case.put_first(&first);
+    let mut in_memory = case.again();
+    put_read(&mut in_memory, read_log_from_slice(alloc, alloc, text));
+    case.put_other("in memory", &in_memory, first.came.as_str());
+    let mut pieces = case.again();
     let limit = text.len().saturating_add(2);
-    let pieces = read_in_pieces(alloc, 32_768, MOST_ROWS, text, limit);
-    add_other(came, "in pieces", read_text(alloc, pieces)?.as_str())?;
-    Ok(())
+    put_read(
+        &mut pieces,
+        read_in_pieces(alloc, 32_768, MOST_ROWS, text, limit),
+    );
+    case.put_other("in pieces", &pieces, first.came.as_str());
 }
 
 /// `read-most ROWS "TEXT"`: the events of a log's text that may have so many rows, in pieces, wherever it is cut.
-pub(crate) fn read_most_case(alloc: Global, text: &str, came: &mut String) -> Result<(), Stop> {
-    let (most, quoted) = cut(text, ' ');
+pub(crate) fn read_most_case(case: &mut Case<'_>) {
+    let most = case.word();
     let Ok(most) = most.parse::<u32>() else {
-        return Err(Stop::Unread);
+        return case.unread();
     };
-    let text = text_of(alloc, quoted)?;
+    let text = text_of(case);
     let text = text.as_slice();
     let limit = text.len().saturating_add(2);
-    let read = read_text(alloc, read_in_pieces(alloc, 1, most, text, limit))?;
-    came.push_str(read.as_str())?;
-    Ok(add_cuts(alloc, text, most, read.as_str(), came)?)
+    let mut first = case.again();
+    put_read(&mut first, read_in_pieces(case.alloc, 1, most, text, limit));
+    case.put_first(&first);
+    for second in 0..text.len().saturating_add(1) {
+        put_cuts(case, text, second, most, first.came.as_str());
+    }
+}
+
+/// Appends a line so often: with `\n` for its end, or as `\[N*LINE]` where it is there three times or more.
+fn add_lines(came: &mut String, line: &str, count: usize) -> Result<(), AllocError> {
+    if count > 2 {
+        return write!(came, "\\[{count}*{line}]");
+    }
+    for _ in 0..count {
+        write!(came, "{line}\\n")?;
+    }
+    Ok(())
+}
+
+/// Appends lines, those together that are the same one after the other.
+fn put_lines(case: &mut Case<'_>, lines: &str) {
+    let mut count: usize = 1;
+    for (line, next) in lines.split('\n').zip(lines.split('\n').skip(1)) {
+        if line == next {
+            count = count.saturating_add(1);
+        } else {
+            let done = add_lines(&mut case.came, line, count);
+            case.note(done);
+            count = 1;
+        }
+    }
+    let last = lines.rsplit_once('\n').unwrap_or(("", lines)).1;
+    let done = add_lines(&mut case.came, last, count);
+    case.note(done);
+}
+
+/// Appends a text between quotes: with `\n` for the end of a line, and `\[N*LINE]` for three lines or more that are the
+/// same.
+pub(crate) fn put_quoted(case: &mut Case<'_>, text: &[u8]) {
+    let Ok(text) = str::from_utf8(text) else {
+        return case.unread();
+    };
+    case.put_word("\"");
+    match text.rsplit_once('\n') {
+        Some((lines, last)) => {
+            put_lines(case, lines);
+            case.put(last);
+        }
+        None => case.put(text),
+    }
+    case.put("\"");
 }
 
 /// `write ROWS`: the text of a log after its header, which has to be read back.
-pub(crate) fn write_case(alloc: Global, rows: &str, came: &mut String) -> Result<(), Stop> {
-    let events = events_of(alloc, rows)?;
+pub(crate) fn write_case(case: &mut Case<'_>) {
+    let alloc = case.alloc;
+    let events = events_of(case);
     let mut text = Vec::new(alloc);
     if write_log(alloc, &mut text, events.as_slice()).is_err() {
-        return Err(Stop::Memory);
+        return case.no_memory();
     }
     let Some(rows) = text.as_slice().strip_prefix(HEADER.as_bytes()) else {
-        return Ok(add_word(came, "no header")?);
+        return case.put_word("no header");
     };
-    add_text(came, rows)?;
+    put_quoted(case, rows);
     match read_log(alloc, alloc, text.as_slice()) {
-        Ok(back) if back.as_slice() == events.as_slice() => Ok(()),
-        _ => Ok(add_word(came, "is not read back")?),
+        Ok(back) if back.as_slice() == events.as_slice() => {}
+        _ => case.put_word("is not read back"),
     }
 }
 
@@ -140,30 +173,29 @@ fn are_pairs(turns: &[Turn]) -> bool {
     turns.len() > 8 && turns.len() % 2 == 0
 }
 
-/// Appends a turn.
-fn add_turn(came: &mut String, turn: &Turn) -> Result<(), AllocError> {
-    match turn {
-        Turn::Hart(hart) => add_word(came, *hart),
-        Turn::Collect => add_word(came, "c"),
+/// Appends turns. Two that come again and again are named once.
+fn put_turns(case: &mut Case<'_>, turns: &[Turn]) {
+    let mut shown = turns;
+    if are_pairs(turns) {
+        case.put_shown(turns.len() / 2);
+        case.put(" times");
+        shown = turns.get(..2).unwrap_or(&[]);
+    }
+    for turn in shown {
+        match turn {
+            Turn::Hart(hart) => case.put_word(*hart),
+            Turn::Collect => case.put_word("c"),
+        }
     }
 }
 
 /// `schedule HARTS "TEXT"`: the turns of a schedule. Two that come again and again are named once.
-pub(crate) fn schedule_case(alloc: Global, text: &str, came: &mut String) -> Result<(), Stop> {
-    let (harts, quoted) = cut(text, ' ');
-    let text = text_of(alloc, quoted)?;
-    let turns = match read_schedule(alloc, decimal_u16(harts)?, text.as_slice()) {
-        Ok(turns) => turns,
-        Err(fault) => return Ok(add_word(came, fault)?),
-    };
-    let mut shown = turns.as_slice();
-    if are_pairs(shown) {
-        let count = shown.len() / 2;
-        write!(came, "{count} times")?;
-        shown = shown.get(..2).unwrap_or(&[]);
+pub(crate) fn schedule_case(case: &mut Case<'_>) {
+    let harts = case.word();
+    let harts = case.short(harts);
+    let text = text_of(case);
+    match read_schedule(case.alloc, harts, text.as_slice()) {
+        Ok(turns) => put_turns(case, turns.as_slice()),
+        Err(fault) => case.put_word(fault),
     }
-    for turn in shown {
-        add_turn(came, turn)?;
-    }
-    Ok(())
 }

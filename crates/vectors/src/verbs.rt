@@ -6,12 +6,11 @@ use crate::lossy::{collect_case, lossy_case, salvage_case, treat_case};
 use crate::packets::{pack_case, payload_case, unpack_case};
 use crate::paths::{check_case, explain_case, successor_case};
 use crate::programs::{memory_case, program_case};
-use crate::readers::{Stop, cut, events_of};
 use crate::texts::{read_case, read_most_case, schedule_case, write_case};
-use cases::Verbs;
+use cases::{Case, Verbs, events_of};
 use retire::Event;
 use rvclass::Program;
-use std::alloc::{AllocError, Global};
+use std::alloc::Global;
 
 /// What the cases before leave: a program, and a log by which stretches are named.
 #[derive(Drop)]
@@ -29,70 +28,54 @@ impl Vectors {
         }
     }
 
-    /// The case of a verb that needs no program.
-    fn set(
-        &mut self,
-        alloc: Global,
-        (verb, text): (&str, &str),
-        came: &mut String,
-    ) -> Result<bool, Stop> {
-        match verb {
-            "program" => self.program = program_case(alloc, text, came)?,
-            "log" => self.log = events_of(alloc, text)?,
-            "memory" => memory_case(alloc, text, came)?,
-            "pack" => pack_case(text, came)?,
-            "unpack" => unpack_case(alloc, text, came)?,
-            "payload" => payload_case(alloc, text, came)?,
-            "read" => read_case(alloc, text, came)?,
-            "read-most" => read_most_case(alloc, text, came)?,
-            "write" => write_case(alloc, text, came)?,
-            "schedule" => schedule_case(alloc, text, came)?,
-            _ => return Ok(false),
+    /// The case of a verb that sets something for those after it.
+    fn set(&mut self, case: &mut Case<'_>, verb: &str) {
+        if verb == "log" {
+            case.sets();
+            self.log = events_of(case);
+        } else {
+            self.program = program_case(case);
         }
-        Ok(true)
     }
 
     /// The case of a verb by the program of the cases before.
-    fn ask(
-        &self,
-        alloc: Global,
-        (verb, text): (&str, &str),
-        came: &mut String,
-    ) -> Result<(), Stop> {
+    fn ask(&self, case: &mut Case<'_>, verb: &str) {
         let Some(program) = &self.program else {
-            return Err(Stop::Unread);
+            return case.unread();
         };
         let both = (program, self.log.as_slice());
         match verb {
-            "check" => check_case(alloc, program, text, came),
-            "successor" => successor_case(alloc, program, text, came),
-            "explain" => explain_case(alloc, program, text, came),
-            "encode" => encode_case(alloc, program, text, came),
-            "encode-alike" => encode_alike_case(alloc, program, text, came),
-            "decode" => decode_case(alloc, program, text, came),
-            "answers" => answers_case(alloc, program, text, came),
-            "lossy" => lossy_case(alloc, both, text, came),
-            "collect" => collect_case(alloc, both, text, came),
-            "salvage" => salvage_case(alloc, both, text, came),
-            "treat" => treat_case(alloc, program, text, came),
-            _ => Err(Stop::Unread),
+            "check" => check_case(case, program),
+            "successor" => successor_case(case, program),
+            "explain" => explain_case(case, program),
+            "encode" => encode_case(case, program),
+            "encode-alike" => encode_alike_case(case, program),
+            "decode" => decode_case(case, program),
+            "answers" => answers_case(case, program),
+            "lossy" => lossy_case(case, both),
+            "collect" => collect_case(case, both),
+            "salvage" => salvage_case(case, both),
+            "treat" => treat_case(case, program),
+            _ => case.unread(),
         }
     }
 }
 
 impl Verbs for Vectors {
-    fn answer(&mut self, alloc: Global, case: &str, came: &mut String) -> Result<(), AllocError> {
-        let (verb, text) = cut(case, ' ');
-        let text = text.trim();
-        let done = match self.set(alloc, (verb, text), came) {
-            Ok(true) => Ok(()),
-            Ok(false) => self.ask(alloc, (verb, text), came),
-            Err(stop) => Err(stop),
-        };
-        match done {
-            Ok(()) => Ok(()),
-            Err(Stop::Memory) => Err(AllocError),
-            Err(Stop::Unread) => came.push_str(", and its arguments are not read"),
+    fn answer(&mut self, case: &mut Case<'_>) {
+        let verb = case.word();
+        case.text = case.text.trim();
+        match verb {
+            "program" | "log" => self.set(case, verb),
+            "memory" => memory_case(case),
+            "pack" => pack_case(case),
+            "unpack" => unpack_case(case),
+            "payload" => payload_case(case),
+            "read" => read_case(case),
+            "read-most" => read_most_case(case),
+            "write" => write_case(case),
+            "schedule" => schedule_case(case),
+            _ => self.ask(case, verb),
         }
     }
 }

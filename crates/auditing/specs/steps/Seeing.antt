@@ -1,9 +1,9 @@
 -- What is known of a message, by what is kept.
 use Rattle.std.specs.Prelude.{Option, Some, None, slice_get}
-use Rattle.alike.specs.declared.by.By.{By}
+use Rattle.payload.specs.declared.by.By.{By}
 use Rattle.message.specs.declared.message.Message.{Message}
-use Rattle.resuming.specs.declared.sent.Sight.{Sight}
-use Rattle.resuming.specs.declared.sent.Sight.TheVariants as sight
+use Rattle.frames.specs.declared.sent.Sight.{Sight}
+use Rattle.frames.specs.declared.sent.Sight.TheVariants as sight
 use Rattle.auditing.specs.Ledger.{HartLedger, Ledger}
 use Rattle.auditing.specs.Seen.{sight_by}
 

@@ -2,8 +2,8 @@
 use Rattle.std.specs.Prelude.{ℕ, ◌+◌, ◌-◌, ◌^◌, ◌==◌, ◌&&◌, not, nat_lt, Bool, true, false, if◌then◌else◌, List, Option, Some, None}
 use Rattle.std.specs.Prelude.{length, max, min, slice_get, slice_index_or, slice_set}
 use Rattle.std.specs.List.{count_by}
-use Rattle.alike.specs.Same.{same}
-use Rattle.alike.specs.declared.by.By.{By}
+use Rattle.payload.specs.Same.{same}
+use Rattle.payload.specs.declared.by.By.{By}
 use Rattle.message.specs.declared.message.Message.{Message}
 use Rattle.auditing.specs.Findings.{is_plain}
 use Rattle.auditing.specs.HartRows.{longest_of}

@@ -1,9 +1,9 @@
 -- What is found of the harts of a capture that are asked for.
 use Rattle.std.specs.Prelude.{ℕ, List, Option, Ok}
-use Rattle.hart_range.specs.declared.range.HartRange.{HartRange}
+use Rattle.message.specs.declared.range.HartRange.{HartRange}
 use Rattle.rvclass.specs.Image.{Image}
-use Rattle.salvaged_text.specs.Found.{IsFound}
-use Rattle.salvaged_text.specs.declared.found.Found.{Found}
+use Rattle.salvage_reports.specs.Found.{IsFound}
+use Rattle.salvage_reports.specs.declared.found.Found.{Found}
 use Rattle.capture_commands.specs.HartsFound.{HasHartFound}
 
 -- This is found of the harts of a capture that are asked for, of which there is one.

@@ -1,7 +1,7 @@
 -- What a receiver holds once it has received the messages of bytes.
 use Rattle.std.specs.Prelude.{ℕ, ◌≡◌, ◌++◌, All, List, Option}
-use Rattle.hart_range.specs.Range.{selected}
-use Rattle.hart_range.specs.declared.range.HartRange.{HartRange}
+use Rattle.message.specs.Range.{selected}
+use Rattle.message.specs.declared.range.HartRange.{HartRange}
 use Rattle.rvclass.specs.Words.{Words}
 use Rattle.payload.specs.declared.mode.Mode.{Mode}
 use Rattle.message.specs.Accepted.{AreAccepted, newcomers}

@@ -2,11 +2,11 @@
 
 use crate::fixtures::message;
 use crate::same::same_at;
+use fault_injection::{FailingReader, FailingWriter};
 use message::{
     Header, Message, MessageFault, Start, read_message, read_start, write_header, write_message,
 };
 use payload::Mode;
-use refusing::{FailingReader, FailingWriter};
 use std::io::ErrorKind;
 use std::process::Abort;
 

@@ -3,8 +3,8 @@
 use super::made::{CONFIG, TURNS, logs, program, text_of};
 use crate::same::same_at;
 use bench::{Outcome, Stop, replay, report};
+use fault_injection::FailingWriter;
 use legalpath::LegalLog;
-use refusing::FailingWriter;
 use retire::WriteFault;
 use std::process::Abort;
 

@@ -3,9 +3,9 @@
 use super::made::{CONFIG, logs, program, retired};
 use crate::same::same_at;
 use bench::{Config, Open, run, run_in_rooms};
+use fault_injection::Refusing;
 use legalpath::LegalLog;
 use payload::Mode;
-use refusing::Refusing;
 use retire::Event;
 use std::alloc::Allocator;
 use std::process::Abort;

@@ -1,8 +1,8 @@
 -- A run of a subcommand, with all that is said of it.
 use Rattle.std.specs.Prelude.{◌≡◌, ℕ, List, Option, Result, Err, IfSome}
-use Rattle.files.specs.Known.{Content}
-use Rattle.subcommands.specs.Kind.{IsCheck}
-use Rattle.subcommands.specs.declared.words.Asked.{Asked}
+use Rattle.log_streams.specs.Known.{Content}
+use Rattle.command_inputs.specs.Kind.{IsCheck}
+use Rattle.command_inputs.specs.declared.words.Asked.{Asked}
 use Rattle.command_inputs.specs.declared.fault.Fault.TheVariants as fault
 use Rattle.command_inputs.specs.declared.status.Status.{Status}
 use Rattle.command_inputs.specs.declared.status.Status.TheVariants.{Refused}

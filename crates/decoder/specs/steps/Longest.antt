@@ -1,7 +1,7 @@
 -- How long a walk can be.
 use Rattle.std.specs.Prelude.{ℕ, ◌≡◌, ◌*◌, ◌/◌, ◌^◌, ◌≤◌}
-use Rattle.memory.specs.Halves.{halves_below}
-use Rattle.memory.specs.Memory.{byte_count}
+use Rattle.rvclass.specs.Halves.{halves_below}
+use Rattle.rvclass.specs.Memory.{byte_count}
 use Rattle.rvclass.specs.Fetch.{words_of}
 use Rattle.rvclass.specs.Image.{Image}
 use Rattle.rvclass.specs.Words.{IsProgram, LiesIn}

@@ -1,6 +1,6 @@
 -- How ranges are found, piece by piece.
 use Rattle.std.specs.Prelude.{ℕ, ◌+◌, ◌==◌, if◌then◌else◌, List, ◌∷◌, Option, Some, None}
-use Rattle.memory.specs.Piece.{Piece}
+use Rattle.rvclass.specs.Piece.{Piece}
 use Rattle.explaining.specs.Ranges.{range_from, ranges_after, ranges_of}
 use Rattle.explaining.specs.declared.ranges.Range.{Range}
 

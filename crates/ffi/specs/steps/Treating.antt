@@ -2,15 +2,15 @@
 use Rattle.std.specs.Prelude.{ℕ, ◌≡◌, List, Option}
 use Rattle.std.specs.List.{list_any}
 use Rattle.std.specs.declared.alloc.Global.{Global}
-use Rattle.hart_range.specs.Range.{every_hart}
+use Rattle.message.specs.Range.{every_hart}
 use Rattle.message.specs.declared.fault.MessageFault.{MessageFault}
 use Rattle.message.specs.declared.header.Header.{Header}
 use Rattle.rvclass.specs.Image.{Image}
-use Rattle.salvaged_text.specs.Found.{IsSalvagedCapture}
-use Rattle.salvaged_text.specs.Frames.{is_run}
+use Rattle.salvage_reports.specs.Found.{IsSalvagedCapture}
+use Rattle.salvage_reports.specs.Frames.{is_run}
 use Rattle.salvaging.specs.declared.salvaged.Salvaged.{Salvaged}
 use Rattle.salvaging.specs.declared.treatment.Treated.{Treated}
-use Rattle.searching.specs.Start.{spans_of}
+use Rattle.frames.specs.Start.{spans_of}
 use Rattle.ffi.specs.Salvaged.{salvage_end}
 use Rattle.ffi.specs.Treated.{AreTreatedBehind, treated_in}
 use Rattle.ffi.specs.declared.listing_capture.TextFormat.{TextFormat}

@@ -1,14 +1,14 @@
 -- RECEIVED is taken span by span.
 use Rattle.std.specs.Prelude.{ℕ, ◌≡◌, ◌<◌, ◌^◌, List, [], drop, length}
-use Rattle.alike.specs.declared.by.By.{By}
+use Rattle.payload.specs.declared.by.By.{By}
 use Rattle.auditing.specs.Audits.{Audits}
 use Rattle.auditing.specs.Ledger.{Ledger}
 use Rattle.auditing.specs.Seen.{sight_of}
 use Rattle.frames.specs.declared.span.Span.{Span}
 use Rattle.message.specs.declared.message.Message.{Message}
-use Rattle.resuming.specs.Counted.{bytes_in, messages_in}
-use Rattle.resuming.specs.Passages.{spans_from}
-use Rattle.searching.specs.Start.{IsStart, first_place}
+use Rattle.frames.specs.Counted.{bytes_in, messages_in}
+use Rattle.frames.specs.Passages.{spans_from}
+use Rattle.frames.specs.Start.{IsStart, first_place}
 use Rattle.ffi.specs.AuditedAll.{arrivals_after, byte_runs}
 use Rattle.ffi.specs.declared.path_all.CameIn.{CameIn}
 

@@ -6,7 +6,7 @@ use Rattle.std.specs.declared.alloc.Global.{Global}
 use Rattle.std.specs.declared.vec.Vec.{Vec}
 use Rattle.captures.specs.HexLines.{hex_line}
 use Rattle.encoder.specs.Payloads.{payloads}
-use Rattle.files.specs.Known.{Content}
+use Rattle.log_streams.specs.Known.{Content}
 use Rattle.legalpath.specs.ProgramLog.{ProgramLog}
 use Rattle.log_streams.specs.declared.logs_fault.LogsFault.{LogsFault}
 use Rattle.measuring.specs.Bounds.{AreWithin, most_counted}
@@ -18,7 +18,7 @@ use Rattle.message.specs.declared.header.Header.{Header}
 use Rattle.message.specs.declared.message.Message.{Message}
 use Rattle.payload.specs.declared.mode.Mode.{Mode}
 use Rattle.rvclass.specs.Image.{Image}
-use Rattle.subcommands.specs.declared.words.Encode.{Encode}
+use Rattle.command_inputs.specs.declared.words.Encode.{Encode}
 use Rattle.command_inputs.specs.Faults.{Path, stop_fault}
 use Rattle.command_inputs.specs.FoundLogs.{AreLegalLogsUpTo}
 use Rattle.log_commands.specs.Faults.{Fault}

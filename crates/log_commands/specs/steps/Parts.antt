@@ -3,8 +3,8 @@ use Rattle.std.specs.Prelude.{⊤, ℕ, Option, Some, None, Result, Ok, Err}
 use Rattle.command_inputs.specs.FurtherPieces.{base_number}
 use Rattle.command_inputs.specs.Printed.{First}
 use Rattle.command_inputs.specs.declared.fault.Fault.TheVariants as fault
-use Rattle.files.specs.Known.{Content}
-use Rattle.subcommands.specs.declared.words.Encode.{Encode}
+use Rattle.log_streams.specs.Known.{Content}
+use Rattle.command_inputs.specs.declared.words.Encode.{Encode}
 use Rattle.log_commands.specs.Encoding.{AreLogsOf, WritesMessages}
 use Rattle.log_commands.specs.Faults.{Fault, Once, Printed}
 use Rattle.log_commands.specs.Parts.{asked_part, most_logs}

@@ -3,8 +3,8 @@ use Rattle.std.specs.Prelude.{◌≡◌, All, IfErr, ℕ, List, Result, Some, sl
 use Rattle.std.specs.Borrow.{Bor}
 use Rattle.retire.specs.declared.event.Event.{Event}
 use Rattle.rvclass.specs.Image.{Image}
-use Rattle.files.specs.Gave.{Gave}
-use Rattle.files.specs.Known.{Content}
+use Rattle.log_streams.specs.Gave.{Gave}
+use Rattle.log_streams.specs.Known.{Content}
 use Rattle.log_streams.specs.Made.{IsMadeOf, IsMadeOfGiven}
 use Rattle.log_streams.specs.Refusing.{MayStop}
 use Rattle.log_streams.specs.declared.entry.Entry.{Entry}

@@ -1,26 +1,21 @@
 -- How messages that carry no numbers are read and written.
-use Rattle.std.specs.Prelude.{ℕ, ◌≡◌, ◌⊎◌, ◌&&◌, Bool, List, Option, Result, Err, length, map, nat_lt, not}
+use Rattle.std.specs.Prelude.{ℕ, ◌≡◌, ◌⊎◌, ◌&&◌, List, Option, Result, Err, length, map, nat_lt, not}
 use Rattle.std.specs.List.{count_by}
 use Rattle.std.specs.Io.KnownBytes.{Appends}
-use Rattle.alike.specs.declared.by.By.{By}
-use Rattle.alignment.specs.Matches.{Flags}
-use Rattle.hart_range.specs.Range.{selected, selects}
-use Rattle.hart_range.specs.declared.range.HartRange.{HartRange}
+use Rattle.payload.specs.declared.by.By.{By}
+use Rattle.path_match.specs.Matches.{Flags}
+use Rattle.message.specs.Range.{selected, selects}
+use Rattle.message.specs.declared.range.HartRange.{HartRange}
 use Rattle.message.specs.declared.header.Header.{Header}
 use Rattle.message.specs.declared.message.Message.{Message}
-use Rattle.subcommands.specs.declared.words.Audit.{Audit}
-use Rattle.subcommands.specs.declared.words.Format.{Format}
-use Rattle.subcommands.specs.declared.words.Format.TheVariants.{Csv}
+use Rattle.command_inputs.specs.declared.words.Audit.{Audit}
 use Rattle.auditing.specs.Sent.{IsSent, harts_of}
-use Rattle.unnumbered.specs.Split.{AreSplit}
-use Rattle.unnumbered.specs.declared.line.Line.{Line}
+use Rattle.path_match.specs.Split.{AreSplit}
 use Rattle.command_inputs.specs.declared.fault.Fault.TheVariants as fault
 use Rattle.command_inputs.specs.declared.status.Status.{Status}
-use Rattle.path_commands.specs.AlignedRows.{aligned_table}
-use Rattle.path_commands.specs.AlignedTable.{aligned_audit}
 use Rattle.path_commands.specs.Faults.{Fault}
+use Rattle.path_commands.specs.Rows.{report_of}
 use Rattle.path_commands.specs.Unnumbered.{UnnumberedCame, end_of_unnumbered, unnumbered_audit}
-use Rattle.path_commands.specs.UnnumberedText.{unnumbered_text}
 use Rattle.path_commands.specs.declared.by_hart.ByHart.{ByHart}
 use Rattle.path_commands.specs.declared.keeping.KeptSent.{KeptSent}
 use Rattle.path_commands.specs.declared.keeping.Received.{Received}
@@ -49,23 +44,11 @@ came_with own messages = record { header = own.header; fault = own.fault; messag
 abbrev pub strangers_of : HartRange → ℕ → List ℕ → ℕ
 strangers_of harts count own = count_by (λ hart. selects harts hart && not (nat_lt hart count)) own
 
--- The report of an audit in this format, by the alignments of the harts and what is to be said of so many messages.
-abbrev pub report_in : Format → HartRange → Bool → List Flags → List Line → ℕ → ℕ → Bool → Bool → List ℕ
-report_in Csv harts summary all lines messages strangers unlike whole =
-    aligned_table harts summary all lines messages strangers unlike whole
-report_in _ harts summary all lines messages strangers unlike whole =
-    unnumbered_text harts summary all lines strangers unlike whole
-
--- What is written of RECEIVED in this format, by SENT's header and the alignments of the harts.
-abbrev pub audit_in : Format → HartRange → Bool → Option Header → UnnumberedCame → List Flags → List ℕ
-audit_in Csv harts summary header came all = aligned_audit harts summary header came all
-audit_in _ harts summary header came all = unnumbered_audit harts summary header came all
-
 -- Allocation or the output failed; or all is written, and the run ends as it should.
 abbrev pub EndsUnnumbered : Audit → HartRange → Option Header → UnnumberedCame → List Flags → Result Status Fault
     → Option (List ℕ) → Option (List ℕ) → Type 0
 EndsUnnumbered asked harts header came all ended old new =
     (ended ≡ Err fault.Memory)
     ⊎ ((ended ≡ Err fault.Output)
-    ⊎ (Appends old new (audit_in asked.format harts asked.summary header came all)
+    ⊎ (Appends old new (unnumbered_audit (report_of asked.format asked harts) header came all)
     × (ended ≡ end_of_unnumbered asked.received harts header came all)))

@@ -1,10 +1,10 @@
 -- Noting what is found of the messages of some harts.
 use Rattle.std.specs.Prelude.{ℕ, Bool, true, false, List, None}
-use Rattle.alike.specs.declared.by.By.{By}
+use Rattle.payload.specs.declared.by.By.{By}
 use Rattle.frames.specs.declared.span.Span.{Span}
 use Rattle.frames.specs.declared.span.Span.TheVariants.{Frame, Bytes}
-use Rattle.hart_range.specs.Range.{selects}
-use Rattle.hart_range.specs.declared.range.HartRange.{HartRange}
+use Rattle.message.specs.Range.{selects}
+use Rattle.message.specs.declared.range.HartRange.{HartRange}
 use Rattle.message.specs.declared.message.Message.{Message}
 use Rattle.auditing.specs.Findings.{finding_of}
 use Rattle.auditing.specs.Known.{known_all, known_one}

@@ -1,7 +1,7 @@
 -- The instruction at an address by the bits that were fetched there.
 use Rattle.std.specs.Prelude.{ℕ, ◌%◌, ◌==◌, ◌^◌, not, if◌then◌else◌, Option, Some, None, option_map}
-use Rattle.memory.specs.declared.fetched.Fetched.{Fetched}
-use Rattle.memory.specs.declared.fetched.Fetched.TheVariants.{Word as FetchedWord, Half, Nothing}
+use Rattle.rvclass.specs.declared.fetched.Fetched.{Fetched}
+use Rattle.rvclass.specs.declared.fetched.Fetched.TheVariants.{Word as FetchedWord, Half, Nothing}
 use Rattle.rvclass.specs.Fetch.{is_compressed, is_longer}
 use Rattle.rvclass.specs.Word16.{class16}
 use Rattle.rvclass.specs.Word32.{class32}

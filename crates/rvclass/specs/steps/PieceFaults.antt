@@ -1,6 +1,6 @@
 -- Why one piece is no program.
-use Rattle.memory.specs.declared.fault.PieceFault.{PieceFault}
-use Rattle.memory.specs.declared.fault.PieceFault.TheVariants as piece
+use Rattle.rvclass.specs.declared.piece_fault.PieceFault.{PieceFault}
+use Rattle.rvclass.specs.declared.piece_fault.PieceFault.TheVariants as piece
 use Rattle.rvclass.specs.declared.fault.ProgramFault.{ProgramFault}
 use Rattle.rvclass.specs.declared.fault.ProgramFault.TheVariants.{OddBase, TooLarge, PastEnd}
 

@@ -1,8 +1,8 @@
 //! A schedule without memory.
 
 use crate::same::same_at;
+use funnel::{ScheduleFault, read_schedule};
 use linked_list_allocator::LocalHeap;
-use schedule::{ScheduleFault, read_schedule};
 use std::process::Abort;
 
 /// Without memory the fault is Memory.

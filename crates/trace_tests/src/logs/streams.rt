@@ -3,8 +3,8 @@
 use super::texts::text_of_rows;
 use crate::fixtures::add;
 use crate::same::same_at;
+use fault_injection::FailingReader;
 use linked_list_allocator::LocalHeap;
-use refusing::FailingReader;
 use retire::{Event, LogFault, LogReader, MOST_ROWS, PieceBuffer, ReaderSource, Source};
 use std::io::ErrorKind;
 use std::process::Abort;

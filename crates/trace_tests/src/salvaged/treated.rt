@@ -3,12 +3,11 @@
 use crate::fixtures::{BASE, NOP, program_of};
 use crate::lossy::add;
 use crate::same::same_at;
-use message::Message;
+use fault_injection::Refusing;
+use message::{Message, Unwatched};
 use payload::Mode;
-use refusing::Refusing;
 use salvaging::{Added, Treated, Treatment, treat_watched};
 use std::process::Abort;
-use watching::Unwatched;
 
 /// A packet that opens the trace, and one that closes it.
 const OPEN: &[u8] = b"\x1f";

@@ -1,6 +1,6 @@
 //! Files in memory that count how they are opened.
 
-use files::{FileFault, FileReader, Files};
+use log_streams::{FileFault, FileReader, Files};
 use retire::Given;
 use std::alloc::Global;
 use std::io::{Cursor, Read};

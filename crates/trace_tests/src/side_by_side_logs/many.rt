@@ -3,7 +3,7 @@
 use super::files_in_memory::{Kind, Table};
 use super::{collected, counted, event_at, legal, text_of};
 use crate::same::same_at;
-use files::Files;
+use log_streams::Files;
 use std::process::Abort;
 use std::thread::Threads;
 

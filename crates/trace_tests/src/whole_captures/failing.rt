@@ -4,10 +4,10 @@ use super::{capture_by_hand, copies_of, write_capture};
 use crate::fixtures::Step::Retires;
 use crate::fixtures::{NOP, log_of, program_of};
 use crate::same::same_at;
+use fault_injection::FailingWriter;
 use legalpath::LegalLog;
 use message::{MessageFault, Version};
 use payload::Mode;
-use refusing::FailingWriter;
 use std::process::Abort;
 
 /// The payloads of two instructions.

@@ -6,9 +6,9 @@ use crate::fixtures::{NOP, log_of, program_of};
 use crate::packets::sourced;
 use crate::same::same_at;
 use captures::{encode_hex, hex_lines};
+use fault_injection::FailingWriter;
 use legalpath::LegalLog;
 use payload::{Mode, Payload};
-use refusing::FailingWriter;
 use retire::WriteFault;
 use std::process::Abort;
 

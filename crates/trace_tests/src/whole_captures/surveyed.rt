@@ -1,4 +1,4 @@
-//! The first pass over a capture with the harts side by side (`survey_threads`): what it finds is what the first pass in
+//! The first pass over a capture with the harts side by side (`parallel_decode`): what it finds is what the first pass in
 //! one thread finds, and decoding goes on from each mark.
 
 use super::written::told::Told;
@@ -7,16 +7,14 @@ use crate::fixtures::{BRANCH_LOOP, program_of, short_log, short_words};
 use crate::large::made;
 use crate::refused_captures::{CAPTURE, FULL};
 use crate::same::same_at;
-use hart_range::HartRange;
-use hart_survey::{Mark, survey_messages};
-use message::Version;
+use capture_index::{Mark, survey_messages};
+use message::{HartRange, Unwatched, Version};
+use parallel_decode::{MarkedSurvey, survey_side_by_side};
 use payload::Mode;
 use rvclass::Program;
 use std::fmt::Debug;
 use std::process::Abort;
 use std::thread::Threads;
-use survey_threads::{MarkedSurvey, survey_side_by_side};
-use watching::Unwatched;
 
 /// Ends the test unless the messages of these harts are surveyed alike by several threads and by one. Returns what the
 /// several find.

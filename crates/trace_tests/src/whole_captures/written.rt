@@ -12,8 +12,8 @@ use crate::fixtures::{BASE, BRANCH_LOOP, add, log_of, program_of, short_log, sho
 use crate::large::made;
 use crate::refused_captures::{CAPTURE, FULL};
 use crate::same::same_at;
+use capture_index::{DecodedHarts, write_decoded};
 use captures::{CaptureFault, CaptureOutcome};
-use hart_rows::{DecodedHarts, write_decoded};
 use message::MessageFault;
 use payload::Mode;
 use retire::{Event, write_log};

@@ -1,6 +1,6 @@
 -- The law is a recursion over the messages, which no search makes.
 use Rattle.std.proofs.Common.{◌≡◌, ◌∙◌, [], ap, sym}
-use Rattle.alike.specs.declared.by.By.TheVariants as by
+use Rattle.payload.specs.declared.by.By.TheVariants as by
 use Rattle.message.specs.OfHart.{of_hart}
 use Rattle.auditing.proofs.AllWhole.{all_same}
 use Rattle.auditing.proofs.DecodedAgain.{decoded_again}

@@ -1,19 +1,24 @@
 -- The prover tries no chain of steps by itself: what each step found is handed to it, in order.
-use Rattle.std.proofs.Common.{Bool, Err, List, Ok, Option, ap, arith, false, inl, inr, refl, subst, sym, true, ℕ, ◌≡◌, ◌∙◌}
-use Rattle.std.proofs.Common.{Some, ◌⊎◌}
+use Rattle.std.proofs.Common.{Bool, Err, List, Ok, Option, ap, arith, inl, inr, refl, subst, sym, ℕ, ◌≡◌, ◌∙◌, ◌⊎◌}
 use Rattle.std.proofs.KnownBytes.{Keeps-refl}
-use Rattle.std.proofs.lemmas.Bool.{cases_eq}
 use Rattle.std.proofs.lemmas.Grind.{common_steps}
 use Rattle.std.specs.Io.KnownBytes.{Keeps}
-use Rattle.std.specs.Prelude.{IfSome}
-use Rattle.command_inputs.specs.Found.{IsBase}
+use Rattle.std.specs.Prelude.{IfSome, false, true}
+use Rattle.log_streams.specs.Known.{Content}
+use Rattle.command_inputs.specs.declared.words.Decode.{Decode}
+use Rattle.command_inputs.specs.Begun.{IsCutOf}
+use Rattle.command_inputs.specs.Found.{IsBase, IsProgramAt, IsRead}
 use Rattle.command_inputs.specs.FurtherPieces.{base_number}
 use Rattle.command_inputs.specs.OnlyHarts.{IsOnly, asked_harts}
 use Rattle.command_inputs.specs.Order.{base_or_only_fault}
-use Rattle.command_inputs.proofs.Beginnings.{cut_leads}
-use Rattle.command_inputs.proofs.Formats.{found_ends, none_ends}
-use Rattle.command_inputs.proofs.Runs.{ends_silently, leads_on}
-use Rattle.capture_commands.specs.Decoded.{CanDecode, CanDecodeHarts, Decodes, DecodesHarts}
+use Rattle.command_inputs.specs.Printed.{PrintsUnlessDenied}
+use Rattle.command_inputs.specs.declared.fault.Fault.TheVariants as fault
+use Rattle.command_inputs.proofs.Runs.{ends_silently}
+use Rattle.capture_commands.specs.declared.reason.CaptureReason.{CaptureReason}
+use Rattle.capture_commands.specs.Decoded.{CanDecode, CanWriteLogsOf, Decodes, WritesLogsOf}
+use Rattle.capture_commands.proofs.DecodedRuns.{capture_cut, capture_printed}
+use Rattle.capture_commands.proofs.OnlyOrders.{early_none, early_only, in_either}
+use Rattle.capture_commands.proofs.decoding.decode.Goals.{After-decode_capture}
 use Rattle.capture_commands.proofs.decoding.decode.Goals as goal
 
 pub returns-in_err-base-clause-early : goal.returns-in_err-base-clause-early
@@ -32,65 +37,144 @@ returns-in_err-base-clause-printed g c =
     let is : c.from_residual.result ≡ Err why = grind (arith, common_steps) in
     ends_silently (Decodes content asked) (CanDecode content asked)
     (IsBase asked.base.now asked.also.items (Err why)) why
-    c.from_residual.result (g.O.Write.contents c.args.out.now) is (inr c.in_err-base.ensures.found)
-    (λ none. (Err why, none, refl))
+    c.from_residual.result (g.O.Write.contents c.args.out.now) is (inr c.in_err-base.ensures.found) (λ none. (Err why, none, refl))
 
-pub returns-in_err-range-clause-early : goal.returns-in_err-range-clause-early
-returns-in_err-range-clause-early g c =
+pub returns-in_err-only-clause-early : goal.returns-in_err-only-clause-early
+returns-in_err-only-clause-early g c =
     let asked = c.args.asked.now in
-    let why = c.in_err-range.field-0.0 in
-    let ended = c.from_residual-in_err-range.result in
-    let is : ended ≡ Err why = grind (arith, common_steps) in
-    subst (λ number. IfSome (base_or_only_fault number (asked_harts asked.only)) (λ fault. ended ≡ Err fault))
-    (sym c.in_ok-base.ensures.number)
-    (found_ends (base_or_only_fault (Some c.in_ok-base.base) (asked_harts asked.only)) why ended
-    c.in_err-range.ensures.none is)
+    let why = c.in_err-only.field-0.0 in
+    let is : c.from_residual-in_err-only.result ≡ Err why = grind (arith, common_steps) in
+    early_only (base_number asked.base.now asked.also.items) c.in_ok-base.base (asked_harts asked.only)
+    c.from_residual-in_err-only.result c.in_ok-base.ensures.number why c.in_err-only.ensures.none is
 
-pub returns-in_err-range-clause-printed : goal.returns-in_err-range-clause-printed
-returns-in_err-range-clause-printed g c =
+pub returns-in_err-only-clause-printed : goal.returns-in_err-only-clause-printed
+returns-in_err-only-clause-printed g c =
     let asked = c.args.asked.now in
     let content = g.F.Files.content c.args.files.now in
-    let why = c.in_err-range.field-0.0 in
-    let is : c.from_residual-in_err-range.result ≡ Err why = grind (arith, common_steps) in
+    let why = c.in_err-only.field-0.0 in
+    let is : c.from_residual-in_err-only.result ≡ Err why = grind (arith, common_steps) in
     ends_silently (Decodes content asked) (CanDecode content asked) (IsOnly asked.only (Err why)) why
-    c.from_residual-in_err-range.result (g.O.Write.contents c.args.out.now) is (inr c.in_err-range.ensures.found)
+    c.from_residual-in_err-only.result (g.O.Write.contents c.args.out.now) is (inr c.in_err-only.ensures.found)
     (λ none. (Ok c.in_ok-base.base, c.in_ok-base.ensures.found, (Err why, none, refl)))
+
+pub returns-in_err-program-clause-early : goal.returns-in_err-program-clause-early
+returns-in_err-program-clause-early g c =
+    let asked = c.args.asked.now in
+    early_none (base_number asked.base.now asked.also.items) c.in_ok-base.base (asked_harts asked.only)
+    c.from_residual-in_err-program.result c.in_ok-base.ensures.number c.in_ok-only.ensures.some
+
+pub returns-in_err-bytes-clause-early : goal.returns-in_err-bytes-clause-early
+returns-in_err-bytes-clause-early g c =
+    let asked = c.args.asked.now in
+    early_none (base_number asked.base.now asked.also.items) c.in_ok-base.base (asked_harts asked.only)
+    c.from_residual-in_err-bytes.result c.in_ok-base.ensures.number c.in_ok-only.ensures.some
 
 pub returns-clause-early : goal.returns-clause-early
 returns-clause-early g c =
     let asked = c.args.asked.now in
-    let ended = c.decode_harts.result in
-    subst (λ number. IfSome (base_or_only_fault number (asked_harts asked.only)) (λ fault. ended ≡ Err fault))
-    (sym c.in_ok-base.ensures.number)
-    (none_ends (base_or_only_fault (Some c.in_ok-base.base) (asked_harts asked.only)) ended c.in_ok-range.ensures.some)
+    early_none (base_number asked.base.now asked.also.items) c.in_ok-base.base (asked_harts asked.only)
+    c.decode_capture.result c.in_ok-base.ensures.number c.in_ok-only.ensures.some
+
+pub returns-in_err-program-clause-printed : goal.returns-in_err-program-clause-printed
+returns-in_err-program-clause-printed g c =
+    let asked = c.args.asked.now in
+    let content = g.F.Files.content c.args.files.now in
+    let base = c.in_ok-base.base in
+    let why = c.in_err-program.field-0.0 in
+    let is : c.from_residual-in_err-program.result ≡ Err why = grind (arith, common_steps) in
+    ends_silently (Decodes content asked) (CanDecode content asked)
+    (IsProgramAt content base asked.image asked.also.items (Err why)) why
+    c.from_residual-in_err-program.result
+    (g.O.Write.contents c.args.out.now) is c.in_err-program.ensures.fault
+    (λ none. (
+      Ok base,
+      c.in_ok-base.ensures.found,
+      (Ok c.in_ok-only.only, c.in_ok-only.ensures.found, (Err why, none, refl)),
+    ))
+
+pub returns-in_err-bytes-clause-printed : goal.returns-in_err-bytes-clause-printed
+returns-in_err-bytes-clause-printed g c =
+    let asked = c.args.asked.now in
+    let content = g.F.Files.content c.args.files.now in
+    let base = c.in_ok-base.base in
+    let program = c.in_ok-program.program in
+    let why = c.in_err-bytes.field-0.0 in
+    let is : c.from_residual-in_err-bytes.result ≡ Err why = grind (arith, common_steps) in
+    let lacked = subst (λ known. (why ≡ fault.Memory) ⊎ IsRead known asked.capture (Err why))
+    c.in_ok-program.ensures.kept c.in_err-bytes.ensures.lacked in
+    ends_silently (Decodes content asked) (CanDecode content asked) (IsRead content asked.capture (Err why)) why
+    c.from_residual-in_err-bytes.result
+    (g.O.Write.contents c.args.out.now) is lacked
+    (λ none. (
+      Ok base,
+      c.in_ok-base.ensures.found,
+      (
+        Ok c.in_ok-only.only,
+        c.in_ok-only.ensures.found,
+        (
+          Ok program,
+          c.in_ok-program.ensures.program,
+          (Err why, none, refl),
+        ),
+      ),
+    ))
+
+module _ (g : _) (c : After-decode_capture g) where
+  abbrev content : Content
+  content = g.F.Files.content c.args.files.now
+
+  abbrev asked : Decode
+  asked = c.args.asked.now
+
+  abbrev bytes : List ℕ
+  bytes = c.in_ok-bytes.bytes.items
+
+  abbrev old : Option (List ℕ)
+  old = g.O.Write.contents c.args.out.now
+
+  abbrev new : Option (List ℕ)
+  new = g.O.Write.contents c.decode_capture.new.out
+
+  -- The file that was read is the capture.
+  read : IsRead {W = CaptureReason} content asked.capture (Ok bytes)
+  read =
+      subst (λ known. IsRead {W = CaptureReason} known asked.capture (Ok bytes)) c.in_ok-program.ensures.kept
+      c.in_ok-bytes.ensures.held
+
+  printed : PrintsUnlessDenied (Decodes content asked) (CanDecode content asked) c.decode_capture.result old new
+  printed =
+      capture_printed content asked c.in_ok-base.base c.in_ok-only.only c.in_ok-program.program bytes
+      c.in_ok-base.ensures.found c.in_ok-only.ensures.found c.in_ok-program.ensures.program read
+      c.decode_capture.result old new
+      (subst (λ bytes. PrintsUnlessDenied
+      (WritesLogsOf asked.lossy asked.harts c.in_ok-only.only c.in_ok-program.program bytes)
+      (CanWriteLogsOf asked.lossy asked.harts c.in_ok-only.only c.in_ok-program.program bytes)
+      c.decode_capture.result old new) c.as_slice.ensures.value c.decode_capture.ensures.printed)
+
+  cut : IsCutOf (Decodes content asked) old new
+  cut =
+      capture_cut content asked c.in_ok-base.base c.in_ok-only.only c.in_ok-program.program bytes
+      c.in_ok-base.ensures.found c.in_ok-only.ensures.found c.in_ok-program.ensures.program read old new
+      (subst (λ bytes. IsCutOf
+      (WritesLogsOf asked.lossy asked.harts c.in_ok-only.only c.in_ok-program.program bytes) old new)
+      c.as_slice.ensures.value c.decode_capture.ensures.cut)
+
+pub returns-clause-untouched : goal.returns-clause-untouched
+returns-clause-untouched g c =
+    in_either (λ refused. absurd (c.decode_capture.ensures.never_refused refused))
+    (λ both. c.decode_capture.ensures.untouched both.0 both.1)
 
 pub returns-clause-printed : goal.returns-clause-printed
-returns-clause-printed g c =
-    let asked = c.args.asked.now in
-    let content = g.F.Files.content c.args.files.now in
-    let base = c.in_ok-base.base in
-    let range = c.in_ok-range.range in
-    leads_on (DecodesHarts content asked base range) (Decodes content asked) (CanDecodeHarts content asked base range)
-    (CanDecode content asked) c.decode_harts.result (g.O.Write.contents c.args.out.now)
-    (g.O.Write.contents c.decode_harts.new.out)
-    (λ printed is. (Ok base, c.in_ok-base.ensures.found, (Ok range, c.in_ok-range.ensures.found, is)))
-    (λ can. (base, c.in_ok-base.ensures.found, (range, c.in_ok-range.ensures.found, can)))
-    c.decode_harts.ensures.printed
+returns-clause-printed g c = printed g (goal.at.returns-clause-printed g c).After-decode_capture
 
 pub returns-clause-cut : goal.returns-clause-cut
-returns-clause-cut g c =
-    let asked = c.args.asked.now in
-    let content = g.F.Files.content c.args.files.now in
-    let base = c.in_ok-base.base in
-    let range = c.in_ok-range.range in
-    cut_leads (DecodesHarts content asked base range) (Decodes content asked) (g.O.Write.contents c.args.out.now)
-    (g.O.Write.contents c.decode_harts.new.out)
-    (λ printed is. (Ok base, c.in_ok-base.ensures.found, (Ok range, c.in_ok-range.ensures.found, is)))
-    c.decode_harts.ensures.cut
+returns-clause-cut g c = cut g (goal.at.returns-clause-cut g c).After-decode_capture
 
 -- What was not touched keeps its bytes.
-kept : {O : Type 0} (contents : O → Option (List ℕ)) (old new : O) → new ≡ old → Keeps (contents old) (contents new)
-kept contents old new same = subst (λ out. Keeps (contents old) (contents out)) (sym same) (Keeps-refl (contents old))
+kept : {O : Type 0} (contents : O → Option (List ℕ)) (first then : O) → then ≡ first
+    → Keeps (contents first) (contents then)
+kept contents first then same =
+    subst (λ out. Keeps (contents first) (contents out)) (sym same) (Keeps-refl (contents first))
 
 -- Nothing was written; or where messages may be lost, nothing or a prefix.
 begun : {A B : Type 0} (lossy : Bool) → (lossy ≡ false → A) → A ⊎ B → A ⊎ ((lossy ≡ true) × B)
@@ -101,6 +185,6 @@ begun false keeps either = inl (keeps refl)
 pub returns-clause-begun : goal.returns-clause-begun
 returns-clause-begun g c = λ memory.
     begun c.args.asked.now.lossy
-    (λ whole. kept (g.O.Write.contents) c.args.out.now c.decode_harts.new.out
-    (c.decode_harts.ensures.untouched whole memory))
-    (returns-clause-cut g c)
+    (λ whole. kept (g.O.Write.contents) c.args.out.now c.decode_capture.new.out
+    (c.decode_capture.ensures.untouched whole memory))
+    (cut g (goal.at.returns-clause-begun g c).After-decode_capture)

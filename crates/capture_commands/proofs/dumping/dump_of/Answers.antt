@@ -5,13 +5,13 @@ use Rattle.output.specs.Begun.{AppendsBeginning}
 use Rattle.output.proofs.Beginnings.{begun_kept, whole_begun}
 use Rattle.captures.specs.Dump.{AppendsDump, BeginsDump}
 use Rattle.message.specs.declared.fault.MessageFault.{MessageFault}
-use Rattle.subcommands.specs.declared.words.Dump.{Dump}
+use Rattle.command_inputs.specs.declared.words.Dump.{Dump}
 use Rattle.command_inputs.specs.Begun.{IsCutOf}
 use Rattle.command_inputs.specs.Found.{IsRead}
-use Rattle.files.specs.Known.{Content}
+use Rattle.log_streams.specs.Known.{Content}
 use Rattle.command_inputs.specs.declared.fault.Fault.TheVariants as fault
 use Rattle.command_inputs.proofs.Runs.{appends-keeps, ends_silently, output_failed, prints}
-use Rattle.hart_range.specs.declared.range.HartRange.{HartRange}
+use Rattle.message.specs.declared.range.HartRange.{HartRange}
 use Rattle.capture_commands.specs.Dumping.{CanDumpHarts, DumpsHarts, IsDumpAsked, end_of_dump}
 use Rattle.capture_commands.specs.OnlyHarts.{HasHart}
 use Rattle.capture_commands.specs.declared.reason.CaptureReason.{CaptureReason}

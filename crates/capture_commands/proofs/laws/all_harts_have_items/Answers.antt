@@ -1,8 +1,8 @@
 -- The law is a lemma on lists, which no search finds.
 use Rattle.std.proofs.Common.{◌≡◌, ◌≤◌, ◌^◌, List, length}
 use Rattle.std.proofs.lemmas.List.{take_all}
-use Rattle.hart_range.specs.Range.{every_hart}
-use Rattle.salvaged_text.specs.HartItems.{items_of}
+use Rattle.message.specs.Range.{every_hart}
+use Rattle.salvage_reports.specs.HartItems.{items_of}
 use Rattle.capture_commands.proofs.laws.all_harts_have_items.Goals as goal
 
 all_items : {X : Type 0} (items : List X) → length items ≤ 2 ^ 16 → items_of every_hart items ≡ items

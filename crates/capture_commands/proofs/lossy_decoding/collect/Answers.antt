@@ -2,8 +2,8 @@
 use Rattle.std.proofs.Common.{◌≡◌, ◌⊎◌, ap, inl, inr, refl, ℕ, List, Option, Ok, Err}
 use Rattle.captures.specs.Whole.{IsWhole}
 use Rattle.command_inputs.specs.declared.fault.Fault.TheVariants as fault
-use Rattle.hart_range.specs.Range.{selected}
-use Rattle.hart_range.specs.declared.range.HartRange.{HartRange}
+use Rattle.message.specs.Range.{selected}
+use Rattle.message.specs.declared.range.HartRange.{HartRange}
 use Rattle.losses.specs.Collects.{GivesFault}
 use Rattle.losses.specs.declared.fault.LossyFault.{LossyFault}
 use Rattle.losses.specs.declared.fault.LossyFault.TheVariants as lossy
@@ -12,7 +12,7 @@ use Rattle.message.specs.declared.message.Message.{Message}
 use Rattle.rvclass.specs.Image.{Image}
 use Rattle.capture_commands.specs.Faults.{Fault, lossy_fault}
 use Rattle.capture_commands.specs.Pieces.{ArePiecesOf, harts_counted}
-use Rattle.searching.specs.Search.{mode_of}
+use Rattle.frames.specs.Search.{mode_of}
 use Rattle.capture_commands.specs.Placed.{placed_fault}
 use Rattle.capture_commands.proofs.lossy_decoding.collect.Goals as goal
 
@@ -51,6 +51,6 @@ pub returns-in-Err-collect_own-clause-fault : goal.returns-in-Err-collect_own-cl
 returns-in-Err-collect_own-clause-fault g c =
     let header = c.in-Ok.whole.header in
     let messages = c.in-Ok.whole.messages.items in
-    faulted c.args.harts c.args.only c.args.program.now c.args.bytes.now header messages c.in-Err-collect_own.fault
+    faulted c.args.harts c.args.input.now.only c.args.input.now.program.now c.args.input.now.bytes.now header messages c.in-Err-collect_own.fault
     c.fault_among.result c.in-Ok.ensures.read c.in-Err-collect_own.ensures.fault
     (c.fault_among.ensures.value header messages c.in-Ok.ensures.read)

@@ -3,7 +3,7 @@ use Rattle.std.proofs.Common.{◌≡◌, inr, refl, ap, subst, sym, ◌∙◌, �
 use Rattle.std.proofs.KnownBytes.{Keeps-refl}
 use Rattle.std.proofs.lemmas.Grind.{common_steps}
 use Rattle.std.specs.Io.KnownBytes.{Appends, Keeps}
-use Rattle.hart_range.specs.declared.range.HartRange.{HartRange}
+use Rattle.message.specs.declared.range.HartRange.{HartRange}
 use Rattle.losses.specs.declared.part.HartPieces.{HartPieces}
 use Rattle.output.specs.Begun.{AppendsBeginning}
 use Rattle.output.proofs.Beginnings.{begun_kept}
@@ -11,8 +11,8 @@ use Rattle.rvclass.specs.Image.{Image}
 use Rattle.command_inputs.specs.Begun.{IsCutOf}
 use Rattle.command_inputs.proofs.Beginnings.{printed_begun}
 use Rattle.command_inputs.proofs.Runs.{appends-keeps, ends_silently, prints}
-use Rattle.hart_rows.specs.EachHart.{each_hart}
-use Rattle.salvaged_text.specs.HartItems.{items_of}
+use Rattle.capture_index.specs.EachHart.{each_hart}
+use Rattle.salvage_reports.specs.HartItems.{items_of}
 use Rattle.capture_commands.specs.Pieces.{ArePiecesOf, HasPieces, WritesPieces, end_of_pieces_from, parts_of, parts_text}
 use Rattle.capture_commands.proofs.lossy_decoding.decode_lossy.Goals as goal
 use Rattle.capture_commands.proofs.lossy_decoding.decode_lossy.Goals.{After-items_of-own}
@@ -36,24 +36,24 @@ cut harts only program bytes pieces own old mid new found same begun kept =
 
 module _ (g : _) (c : After-items_of-own g) where
   -- The harts that are written are those that are asked for.
-  own_is : c.items_of-own.result.now ≡ items_of c.args.only c.in_ok-pieces.pieces.items
-  own_is = c.items_of-own.ensures ∙ ap (items_of c.args.only) c.as_slice.ensures.value
+  own_is : c.items_of-own.result.now ≡ items_of c.args.input.now.only c.in_ok-pieces.pieces.items
+  own_is = c.items_of-own.ensures ∙ ap (items_of c.args.input.now.only) c.as_slice.ensures.value
 
 pub returns-in_err-pieces-clause-printed : goal.returns-in_err-pieces-clause-printed
 returns-in_err-pieces-clause-printed g c =
     let out = g.O.Write.contents c.args.out.now in
     let why = c.in_err-pieces.field-0.0 in
     let is : c.from_residual.result ≡ Err why = grind (arith, common_steps) in
-    let run = WritesPieces c.args.harts c.args.only c.args.program.now c.args.bytes.now in
-    let can = HasPieces c.args.harts c.args.only c.args.program.now c.args.bytes.now in
-    ends_silently run can (ArePiecesOf c.args.harts c.args.only c.args.program.now c.args.bytes.now (Err why)) why
+    let run = WritesPieces c.args.harts c.args.input.now.only c.args.input.now.program.now c.args.input.now.bytes.now in
+    let can = HasPieces c.args.harts c.args.input.now.only c.args.input.now.program.now c.args.input.now.bytes.now in
+    ends_silently run can (ArePiecesOf c.args.harts c.args.input.now.only c.args.input.now.program.now c.args.input.now.bytes.now (Err why)) why
     c.from_residual.result out is (inr c.in_err-pieces.ensures.fault) (λ none. (Err why, none, refl))
 
 pub returns-in_err-write_pieces-clause-cut : goal.returns-in_err-write_pieces-clause-cut
 returns-in_err-write_pieces-clause-cut g c =
     let contents = g.O.Write.contents in
     let new = contents c.write_pieces.new.out in
-    cut c.args.harts c.args.only c.args.program.now c.args.bytes.now c.in_ok-pieces.pieces.items c.items_of-own.result.now
+    cut c.args.harts c.args.input.now.only c.args.input.now.program.now c.args.input.now.bytes.now c.in_ok-pieces.pieces.items c.items_of-own.result.now
     (contents c.args.out.now) new new c.in_ok-pieces.ensures.found
     (own_is g (goal.at.returns-in_err-write_pieces-clause-cut g c).After-items_of-own)
     c.write_pieces.ensures.begun (Keeps-refl new)
@@ -61,7 +61,7 @@ returns-in_err-write_pieces-clause-cut g c =
 pub returns-in_err-flush-clause-cut : goal.returns-in_err-flush-clause-cut
 returns-in_err-flush-clause-cut g c =
     let contents = g.O.Write.contents in
-    cut c.args.harts c.args.only c.args.program.now c.args.bytes.now c.in_ok-pieces.pieces.items c.items_of-own.result.now
+    cut c.args.harts c.args.input.now.only c.args.input.now.program.now c.args.input.now.bytes.now c.in_ok-pieces.pieces.items c.items_of-own.result.now
     (contents c.args.out.now) (contents c.write_pieces.new.out) (contents c.flush.new.self)
     c.in_ok-pieces.ensures.found (own_is g (goal.at.returns-in_err-flush-clause-cut g c).After-items_of-own)
     c.write_pieces.ensures.begun c.flush.ensures.bytes
@@ -69,15 +69,15 @@ returns-in_err-flush-clause-cut g c =
 pub returns-clause-cut : goal.returns-clause-cut
 returns-clause-cut g c =
     let contents = g.O.Write.contents in
-    cut c.args.harts c.args.only c.args.program.now c.args.bytes.now c.in_ok-pieces.pieces.items c.items_of-own.result.now
+    cut c.args.harts c.args.input.now.only c.args.input.now.program.now c.args.input.now.bytes.now c.in_ok-pieces.pieces.items c.items_of-own.result.now
     (contents c.args.out.now) (contents c.write_pieces.new.out) (contents c.flush.new.self)
     c.in_ok-pieces.ensures.found (own_is g (goal.at.returns-clause-cut g c).After-items_of-own)
     c.write_pieces.ensures.begun c.flush.ensures.bytes
 
 pub returns-clause-printed : goal.returns-clause-printed
 returns-clause-printed g c =
-    let only = c.args.only in
-    let run = WritesPieces c.args.harts only c.args.program.now c.args.bytes.now in
+    let only = c.args.input.now.only in
+    let run = WritesPieces c.args.harts only c.args.input.now.program.now c.args.input.now.bytes.now in
     let old = g.O.Write.contents c.args.out.now in
     let mid = g.O.Write.contents c.write_pieces.new.out in
     let new = g.O.Write.contents c.flush.new.self in
@@ -86,7 +86,7 @@ returns-clause-printed g c =
     let ended : c.ended.result ≡ end_of_pieces_from only.first own =
     c.ended.ensures.value ∙ ap (end_of_pieces_from only.first) is in
     let text = subst (λ own. Appends old mid (text_of only own)) is c.in_ok-write_pieces.ensures.text in
-    prints run (HasPieces c.args.harts only c.args.program.now c.args.bytes.now) c.ended.result old new (record {
+    prints run (HasPieces c.args.harts only c.args.input.now.program.now c.args.input.now.bytes.now) c.ended.result old new (record {
       text = text_of only own;
       prints = subst (λ ended. run (record { text = text_of only own; ended = ended })) (sym ended)
           (Ok c.in_ok-pieces.pieces.items, c.in_ok-pieces.ensures.found, record { text = refl; ended = refl });

@@ -10,7 +10,7 @@ use Rattle.command_inputs.proofs.Formats.{found_ends, none_ends}
 use Rattle.command_inputs.proofs.Runs.{ends_silently, leads_on}
 use Rattle.capture_commands.specs.Listed.{CanList, CanListHarts, Lists, ListsHarts, ListsHartsInPart, ListsInPart}
 use Rattle.capture_commands.proofs.ListedRuns.{memory_leads}
-use Rattle.capture_commands.proofs.OnlyOrders.{format_base_first, only_next}
+use Rattle.capture_commands.proofs.OnlyOrders.{format_base_first, in_either, only_next}
 use Rattle.capture_commands.proofs.message_listing.list.Goals as goal
 
 pub returns-in_err-base-clause-early : goal.returns-in_err-base-clause-early
@@ -61,6 +61,10 @@ returns-clause-early g c =
     let next = only_next asked.format number (asked_harts asked.only) c.in_ok-base.ensures.number in
     none_ends (format_base_or_only_fault asked.format number (asked_harts asked.only)) c.list_harts.result
     (next ∙ c.in_ok-only.ensures.some)
+
+pub returns-clause-untouched : goal.returns-clause-untouched
+returns-clause-untouched g c =
+    in_either c.list_harts.ensures.refused (λ both. c.list_harts.ensures.untouched both.0 both.1)
 
 pub returns-clause-printed : goal.returns-clause-printed
 returns-clause-printed g c =

@@ -3,10 +3,10 @@ use Rattle.std.proofs.Common.{Err, List, Ok, Option, arith, refl, subst, sym, â„
 use Rattle.std.proofs.lemmas.Grind.{common_steps}
 use Rattle.std.specs.Borrow.{Bor}
 use Rattle.std.specs.Prelude.{option_map}
-use Rattle.subcommands.specs.declared.words.Listing.{Listing}
+use Rattle.command_inputs.specs.declared.words.Listing.{Listing}
 use Rattle.command_inputs.specs.Begun.{IsCutOf}
 use Rattle.command_inputs.specs.Found.{IsProgramAt, IsRead}
-use Rattle.files.specs.Known.{Content}
+use Rattle.log_streams.specs.Known.{Content}
 use Rattle.command_inputs.specs.Printed.{PrintsUnlessDenied}
 use Rattle.capture_commands.specs.Symbols.{AreSymbols}
 use Rattle.command_inputs.specs.declared.fault.Fault.TheVariants as fault

@@ -1,7 +1,7 @@
 -- What the closure keeps is found by a lemma over its calls.
 use Rattle.std.proofs.Common.{rules}
 use Rattle.std.proofs.lemmas.Fn.{filter_same}
-use Rattle.hart_range.specs.Range.{selects}
+use Rattle.message.specs.Range.{selects}
 use Rattle.message.specs.declared.message.Message.{Message}
 use Rattle.capture_commands.proofs.own_messages.select_messages.Goals as goal
 

@@ -3,8 +3,8 @@
 use Rattle.std.proofs.Common.{◌≡◌, ◌+◌, ℕ, Bool, true, false, List, [], ◌∷◌, Some, None, Ok, Err, refl, sym, ◌∙◌}
 use Rattle.command_inputs.specs.declared.fault.Fault.TheVariants as fault
 use Rattle.command_inputs.specs.declared.status.Status.TheVariants.{Whole}
-use Rattle.salvaged_text.specs.Damage.{closed_harts, first_unclosed}
-use Rattle.salvaged_text.specs.HartItems.{items_of}
+use Rattle.salvage_reports.specs.Damage.{closed_harts, first_unclosed}
+use Rattle.salvage_reports.specs.HartItems.{items_of}
 use Rattle.capture_commands.specs.Decoding.{end_of_harts}
 use Rattle.capture_commands.specs.declared.reason.CaptureReason.TheVariants.{Unclosed}
 use Rattle.capture_commands.proofs.salvaging_capture.closed.Goals as goal

@@ -2,7 +2,7 @@
 use Rattle.std.proofs.Common.{[], All, refl, subst, sym, ◌∙◌}
 use Rattle.std.proofs.lemmas.List.Elements.{All-cons, All-nil}
 use Rattle.std.proofs.lemmas.Result.{on_ok_weaker}
-use Rattle.hart_range.proofs.Selecting.{one_selected}
+use Rattle.message.proofs.Selecting.{one_selected}
 use Rattle.receiver.specs.Agreeing.{Agrees}
 use Rattle.rvclass.specs.Fetch.{words_of}
 use Rattle.captures.proofs.capture_decoding.receive_selected.Goals as goal

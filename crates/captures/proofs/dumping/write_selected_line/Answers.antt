@@ -2,7 +2,7 @@
 use Rattle.std.proofs.Common.{◌∙◌, [], sym, subst}
 use Rattle.output.specs.Begun.{AppendsBeginning}
 use Rattle.output.proofs.Beginnings.{begun_in_front}
-use Rattle.hart_range.proofs.Selecting.{one_selected}
+use Rattle.message.proofs.Selecting.{one_selected}
 use Rattle.captures.specs.Dump.{dump_line, dump_text}
 use Rattle.captures.proofs.dumping.write_selected_line.Goals as goal
 

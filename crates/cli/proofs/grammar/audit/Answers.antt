@@ -1,8 +1,8 @@
 -- A command's grammar is too large to be searched in: the rules of its arguments are handed over.
 use Rattle.std.proofs.Common.{codes, [], ◌∷◌}
 use Rattle.clap.specs.Words.{new_app}
-use Rattle.arguments.specs.Rules.{format_rule, only_rule, packets_rule, progress_rule, received_rule, sent_rule}
-use Rattle.arguments.specs.Rules.{summary_rule, unnumbered_rule}
+use Rattle.cli.specs.Rules.{format_rule, only_rule, packets_rule, progress_rule, received_rule, sent_rule}
+use Rattle.cli.specs.Rules.{summary_rule, unnumbered_rule}
 use Rattle.cli.proofs.GrammarLemmas.{with_these}
 use Rattle.cli.proofs.grammar.audit.Goals as goal
 

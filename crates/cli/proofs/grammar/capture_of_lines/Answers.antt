@@ -1,7 +1,7 @@
 -- A command's grammar is too large to be searched in: the rules of its arguments are handed over.
 use Rattle.std.proofs.Common.{codes, [], ◌∷◌}
 use Rattle.clap.specs.Words.{new_app}
-use Rattle.arguments.specs.Rules.{full_rule, given_harts_rule, lines_rule, period_rule, version_one_rule}
+use Rattle.cli.specs.Rules.{full_rule, given_harts_rule, lines_rule, period_rule, version_one_rule}
 use Rattle.cli.proofs.GrammarLemmas.{with_these}
 use Rattle.cli.proofs.grammar.capture_of_lines.Goals as goal
 

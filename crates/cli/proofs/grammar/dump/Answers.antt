@@ -1,7 +1,7 @@
 -- A command's grammar is too large to be searched in: the rules of its arguments are handed over.
 use Rattle.std.proofs.Common.{codes, [], ◌∷◌}
 use Rattle.clap.specs.Words.{new_app}
-use Rattle.arguments.specs.Rules.{capture_rule, only_rule, progress_rule, search_rule}
+use Rattle.cli.specs.Rules.{capture_rule, only_rule, progress_rule, search_rule}
 use Rattle.cli.proofs.GrammarLemmas.{with_these}
 use Rattle.cli.proofs.grammar.dump.Goals as goal
 

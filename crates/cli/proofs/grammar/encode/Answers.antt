@@ -1,8 +1,8 @@
 -- A command's grammar is too large to be searched in: the rules of its arguments are handed over.
 use Rattle.std.proofs.Common.{codes, [], ◌∷◌}
 use Rattle.clap.specs.Words.{new_app}
-use Rattle.arguments.specs.Rules.{also_rule, base_rule, first_rule, full_rule, hex_rule, image_rule, logs_rule}
-use Rattle.arguments.specs.Rules.{long_rule, of_rule, period_rule, progress_rule, version_one_rule}
+use Rattle.cli.specs.Rules.{also_rule, base_rule, first_rule, full_rule, hex_rule, image_rule, logs_rule}
+use Rattle.cli.specs.Rules.{long_rule, of_rule, period_rule, progress_rule, version_one_rule}
 use Rattle.cli.proofs.GrammarLemmas.{with_these}
 use Rattle.cli.proofs.grammar.encode.Goals as goal
 

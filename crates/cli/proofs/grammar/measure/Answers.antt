@@ -1,8 +1,8 @@
 -- A command's grammar is too large to be searched in: the rules of its arguments are handed over.
 use Rattle.std.proofs.Common.{codes, [], ◌∷◌}
 use Rattle.clap.specs.Words.{new_app}
-use Rattle.arguments.specs.Rules.{also_rule, base_rule, full_rule, image_rule, logs_rule, long_rule, period_rule}
-use Rattle.arguments.specs.Rules.{progress_rule}
+use Rattle.cli.specs.Rules.{also_rule, base_rule, full_rule, image_rule, logs_rule, long_rule, period_rule}
+use Rattle.cli.specs.Rules.{progress_rule}
 use Rattle.cli.proofs.GrammarLemmas.{with_these}
 use Rattle.cli.proofs.grammar.measure.Goals as goal
 

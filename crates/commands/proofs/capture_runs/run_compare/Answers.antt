@@ -1,6 +1,6 @@
 -- The prover makes no record by itself: what is said of the subcommand's run is handed to it, with the joined reasons.
 use Rattle.std.proofs.Common.{◌∙◌, sym}
-use Rattle.compare_commands.specs.Comparing.{CanCompare, Compares, compare_meaning}
+use Rattle.capture_commands.specs.Comparing.{CanCompare, Compares, compare_meaning}
 use Rattle.commands.specs.declared.reason.CommandReason.TheVariants.{Capture}
 use Rattle.commands.proofs.JoinedRuns.{joined_cut, joined_early, joined_prints, keeps_same}
 use Rattle.commands.proofs.capture_runs.run_compare.Goals as goal

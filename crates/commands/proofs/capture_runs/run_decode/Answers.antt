@@ -1,5 +1,5 @@
 -- The prover makes no record by itself: what is said of the subcommand's run is handed to it, with the joined reasons.
-use Rattle.std.proofs.Common.{◌∙◌, sym}
+use Rattle.std.proofs.Common.{◌∙◌, inl, inr, sym}
 use Rattle.std.proofs.lemmas.Bool.{false_from_ne_true}
 use Rattle.capture_commands.specs.Decoded.{CanDecode, Decodes, decode_meaning}
 use Rattle.commands.specs.declared.reason.CommandReason.TheVariants.{Capture}
@@ -18,7 +18,7 @@ returns g c =
       printed = joined_prints Capture (Decodes content asked) (CanDecode content asked) c.decode.result c.joined_end.result
           (contents out) (contents c.decode.new.out) value c.decode.ensures.printed;
       begun = λ memory. c.decode.ensures.begun (c.joined_end.ensures.memory memory);
-      untouched = λ whole memory. c.decode.ensures.untouched (false_from_ne_true asked.lossy whole)
-          (c.joined_end.ensures.memory memory);
-      refused = λ other ended. c.decode.ensures.refused (sym c.joined_end.ensures.status ∙ ended);
+      untouched = λ whole memory. c.decode.ensures.untouched
+          (inr (false_from_ne_true asked.lossy whole, c.joined_end.ensures.memory memory));
+      refused = λ other ended. c.decode.ensures.untouched (inl (sym c.joined_end.ensures.status ∙ ended));
     }

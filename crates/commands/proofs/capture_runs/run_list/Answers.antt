@@ -1,5 +1,5 @@
 -- The prover makes no record by itself: what is said of the subcommand's run is handed to it, with the joined reasons.
-use Rattle.std.proofs.Common.{◌∙◌, sym}
+use Rattle.std.proofs.Common.{◌∙◌, inl, inr, sym}
 use Rattle.std.proofs.lemmas.Bool.{true_from_ne_false}
 use Rattle.capture_commands.specs.Listed.{CanList, Lists, ListsInPart, list_meaning}
 use Rattle.commands.specs.declared.reason.CommandReason.TheVariants.{Capture}
@@ -18,7 +18,7 @@ returns g c =
       printed = joined_prints Capture (Lists content asked) (CanList content asked) c.list.result c.joined_end.result
           (contents out) (contents c.list.new.out) value c.list.ensures.printed;
       begun = λ memory. c.list.ensures.begun (c.joined_end.ensures.memory memory);
-      untouched = λ whole memory. c.list.ensures.untouched (true_from_ne_false asked.salvage whole)
-          (c.joined_end.ensures.memory memory);
-      refused = λ other ended. c.list.ensures.refused (sym c.joined_end.ensures.status ∙ ended);
+      untouched = λ whole memory. c.list.ensures.untouched
+          (inr (true_from_ne_false asked.salvage whole, c.joined_end.ensures.memory memory));
+      refused = λ other ended. c.list.ensures.untouched (inl (sym c.joined_end.ensures.status ∙ ended));
     }

@@ -1,6 +1,6 @@
 -- The prover makes no record by itself: what is said of the subcommand's run is handed to it, with the joined reasons.
 use Rattle.std.proofs.Common.{◌∙◌, sym}
-use Rattle.line_commands.specs.Capturing.{CanCapture, Captures, capture_meaning}
+use Rattle.path_commands.specs.Capturing.{CanCapture, Captures, capture_meaning}
 use Rattle.commands.specs.declared.reason.CommandReason.TheVariants.{Line}
 use Rattle.commands.proofs.JoinedRuns.{joined_cut, joined_early, joined_prints, keeps_same}
 use Rattle.commands.proofs.line_runs.run_capture.Goals as goal

@@ -1,6 +1,6 @@
 -- What is said of the steps is said of walks by inductions over them.
 use Rattle.std.proofs.Common.{◌*◌, ◌/◌}
-use Rattle.memory.specs.Memory.{byte_count}
+use Rattle.rvclass.specs.Memory.{byte_count}
 use Rattle.rvclass.specs.Fetch.{words_of}
 use Rattle.decoder.proofs.FoundAsReturned.{Returned, returned}
 use Rattle.decoder.specs.steps.Walks.{goal_end}

@@ -1,6 +1,6 @@
 -- The loop keeps what was written of the walk, and room for the rest.
 use Rattle.std.proofs.Common.{◌≡◌, ◌*◌, ◌-◌, ◌/◌, drop, vec_len, vec_capacity}
-use Rattle.memory.specs.Memory.{byte_count}
+use Rattle.rvclass.specs.Memory.{byte_count}
 use Rattle.rvclass.specs.Fetch.{words_of}
 use Rattle.decoder.specs.steps.Retracing.{Adding}
 use Rattle.decoder.specs.steps.Walks.{event_of, goal_end}

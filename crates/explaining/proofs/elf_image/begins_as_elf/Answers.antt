@@ -1,7 +1,7 @@
 -- That the first halfwords are instructions is a lemma on the table of words, which no search opens.
 use Rattle.std.proofs.Common.{◌≡◌, ◌∙◌, ◌+◌, true, false, arith, ap, sym}
 use Rattle.std.specs.Prelude.{◌&&◌}
-use Rattle.memory.specs.Memory.{base_of}
+use Rattle.rvclass.specs.Memory.{base_of}
 use Rattle.rvclass.specs.Instruction.{instruction_of}
 use Rattle.explaining.specs.steps.ShortWord.{is_short_word}
 use Rattle.explaining.proofs.ElfLemmas.{base_even, elf_is, short_below}

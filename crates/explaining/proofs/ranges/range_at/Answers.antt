@@ -1,7 +1,7 @@
 -- What the ranges become by one piece more is a lemma.
 use Rattle.std.proofs.Common.{◌≡◌, ◌∙◌, ◌+◌, arith, drop, length, refl, sym, ap}
 use Rattle.std.specs.List.{slice_get}
-use Rattle.memory.specs.Memory.{in_order}
+use Rattle.rvclass.specs.Memory.{in_order}
 use Rattle.explaining.proofs.RangesLemmas.{first_ends, last_one, later_one, no_later, none_ends}
 use Rattle.explaining.specs.steps.JoinedRanges.{ranges_on}
 use Rattle.explaining.proofs.ranges.range_at.Goals.{in-Some+else-left-eq0, in_default}

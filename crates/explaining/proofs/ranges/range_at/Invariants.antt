@@ -1,7 +1,7 @@
 -- The range with the number is among those that are left.
 use Rattle.std.proofs.Common.{◌≡◌, drop}
 use Rattle.std.specs.List.{slice_get}
-use Rattle.memory.specs.Memory.{in_order}
+use Rattle.rvclass.specs.Memory.{in_order}
 use Rattle.explaining.specs.Ranges.{ranges_of}
 use Rattle.explaining.specs.steps.JoinedRanges.{ranges_on}
 use Rattle.explaining.proofs.ranges.range_at.Given as goal

@@ -1,6 +1,6 @@
 -- What the ranges become by one piece more is a lemma.
 use Rattle.std.proofs.Common.{◌≡◌, ◌∙◌, arith, length, sym}
-use Rattle.memory.specs.Memory.{in_order}
+use Rattle.rvclass.specs.Memory.{in_order}
 use Rattle.explaining.proofs.RangesLemmas.{counted, is_none, is_one, left_counted, not_more}
 use Rattle.explaining.proofs.ranges.range_count.Goals.{then-is_some, else-is_some}
 use Rattle.explaining.proofs.ranges.range_count.Goals as goal

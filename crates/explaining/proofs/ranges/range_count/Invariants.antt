@@ -1,6 +1,6 @@
 -- The ranges are those that were counted and those that are left. No piece makes two.
 use Rattle.std.proofs.Common.{◌≡◌, ◌+◌, ◌≤◌, drop, length}
-use Rattle.memory.specs.Memory.{in_order}
+use Rattle.rvclass.specs.Memory.{in_order}
 use Rattle.explaining.specs.Ranges.{ranges_of}
 use Rattle.explaining.specs.steps.JoinedRanges.{lists_one, ranges_on}
 use Rattle.explaining.proofs.ranges.range_count.Given as goal

@@ -1,6 +1,6 @@
 -- What was treated by the program of the image and by the symbols is what is said of the bytes of both.
 use Rattle.std.proofs.Common.{◌∙◌, ap}
-use Rattle.hart_range.specs.Range.{every_hart}
+use Rattle.message.specs.Range.{every_hart}
 use Rattle.ffi.specs.Treated.{treated_in}
 use Rattle.ffi.proofs.listing_salvaged.treat_as.Goals as goal
 

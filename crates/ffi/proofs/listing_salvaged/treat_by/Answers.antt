@@ -1,15 +1,15 @@
 -- What was found is put together with what was written: the steps are handed on, in order, which no tactic does.
 use Rattle.std.proofs.Common.{ℕ, List, ◌++◌, ◌∙◌, ap, option_map, subst, sym}
-use Rattle.hart_range.specs.Range.{every_hart, selected}
-use Rattle.hart_range.specs.declared.range.HartRange.{HartRange}
+use Rattle.message.specs.Range.{every_hart, selected}
+use Rattle.message.specs.declared.range.HartRange.{HartRange}
 use Rattle.rvclass.specs.Fetch.{words_of}
 use Rattle.salvaging.specs.Treatments.{AreTreated}
-use Rattle.searching.specs.Search.{mode_of}
-use Rattle.searching.specs.Start.{spans_of}
-use Rattle.salvaged_text.proofs.FoundBehind.{found_of_capture}
-use Rattle.salvaged_text.proofs.OwnSpans.{messages_chosen, runs_chosen}
-use Rattle.salvaged_text.specs.Found.{IsFound}
-use Rattle.salvaged_text.specs.Frames.{messages_in}
+use Rattle.frames.specs.Search.{mode_of}
+use Rattle.frames.specs.Start.{spans_of}
+use Rattle.salvage_reports.proofs.FoundBehind.{found_of_capture}
+use Rattle.salvage_reports.proofs.OwnSpans.{messages_chosen, runs_chosen}
+use Rattle.salvage_reports.specs.Found.{IsFound}
+use Rattle.salvage_reports.specs.Frames.{messages_in}
 use Rattle.ffi.specs.Salvaged.{salvage_end}
 use Rattle.ffi.specs.Treated.{AreTreatedBehind, treated_in}
 use Rattle.ffi.proofs.listing_salvaged.treat_by.Goals as goal

@@ -5,7 +5,7 @@ use Rattle.auditing.specs.Findings.{first_found}
 use Rattle.auditing.specs.Judged.{strangers_in}
 use Rattle.auditing.specs.Known.{known_all}
 use Rattle.auditing.specs.Sent.{harts_of}
-use Rattle.resuming.specs.Counted.{messages_in}
+use Rattle.frames.specs.Counted.{messages_in}
 use Rattle.ffi.specs.AuditedAll.{all_lost, all_rows, path_end}
 use Rattle.ffi.specs.steps.Walking.{HasCome}
 use Rattle.ffi.proofs.path_all.audit_path.Goals as goal

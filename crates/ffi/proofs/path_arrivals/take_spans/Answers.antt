@@ -2,8 +2,8 @@
 use Rattle.std.proofs.Common.{◌≡◌, ◌∙◌, ◌++◌, ◌∷◌, [], length, sym, ap, subst}
 use Rattle.auditing.proofs.Sights.{sight_kept}
 use Rattle.auditing.specs.Seen.{sight_of}
-use Rattle.resuming.specs.Borrowed.{span_of}
-use Rattle.resuming.specs.Passages.{spans_left}
+use Rattle.frames.specs.Borrowed.{span_of}
+use Rattle.frames.specs.Passages.{spans_left}
 use Rattle.ffi.proofs.PathWalk.{HasWalked, walked_more}
 use Rattle.ffi.specs.AuditedAll.{arrivals_after}
 use Rattle.ffi.proofs.path_arrivals.take_spans.Goals as goal

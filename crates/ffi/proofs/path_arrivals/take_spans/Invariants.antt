@@ -3,7 +3,7 @@ use Rattle.std.proofs.Common.{◌≡◌, ◌<◌, ◌^◌, List, [], length}
 use Rattle.auditing.specs.Audits.{Audits}
 use Rattle.auditing.specs.Seen.{sight_of}
 use Rattle.message.specs.declared.message.Message.{Message}
-use Rattle.resuming.specs.Passages.{spans_left}
+use Rattle.frames.specs.Passages.{spans_left}
 use Rattle.ffi.proofs.PathWalk.{HasWalked}
 use Rattle.ffi.proofs.path_arrivals.take_spans.Given as goal
 

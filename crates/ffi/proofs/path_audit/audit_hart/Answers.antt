@@ -1,7 +1,7 @@
 -- What was taken of both captures is what is reported: no tactic puts the audit together.
 use Rattle.std.proofs.Common.{◌≡◌, ◌<◌, ◌^◌, List, length, ap, ◌∙◌, arith}
-use Rattle.alike.specs.declared.by.By.{By}
-use Rattle.alike.specs.declared.by.By.TheVariants as by
+use Rattle.payload.specs.declared.by.By.{By}
+use Rattle.payload.specs.declared.by.By.TheVariants as by
 use Rattle.message.specs.declared.message.Message.{Message}
 use Rattle.auditing.proofs.KnownLemmas.{known-bytes}
 use Rattle.auditing.specs.Judged.{strangers_in}

@@ -1,10 +1,10 @@
 -- What was found is put together with what was written: the steps are handed on, in order, which no tactic does.
 use Rattle.std.proofs.Common.{ℕ, List, ◌++◌, ◌∙◌, ap}
-use Rattle.hart_range.specs.Range.{every_hart}
-use Rattle.hart_range.specs.declared.range.HartRange.{HartRange}
-use Rattle.searching.specs.Start.{spans_of}
-use Rattle.salvaged_text.proofs.OwnSpans.{runs_chosen}
-use Rattle.salvaged_text.specs.Layouts.{salvaged_as}
+use Rattle.message.specs.Range.{every_hart}
+use Rattle.message.specs.declared.range.HartRange.{HartRange}
+use Rattle.frames.specs.Start.{spans_of}
+use Rattle.salvage_reports.proofs.OwnSpans.{runs_chosen}
+use Rattle.salvage_reports.specs.Layouts.{salvaged_as}
 use Rattle.ffi.specs.Salvaged.{salvage_end}
 use Rattle.ffi.proofs.salvaging_capture.salvage_as.Goals as goal
 

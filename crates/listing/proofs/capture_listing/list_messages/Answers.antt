@@ -3,7 +3,7 @@ use Rattle.std.proofs.Common.{◌+◌, Ok, Err, length, option_map, refl, ap, su
 use Rattle.std.proofs.Common.{arith}
 use Rattle.std.proofs.lemmas.List.{length-append}
 use Rattle.std.proofs.lemmas.Result.{err_from_is_err_and}
-use Rattle.hart_range.specs.Range.{selected}
+use Rattle.message.specs.Range.{selected}
 use Rattle.rvclass.specs.Fetch.{words_of}
 use Rattle.message.specs.Capture.{message_bytes}
 use Rattle.captures.proofs.FoundInFront.{InFront, in_front}

@@ -2,7 +2,7 @@
 use Rattle.std.proofs.Common.{◌≡◌, ◌∙◌, [], true, refl, sym}
 use Rattle.std.proofs.KnownBytes.{Appends-nil}
 use Rattle.std.proofs.lemmas.Result.{IfOk-weaker, on_err_weaker}
-use Rattle.hart_range.specs.Range.{selects}
+use Rattle.message.specs.Range.{selects}
 use Rattle.listing.specs.steps.Message.{Judged, Passed}
 use Rattle.listing.proofs.message_listing.list_selected.Goals as goal
 

@@ -90,14 +90,9 @@ returns-clause-printed g c =
     let there = there g (goal.at.returns-clause-printed g c).After-flush in
     let ended = c.check_all-ended.result in
     let mid = contents c.check_all-ended.new.out in
-    let lines = subst (λ logs. PrintsUnlessDenied (WritesLines (most_of asked.long) content asked.explain program
-    logs) ⊤ ended
-    (contents c.args.out.now)
-    mid) c.as_slice-paths.ensures.value
-    (subst (λ known. PrintsUnlessDenied (WritesLines (most_of asked.long) known asked.explain program
-    c.as_slice-paths.result.now) ⊤ ended
-    (contents c.args.out.now) mid)
-    c.in_ok-program.ensures.kept c.check_all-ended.ensures.printed) in
+    let lines = subst (λ known. PrintsUnlessDenied (WritesLines (most_of asked.long) known asked.explain program
+    asked.logs.items) ⊤ ended (contents c.args.out.now) mid)
+    c.in_ok-program.ensures.kept c.check_all-ended.ensures.printed in
     goes_on (WritesLines (most_of asked.long) content asked.explain program asked.logs.items) (Checks content asked) ⊤
     (CanCheck content asked) ended
     (contents c.args.out.now) mid (contents c.flush.new.self)
@@ -112,11 +107,9 @@ returns-clause-begun g c = λ memory.
     let program = c.in_ok-program.program in
     let old = contents c.args.out.now in
     let mid = contents c.check_all-ended.new.out in
-    let lines = subst (λ logs. AppendsFirstLines (most_of asked.long) content asked.explain program logs old mid)
-    c.as_slice-paths.ensures.value
-    (subst (λ known. AppendsFirstLines (most_of asked.long) known asked.explain program c.as_slice-paths.result.now
+    let lines = subst (λ known. AppendsFirstLines (most_of asked.long) known asked.explain program asked.logs.items
     old mid)
-    c.in_ok-program.ensures.kept (c.check_all-ended.ensures.begun memory)) in
+    c.in_ok-program.ensures.kept (c.check_all-ended.ensures.begun memory) in
     inr (
       program,
       there g (goal.at.returns-clause-begun g c).After-flush,
@@ -136,12 +129,9 @@ cut g c =
     let old = contents c.args.out.now in
     let mid = contents c.check_all-ended.new.out in
     let new = contents c.flush.new.self in
-    let lines = subst (λ logs. BeginsPrinted (WritesFirstLines (most_of asked.long) content asked.explain program
-    logs) old mid)
-    c.as_slice-paths.ensures.value
-    (subst (λ known. BeginsPrinted (WritesFirstLines (most_of asked.long) known asked.explain program
-    c.as_slice-paths.result.now) old mid)
-    c.in_ok-program.ensures.kept c.check_all-ended.ensures.cut) in
+    let lines = subst (λ known. BeginsPrinted (WritesFirstLines (most_of asked.long) known asked.explain program
+    asked.logs.items) old mid)
+    c.in_ok-program.ensures.kept c.check_all-ended.ensures.cut in
     inr (cut_kept (WritesFirstLines (most_of asked.long) content asked.explain program asked.logs.items)
     (ChecksFirst content asked) old
     mid new

@@ -18,40 +18,49 @@ use Rattle.log_commands.proofs.checking.check_all.Goals as goal
 -- What was made of the logs.
 made : (g : _) (c : After-write_logs g)
     → AreMade (λ hart. IsVerdictOnLegal) (λ events row (verdict : Verdict). verdict ≡ Err row)
-    (g.F.Files.content c.args.files.now) c.args.program.now (most_of c.args.asked.now.long) c.args.paths.now
+    (g.F.Files.content c.args.files.now) c.args.program.now (most_of c.args.asked.now.long) c.args.asked.now.logs.items
     c.made_of_logs-verdicts.result.made.items c.made_of_logs-verdicts.result.end
 made g c =
-    subst (λ most. AreMade (λ hart. IsVerdictOnLegal) (λ events row (verdict : Verdict). verdict ≡ Err row)
-    (g.F.Files.content c.args.files.now) c.args.program.now most c.args.paths.now
+    subst (λ paths. AreMade (λ hart. IsVerdictOnLegal) (λ events row (verdict : Verdict). verdict ≡ Err row)
+    (g.F.Files.content c.args.files.now) c.args.program.now (most_of c.args.asked.now.long) paths
+    c.made_of_logs-verdicts.result.made.items c.made_of_logs-verdicts.result.end) c.as_slice-paths.ensures.value
+    (subst (λ most. AreMade (λ hart. IsVerdictOnLegal) (λ events row (verdict : Verdict). verdict ≡ Err row)
+    (g.F.Files.content c.args.files.now) c.args.program.now most c.as_slice-paths.result.now
     c.made_of_logs-verdicts.result.made.items c.made_of_logs-verdicts.result.end) c.most_of-most.ensures
-    c.made_of_logs-verdicts.ensures.made
+    c.made_of_logs-verdicts.ensures.made)
 
 -- A prefix of the lines was written.
 cut : (g : _) (c : After-write_logs g) → BeginsPrinted
     (WritesFirstLines (most_of c.args.asked.now.long) (g.F.Files.content c.args.files.now) c.args.asked.now.explain
-    c.args.program.now c.args.paths.now)
+    c.args.program.now c.args.asked.now.logs.items)
     (g.O.Write.contents c.args.out.now) (g.O.Write.contents c.write_logs.new.out)
 cut g c =
     let old = g.O.Write.contents c.args.out.now in
     let new = g.O.Write.contents c.write_logs.new.out in
     let asked = c.args.asked.now in
     let program = c.args.program.now in
-    let paths = c.args.paths.now in
+    let paths = c.args.asked.now.logs.items in
     let result = c.made_of_logs-verdicts.result in
     lines_cut (most_of asked.long) (g.F.Files.content c.args.files.now) asked.explain program paths result.made.items
     result.end (made g c) old new
-    (subst (λ verdicts. AppendsBeginning (all_lines asked.explain program paths verdicts) old new)
-    c.as_slice.ensures.value c.write_logs.ensures.begun)
+    (subst (λ paths. AppendsBeginning (all_lines asked.explain program paths result.made.items) old new)
+    c.as_slice-paths.ensures.value
+    (subst (λ verdicts. AppendsBeginning (all_lines asked.explain program c.as_slice-paths.result.now verdicts) old new)
+    c.as_slice.ensures.value c.write_logs.ensures.begun))
 
 -- The lines were written.
 written : (g : _) (c : In-Ok g) → Appends (g.O.Write.contents c.args.out.now) (g.O.Write.contents c.write_logs.new.out)
-    (all_lines c.args.asked.now.explain c.args.program.now c.args.paths.now
+    (all_lines c.args.asked.now.explain c.args.program.now c.args.asked.now.logs.items
     c.made_of_logs-verdicts.result.made.items)
 written g c =
     subst
+    (λ paths. Appends (g.O.Write.contents c.args.out.now) (g.O.Write.contents c.write_logs.new.out)
+    (all_lines c.args.asked.now.explain c.args.program.now paths c.made_of_logs-verdicts.result.made.items))
+    c.as_slice-paths.ensures.value
+    (subst
     (λ verdicts. Appends (g.O.Write.contents c.args.out.now) (g.O.Write.contents c.write_logs.new.out)
-    (all_lines c.args.asked.now.explain c.args.program.now c.args.paths.now verdicts))
-    c.as_slice.ensures.value c.in-Ok.ensures.text
+    (all_lines c.args.asked.now.explain c.args.program.now c.as_slice-paths.result.now verdicts))
+    c.as_slice.ensures.value c.in-Ok.ensures.text)
 
 pub returns-in-Err-clause-cut : goal.returns-in-Err-clause-cut
 returns-in-Err-clause-cut g c = cut g (goal.at.returns-in-Err-clause-cut g c).After-write_logs
@@ -69,7 +78,7 @@ returns-in-Ok-end-clause-printed g c =
     let is = subst (λ verdicts. c.in-Ok.status ≡ status_with (list_any is_refused verdicts))
     c.as_slice.ensures.value c.in-Ok.ensures.ended in
     lines_whole (most_of asked.long) (g.F.Files.content c.args.files.now) asked.explain c.args.program.now
-    c.args.paths.now result.made.items result.end
+    c.args.asked.now.logs.items result.made.items result.end
     (made g (goal.at.returns-in-Ok-end-clause-printed g c).After-write_logs) (g.O.Write.contents c.args.out.now)
     (g.O.Write.contents c.write_logs.new.out) c.in-Ok.status c.in-Ok-end.is is
     (written g (goal.at.returns-in-Ok-end-clause-printed g c).In-Ok)
@@ -84,9 +93,9 @@ returns-clause-printed g c =
     let may = subst (λ end. IfErr end (λ fault. MayStop ⊥ fault.why)) c.in-Err-end.is
     c.made_of_logs-verdicts.ensures.refused in
     subst (λ why. PrintsUnlessDenied
-    (WritesLines (most_of asked.long) content asked.explain c.args.program.now c.args.paths.now) ⊤ (Err why) old new)
+    (WritesLines (most_of asked.long) content asked.explain c.args.program.now c.args.asked.now.logs.items) ⊤ (Err why) old new)
     (sym c.of_stop.ensures)
-    (lines_unread (most_of asked.long) content asked.explain c.args.program.now c.args.paths.now result.made.items
+    (lines_unread (most_of asked.long) content asked.explain c.args.program.now c.args.asked.now.logs.items result.made.items
     result.end (made g (goal.at.returns-clause-printed g c).After-write_logs) old new c.in-Err-end.fault
     c.in-Err-end.is may (written g (goal.at.returns-clause-printed g c).In-Ok))
 
@@ -95,6 +104,6 @@ returns-clause-begun g c = λ memory.
     let asked = c.args.asked.now in
     let result = c.made_of_logs-verdicts.result in
     lines_first (most_of asked.long) (g.F.Files.content c.args.files.now) asked.explain c.args.program.now
-    c.args.paths.now result.made.items result.end (made g (goal.at.returns-clause-begun g c).After-write_logs)
+    c.args.asked.now.logs.items result.made.items result.end (made g (goal.at.returns-clause-begun g c).After-write_logs)
     (g.O.Write.contents c.args.out.now) (g.O.Write.contents c.write_logs.new.out)
     (written g (goal.at.returns-clause-begun g c).In-Ok)

@@ -1,8 +1,8 @@
 -- The prover tries no record of its own: what was read, and the turns that it spells, are handed to it.
 use Rattle.std.proofs.Common.{◌≡◌, ◌⊎◌, subst, sym, Ok, Err, IfErr, arith}
 use Rattle.std.proofs.lemmas.Grind.{common_steps}
-use Rattle.schedule.specs.Schedule.{schedule_of}
-use Rattle.schedule.specs.declared.fault.ScheduleFault.TheVariants as schedule
+use Rattle.funnel.specs.Schedule.{schedule_of}
+use Rattle.funnel.specs.declared.schedule_fault.ScheduleFault.TheVariants as schedule
 use Rattle.command_inputs.specs.declared.fault.Fault.TheVariants as fault
 use Rattle.log_commands.specs.Replaying.{IsSchedule}
 use Rattle.log_commands.proofs.Schedules.{schedule_read, schedule_refused, schedule_unread}

@@ -1,6 +1,6 @@
 -- What the file gave is named by hand, and so are the lemmas on it.
 use Rattle.std.proofs.Common.{◌≡◌, None, subst}
-use Rattle.files.specs.Gave.{First, IsGiven, Whole}
+use Rattle.log_streams.specs.Gave.{First, IsGiven, Whole}
 use Rattle.log_streams.specs.steps.Confirmed.{IsConfirmedBy}
 use Rattle.log_streams.proofs.FileLemmas.{all-through, made-given, made-in}
 use Rattle.log_streams.proofs.one_log.made_at.Goals as goal

@@ -1,9 +1,9 @@
 -- What is selected with one message more: the equation goes into the lists, where no tactic puts it.
 use Rattle.std.proofs.Common.{◌∙◌, ◌++◌, ◌∷◌, [], ap, append-nil, sym, subst}
 use Rattle.std.specs.Prelude.{OnOk}
-use Rattle.hart_range.proofs.Selecting.{none_selected, one_selected, selected-append}
-use Rattle.hart_range.specs.Range.{selected}
-use Rattle.unnumbered.specs.Split.{AreSplit}
+use Rattle.message.proofs.Selecting.{none_selected, one_selected, selected-append}
+use Rattle.message.specs.Range.{selected}
+use Rattle.path_match.specs.Split.{AreSplit}
 use Rattle.path_commands.proofs.by_hart.add_selected.Goals as goal
 
 pub returns-then-selects-clause-split : goal.returns-then-selects-clause-split

@@ -93,16 +93,16 @@ returns-clause-printed g c =
     c.in_ok-check_hart.was c.harts.ensures started.2.count in
     let received = c.in_ok-received.received.items in
     let old = g.O.Write.contents c.args.out.now in
-    let new = g.O.Write.contents c.write_numbered.new.out in
+    let new = g.O.Write.contents c.write_audit.new.out in
     let by = c.in-Ok.ensures.by ∙ c.by_packets.ensures in
     both_printed (WritesNumbered asked.format asked c.args.harts)
     (g.F.Files.content c.args.files.now) asked c.args.harts c.in_ok-sent.sent.items c.in_ok-sent.ensures.held sent
     (subst (λ bytes. IsSent bytes header started.0) c.as_slice.ensures.value started.1) has received
     (subst (λ known. IsRead {W = PathReason} known asked.received (Ok received)) c.in_ok-sent.ensures.kept c.in_ok-received.ensures.held)
-    c.write_numbered.result old new
+    c.write_audit.result old new
     (subst (λ bytes. PrintsUnlessDenied (WritesNumbered asked.format asked c.args.harts sent bytes) ⊤
-    c.write_numbered.result old new)
-    c.as_slice-2.ensures.value (c.write_numbered.ensures.printed started.0 started.2 by))
+    c.write_audit.result old new)
+    c.as_slice-2.ensures.value (c.write_audit.ensures.printed started.0 started.2 by))
 
 pub returns-clause-cut : goal.returns-clause-cut
 returns-clause-cut g c =
@@ -115,7 +115,7 @@ returns-clause-cut g c =
     c.in_ok-check_hart.was c.harts.ensures started.2.count in
     let received = c.in_ok-received.received.items in
     let old = g.O.Write.contents c.args.out.now in
-    let new = g.O.Write.contents c.write_numbered.new.out in
+    let new = g.O.Write.contents c.write_audit.new.out in
     let by = c.in-Ok.ensures.by ∙ c.by_packets.ensures in
     both_cut (WritesNumbered asked.format asked c.args.harts)
     (g.F.Files.content c.args.files.now) asked c.args.harts c.in_ok-sent.sent.items c.in_ok-sent.ensures.held sent
@@ -125,4 +125,4 @@ returns-clause-cut g c =
     new
     (subst (λ bytes. IsCutOf (WritesNumbered asked.format asked c.args.harts sent bytes) old new)
     c.as_slice-2.ensures.value
-    (c.write_numbered.ensures.cut started.0 started.2 by))
+    (c.write_audit.ensures.cut started.0 started.2 by))

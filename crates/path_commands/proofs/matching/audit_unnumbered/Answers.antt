@@ -7,7 +7,8 @@ use Rattle.command_inputs.specs.Found.{IsRead}
 use Rattle.command_inputs.specs.Printed.{PrintsUnlessDenied}
 use Rattle.command_inputs.specs.declared.fault.Fault.TheVariants as fault
 use Rattle.path_commands.proofs.AuditSteps.{both_cut, both_printed, hart_found, hart_lacked, not_kept, received_lacked}
-use Rattle.path_commands.specs.Audited.{AuditsBy, CanAuditHarts, WritesAligned}
+use Rattle.path_commands.specs.Audited.{AuditsBy, CanAuditHarts}
+use Rattle.path_commands.specs.Unnumbered.{WritesAligned}
 use Rattle.path_commands.specs.OnlyHarts.{HasHart}
 use Rattle.path_commands.specs.Sides.{Sent}
 use Rattle.path_commands.specs.declared.reason.PathReason.{PathReason}

@@ -1,10 +1,10 @@
 -- RECEIVED is read and aligned, and then all is written: by lemmas on what was found.
 use Rattle.std.proofs.Common.{◌∙◌, List, subst, sym}
 use Rattle.auditing.specs.Sent.{harts_of}
-use Rattle.hart_range.specs.Range.{selected}
+use Rattle.message.specs.Range.{selected}
 use Rattle.message.specs.declared.message.Message.{Message}
-use Rattle.unnumbered.specs.Aligned.{AreAligned}
-use Rattle.unnumbered.specs.Split.{AreSplit}
+use Rattle.path_match.specs.Aligned.{AreAligned}
+use Rattle.path_match.specs.Split.{AreSplit}
 use Rattle.path_commands.proofs.MatchedRuns.{matched_cut, matched_printed}
 use Rattle.path_commands.specs.Sides.{Sent, by_packets}
 use Rattle.path_commands.specs.steps.Matching.{IsKept, came_with}

@@ -1,5 +1,5 @@
 -- The word at an address is said of its bytes by a lemma.
-use Rattle.memory.proofs.CutLemmas.{cut_acts}
+use Rattle.rvclass.proofs.CutLemmas.{cut_acts}
 use Rattle.rvclass.proofs.BytesLemmas.{same_words}
 use Rattle.rvclass.proofs.laws.cut_pieces_have_the_instructions_of_one.Goals as goal
 

@@ -1,8 +1,8 @@
 //! What is told of a first pass.
 
-use hart_rows::WatchSurvey;
+use capture_index::WatchSurvey;
+use message::Watch;
 use std::cell::Cell;
-use watching::Watch;
 
 /// Counts the messages that are told of, and the ends.
 #[derive(Drop)]

@@ -1,7 +1,7 @@
 -- What is kept and what is found are those of the definitions, by the laws on one more message.
 use Rattle.std.proofs.Common.{◌∙◌, subst, sym}
 use Rattle.auditing.proofs.TakenKnown.{finding_known, takes_known}
-use Rattle.resuming.specs.Borrowed.{message_of}
+use Rattle.frames.specs.Borrowed.{message_of}
 use Rattle.auditing.specs.Audits.{Audits}
 use Rattle.auditing.proofs.audit.Audit.examine_borrowed.Goals as goal
 

@@ -1,7 +1,7 @@
 -- The text of some ranges is theirs one by one, by a lemma.
 use Rattle.std.proofs.Common.{◌∙◌, sym}
 use Rattle.std.proofs.Output.{has_written_of_eq}
-use Rattle.memory.specs.Memory.{in_order}
+use Rattle.rvclass.specs.Memory.{in_order}
 use Rattle.explaining.proofs.RangeTextsLemmas.{image_is}
 use Rattle.explaining.specs.Ranges.{ranges_of}
 use Rattle.explaining.proofs.ranges.ImageRangesDisplay.fmt.Goals as goal

@@ -2,7 +2,7 @@
 use Rattle.std.proofs.Common.{◌≡◌, ◌+◌, ℕ, [], subst}
 use Rattle.std.specs.Prelude.{IfSome}
 use Rattle.rvclass.specs.Fetch.{words_of}
-use Rattle.hart_encoding.specs.HasEncoded.{HasEncoded}
+use Rattle.captures.specs.HasEncoded.{HasEncoded}
 use Rattle.log_commands.proofs.encoding.EncodingLogTaskVecU8.begin.Goals as goal
 
 pub returns-in-Some : goal.returns-in-Some

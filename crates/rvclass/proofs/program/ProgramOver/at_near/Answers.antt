@@ -1,6 +1,6 @@
 -- What every program keeps is a lemma about images, which the prover is given with the program's own invariant.
 use Rattle.std.proofs.Common.{◌∙◌, ap, subst}
-use Rattle.memory.specs.Fetch.{BeginsWithHalf}
+use Rattle.rvclass.specs.FetchedBytes.{BeginsWithHalf}
 use Rattle.rvclass.proofs.FetchLemmas.{by_fetch}
 use Rattle.rvclass.proofs.WordsLemmas.{words_of-IsProgram, words_of-LiesIn}
 use Rattle.rvclass.specs.steps.ByFetch.{word_by_fetch}

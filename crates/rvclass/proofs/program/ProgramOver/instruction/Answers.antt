@@ -1,6 +1,6 @@
 -- The instruction that was fetched is the one of the image, by a lemma.
 use Rattle.std.proofs.Common.{◌∙◌, ap, subst}
-use Rattle.memory.specs.Fetch.{BeginsWithHalf}
+use Rattle.rvclass.specs.FetchedBytes.{BeginsWithHalf}
 use Rattle.rvclass.proofs.FetchLemmas.{instruction_by}
 use Rattle.rvclass.specs.steps.ByFetch.{instruction_by_fetch}
 use Rattle.rvclass.proofs.program.ProgramOver.instruction.Goals as goal

@@ -1,5 +1,5 @@
 use Rattle.std.proofs.Common.{◌≡◌, drop, map, string_bytes}
-use Rattle.files.specs.Known.{content_in}
+use Rattle.log_streams.specs.Known.{content_in}
 use Rattle.transcripts.proofs.shelf.Shelf.content.Given as goal
 
 -- No file before this one has the name.

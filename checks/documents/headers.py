@@ -1,0 +1,146 @@
+"""Whether the headers of the library for C have the version, the statuses and the texts that the crates have, and
+whether the library exports each call of `ffi` with its contract.
+
+The text of a status is what a definition of the program has for the fault with this status, up to what is filled in. A
+status that is of no fault, or of one that only the library has, has its comment as its text.
+"""
+import glob
+import re
+
+import calls
+from documents import grammar
+
+HEADER = "include/tracebench.h"
+OF_CPP = "include/tracebench.hpp"
+PACKAGE = "include/tracebench.sv"
+OF_PACKAGE = "include/tracebench_dpi.c"
+STATUSES = "crates/ffi/src/status.rt"
+FAULTS = "crates/ffi/specs/Statuses.antt"
+# Where the library for C has its version, and how.
+OF_LIBRARY = {"crates/ffi/src/version.rt": r'VERSION: \[u8; \d+\] = \*b"(.*)";',
+              "crates/ffi/specs/VersionText.antt": r'^version_text = codes "(.*)"$'}
+# A call of `ffi` and its export: the name, and all between that and the body.
+CALL = re.compile(r'^pub (?:extern "C" )?fn (tracebench_\w+)(.*?)^\{$', re.MULTILINE | re.DOTALL)
+# What the program says before the name of a fault of a payload.
+BEFORE = {"pack": "bad packet: "}
+# What has faults of an image beside its own, which keep the texts of an image.
+PIECES = "piece"
+
+
+def version():
+    """The version of the program, without that of its toolchain."""
+    return re.search(r'VERSION: &str = "(.*?)\\n', grammar.content("crates/cli/src/help.rt"))[1]
+
+
+def of_version():
+    told = re.search(r'^#define TRACEBENCH_VERSION "(.*)"$', grammar.content(HEADER), re.MULTILINE)
+    if not told or told[1] != version():
+        yield f"{HEADER}: TRACEBENCH_VERSION is not {version()}"
+    for path, form in OF_LIBRARY.items():
+        if re.findall(form, grammar.content(path), re.MULTILINE) != [version()]:
+            yield f"{path}: the version is not {version()}"
+
+
+def of_source():
+    """The statuses of the library's source: their comments and numbers, by their names."""
+    found = re.findall(r"^/// (.*)\npub const ([A-Z_]+): u32 = (\d+);", grammar.content(STATUSES), re.MULTILINE)
+    return {name: (comment.replace("`", ""), int(number)) for comment, name, number in found}
+
+
+def of_header():
+    """The same of the header."""
+    found = re.findall(r"^/\* (.*) \*/\n#define TRACEBENCH_([A-Z_]+) (\d+)u$", grammar.content(HEADER), re.MULTILINE)
+    return {name: (comment, int(number)) for comment, name, number in found}
+
+
+def constants():
+    """Each constant of the header, with its number."""
+    found = re.findall(r"^#define TRACEBENCH_([A-Z_]+) (\d+)u", grammar.content(HEADER), re.MULTILINE)
+    return {name: int(number) for name, number in found}
+
+
+def program_texts():
+    """The texts of the program's faults, up to what is filled in, by the head of the definition and the fault."""
+    texts = {}
+    for path in glob.glob(f"{calls.CRATES}/*/specs/*FaultText.antt"):
+        for head, fault, body in re.findall(r"^(\w+?)(?:_fault)?_text \(?(?:\w+\.)?([A-Z]\w*)[^=\n]*= (.*)$",
+                                            calls.text_of(path), re.MULTILINE):
+            parts = re.findall(r'codes "([^"]*)"', body)
+            if parts and "decimal" not in body:
+                texts[head, fault] = parts[-1]
+            elif parts and ", " in parts[0]:
+                texts[head, fault] = parts[0].split(", ")[0]
+    return texts
+
+
+def wanted_texts():
+    """The text of each status."""
+    texts, wanted = program_texts(), {}
+    for head, fault, status in re.findall(r"^(\w+)_status \(?(?:\w+\.)?([A-Z]\w*)[^=\n]*= ([A-Z_]+)$",
+                                          grammar.content(FAULTS), re.MULTILINE):
+        if head == PIECES and status in wanted:
+            continue
+        if (head, fault) in texts:
+            wanted.setdefault(status, set()).add(BEFORE.get(head, "") + texts[head, fault])
+    for name, (comment, _) in of_source().items():
+        first = re.split(r"[.:]", comment)[0]
+        wanted.setdefault(name, {first[0].lower() + first[1:]})
+    return wanted
+
+
+def of_texts():
+    told = dict(re.findall(r'case TRACEBENCH_([A-Z_]+): return "(.*)";', grammar.content(HEADER)))
+    wanted = wanted_texts()
+    for name in sorted(told.keys() | wanted.keys()):
+        if wanted.get(name) != {told.get(name)}:
+            yield f"{HEADER}: the text of {name} is {told.get(name)}, and the crates have {wanted.get(name)}"
+
+
+def of_statuses():
+    source, header = of_source(), of_header()
+    for name in sorted(source.keys() | header.keys()):
+        if source.get(name) != header.get(name):
+            yield f"{HEADER}: {name} is {header.get(name)}, and {STATUSES} has {source.get(name)}"
+
+
+def of_cpp():
+    """Whether the enum of C++ has each status, under its words."""
+    body = re.search(r"enum class \[\[nodiscard\]\] status : .*?\{(.*?)\};", grammar.content(OF_CPP), re.DOTALL)
+    told = re.findall(r"(\w+) = TRACEBENCH_(\w+),", body[1] if body else "")
+    wanted = [("".join(map(str.capitalize, name.split("_"))), name) for name in of_source()]
+    if told != wanted:
+        yield f"{OF_CPP}: {sorted(set(told) ^ set(wanted))} are not statuses, or are left out"
+
+
+def of_package():
+    """Whether the package for SystemVerilog has the constants of the header, and its imports are functions in C."""
+    text = grammar.content(PACKAGE)
+    lists = "".join(re.findall(r"localparam int unsigned (.*?);", text, re.DOTALL))
+    told = {name: int(number) for name, number in re.findall(r"([A-Z_]+) = (\d+)", lists)}
+    wanted = constants()
+    for name in sorted(told.keys() | wanted.keys()):
+        if told.get(name) != wanted.get(name):
+            yield f"{PACKAGE}: {name} is {told.get(name)}, and {HEADER} has {wanted.get(name)}"
+    imports = set(re.findall(r'^  import "DPI-C" (\w+) = ', text, re.MULTILINE))
+    functions = set(re.findall(r"^[a-z].*?\b(tracebench_dpi_\w+)\(", grammar.content(OF_PACKAGE), re.MULTILINE))
+    for name in sorted(imports ^ functions):
+        yield f"{PACKAGE}: {name} is {'no function of' if name in imports else 'imported from no'} {OF_PACKAGE}"
+
+
+def contracts(crate):
+    """The parameters, the result and the clauses of each call of a crate, by its name, however they are laid out."""
+    texts = (grammar.content(f"crates/{crate}/src/{name}") for name in calls.sources(crate))
+    found = {name: " ".join(rest.split()) for text in texts for name, rest in CALL.findall(text)}
+    return {name: rest.replace("( ", "(").replace(", )", ")") for name, rest in found.items()}
+
+
+def of_exports():
+    """Whether the static library exports each call of `ffi` with the same contract, and nothing else."""
+    told, wanted = contracts("tracebench_c"), contracts("ffi")
+    for name in sorted(told.keys() | wanted.keys()):
+        if told.get(name) != wanted.get(name):
+            yield f"crates/tracebench_c: {name} is not as in crates/ffi"
+
+
+def check():
+    return [*of_exports(), *of_version(), *of_statuses(), *of_texts(), *of_cpp(), *of_package()]

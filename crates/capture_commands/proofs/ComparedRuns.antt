@@ -1,0 +1,196 @@
+-- What `compare` prints, from what was found.
+use Rattle.std.proofs.Common.{◌≡◌, ◌∙◌, ◌⊎◌, ap, inr, refl, Bool, ℕ, List, Option, Result, Ok, Err, length}
+use Rattle.std.proofs.lemmas.Bool.{eqb-true}
+use Rattle.std.specs.Prelude.{⊤, ◌≢◌, ◌==◌, if◌then◌else◌, is_none, true, false}
+use Rattle.command_inputs.specs.Faults.{Path}
+use Rattle.capture_commands.specs.declared.reason.CaptureReason.TheVariants.{Logs}
+use Rattle.output.specs.Begun.{AppendsBeginning}
+use Rattle.bench.specs.Got.{Got}
+use Rattle.captures.specs.declared.outcome.CaptureFault.{CaptureFault}
+use Rattle.comparing.proofs.LineTexts.{lines_whole_of, lines_written_of}
+use Rattle.comparing.specs.Compared.{AreGotOf, comparison_text_of, is_compared_whole}
+use Rattle.comparing.specs.Lines.{are_whole_lines, lines_text}
+use Rattle.comparing.specs.declared.hart_line.ComparedHart.{ComparedHart}
+use Rattle.message.specs.declared.range.HartRange.{HartRange}
+use Rattle.rvclass.specs.Fetch.{words_of}
+use Rattle.rvclass.specs.Image.{Image}
+use Rattle.command_inputs.specs.declared.words.Compare.{Compare}
+use Rattle.command_inputs.proofs.Beginnings.{cut_leads, printed_begun}
+use Rattle.command_inputs.proofs.Runs.{ends_silently, leads_on}
+use Rattle.command_inputs.specs.Begun.{IsCutOf}
+use Rattle.command_inputs.specs.Found.{IsBase, IsProgramAt, IsRead}
+use Rattle.command_inputs.specs.FoundLogs.{AreLegalLogsUpTo}
+use Rattle.command_inputs.specs.OnlyHarts.{IsOnly}
+use Rattle.command_inputs.specs.Printed.{PrintsUnlessDenied}
+use Rattle.command_inputs.specs.declared.fault.Fault.TheVariants as fault
+use Rattle.command_inputs.specs.declared.status.Status.{Status}
+use Rattle.log_streams.specs.Known.{Content}
+use Rattle.capture_commands.specs.CountedHarts.{HasHartBelow}
+use Rattle.capture_commands.specs.Faults.{Fault, Printed}
+use Rattle.capture_commands.specs.declared.reason.CaptureReason.{CaptureReason}
+use Rattle.capture_commands.specs.Comparing.{CanCompare, CanCompareCapture, CanCompareHarts, Compares, ComparesCapture}
+use Rattle.capture_commands.specs.Comparing.{ComparesHarts}
+use Rattle.capture_commands.specs.Comparison.{AreAsMany, comparison_end, end_of_stop, rows_of}
+use Rattle.capture_commands.specs.steps.Lines.{AreLinesOfLogs, WritesLines}
+
+-- There are as many logs as harts.
+pub as_many : (harts : ℕ) (paths : List Path) (u : Unit {0}) → AreAsMany harts paths (Ok u) → length paths ≡ harts
+as_many harts paths u are = go (length paths == harts) refl are
+  where
+    go : (same : Bool) → (length paths == harts) ≡ same
+        → Ok u ≡ (if same then Ok tt else Err (fault.Own (Logs (length paths) harts))) → length paths ≡ harts
+    go true is found = eqb-true (length paths) harts is
+    go false is found = cc
+
+module _ (content : Content) (asked : Compare) (base : ℕ) (range : HartRange) (program : Image) (bytes : List ℕ)
+    (based : IsBase {W = CaptureReason} asked.base.now asked.also.items (Ok base))
+    (chosen : IsOnly {W = CaptureReason} asked.only (Ok range))
+    (found : IsProgramAt {W = CaptureReason} content base asked.image asked.also.items (Ok program))
+    (read : IsRead {W = CaptureReason} content asked.capture (Ok bytes)) where
+  -- What is written of the harts is what `compare` prints.
+  harts_lead : (printed : Printed) → ComparesHarts content asked range program bytes printed
+      → Compares content asked printed
+  harts_lead printed writes = (Ok base, based, (Ok range, chosen, (Ok program, found, (Ok bytes, read, writes))))
+
+  -- And once that can be written, `compare` writes.
+  can_lead : CanCompareHarts content asked range program bytes → CanCompare content asked
+  can_lead can = (base, based, (range, chosen, (program, found, (bytes, read, can))))
+
+  -- What is printed of the harts is what `compare` prints.
+  pub harts_printed : (ended : Result Status Fault) (old new : Option (List ℕ))
+      → PrintsUnlessDenied (ComparesHarts content asked range program bytes)
+      (CanCompareHarts content asked range program bytes) ended old new
+      → PrintsUnlessDenied (Compares content asked) (CanCompare content asked) ended old new
+  harts_printed ended old new =
+      leads_on (ComparesHarts content asked range program bytes) (Compares content asked)
+      (CanCompareHarts content asked range program bytes) (CanCompare content asked) ended old new harts_lead can_lead
+
+  -- And a cut of it is one of that.
+  pub harts_cut : (old new : Option (List ℕ)) → IsCutOf (ComparesHarts content asked range program bytes) old new
+      → IsCutOf (Compares content asked) old new
+  harts_cut old new =
+      cut_leads (ComparesHarts content asked range program bytes) (Compares content asked) old new harts_lead
+
+module _ (content : Content) (asked : Compare) (range : HartRange) (program : Image) (bytes : List ℕ) where
+  -- The capture has none of the harts.
+  pub no_hart_ends : (why : Fault) (ended : Result Status Fault) (old : Option (List ℕ)) → ended ≡ Err why
+      → HasHartBelow asked.harts range bytes (Err why)
+      → PrintsUnlessDenied (ComparesHarts content asked range program bytes)
+      (CanCompareHarts content asked range program bytes) ended old old
+  no_hart_ends why ended old is none =
+      ends_silently (ComparesHarts content asked range program bytes)
+      (CanCompareHarts content asked range program bytes) (HasHartBelow asked.harts range bytes (Err why)) why ended old is
+      (inr none) (λ none. (Err why, none, refl))
+
+  module _ (u : Unit {0}) (has : HasHartBelow asked.harts range bytes (Ok u)) where
+    leads_through : (printed : Printed) → ComparesCapture content asked range program bytes printed
+        → ComparesHarts content asked range program bytes printed
+    leads_through printed writes = (Ok u, has, writes)
+
+    -- It has one of them: what is printed of the capture is what is printed of the harts.
+    pub capture_printed : (ended : Result Status Fault) (old new : Option (List ℕ))
+        → PrintsUnlessDenied (ComparesCapture content asked range program bytes)
+        (CanCompareCapture content asked range program bytes) ended old new
+        → PrintsUnlessDenied (ComparesHarts content asked range program bytes)
+        (CanCompareHarts content asked range program bytes) ended old new
+    capture_printed ended old new =
+        leads_on (ComparesCapture content asked range program bytes) (ComparesHarts content asked range program bytes)
+        (CanCompareCapture content asked range program bytes) (CanCompareHarts content asked range program bytes) ended
+        old new leads_through (λ can. (u, has, can))
+
+    -- And a cut of it is one of that.
+    pub capture_cut : (old new : Option (List ℕ)) → IsCutOf (ComparesCapture content asked range program bytes) old new
+        → IsCutOf (ComparesHarts content asked range program bytes) old new
+    capture_cut old new =
+        cut_leads (ComparesCapture content asked range program bytes) (ComparesHarts content asked range program bytes)
+        old new leads_through
+
+module _ (content : Content) (asked : Compare) (range : HartRange) (program : Image) (bytes : List ℕ)
+    (gots : List Got) (stop : Option (ℕ × CaptureFault))
+    (got : AreGotOf range (words_of program) asked.harts bytes gots stop)
+    (no_memory : end_of_stop stop ≢ Err fault.Memory) where
+  abbrev Prints : Printed → Type 0
+  Prints = ComparesCapture content asked range program bytes
+
+  abbrev Can : Type 0
+  Can = CanCompareCapture content asked range program bytes
+
+  -- The count of logs is another than that of the harts.
+  pub count_ends : (why : Fault) (ended : Result Status Fault) (old : Option (List ℕ)) → ended ≡ Err why
+      → AreAsMany (length gots) asked.logs.items (Err why) → PrintsUnlessDenied Prints Can ended old old
+  count_ends why ended old is other =
+      ends_silently Prints Can (AreAsMany (length gots) asked.logs.items (Err why)) why ended old is (inr other)
+      (λ other. record {
+        gots = gots;
+        stop = stop;
+        got = got;
+        no_memory = no_memory;
+        prints = (Err why, (Err why, other, refl), refl);
+      })
+
+  module _ (u : Unit {0}) (many : AreAsMany (length gots) asked.logs.items (Ok u)) where
+    -- A log is not legal.
+    pub logs_end : (why : Fault) (ended : Result Status Fault) (old : Option (List ℕ)) → ended ≡ Err why
+        → (why ≡ fault.Memory) ⊎ AreLegalLogsUpTo (rows_of asked.long) content program asked.logs.items (Err why)
+        → PrintsUnlessDenied Prints Can ended old old
+    logs_end why ended old is refused =
+        ends_silently Prints Can (AreLegalLogsUpTo (rows_of asked.long) content program asked.logs.items (Err why)) why
+        ended old is refused
+        (λ refused. record {
+          gots = gots;
+          stop = stop;
+          got = got;
+          no_memory = no_memory;
+          prints = (Err why, (Ok u, many, refused), refl);
+        })
+
+    module _ (lines : List ComparedHart)
+        (are : AreLinesOfLogs (rows_of asked.long) content program asked.logs.items range.first gots lines) where
+      text_is : lines_text (is_none stop) lines ≡ comparison_text_of range.first stop gots are.logs
+      text_is =
+          ap (lines_text (is_none stop)) are.each ∙ lines_written_of range.first stop gots are.logs are.many
+
+      whole_is : are_whole_lines (is_none stop) lines ≡ is_compared_whole stop gots are.logs
+      whole_is =
+          ap (are_whole_lines (is_none stop)) are.each ∙ lines_whole_of range.first stop gots are.logs are.many
+
+      leads : (printed : Printed) → WritesLines stop lines printed → Prints printed
+      leads printed writes = record {
+        gots = gots;
+        stop = stop;
+        got = got;
+        no_memory = no_memory;
+        prints = (
+          Ok are.logs,
+          (Ok u, many, are.legal),
+          writes
+              ∙ ap (λ text. record {
+                text = text;
+                ended = comparison_end (end_of_stop stop) (are_whole_lines (is_none stop) lines);
+              }) text_is
+              ∙ ap (λ whole. record {
+                text = comparison_text_of range.first stop gots are.logs;
+                ended = comparison_end (end_of_stop stop) whole;
+              }) whole_is,
+        );
+      }
+
+      -- The report is what is printed.
+      pub report_printed : (ended : Result Status Fault) (old new : Option (List ℕ))
+          → PrintsUnlessDenied (WritesLines stop lines) ⊤ ended old new → PrintsUnlessDenied Prints Can ended old new
+      report_printed ended old new =
+          leads_on (WritesLines stop lines) Prints ⊤ Can ended old new leads
+          (λ there. record {
+            gots = gots;
+            stop = stop;
+            got = got;
+            no_memory = no_memory;
+            logs = (are.logs, (Ok u, many, are.legal), tt);
+          })
+
+      -- Or a prefix of it.
+      pub report_cut : (old new : Option (List ℕ)) → AppendsBeginning (lines_text (is_none stop) lines) old new
+          → IsCutOf Prints old new
+      report_cut old new begun =
+          inr (printed_begun Prints (lines_text (is_none stop) lines)
+          (comparison_end (end_of_stop stop) (are_whole_lines (is_none stop) lines)) old new (leads _ refl) begun)

@@ -1,0 +1,83 @@
+-- What `compare` prints, and how it ends.
+use Rattle.std.specs.Prelude.{⊤, ℕ, ◌≡◌, ◌≢◌, List, Option, Err, length}
+use Rattle.bench.specs.Got.{Got}
+use Rattle.captures.specs.declared.outcome.CaptureFault.{CaptureFault}
+use Rattle.comparing.specs.Compared.{AreGotOf, comparison_text_of, is_compared_whole}
+use Rattle.log_streams.specs.Known.{Content}
+use Rattle.message.specs.declared.range.HartRange.{HartRange}
+use Rattle.legalpath.specs.ProgramLog.{ProgramLog}
+use Rattle.rvclass.specs.Fetch.{words_of}
+use Rattle.rvclass.specs.Image.{Image}
+use Rattle.command_inputs.specs.declared.words.Compare.{Compare}
+use Rattle.command_inputs.specs.Found.{IsBase, IsProgramAt, IsRead}
+use Rattle.command_inputs.specs.FurtherPieces.{base_number}
+use Rattle.command_inputs.specs.Meaning.{writing_at_once}
+use Rattle.command_inputs.specs.OnlyHarts.{IsOnly, asked_harts}
+use Rattle.command_inputs.specs.Order.{base_or_only_fault}
+use Rattle.command_inputs.specs.Printed.{First}
+use Rattle.command_inputs.specs.declared.fault.Fault.TheVariants as fault
+use Rattle.capture_commands.specs.CountedHarts.{HasHartBelow}
+use Rattle.capture_commands.specs.Faults.{Meaning, Once, Printed}
+use Rattle.capture_commands.specs.Comparison.{AreLogsOfHarts, comparison_end, end_of_stop, rows_of}
+
+-- The report of a comparison is written, whose first hart has this number, and the run ends as that says.
+abbrev pub WritesComparison : ℕ → Option (ℕ × CaptureFault) → List Got → List ProgramLog → Printed → Type 0
+WritesComparison hart stop gots logs printed = printed ≡ record {
+  text = comparison_text_of hart stop gots logs;
+  ended = comparison_end (end_of_stop stop) (is_compared_whole stop gots logs);
+}
+
+-- The bytes of a capture decode to something of each of these harts that it has, and decoding does not stop for want of
+-- memory. The logs of as many harts are found, and compared with that.
+pub record ComparesCapture (content : Content) (asked : Compare) (range : HartRange) (program : Image) (bytes : List ℕ)
+    (printed : Printed) : Type 0 where
+  pub gots : List Got
+  pub stop : Option (ℕ × CaptureFault)
+  pub got : AreGotOf range (words_of program) asked.harts bytes gots stop
+  pub no_memory : end_of_stop stop ≢ Err fault.Memory
+  pub prints : First
+      (AreLogsOfHarts (rows_of asked.long) content program asked.logs.items (length gots))
+      (WritesComparison range.first stop gots) printed
+
+-- The capture is compared where it has one of these harts.
+abbrev pub ComparesHarts : Content → Compare → HartRange → Image → List ℕ → Printed → Type 0
+ComparesHarts content asked range program bytes =
+    First (HasHartBelow asked.harts range bytes) (λ _. ComparesCapture content asked range program bytes)
+
+-- The bases are looked at first, then the harts that are asked for, then the image with its further pieces, and the
+-- capture. Where there is no fault, what the capture has of these harts is compared.
+abbrev pub Compares : Content → Compare → Printed → Type 0
+Compares content asked =
+    First (IsBase asked.base.now asked.also.items) (λ base.
+    First (IsOnly asked.only) (λ range.
+    First (IsProgramAt content base asked.image asked.also.items) (λ program.
+    First (IsRead content asked.capture) (ComparesHarts content asked range program))))
+
+-- A capture's bytes decode to something of each of these harts without want of memory, and the logs of as many harts
+-- are found.
+pub record CanCompareCapture (content : Content) (asked : Compare) (range : HartRange) (program : Image) (bytes : List ℕ)
+    : Type 0 where
+  pub gots : List Got
+  pub stop : Option (ℕ × CaptureFault)
+  pub got : AreGotOf range (words_of program) asked.harts bytes gots stop
+  pub no_memory : end_of_stop stop ≢ Err fault.Memory
+  pub logs : Once (AreLogsOfHarts (rows_of asked.long) content program asked.logs.items (length gots)) (λ _. ⊤)
+
+-- And the capture has one of these harts.
+abbrev pub CanCompareHarts : Content → Compare → HartRange → Image → List ℕ → Type 0
+CanCompareHarts content asked range program bytes =
+    Once (HasHartBelow asked.harts range bytes) (λ _. CanCompareCapture content asked range program bytes)
+
+-- `compare` writes once it has the legal logs.
+abbrev pub CanCompare : Content → Compare → Type 0
+CanCompare content asked =
+    Once (IsBase asked.base.now asked.also.items) (λ base.
+    Once (IsOnly asked.only) (λ range.
+    Once (IsProgramAt content base asked.image asked.also.items) (λ program.
+    Once (IsRead content asked.capture) (CanCompareHarts content asked range program))))
+
+-- What `compare` means. Where allocation fails, it wrote nothing.
+abbrev pub compare_meaning : Compare → Meaning
+compare_meaning asked = writing_at_once
+    (base_or_only_fault (base_number asked.base.now asked.also.items) (asked_harts asked.only))
+    (λ content. Compares content asked) (λ content. CanCompare content asked)

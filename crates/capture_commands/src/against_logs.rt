@@ -1,0 +1,101 @@
+//! The subcommand `compare`.
+
+ghost use Rattle.std.specs.Prelude.{◌≡◌, Err, IfSome};
+ghost use Rattle.command_inputs.specs.Begun.{IsCutOf};
+ghost use Rattle.command_inputs.specs.FurtherPieces.{base_number};
+ghost use Rattle.command_inputs.specs.OnlyHarts.{asked_harts};
+ghost use Rattle.command_inputs.specs.Order.{base_or_only_fault};
+ghost use Rattle.command_inputs.specs.Printed.{PrintsUnlessDenied};
+ghost use Rattle.command_inputs.specs.declared.fault.Fault.TheVariants as Fault;
+ghost use Rattle.capture_commands.specs.Faults.{final_status};
+ghost use Rattle.capture_commands.specs.Comparing.{CanCompare, CanCompareHarts, Compares, ComparesHarts};
+
+use crate::hart_check::check_harts_below;
+use crate::hart_lines::{check_count, lines_of_logs};
+use crate::input::Input;
+use crate::reason::Fault;
+use crate::report::write_report;
+use crate::surveyed::{harts_below, surveyed_of};
+use command_inputs::{
+    Compare, MessageProgress, Status, base_of, content_of, harts_asked, program_of,
+};
+use log_streams::Files;
+use std::alloc::Global;
+use std::io::Write;
+use std::thread::Threads;
+
+/// Writes a line for each hart, which says how what the capture decodes to compares with the hart's log, and a line for
+/// the result. Returns that all is done where the capture decodes without a fault to just these logs and each hart is
+/// closed, and else that a log is not whole. Where the capture has a fault, that is the fault, behind the lines.
+///
+/// There have to be as many logs as the capture has harts: by its header, or else by `harts`; where its header is bad
+/// there are `harts` harts, and nothing of them is decoded. Each log has to be legal for the program, also behind a
+/// difference. A log may have 4,294,967,295 rows where long logs are asked for, and else 16,777,216. The logs are read
+/// side by side, each a piece at a time, and its hart's messages are decoded beside it; no list holds the events of a
+/// log or of a hart. Nothing is written before all logs are read.
+///
+/// Where some harts are asked for, the logs have to be those of the harts among them that the capture has, in their
+/// order. Messages of all other harts are passed over, whatever they are. The lines, the result and how the run ends
+/// are those of these harts; a fault counts the messages of all. Where the capture has none of these harts, nothing is
+/// written.
+pub fn compare<'a, F: Files + Sync, O: Write, R: Threads + Sync>(
+    alloc: Global,
+    rt: &R,
+    files: &mut F,
+    asked: &Compare<'a>,
+    out: &mut O,
+) -> Result<Status, Fault<'a>>
+where
+    F::Reader: Send,
+    ensures early { IfSome (base_or_only_fault (base_number asked.now.base.now asked.now.also.items)
+        (asked_harts asked.now.only)) (λ fault. result ≡ Err fault) }
+    ensures refused { final_status result ≡ Status.Refused → out.new ≡ out.old }
+    ensures untouched { result ≡ Err Fault.Memory → out.new ≡ out.old }
+    ensures printed { PrintsUnlessDenied (Compares (F.content files.old) asked.now)
+        (CanCompare (F.content files.old) asked.now) result
+        (O.contents out.old) (O.contents out.new) }
+    ensures cut { IsCutOf (Compares (F.content files.old) asked.now) (O.contents out.old) (O.contents out.new) }
+{
+    let base = base_of(asked.base, &asked.also)?;
+    let only = harts_asked(asked.only)?;
+    let program = program_of(alloc, files, base, asked.image, &asked.also)?;
+    let bytes = content_of(files, asked.capture)?;
+    let input = Input {
+        program: &program,
+        symbols: None,
+        bytes: bytes.as_slice(),
+        only,
+    };
+    compare_input(alloc, rt, &*files, asked, &input, out)
+}
+
+/// Compares what the capture has of the harts of an input with the logs that are asked for, where it has any of them,
+/// and writes the report.
+fn compare_input<'a, F: Files + Sync, O: Write, R: Threads + Sync>(
+    alloc: Global,
+    rt: &R,
+    files: &F,
+    asked: &Compare<'a>,
+    input: &Input,
+    out: &mut O,
+) -> Result<Status, Fault<'a>>
+where
+    F::Reader: Send,
+    ensures refused { final_status result ≡ Status.Refused → out.new ≡ out.old }
+    ensures untouched { result ≡ Err Fault.Memory → out.new ≡ out.old }
+    ensures printed { PrintsUnlessDenied
+        (ComparesHarts (F.content files.now) asked.now input.now.only input.now.program.now input.now.bytes.now)
+        (CanCompareHarts (F.content files.now) asked.now input.now.only input.now.program.now input.now.bytes.now) result
+        (O.contents out.old) (O.contents out.new) }
+    ensures cut { IsCutOf
+        (ComparesHarts (F.content files.now) asked.now input.now.only input.now.program.now input.now.bytes.now)
+        (O.contents out.old) (O.contents out.new) }
+{
+    check_harts_below(asked.harts, input.only, input.bytes)?;
+    let progress = MessageProgress::new(files, asked.progress);
+    let found = surveyed_of(alloc, &progress, asked.harts, input)?;
+    let paths = asked.logs.as_slice();
+    check_count(harts_below(input.only, found.places.len()), paths)?;
+    let lines = lines_of_logs(alloc, rt, files, asked, input, &found)?;
+    write_report(lines.as_slice(), found.stop, out)
+}

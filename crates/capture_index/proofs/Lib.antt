@@ -1,0 +1,10 @@
+pub mod PlaceLemmas
+pub mod TrackLemmas
+pub mod SurveyLemmas
+pub mod CaptureLemmas
+pub mod LeftLemmas
+pub mod HartTexts
+pub mod SplitLemmas
+pub mod RowLemmas
+pub mod WrittenLemmas
+pub mod AllHarts

@@ -1,0 +1,13 @@
+pub mod Marks
+pub mod Placed
+pub mod Places
+pub mod Surveyed
+pub mod Body
+pub mod CaptureSurveyed
+pub mod steps
+pub mod Left
+pub mod EachHart
+pub mod HartsText
+pub mod Laws
+pub mod Parts
+pub mod Written

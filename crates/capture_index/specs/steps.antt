@@ -1,0 +1,5 @@
+pub mod Tracking
+pub mod Surveying
+pub mod Nothing
+pub mod Handing
+pub mod Rows

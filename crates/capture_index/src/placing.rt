@@ -1,0 +1,124 @@
+//! Where each hart's messages are.
+
+ghost use Rattle.std.specs.Prelude.{ℕ, ◌≡◌, ◌++◌, true, All, List, [], ◌∷◌, IfOk, IfSome, OnOk, Ok, Some, length};
+ghost use Rattle.message.specs.Range.{selected, selects};
+ghost use Rattle.payload.specs.Reading.{reading};
+ghost use Rattle.payload.specs.declared.packet.Packet.{Packet as AnyPacket};
+ghost use Rattle.message.specs.declared.message.Message.{Message as AnyMessage};
+ghost use Rattle.capture_index.specs.Places.{AreFirst, ArePlaced, HasPacketAt, IsAt};
+
+use message::{HartRange, Message, Messages};
+use payload::{Packet, unpack};
+use std::alloc::{AllocError, Allocator};
+
+/// Where those of the first `count` messages of these bytes begin that are of the harts in a range, for each of so many
+/// harts as there are counts. A hart's count is how much memory is taken for it.
+pub(crate) fn places_of<A: Allocator + Copy>(
+    alloc: A,
+    range: HartRange,
+    counts: &[usize],
+    count: u64,
+    bytes: &[u8],
+) -> Result<Vec<Vec<usize, A>, A>, AllocError>
+    ensures harts { IfOk result (λ places. length places.items ≡ length counts.now) }
+    ensures places { (messages : List AnyMessage) → AreFirst range bytes.now count messages
+        → IfOk result (λ places. ArePlaced bytes.now places.items (selected range messages)) }
+{
+    let mut places = empty_lists(alloc, counts)?;
+    let mut messages = Messages::new(bytes);
+    let mut place = 0;
+    for _ in 0..count {
+        match messages.next() {
+            Ok(Some(message)) => {
+                add_selected(&mut places, range, &message, place)?;
+                place += message.size();
+            }
+            Ok(None) => return Ok(places),
+            Err(_) => return Ok(places),
+        }
+    }
+    Ok(places)
+}
+
+/// Adds the place of a message to the list of its hart, if that is one of the harts in a range and there is a list.
+fn add_selected<A: Allocator>(
+    places: &mut Vec<Vec<usize, A>, A>,
+    range: HartRange,
+    message: &Message,
+    place: usize,
+) -> Result<(), AllocError>
+    ensures placed { (bytes : List ℕ) (messages : List AnyMessage) → ArePlaced bytes places.old.items messages
+        → (selects range message.now.hart ≡ true → IsAt bytes place message.now)
+        → OnOk result (ArePlaced bytes places.new.items (messages ++ selected range (message.now ∷ []))) }
+    ensures harts { length places.new.items ≡ length places.old.items }
+{
+    if range.selects(message.hart) {
+        add_place(places, message.hart, place)
+    } else {
+        Ok(())
+    }
+}
+
+/// Adds a place to the list of a hart, if there is one.
+fn add_place<A: Allocator>(
+    places: &mut Vec<Vec<usize, A>, A>,
+    hart: u16,
+    place: usize,
+) -> Result<(), AllocError>
+    ensures placed { (bytes : List ℕ) (messages : List AnyMessage) (message : AnyMessage) → message.hart ≡ hart
+        → ArePlaced bytes places.old.items messages → IsAt bytes place message
+        → OnOk result (ArePlaced bytes places.new.items (messages ++ message ∷ [])) }
+    ensures harts { length places.new.items ≡ length places.old.items }
+{
+    match places.get_mut(usize::from(hart)) {
+        Some(own) => {
+            own.reserve(1)?;
+            own.push_reserved(place);
+            Ok(())
+        }
+        None => Ok(()),
+    }
+}
+
+/// A list without an element for each count, with capacity for so many.
+fn empty_lists<A: Allocator + Copy>(
+    alloc: A,
+    counts: &[usize],
+) -> Result<Vec<Vec<usize, A>, A>, AllocError>
+    ensures harts { IfOk result (λ lists. length lists.items ≡ length counts.now) }
+    ensures empty { IfOk result (λ lists. All (λ list. list.items ≡ []) lists.items) }
+{
+    let mut lists = Vec::with_capacity(alloc, counts.len())?;
+    for count in counts {
+        lists.push_reserved(Vec::with_capacity(alloc, *count)?);
+    }
+    Ok(lists)
+}
+
+/// The packet of the message that begins at this place, if one does whose payload is a packet.
+pub fn packet_at(bytes: &[u8], place: usize) -> Option<Packet>
+    ensures read { (message : AnyMessage) (packet : AnyPacket) → IsAt bytes.now place message
+        → reading message.payload ≡ Ok packet → result ≡ Some packet }
+    ensures found { IfSome result (HasPacketAt bytes.now place) }
+{
+    if bytes.len() < place {
+        return None;
+    }
+    let mut messages = Messages::new(&bytes[place..]);
+    match messages.next() {
+        Ok(Some(message)) => packet_of(&message),
+        Ok(None) => None,
+        Err(_) => None,
+    }
+}
+
+/// The packet of a message, if its payload is one.
+fn packet_of(message: &Message) -> Option<Packet>
+    ensures read { (packet : AnyPacket) → reading message.now.payload ≡ Ok packet → result ≡ Some packet }
+    ensures found { IfSome result (λ packet. reading message.now.payload ≡ Ok packet) }
+{
+    match unpack(message.payload.bytes()) {
+        Ok(packet) => Some(packet),
+        Err(_) => None,
+    }
+}

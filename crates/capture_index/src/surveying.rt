@@ -1,0 +1,124 @@
+//! The first pass over a capture's messages.
+
+ghost use Rattle.std.specs.Prelude.{ℕ, ◌≡◌, List, [], IfOk, length};
+ghost use Rattle.retire.specs.declared.event.Event.{Event as AnyEvent};
+ghost use Rattle.rvclass.specs.Fetch.{words_of};
+ghost use Rattle.receiver.specs.Holds.{HasReceived};
+ghost use Rattle.capture_index.specs.Surveyed.{IsSurvey};
+ghost use Rattle.capture_index.specs.steps.Surveying.{IsSurveyedUpTo};
+ghost use Rattle.capture_index.specs.steps.Tracking.{IsTracker, received_of};
+
+use crate::placing::places_of;
+use crate::tracking::Tracker;
+use captures::CaptureFault;
+use message::{HartRange, Messages, Watch};
+use payload::Mode;
+use retire::Event;
+use rvclass::ProgramOver;
+use std::alloc::{AllocError, Allocator};
+
+/// What the first pass finds.
+#[derive(Drop)]
+pub struct Survey<A: Allocator> {
+    /// Where each hart's messages begin, as far as they are decoded. Those of a hart that is passed over are not.
+    pub places: Vec<Vec<usize, A>, A>,
+    /// Whether each hart's closing packet was decoded.
+    pub closed: Vec<bool, A>,
+    /// Where decoding stops before the end, and why.
+    pub fault: Option<(u64, CaptureFault)>,
+}
+
+/// Where the receiving of messages ends.
+#[derive(Clone, Copy)]
+pub(crate) struct End {
+    /// How many messages were received or passed over.
+    pub(crate) received: u64,
+    /// Why no more were, where the bytes do not end there.
+    pub(crate) fault: Option<(u64, CaptureFault)>,
+}
+
+/// Surveys the messages that these bytes have of the harts in a range, of so many harts, where the header announces this
+/// mode, if there is a header. Messages of other harts are passed over. `watch` is told of each message that is received
+/// or passed over.
+pub fn survey_messages<A: Allocator + Copy, V: Watch>(
+    alloc: A,
+    program: &ProgramOver,
+    harts: u16,
+    range: HartRange,
+    announced: Option<Mode>,
+    bytes: &[u8],
+    watch: &V,
+) -> Result<Survey<A>, AllocError>
+    ensures { IfOk result (IsSurvey range (words_of program.now) harts announced bytes.now) }
+{
+    let mut tracker = Tracker::new(alloc, harts)?;
+    // It has no capacity, so no event is written.
+    let mut piece = Vec::new(alloc);
+    let messages = Messages::new(bytes);
+    let end = receive_all(
+        &mut tracker,
+        program,
+        range,
+        announced,
+        messages,
+        &mut piece,
+        watch,
+    );
+    let places = places_of(alloc, range, tracker.counts.as_slice(), end.received, bytes)?;
+    Ok(Survey {
+        places,
+        closed: tracker.closed,
+        fault: end.fault,
+    })
+}
+
+/// Receives messages of the harts in a range, where the header announces this mode, if there is a header. Returns where
+/// that ends.
+fn receive_all<A: Allocator + Copy, V: Watch>(
+    tracker: &mut Tracker<A>,
+    program: &ProgramOver,
+    range: HartRange,
+    announced: Option<Mode>,
+    mut messages: Messages<'_>,
+    piece: &mut Vec<Event, A>,
+    watch: &V,
+) -> End
+    requires tracker { IsTracker tracker.old }
+    ensures surveyed { (harts : ℕ) (lists : List (List AnyEvent))
+        → HasReceived (λ hart. words_of program.now) harts [] (received_of tracker.old lists)
+        → (more : List (List AnyEvent)) × IsSurveyedUpTo range (words_of program.now) harts announced
+        messages.entry (received_of tracker.new more) result.received result.fault }
+    ensures tracker { IsTracker tracker.new }
+    ensures harts { length tracker.new.demux ≡ length tracker.old.demux }
+{
+    let mut received = 0;
+    loop {
+        let message = match messages.next() {
+            Ok(Some(message)) => message,
+            Ok(None) => {
+                return End {
+                    received,
+                    fault: None,
+                };
+            }
+            Err(fault) => {
+                return End {
+                    received,
+                    fault: Some((received, CaptureFault::Message(fault))),
+                };
+            }
+        };
+        match tracker.receive_selected(range, program, announced, &message, piece) {
+            Ok(()) => {
+                received += 1;
+                watch.note(1);
+            }
+            Err(fault) => {
+                return End {
+                    received,
+                    fault: Some((received, CaptureFault::from(fault))),
+                };
+            }
+        }
+    }
+}

@@ -1,0 +1,309 @@
+//! A case that is played: what its arguments say, and what comes.
+
+use std::alloc::{AllocError, Global};
+use std::fmt::{Debug, Display};
+
+/// A case: its arguments that are not read yet, and what came.
+///
+/// Where an argument is not read or allocation fails, the case notes it, and fails at its end. So what reads arguments
+/// and appends what comes has no result.
+#[derive(Drop)]
+pub struct Case<'a> {
+    pub alloc: Global,
+    /// The arguments that are not read yet.
+    pub text: &'a str,
+    pub came: String,
+    is_unread: bool,
+    wants_memory: bool,
+    sets: bool,
+}
+
+/// A text up to a character, and what comes after it.
+pub fn cut(text: &str, at: char) -> (&str, &str) {
+    text.split_once(at).unwrap_or((text, ""))
+}
+
+impl<'a> Case<'a> {
+    /// A case of which nothing is read.
+    pub fn new(alloc: Global, text: &'a str) -> Case<'a> {
+        Case {
+            alloc,
+            text,
+            came: String::new(alloc),
+            is_unread: false,
+            wants_memory: false,
+            sets: false,
+        }
+    }
+
+    /// Notes that there is no such verb, or that an argument is not read.
+    pub fn unread(&mut self) {
+        self.is_unread = true;
+    }
+
+    /// Notes that allocation failed.
+    pub fn no_memory(&mut self) {
+        self.wants_memory = true;
+    }
+
+    /// Notes where allocation failed.
+    pub fn note(&mut self, done: Result<(), AllocError>) {
+        if done.is_err() {
+            self.wants_memory = true;
+        }
+    }
+
+    /// Notes that the case only sets something for those after it. It is not counted.
+    pub fn sets(&mut self) {
+        self.sets = true;
+    }
+
+    /// Whether the case only sets something.
+    pub(crate) fn is_setting(&self) -> bool {
+        self.sets
+    }
+
+    /// Ends the case: appends that an argument was not read.
+    pub(crate) fn end(&mut self) -> Result<(), AllocError> {
+        if self.is_read()? {
+            return Ok(());
+        }
+        self.came.push_str(", and its arguments are not read")
+    }
+
+    /// Whether an argument was not read, or allocation failed.
+    pub fn is_failed(&self) -> bool {
+        self.is_unread || self.wants_memory
+    }
+
+    /// Whether all arguments were read. It is an error where allocation failed.
+    pub fn is_read(&self) -> Result<bool, AllocError> {
+        if self.wants_memory {
+            return Err(AllocError);
+        }
+        Ok(!self.is_unread)
+    }
+
+    /// A case with the arguments that are not read yet, to answer them in another way.
+    pub fn again(&self) -> Case<'a> {
+        Case::new(self.alloc, self.text)
+    }
+
+    /// Takes over what another case noted.
+    pub fn join(&mut self, other: &Case<'_>) {
+        self.is_unread = self.is_unread || other.is_unread;
+        self.wants_memory = self.wants_memory || other.wants_memory;
+    }
+
+    /// Appends what came in one way.
+    pub fn put_first(&mut self, first: &Case<'_>) {
+        self.join(first);
+        self.put(first.came.as_str());
+    }
+
+    /// Appends what came in another way, under its name, where it is not the same.
+    pub fn put_other(&mut self, way: &str, other: &Case<'_>, first: &str) {
+        self.join(other);
+        if other.came.as_str() != first {
+            self.put(", ");
+            self.put(way);
+            self.put(": ");
+            self.put(other.came.as_str());
+        }
+    }
+
+    /// Reads the arguments up to a character.
+    pub fn part(&mut self, at: char) -> &'a str {
+        let (part, rest) = cut(self.text, at);
+        self.text = rest;
+        part
+    }
+
+    /// Reads the next word.
+    pub fn word(&mut self) -> &'a str {
+        self.part(' ')
+    }
+
+    /// The value of the argument `NAME=VALUE`, if there is one.
+    pub fn value(&self, name: &str) -> Option<&'a str> {
+        for word in self.text.split(' ') {
+            if let Some((own, value)) = word.split_once('=') {
+                if own == name {
+                    return Some(value);
+                }
+            }
+        }
+        None
+    }
+
+    /// The same as a text, which is empty where there is none.
+    pub fn named(&self, name: &str) -> &'a str {
+        self.value(name).unwrap_or("")
+    }
+
+    /// The decimal number that the argument with this name is, or the other number where there is none.
+    pub fn number(&mut self, name: &str, other: u64) -> u64 {
+        match self.value(name) {
+            Some(digits) => self.decimal(digits),
+            None => other,
+        }
+    }
+
+    /// The same below 2^16.
+    pub fn small(&mut self, name: &str, other: u16) -> u16 {
+        match self.value(name) {
+            Some(digits) => self.short(digits),
+            None => other,
+        }
+    }
+
+    /// The number of decimal digits.
+    pub fn decimal(&mut self, digits: &str) -> u64 {
+        match digits.parse::<u64>() {
+            Ok(number) => number,
+            Err(_) => {
+                self.is_unread = true;
+                0
+            }
+        }
+    }
+
+    /// The number below 2^16 of decimal digits.
+    pub fn short(&mut self, digits: &str) -> u16 {
+        match digits.parse::<u16>() {
+            Ok(number) => number,
+            Err(_) => {
+                self.is_unread = true;
+                0
+            }
+        }
+    }
+
+    /// The number of hexadecimal digits.
+    pub fn hex(&mut self, digits: &str) -> u64 {
+        match u64::from_str_radix(digits, 16) {
+            Ok(number) => number,
+            Err(_) => {
+                self.is_unread = true;
+                0
+            }
+        }
+    }
+
+    /// The number of hexadecimal digits, or 0 where there are none.
+    pub fn hex_or_0(&mut self, digits: &str) -> u64 {
+        if digits.is_empty() {
+            return 0;
+        }
+        self.hex(digits)
+    }
+
+    /// The number below 256 of hexadecimal digits, or 0 where there are none.
+    pub fn byte_or_0(&mut self, digits: &str) -> u8 {
+        let number = self.hex_or_0(digits);
+        if number > 255 {
+            self.is_unread = true;
+            return 0;
+        }
+        number as u8
+    }
+
+    /// How often an argument is meant, and the argument.
+    pub fn times<'w>(&mut self, word: &'w str) -> (u64, &'w str) {
+        match word.split_once('*') {
+            Some((count, rest)) => (self.decimal(count), rest),
+            None => (1, word),
+        }
+    }
+
+    /// Adds an element to a list.
+    pub fn push<T: Drop>(&mut self, list: &mut Vec<T>, item: T) {
+        if list.push(item).is_err() {
+            self.wants_memory = true;
+        }
+    }
+
+    /// A list of this element so often.
+    pub fn filled<T: Copy + Drop>(&mut self, item: T, count: usize) -> Vec<T> {
+        match Vec::from_elem(self.alloc, item, count) {
+            Ok(list) => list,
+            Err(_) => {
+                self.wants_memory = true;
+                Vec::new(self.alloc)
+            }
+        }
+    }
+
+    /// A copy of elements.
+    pub fn copied<T: Copy + Drop>(&mut self, items: &[T]) -> Vec<T> {
+        match items.to_vec(self.alloc) {
+            Ok(list) => list,
+            Err(_) => {
+                self.wants_memory = true;
+                Vec::new(self.alloc)
+            }
+        }
+    }
+
+    /// Appends a text.
+    pub fn put(&mut self, text: &str) {
+        let done = self.came.push_str(text);
+        self.note(done);
+    }
+
+    /// Appends what has a text.
+    pub fn put_shown<D: Display + Drop>(&mut self, shown: D) {
+        let done = write!(self.came, "{shown}");
+        self.note(done);
+    }
+
+    /// Appends how something is displayed for debugging.
+    pub fn put_debug<D: Debug + Drop>(&mut self, shown: D) {
+        let done = write!(self.came, "{shown:?}");
+        self.note(done);
+    }
+
+    /// Appends a word, with a space before it where there is one before.
+    pub fn put_word<D: Display + Drop>(&mut self, word: D) {
+        if !self.came.is_empty() && !self.came.as_str().ends_with('\n') {
+            self.put(" ");
+        }
+        self.put_shown(word);
+    }
+
+    /// Appends a part, with a comma before it where there is one before.
+    pub fn put_part<D: Display + Drop>(&mut self, part: D) {
+        if !self.came.is_empty() {
+            self.put(", ");
+        }
+        self.put_shown(part);
+    }
+
+    /// Appends a number in hexadecimal.
+    pub fn put_hex(&mut self, number: u64) {
+        let done = write!(self.came, "{number:x}");
+        self.note(done);
+    }
+
+    /// Appends bytes in hexadecimal.
+    pub fn put_digits(&mut self, bytes: &[u8]) {
+        for byte in bytes {
+            let done = write!(self.came, "{byte:02x}");
+            self.note(done);
+        }
+    }
+
+    /// Appends bytes in hexadecimal, as a word.
+    pub fn put_bytes(&mut self, bytes: &[u8]) {
+        self.put_word("");
+        self.put_digits(bytes);
+    }
+
+    /// Appends the text of bytes.
+    pub fn put_text(&mut self, bytes: &[u8]) {
+        match str::from_utf8(bytes) {
+            Ok(text) => self.put(text),
+            Err(_) => self.is_unread = true,
+        }
+    }
+}

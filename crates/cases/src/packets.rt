@@ -1,0 +1,213 @@
+//! Packets, payloads and messages.
+
+use crate::bytes::bytes_of;
+use crate::case::{Case, cut};
+use message::Message;
+use payload::{Mode, Outcomes, Packet, Payload, Report, Support};
+
+/// The mode with this name.
+pub fn mode_of(case: &mut Case<'_>, name: &str) -> Mode {
+    match name {
+        "full" => Mode::Full,
+        "diff" => Mode::Differential,
+        _ => {
+            case.unread();
+            Mode::Differential
+        }
+    }
+}
+
+/// The outcomes of digits, the oldest first: 0 where a branch was taken; `-` is none.
+pub fn outcomes_of(digits: &str) -> Outcomes {
+    let mut outcomes = Outcomes::new();
+    for digit in digits.bytes() {
+        if digit != b'-' && outcomes.len() < 31 {
+            outcomes.push(digit == b'0');
+        }
+    }
+    outcomes
+}
+
+/// The value of a packet's field, which has to be there.
+fn field<'t>(case: &mut Case<'_>, text: &'t str, name: &str) -> &'t str {
+    for word in text.split(' ') {
+        if let Some(value) = word.strip_prefix(name) {
+            return value;
+        }
+    }
+    case.unread();
+    ""
+}
+
+/// Whether an address of a synchronisation or a trap has a branch that was taken.
+fn is_taken(case: &mut Case<'_>, text: &str) -> bool {
+    field(case, text, "branch=") == "0"
+}
+
+/// The field that is a hexadecimal number below 256.
+fn byte_in(case: &mut Case<'_>, text: &str, name: &str) -> u8 {
+    let digits = field(case, text, name);
+    case.byte_or_0(digits)
+}
+
+/// The field that is a hexadecimal number.
+fn hex_in(case: &mut Case<'_>, text: &str, name: &str) -> u64 {
+    let digits = field(case, text, name);
+    case.hex(digits)
+}
+
+/// The trap packet of a text.
+fn trap_of(case: &mut Case<'_>, text: &str) -> Packet {
+    let interrupt = text.starts_with("trap interrupt ");
+    let handler = text.contains(" handler=");
+    let name = if handler { "handler=" } else { "epc=" };
+    let taken = is_taken(case, text);
+    let privilege = byte_in(case, text, "priv=");
+    let cause = byte_in(case, text, "cause=");
+    let address = hex_in(case, text, name);
+    let tval = if interrupt && !text.contains("tval=") {
+        0
+    } else {
+        hex_in(case, text, "tval=")
+    };
+    Packet::Trap {
+        taken,
+        privilege,
+        cause,
+        interrupt,
+        handler,
+        address,
+        tval,
+    }
+}
+
+/// Why an address packet of a text reports its address.
+fn report_of(case: &mut Case<'_>, text: &str) -> Report {
+    if text.ends_with(" updiscon") {
+        return Report::Updiscon;
+    }
+    if text.ends_with(" notify") {
+        return Report::Notify;
+    }
+    if !text.ends_with(" plain") {
+        case.unread();
+    }
+    Report::Plain
+}
+
+/// The address packet of a text.
+fn address_of(case: &mut Case<'_>, text: &str) -> Packet {
+    let outcomes = outcomes_of(field(case, text, "map="));
+    let delta = hex_in(case, text, "diff=");
+    let report = report_of(case, text);
+    Packet::Address {
+        outcomes,
+        delta,
+        report,
+    }
+}
+
+/// The synchronisation packet of a text.
+fn sync_of(case: &mut Case<'_>, text: &str) -> Packet {
+    let taken = is_taken(case, text);
+    let privilege = byte_in(case, text, "priv=");
+    let address = hex_in(case, text, "addr=");
+    Packet::Sync {
+        taken,
+        privilege,
+        address,
+    }
+}
+
+/// The packet that opens or closes a trace; a text that is none is noted.
+fn support_of(case: &mut Case<'_>, text: &str) -> Packet {
+    Packet::Support(match text {
+        "open full" => Support::Open(Mode::Full),
+        "close ended_rep" => Support::EndedRep,
+        "close ended_ntr" => Support::EndedNtr,
+        "open" => Support::Open(Mode::Differential),
+        _ => {
+            case.unread();
+            Support::EndedRep
+        }
+    })
+}
+
+/// The packet of a text, as `dump` writes packets.
+pub fn packet_of(case: &mut Case<'_>, text: &str) -> Packet {
+    let (kind, rest) = cut(text, ' ');
+    match kind {
+        "sync" => sync_of(case, text),
+        "trap" => trap_of(case, text),
+        "address" => address_of(case, text),
+        "map" => Packet::Map(outcomes_of(rest)),
+        _ => support_of(case, text),
+    }
+}
+
+/// The payload of bytes, if they are one.
+pub fn payload_of(case: &mut Case<'_>, bytes: &[u8]) -> Option<Payload> {
+    let payload = Payload::new(bytes).ok();
+    if payload.is_none() {
+        case.unread();
+    }
+    payload
+}
+
+/// The hart, the number and the payload's bytes of `HART.NUMBER:PAYLOAD`.
+fn parts_of(case: &mut Case<'_>, word: &str) -> (u16, u64, Vec<u8>) {
+    let (hart, rest) = cut(word, '.');
+    let (number, digits) = cut(rest, ':');
+    (
+        case.short(hart),
+        case.decimal(number),
+        bytes_of(case, digits),
+    )
+}
+
+/// The message `HART.NUMBER:PAYLOAD`, if it is one.
+pub fn message_of(case: &mut Case<'_>, word: &str) -> Option<Message> {
+    let (hart, number, bytes) = parts_of(case, word);
+    let payload = payload_of(case, bytes.as_slice())?;
+    Some(Message {
+        hart,
+        number,
+        payload,
+    })
+}
+
+/// Adds the message of a hart with this number and payload.
+pub fn add_message(
+    case: &mut Case<'_>,
+    messages: &mut Vec<Message>,
+    (hart, number): (u16, u64),
+    payload: &[u8],
+) {
+    if let Some(payload) = payload_of(case, payload) {
+        let message = Message {
+            hart,
+            number,
+            payload,
+        };
+        case.push(messages, message);
+    }
+}
+
+/// Adds the message of an argument; where it is repeated, of this hart and those after it.
+fn add_messages(case: &mut Case<'_>, messages: &mut Vec<Message>, word: &str) {
+    let (count, one) = case.times(word);
+    let (first, number, bytes) = parts_of(case, one);
+    for time in 0..count {
+        let hart = first.wrapping_add((time & 0xffff) as u16);
+        add_message(case, messages, (hart, number), bytes.as_slice());
+    }
+}
+
+/// The messages of the arguments that are left.
+pub fn messages_of(case: &mut Case<'_>) -> Vec<Message> {
+    let mut messages = Vec::new(case.alloc);
+    for word in case.text.split_whitespace() {
+        add_messages(case, &mut messages, word);
+    }
+    messages
+}

@@ -1,0 +1,8 @@
+-- Which subcommand is asked for.
+use Rattle.command_inputs.specs.declared.words.Asked.{Asked}
+use Rattle.command_inputs.specs.declared.words.Asked.TheVariants.{Check}
+
+-- What is asked is a run of `check`.
+abbrev pub IsCheck : Asked → Type 0
+IsCheck (Check asked) = Unit {0}
+IsCheck _ = ⊥

@@ -1,0 +1,42 @@
+-- Which numbers arguments may ask for.
+use Rattle.std.specs.Prelude.{ℕ, ◌≤◌, Option, IfSome}
+use Rattle.message.specs.Capacity.{most_capacity}
+use Rattle.message.specs.Version.{most_harts}
+use Rattle.message.specs.declared.header.Version.TheVariants.{Two}
+use Rattle.command_inputs.specs.declared.words.Asked.{Asked}
+use Rattle.command_inputs.specs.declared.words.Asked.TheVariants.{Bench, Capture, Compare, Decode, Encode, Listing}
+use Rattle.command_inputs.specs.declared.words.Asked.TheVariants.{Measure, Replay, Salvage}
+
+-- The most retirements from one periodic synchronisation to the next.
+abbrev pub longest_period : ℕ
+longest_period = 65535
+
+-- The greatest hart that the first of some logs may be of.
+abbrev pub greatest_first : ℕ
+greatest_first = 1023
+
+-- A first hart that is given is 0 to 1023.
+abbrev pub IsFirstIfGiven : Option ℕ → Type 0
+IsFirstIfGiven given = IfSome given (λ first. first ≤ greatest_first)
+
+-- A count of harts that is given is 1 to 1024.
+abbrev pub IsCountIfGiven : Option ℕ → Type 0
+IsCountIfGiven given = IfSome given (λ harts. (1 ≤ harts) × (harts ≤ most_harts Two))
+
+-- A period is 1 to 65535 retirements, a count of harts 1 to 1024, a first hart 0 to 1023, and a capacity 1 to 65536
+-- messages.
+abbrev pub IsWithinLimits : Asked → Type 0
+IsWithinLimits (Encode asked) =
+    (1 ≤ asked.period) × (asked.period ≤ longest_period) × IsFirstIfGiven asked.first × IsCountIfGiven asked.of
+IsWithinLimits (Decode asked) = (1 ≤ asked.harts) × (asked.harts ≤ most_harts Two)
+IsWithinLimits (Replay asked) =
+    (1 ≤ asked.period) × (asked.period ≤ longest_period) × (1 ≤ asked.capacity) × (asked.capacity ≤ most_capacity)
+IsWithinLimits (Bench asked) =
+    (1 ≤ asked.period) × (asked.period ≤ longest_period) × (1 ≤ asked.capacity) × (asked.capacity ≤ most_capacity)
+IsWithinLimits (Measure asked) = (1 ≤ asked.period) × (asked.period ≤ longest_period)
+IsWithinLimits (Listing asked) = IsCountIfGiven asked.harts
+IsWithinLimits (Salvage asked) = IsCountIfGiven asked.harts
+IsWithinLimits (Capture asked) =
+    (1 ≤ asked.period) × (asked.period ≤ longest_period) × IsCountIfGiven asked.harts
+IsWithinLimits (Compare asked) = (1 ≤ asked.harts) × (asked.harts ≤ most_harts Two)
+IsWithinLimits _ = Unit {0}

@@ -1,5 +1,0 @@
-mod BesideLemmas
-mod ComparedRuns
-mod FoundHarts
-mod LinesMade
-mod Reported

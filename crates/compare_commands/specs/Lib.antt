@@ -1,3 +1,0 @@
-pub mod Comparison
-pub mod Comparing
-pub mod steps

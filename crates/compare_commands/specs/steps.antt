@@ -1,4 +1,0 @@
-pub mod Places
-pub mod Beside
-pub mod Surveyed
-pub mod Lines

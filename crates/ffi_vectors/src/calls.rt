@@ -1,0 +1,77 @@
+//! What plays a case, by its verb.
+
+use crate::arguments::{Given, store_bytes};
+use crate::building::{build, builds};
+use crate::rooms::call_in_rooms;
+use crate::store::Store;
+use crate::{audits, looking, stepping};
+use cases::{Case, Verbs};
+
+/// Makes the call that a verb names.
+fn call(case: &mut Case<'_>, verb: &str, given: &Given<'_>) {
+    match verb {
+        "check" => looking::check(case, given),
+        "check_events" => looking::check_events(case, given),
+        "follow" => looking::follow(case, given),
+        "unpack" => looking::unpack(case, given),
+        "read_header" => looking::read_header(case, given),
+        "read_message" => looking::read_message(case, given),
+        _ => call_on(case, verb, given),
+    }
+}
+
+/// Makes the call that a verb names, if it is of a state or of a path.
+fn call_on(case: &mut Case<'_>, verb: &str, given: &Given<'_>) {
+    match verb {
+        "encoder" => stepping::encoder(case, given),
+        "decoder" => stepping::decoder(case),
+        "resume" => stepping::resume(case, given),
+        "push_both" => stepping::push_both(case, given),
+        "audit" => audits::audit(case, given),
+        "audit_all" => audits::audit_all(case, given),
+        "audit_unnumbered" => audits::audit_unnumbered(case, given),
+        _ => call_in_rooms(case, verb, given),
+    }
+}
+
+/// Stores the state that a call left, under its name: that of a new one, or the one that it had.
+fn store_state(case: &mut Case<'_>, store: &mut Store) {
+    let name = case.value("new").unwrap_or(case.named("state"));
+    if name.is_empty() || name.starts_with('{') {
+        return;
+    }
+    if let Some((_, state)) = case.came.rsplit_once("state=") {
+        let bytes = Vec::from_slice(case.alloc, state.as_bytes());
+        match bytes {
+            Ok(bytes) => store.put(case, name, bytes),
+            Err(_) => case.no_memory(),
+        }
+    }
+}
+
+/// Makes a call so often, each time with the same state. Appends what it said where that is something else.
+fn call_times(case: &mut Case<'_>, store: &Store, verb: &str, times: u64) {
+    let mut given = Given::new(case.alloc, store);
+    given.read_all(case);
+    let mut first = case.again();
+    call(&mut first, verb, &given);
+    case.put_first(&first);
+    for _ in 1..times {
+        let mut again = case.again();
+        call(&mut again, verb, &given);
+        case.put_other("another time", &again, first.came.as_str());
+    }
+}
+
+impl Verbs for Store {
+    fn answer(&mut self, case: &mut Case<'_>) {
+        let word = case.word();
+        let (times, verb) = case.times(word);
+        if builds(verb) {
+            return build(case, self, verb);
+        }
+        store_bytes(case, self);
+        call_times(case, self, verb, times);
+        store_state(case, self);
+    }
+}

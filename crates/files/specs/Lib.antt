@@ -1,2 +1,0 @@
-pub mod Gave
-pub mod Known

@@ -1,0 +1,28 @@
+//! What is known of a message.
+
+ghost use Rattle.std.specs.Prelude.{◌≡◌};
+
+use message::Message;
+
+/// What the sender knows of a message.
+#[derive(Clone, Copy, Debug, PartialEq, Eq)]
+pub enum Sight {
+    /// It was sent: its hart and number, with this payload.
+    Same,
+    /// Its hart and number were sent, with another payload.
+    Numbered,
+    /// Its hart and number were not sent.
+    Strange,
+}
+
+/// What was sent, as far as a message is recognised.
+pub trait Sent {
+    ghost use Rattle.message.specs.declared.message.Message.{Message};
+    ghost use Rattle.frames.specs.declared.sent.Sight.{Sight};
+
+    ghost sees: { Self → Message → Sight };
+
+    /// What is known of a message. Takes no memory.
+    fn sight(&self, message: &Message) -> Sight
+        ensures { result ≡ sees self.now message.now };
+}

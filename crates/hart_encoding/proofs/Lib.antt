@@ -1,2 +1,0 @@
-mod AddedPackets
-mod EncodedEvents

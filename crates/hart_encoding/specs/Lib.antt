@@ -1,2 +1,0 @@
-pub mod HasEncoded
-pub mod steps

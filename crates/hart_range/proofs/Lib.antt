@@ -1,2 +1,0 @@
-pub mod Selecting
-mod Spelling

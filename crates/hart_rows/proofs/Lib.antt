@@ -1,5 +1,0 @@
-pub mod HartTexts
-pub mod SplitLemmas
-pub mod RowLemmas
-pub mod WrittenLemmas
-pub mod AllHarts

@@ -1,4 +1,0 @@
-pub mod PlaceLemmas
-pub mod TrackLemmas
-pub mod SurveyLemmas
-pub mod CaptureLemmas

@@ -1,3 +1,0 @@
-pub mod Tracking
-pub mod Surveying
-pub mod Nothing

@@ -1,2 +1,0 @@
-mod CaptureRuns
-mod CaptureSteps

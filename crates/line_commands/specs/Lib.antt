@@ -1,4 +1,0 @@
-pub mod Faults
-pub mod FaultText
-pub mod Capturing
-pub mod steps

@@ -1,9 +1,0 @@
-pub mod Packets
-pub mod Rows
-pub mod Cells
-pub mod Table
-pub mod Part
-pub mod TableOf
-pub mod PartOf
-pub mod ReadBack
-pub mod steps

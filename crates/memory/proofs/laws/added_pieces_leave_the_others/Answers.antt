@@ -1,9 +1,0 @@
--- What a piece adds is a lemma.
-use Rattle.memory.proofs.AddedLemmas.{added_byte, added_memory}
-use Rattle.memory.proofs.laws.added_pieces_leave_the_others.Goals as goal
-
-pub returns-clause-memory : goal.returns-clause-memory
-returns-clause-memory c = λ m n base bytes memory e. added_memory m base bytes n memory e
-
-pub returns-clause-bytes : goal.returns-clause-bytes
-returns-clause-bytes c = λ m n base bytes addr e. added_byte m base bytes n addr e

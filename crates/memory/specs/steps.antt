@@ -1,5 +1,0 @@
-pub mod HeldBytes
-pub mod Parts
-pub mod Search
-pub mod Kept
-pub mod Words

@@ -1,0 +1,4 @@
+pub mod Marked
+pub mod CaptureMarked
+pub mod steps
+pub mod MarkedRows

@@ -1,0 +1,10 @@
+pub mod Ends
+pub mod OwnMessages
+pub mod Sections
+pub mod Starts
+pub mod Walked
+pub mod Stretches
+pub mod Filled
+pub mod Planning
+pub mod Putting
+pub mod Shelves

@@ -1,0 +1,53 @@
+-- Stretches of harts' messages, and the text that each adds.
+use Rattle.std.specs.Prelude.{ℕ, ◌≡◌, ◌≤◌, ◌-◌, ◌++◌, Bool, true, false, List, [], ◌∷◌, Some, drop, length, slice_get, take}
+use Rattle.std.specs.List.{flat_map}
+use Rattle.std.specs.declared.vec.Vec.{Vec}
+use Rattle.retire.specs.Log.{header}
+use Rattle.retire.specs.LogText.{event_line, line_of_fields}
+use Rattle.retire.specs.declared.event.Event.{Event}
+use Rattle.rvclass.specs.Words.{Words}
+use Rattle.capture_index.specs.EachHart.{hart_line}
+use Rattle.capture_index.specs.Parts.{IsPart}
+use Rattle.parallel_decode.specs.declared.stretch.Stretch.{Stretch}
+
+-- The stretch is one of the messages at the places of its hart.
+pub record LiesIn {A : Type 0} (places : List (Vec ℕ A)) (stretch : Stretch) : Type 0 where
+  pub own : Vec ℕ A
+  pub hart : slice_get places stretch.hart ≡ Some own
+  pub ordered : stretch.from ≤ stretch.to
+  pub within : stretch.to ≤ length own.items
+
+-- The messages of the stretch settle this part of its hart's log.
+pub record IsStretch {A : Type 0} (words : Words) (bytes : List ℕ) (places : List (Vec ℕ A)) (stretch : Stretch)
+    (part : List Event) : Type 0 where
+  pub lies : LiesIn places stretch
+  pub is_part : IsPart words bytes (take (stretch.to - stretch.from) (drop stretch.from lies.own.items)) stretch.decoder
+      part
+
+-- There is such a part.
+abbrev pub HavePartOf : {A : Type 0} → Words → List ℕ → List (Vec ℕ A) → Stretch → Type 0
+HavePartOf words bytes places stretch = (part : List Event) × IsStretch words bytes places stretch part
+
+-- The line of a hart and the line of its log's header.
+abbrev pub head_of : ℕ → List ℕ
+head_of hart = hart_line hart ++ line_of_fields header
+
+-- What comes before the rows of a stretch: where it is a hart's first, the lines before the hart's rows.
+abbrev pub head_if : Bool → ℕ → List ℕ
+head_if true hart = head_of hart
+head_if false hart = []
+
+-- The text that a stretch adds.
+abbrev pub stretch_text : Stretch → List Event → List ℕ
+stretch_text stretch part = head_if stretch.is_first stretch.hart ++ flat_map event_line part
+
+-- The stretches add this text, one after the other.
+abbrev pub HaveText : {A : Type 0} → Words → List ℕ → List (Vec ℕ A) → List Stretch → List ℕ → Type 0
+HaveText words bytes places [] text = text ≡ []
+HaveText words bytes places (stretch ∷ stretches) text =
+    (part : List Event) × (rest : List ℕ) × IsStretch words bytes places stretch part
+    × HaveText words bytes places stretches rest × (text ≡ stretch_text stretch part ++ rest)
+
+-- There is such a text.
+abbrev pub HaveTexts : {A : Type 0} → Words → List ℕ → List (Vec ℕ A) → List Stretch → Type 0
+HaveTexts words bytes places stretches = (text : List ℕ) × HaveText words bytes places stretches text

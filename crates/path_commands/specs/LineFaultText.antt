@@ -1,0 +1,13 @@
+-- The texts of the reasons that only `capture` has.
+use Rattle.std.specs.Prelude.{ℕ, ◌++◌, List, codes}
+use Rattle.std.specs.Fmt.{decimal}
+use Rattle.capture_lines.specs.FaultText.{lines_fault_text}
+use Rattle.capture_lines.specs.declared.fault.LinesFault.TheVariants as lines
+use Rattle.command_inputs.specs.FaultText.{at_path}
+use Rattle.path_commands.specs.declared.line_reason.LineReason.{LineReason}
+use Rattle.path_commands.specs.declared.line_reason.LineReason.TheVariants.{Line, ManyHarts}
+
+-- A reason that only `capture` has, as a line of text.
+abbrev pub line_reason_text : LineReason → List ℕ
+line_reason_text (ManyHarts most) = codes "more than " ++ (decimal most ++ codes " harts")
+line_reason_text (Line path line why) = at_path path (lines_fault_text (lines.Line line why))

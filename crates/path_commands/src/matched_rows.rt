@@ -1,0 +1,143 @@
+//! The rows of an audit by the payloads alone, each of them as text or as CSV.
+
+ghost use Rattle.std.specs.Prelude.{Some};
+ghost use Rattle.path_commands.specs.MatchedRows.{arrival_row, counts_row, total_row};
+
+use crate::aligned_rows::{AlignedAllFields, ArrivalFields};
+use crate::ending::{Closing, StrangersLine, verdict_text};
+use crate::lines::RunsLine;
+use crate::matched_lines::{AlignedAll, AlignedRow, ArrivalText};
+use crate::table_rows::ResultRow;
+use command_inputs::Format;
+use path_match::{AlignedTotal, HartCounts, Line};
+use std::fmt;
+
+/// The row of a message.
+#[derive(Clone, Copy)]
+pub(crate) struct ArrivalRow {
+    pub(crate) format: Format,
+    pub(crate) line: Line,
+}
+
+impl fmt::Display for ArrivalRow {
+    ghost output = { λ row. Some (arrival_row row.format row.line) };
+
+    fn fmt<W: fmt::Write>(&self, f: &mut fmt::Formatter<W>) -> fmt::Result {
+        match self.format {
+            Format::Csv => {
+                let fields = ArrivalFields(self.line);
+                write!(f, "{fields}")
+            }
+            Format::Text | Format::Other => {
+                let text = ArrivalText(self.line);
+                write!(f, "{text}")
+            }
+        }
+    }
+}
+
+/// What is counted of a hart, and the runs of its lost numbers.
+#[derive(Clone, Copy)]
+pub(crate) struct MatchedRow {
+    pub(crate) format: Format,
+    pub(crate) hart: usize,
+    pub(crate) counts: HartCounts,
+    pub(crate) runs: u64,
+    pub(crate) longest: u64,
+}
+
+impl fmt::Display for MatchedRow {
+    ghost output = { λ row. Some (counts_row row.format row.hart row.counts row.runs row.longest) };
+
+    fn fmt<W: fmt::Write>(&self, f: &mut fmt::Formatter<W>) -> fmt::Result {
+        let hart = self.hart;
+        let counts = self.counts;
+        let runs = self.runs;
+        let longest = self.longest;
+        match self.format {
+            Format::Csv => {
+                let sent = counts.sent;
+                let came = counts.came;
+                let lost = counts.lost;
+                let extra = counts.extra;
+                let verdict = verdict_text(counts.whole);
+                write!(f, "hart,,,{hart},,,,,,,{sent},{came},{lost},")?;
+                write!(f, ",,,{extra},{runs},{longest},,{verdict}\n")
+            }
+            Format::Text | Format::Other => {
+                let row = AlignedRow { hart, counts };
+                let lost = RunsLine {
+                    hart,
+                    runs,
+                    longest,
+                };
+                write!(f, "{row}{lost}")
+            }
+        }
+    }
+}
+
+/// What is found of all messages together.
+#[derive(Clone, Copy)]
+pub(crate) struct MatchedTotal {
+    /// How many harts are asked for.
+    pub(crate) harts: usize,
+    /// What is counted of all of them together.
+    pub(crate) total: AlignedTotal,
+    /// How many messages RECEIVED has.
+    pub(crate) messages: u64,
+    /// How many strangers came.
+    pub(crate) strangers: u64,
+    /// Whether headers differ.
+    pub(crate) unlike: bool,
+    /// The place of the first message that has a row, if there is one.
+    pub(crate) first: Option<u64>,
+    /// Whether the result is whole.
+    pub(crate) whole: bool,
+}
+
+/// The last rows.
+#[derive(Clone, Copy)]
+pub(crate) struct TotalRow {
+    pub(crate) format: Format,
+    pub(crate) its: MatchedTotal,
+}
+
+impl fmt::Display for TotalRow {
+    ghost output = { λ row. Some (total_row row.format row.its) };
+
+    fn fmt<W: fmt::Write>(&self, f: &mut fmt::Formatter<W>) -> fmt::Result {
+        let strangers = self.its.strangers;
+        let unlike = self.its.unlike;
+        let first = self.its.first;
+        let whole = self.its.whole;
+        match self.format {
+            Format::Csv => {
+                let all = AlignedAllFields(self.its.total);
+                let last = ResultRow {
+                    messages: self.its.messages,
+                    first,
+                    unlike,
+                    bytes: None,
+                    strangers,
+                    runs: None,
+                    whole,
+                };
+                write!(f, "{all}{last}")
+            }
+            Format::Text | Format::Other => {
+                let all = AlignedAll {
+                    harts: self.its.harts,
+                    total: self.its.total,
+                };
+                let others = StrangersLine { strangers };
+                let closing = Closing {
+                    unlike,
+                    first,
+                    whole,
+                };
+                write!(f, "{all}{others}{closing}")
+            }
+        }
+    }
+}

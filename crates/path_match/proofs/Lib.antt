@@ -1,0 +1,14 @@
+pub mod SplitLemmas
+pub mod PushLemmas
+pub mod AlignedLemmas
+pub mod ArrivalLemmas
+pub mod SumLemmas
+pub mod CountLaws
+pub mod CursorLemmas
+pub mod Matching
+pub mod Begun
+pub mod CommonBeginning
+pub mod Growing
+pub mod Whole
+pub mod Finishing
+pub mod Worked

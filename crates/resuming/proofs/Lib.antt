@@ -1,4 +1,0 @@
-mod AmidLemmas
-mod PassageLemmas
-mod Seeing
-mod TakenLemmas

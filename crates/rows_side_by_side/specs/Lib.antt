@@ -1,2 +1,0 @@
-pub mod Marked
-pub mod steps

@@ -1,0 +1,72 @@
+-- Lines of what is salvaged that were worked by hand, as the definitions give them.
+use Rattle.std.proofs.Common.{◌≡◌, ℕ, List, [], ◌∷◌, ◌++◌, refl, true, false, Some, None}
+use Rattle.std.specs.Fmt.{digits}
+use Rattle.std.specs.List.{flat_map}
+use Rattle.std.specs.Prelude.{codes}
+use Rattle.frames.specs.declared.span.Span.TheVariants.{Frame, Bytes}
+use Rattle.payload.specs.declared.mode.Mode.TheVariants.{Differential, Full}
+use Rattle.payload.specs.declared.fault.PackFault.TheVariants.{BadPad, Unsupported}
+use Rattle.retire.specs.declared.event.Event.TheVariants.{Retire, Trap}
+use Rattle.salvaging.specs.LeftParts.{LeftPart, Missing, Events, BadNumber, DoubtfulNumber, AloneNumber}
+use Rattle.salvaging.specs.declared.reason.Reason.TheVariants.{Packet, Closing}
+use Rattle.salvage_reports.specs.SalvagedText.{counted_line, left_text, mode_line, run_text}
+
+-- A part of each kind, where the hart's messages are at these offsets.
+abbrev offsets : List ℕ
+offsets = 16 ∷ 28 ∷ 0x1_0000_002C ∷ []
+
+abbrev parts : List LeftPart
+parts =
+    BadNumber 0 1 (Packet Unsupported) ∷ Events 1 4 (Retire 0x8000_0000 0 3 ∷ Trap 3 true 7 0x8000_0004 0 ∷ [])
+    ∷ BadNumber 13 0 (Closing 20) ∷ Missing 1 ∷ DoubtfulNumber 15 2 1 ∷ Missing 5
+    ∷ Events 20 20 (Retire 0x8000_0008 0 3 ∷ []) ∷ BadNumber 21 2 (Packet BadPad) ∷ AloneNumber 24 1 ∷ []
+
+text_of_parts : flat_map (left_text false offsets) parts
+    ≡ codes "bad: number 0 at 0000001c: bad packet: Unsupported\n"
+    ++ codes "stretch: 2 events, numbers 1 to 4\naddr,itype,priv,cause,tval\n80000000,0,3,,\n80000004,2,3,7,\n"
+    ++ codes "bad: number 13 at 00000010: closing, but number 20 came\n"
+    ++ codes "gap: 1 messages\ndoubtful: number 15 at 10000002c and 0000001c\ngap: 5 messages\n"
+    ++ codes "stretch: 1 events, numbers 20 to 20\naddr,itype,priv,cause,tval\n80000008,0,3,,\n"
+    ++ codes "bad: number 21 at 10000002c: bad packet: BadPad\nalone: number 24 at 0000001c\n"
+unfolding digits
+text_of_parts = refl
+
+-- A summary has no rows.
+text_of_summary : flat_map (left_text true offsets) parts
+    ≡ codes "bad: number 0 at 0000001c: bad packet: Unsupported\nstretch: 2 events, numbers 1 to 4\n"
+    ++ codes "bad: number 13 at 00000010: closing, but number 20 came\n"
+    ++ codes "gap: 1 messages\ndoubtful: number 15 at 10000002c and 0000001c\ngap: 5 messages\n"
+    ++ codes "stretch: 1 events, numbers 20 to 20\n"
+    ++ codes "bad: number 21 at 10000002c: bad packet: BadPad\nalone: number 24 at 0000001c\n"
+unfolding digits
+text_of_summary = refl
+
+-- A hart's mode has a line where it is another than the header's.
+mode_of_full : mode_line (Some (record { mode = Differential; period = 2; harts = 1 })) Full
+    ≡ codes "mode: full, the header says differential\n"
+mode_of_full = refl
+
+mode_of_differential : mode_line (Some (record { mode = Full; period = 2; harts = 1 })) Differential
+    ≡ codes "mode: differential, the header says full\n"
+mode_of_differential = refl
+
+mode_of_neither : mode_line (Some (record { mode = Full; period = 2; harts = 1 })) Full ++ mode_line None Full ≡ []
+mode_of_neither = refl
+
+-- Bytes have a line, and a frame has none.
+lines_of_runs : flat_map run_text (Bytes 16 3 ∷ Frame 19 (record { hart = 0; number = 1; payload = 0x0A ∷ [] })
+    ∷ Bytes 31 1024 ∷ []) ≡ codes "bytes: 3 at 00000010\nbytes: 1024 at 0000001f\n"
+unfolding digits
+lines_of_runs = refl
+
+-- A count has a line where it is not 0.
+line_of_none : counted_line (codes "copies") 0 ≡ []
+line_of_none = refl
+
+line_of_one : counted_line (codes "late") 1 ≡ codes "late: 1 messages\n"
+unfolding digits
+line_of_one = refl
+
+line_of_many : counted_line (codes "strangers") 1024 ≡ codes "strangers: 1024 messages\n"
+unfolding digits
+line_of_many = refl

@@ -1,0 +1,16 @@
+-- What a message adds is listed as a listing without damage says it.
+use Rattle.std.specs.Prelude.{ℕ, ◌≡◌, List, Option, Result}
+use Rattle.retire.specs.declared.event.Event.{Event}
+use Rattle.payload.specs.declared.fault.PackFault.{PackFault}
+use Rattle.payload.specs.declared.packet.Packet.{Packet}
+use Rattle.listing.specs.EffectText.{effect_text}
+use Rattle.listing.specs.PacketEnding.{read_closes, read_waits}
+use Rattle.salvaging.specs.Shares.{Adds}
+use Rattle.salvaging.specs.Treatments.{treatment_of}
+use Rattle.salvage_reports.specs.Words.{word_text}
+
+-- The word for a message that adds events is the text of that effect in a listing.
+abbrev pub TakenHaveTheirEffect : Type 0
+TakenHaveTheirEffect = (symbols : Option (List ℕ)) (read : Result Packet PackFault) (events : List Event)
+    → word_text symbols read (treatment_of (Adds events))
+    ≡ effect_text symbols (record { added = events; waits = read_waits read; closes = read_closes read })

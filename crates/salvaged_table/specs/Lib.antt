@@ -1,4 +1,0 @@
-pub mod Offsets
-pub mod Rows
-pub mod Table
-pub mod ReadBack

@@ -1,2 +1,0 @@
-mod TurnsLemmas
-mod WordLemmas

@@ -1,3 +1,0 @@
-pub mod Schedule
-pub mod FaultText
-pub mod steps

@@ -1,3 +1,0 @@
-mod ChosenSpans
-mod KnownHarts
-mod SpanTexts

@@ -1,3 +1,0 @@
-pub mod Start
-pub mod Harts
-pub mod Search

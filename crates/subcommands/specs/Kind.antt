@@ -1,8 +1,0 @@
--- Which subcommand is asked for.
-use Rattle.subcommands.specs.declared.words.Asked.{Asked}
-use Rattle.subcommands.specs.declared.words.Asked.TheVariants.{Check}
-
--- What is asked is a run of `check`.
-abbrev pub IsCheck : Asked → Type 0
-IsCheck (Check asked) = Unit {0}
-IsCheck _ = ⊥

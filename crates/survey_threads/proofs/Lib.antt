@@ -1,9 +1,0 @@
-pub mod ByHart
-pub mod OwnLemmas
-pub mod SectionLemmas
-pub mod StartLemmas
-pub mod MarkLemmas
-pub mod EndLemmas
-pub mod WalkLemmas
-pub mod Merging
-pub mod CaptureLemmas

@@ -1,6 +1,0 @@
--- What is left of the sections.
-use Rattle.std.proofs.Common.{◌≤◌, length}
-use Rattle.survey_threads.proofs.hart.first_of.Given as goal
-
-abbrev pub invariant-loop : goal.invariant-loop
-invariant-loop l = (l.low ≤ l.high) × (l.high ≤ length l.sections)

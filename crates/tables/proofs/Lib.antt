@@ -1,4 +1,0 @@
-pub mod Items
-pub mod Parts
-pub mod PlainFields
-pub mod QuotedFields

@@ -1,6 +1,0 @@
--- A fact about definitions alone, which has a proof of its own.
-use Rattle.tables.proofs.QuotedFields.{are_read_back}
-use Rattle.tables.proofs.laws.quoted_rows_are_read_back.Goals as goal
-
-pub returns : goal.returns
-returns c = are_read_back

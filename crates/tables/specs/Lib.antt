@@ -1,4 +1,0 @@
-pub mod Fields
-pub mod Quoted
-pub mod ReadBack
-pub mod steps

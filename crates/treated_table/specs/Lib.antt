@@ -1,6 +1,0 @@
-pub mod Fields
-pub mod Rows
-pub mod Table
-pub mod HartTable
-pub mod Effects
-pub mod ReadBack
