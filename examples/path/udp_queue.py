@@ -1,4 +1,4 @@
-#!/usr/bin/env python3
+#!/usr/bin/python3
 """A path that loses messages: harts send those of a capture over UDP, and a receiver that falls behind writes them.
 
 Each hart of SENT has a thread that sends its messages in order, one a datagram and so many a second, to one socket on

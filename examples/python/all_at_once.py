@@ -1,4 +1,4 @@
-#!/usr/bin/env python3
+#!/usr/bin/python3
 """Encodes a log and decodes it with many events and many payloads at a call, into arrays that are too small for all of
 them: what was not taken is handed in again. The version of the library is that of the header.
 

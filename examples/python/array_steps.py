@@ -1,4 +1,4 @@
-#!/usr/bin/env python3
+#!/usr/bin/python3
 """As step_by_step.py, with the events of the log in one array of NumPy, and those that come out in another.
 
     array_steps.py LIBRARY IMAGE

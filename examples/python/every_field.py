@@ -1,4 +1,4 @@
-#!/usr/bin/env python3
+#!/usr/bin/python3
 """Prints each struct that the calls write or read, field by field and by name. Any two fields of one struct that have
 one type hold different numbers in some line. So a number in the place of another field changes what is printed.
 

@@ -1,4 +1,4 @@
-#!/usr/bin/env python3
+#!/usr/bin/python3
 """Encodes and decodes a log step by step, of a program that jumps from a boot ROM to RAM: an image in two pieces. Then
 it says that the log is not one of the ROM alone.
 

@@ -1,4 +1,4 @@
-#!/usr/bin/env python3
+#!/usr/bin/python3
 """Encodes the logs of two harts, dumps and decodes the capture, loses a message of it, audits and decodes what came.
 
     round_trip.py LIBRARY IMAGE LOG LOG

@@ -1,4 +1,4 @@
-#!/usr/bin/env python3
+#!/usr/bin/python3
 """Encodes a log and decodes it step by step: each event is pushed as it comes, each packet is packed and its payload
 fed to a decoder, and the events that come out are those that went in.
 

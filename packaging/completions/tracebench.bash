@@ -1,5 +1,5 @@
 # shellcheck shell=bash
-# Completion of tracebench for bash, made by `tools/check-docs --write completions` from the grammar in `crates/cli` and `crates/arguments`.
+# Completion of tracebench for bash, made by `checks/check-docs --write completions` from the grammar in `crates/cli`.
 
 _tracebench_files() {
     compopt -o filenames 2>/dev/null

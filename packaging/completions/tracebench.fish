@@ -1,4 +1,4 @@
-# Completion of tracebench for fish, made by `tools/check-docs --write completions` from the grammar in `crates/cli` and `crates/arguments`.
+# Completion of tracebench for fish, made by `checks/check-docs --write completions` from the grammar in `crates/cli`.
 
 # Whether the subcommand is this one; without an argument, whether none is given yet.
 function __tracebench_given
