@@ -151,7 +151,7 @@ class Command(InFolder):
     def test_a_program_of_user_level_without_a_place_for_the_image(self):
         ran = self.run_with(more=["--user"])
         self.assertEqual((ran.returncode, ran.stdout), (2, b""))
-        self.assertIn(b"--user changes the image: say by --image FILE where it is written", ran.stderr)
+        self.assertIn(b"--user, of qemu alone, changes the image: say by --image FILE where it is written", ran.stderr)
 
     def test_an_image_that_cannot_be_written_is_status_3(self):
         copy = os.path.join(self.folder, "none", "copy.bin")
