@@ -22,7 +22,7 @@ demo: $(UNPROVED) # builds the program without proofs, and shows what a path did
 quick: # plays all cases of the tests, unproved, program by program, some minutes each
 	tools/quick
 
-gate: # proves each function, tries wrong bodies, and runs tests and programs, in one and a half to three hours
+gate: # proves each function, tries wrong bodies, and runs tests and programs, in one to three hours
 	tools/gate
 
 program: # proves and builds the program: crates/tracebench/out/tracebench
