@@ -50,7 +50,7 @@ check-docs: # compares the documents with the crates that they are about
 bench: # measures phases and commands beside the same in plain Rust (docs/PERFORMANCE.md)
 	mkdir -p out/bench
 	cd crates/timing && rt run -- 80000000 data/image.bin data/log.csv
-	rustc --edition 2021 -O checks/yardstick/main.rs -o out/bench/yardstick
+	rustc --edition 2021 -O -C codegen-units=1 checks/yardstick/main.rs -o out/bench/yardstick
 	python3 checks/long_logs.py 4000000 out/bench
 	crates/timing/out/timing 80000000 out/bench/mixed.bin out/bench/mixed.csv
 	out/bench/yardstick timing 80000000 out/bench/mixed.bin out/bench/mixed.csv

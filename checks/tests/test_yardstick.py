@@ -23,12 +23,16 @@ class Yardstick(unittest.TestCase):
         folder = tempfile.TemporaryDirectory()
         cls.addClassCleanup(folder.cleanup)
         cls.program = os.path.join(folder.name, "yardstick")
-        words = ["rustc", "--edition", "2021", "-O", os.path.join(CHECKS, "yardstick/main.rs"), "-o", cls.program]
+        options = ["--edition", "2021", "-O", "-C", "codegen-units=1"]
+        words = ["rustc", *options, os.path.join(CHECKS, "yardstick/main.rs"), "-o", cls.program]
         subprocess.run(words, check=True)
 
+    def ran(self, *words, folder=""):
+        ran = subprocess.run([self.program, *words], cwd=os.path.join(EXAMPLES, folder), capture_output=True)
+        return ran.returncode, ran.stdout, ran.stderr
+
     def prints(self, want, command, *files):
-        ran = subprocess.run([self.program, command, "--base", "80000000", *files], cwd=EXAMPLES, capture_output=True)
-        self.assertEqual((ran.returncode, ran.stdout, ran.stderr), (0, content(want), b""))
+        self.assertEqual(self.ran(command, "--base", "80000000", *files), (0, content(want), b""))
 
     def test_one_log(self):
         self.prints("loop/log.capture", "encode", "loop/image.bin", "loop/log.csv")
@@ -39,9 +43,29 @@ class Yardstick(unittest.TestCase):
         self.prints("two_harts/decode_both.txt", "decode", "two_harts/image.bin", "two_harts/both.capture")
         self.prints("two_harts/bench.txt", "bench", *TWO)
 
+    def test_check(self):
+        for name in ("first", "loop", "returns"):
+            ran = self.ran("check", "--base", "80000000", "image.bin", "log.csv", folder=name)
+            self.assertEqual(ran, (0, content(f"{name}/check.txt"), b""))
+
+    def test_dump(self):
+        for name in ("first/dump.txt", "loop/dump.txt", "returns/dump.txt"):
+            self.assertEqual(self.ran("dump", name.replace("dump.txt", "log.capture")), (0, content(name), b""))
+        self.assertEqual(self.ran("dump", "two_harts/both.capture"), (0, content("two_harts/dump_both.txt"), b""))
+
+    def test_audit(self):
+        sent, received = "audit/sent.capture", "audit/received.capture"
+        self.assertEqual(self.ran("audit", sent, received), (1, content("audit/audit_received.txt"), b""))
+        status, text, _ = self.ran("audit", sent, sent)
+        self.assertEqual((status, text.splitlines()[-1]), (0, b"result: whole"))
+
+    def test_measure(self):
+        status, text, _ = self.ran("measure", "--base", "80000000", *TWO)
+        self.assertEqual((status, len(text.splitlines())), (0, 4))
+        self.assertIn(text, content("c/expected_all_harts.txt"))
+
     def test_an_illegal_log(self):
-        ran = subprocess.run([self.program, "encode", "--base", "0", *TWO], cwd=EXAMPLES, capture_output=True)
-        self.assertEqual((ran.returncode, ran.stdout), (1, b""))
+        self.assertEqual(self.ran("encode", "--base", "0", *TWO)[:2], (1, b""))
 
 
 if __name__ == "__main__":

@@ -1,194 +1,161 @@
-//! The audit of a path in plain Rust: a yardstick for the phase `audit` of the crate `timing`.
-//!
-//! `rustc --edition 2021 -O checks/yardstick/audit.rs -o /tmp/audit && /tmp/audit SENT RECEIVED` audits two captures
-//! nine times, prints the text of the last audit to standard output, and to standard error the least time, nanoseconds
-//! a message of RECEIVED. SENT is taken to be whole: it is indexed, and not checked beyond that.
+//! What became of the messages of a capture on a path. Both captures are of messages alone, and the one that was sent
+//! is complete; it is indexed, and not checked beyond that.
 
-use std::fmt::Write as _;
-use std::io::Write as _;
-use std::time::Instant;
+use crate::capture::{message, parted, Message, HEAD};
+use crate::out::Out;
+use std::fmt::Write;
 
-const MARK: &[u8] = b"\xff\xffrvtrace2\0";
-
-/// The header of a capture, where it has one, and its messages.
-fn parted(capture: &[u8]) -> (Option<&[u8]>, &[u8]) {
-    if capture.starts_with(MARK) && capture.len() >= 16 {
-        (Some(&capture[..16]), &capture[16..])
-    } else {
-        (None, capture)
-    }
-}
-
-#[derive(Clone, Copy)]
-struct Message<'a> {
-    hart: usize,
-    number: u64,
-    payload: &'a [u8],
-}
-
-/// The message at a place, and the place behind it.
-#[inline]
-fn message_at(bytes: &[u8], at: usize) -> Option<(Message<'_>, usize)> {
-    let head = bytes.get(at..at + 11)?;
-    let length = usize::from(head[10]);
-    let payload = bytes.get(at + 11..at + 11 + length)?;
-    let hart = usize::from(u16::from_le_bytes([head[0], head[1]]));
-    let number = u64::from_le_bytes(head[2..10].try_into().unwrap());
-    Some((Message { hart, number, payload }, at + 11 + length))
-}
-
-/// The places of messages, hart by hart.
-struct Index {
-    first: Vec<usize>,
-    places: Vec<u64>,
-}
-
-fn indexed(bytes: &[u8], counted: Option<usize>) -> Index {
-    let (mut counts, mut at) = (vec![0usize; counted.unwrap_or(0)], 0);
-    while let Some((message, next)) = message_at(bytes, at) {
-        if message.hart >= counts.len() {
-            counts.resize(message.hart + 1, 0);
-        }
-        counts[message.hart] += 1;
-        at = next;
-    }
-    let mut first = vec![0];
-    for count in &counts {
-        first.push(first.last().unwrap() + count);
-    }
-    let mut next_of = first.clone();
-    let mut places = vec![0u64; *first.last().unwrap()];
-    at = 0;
-    while let Some((message, next)) = message_at(bytes, at) {
-        places[next_of[message.hart]] = at as u64;
-        next_of[message.hart] += 1;
-        at = next;
-    }
-    Index { first, places }
-}
-
-#[derive(Clone, Copy, Default)]
-struct Tally {
+/// What became of a hart's messages. The numbers are in the order of the printed row.
+#[derive(Default)]
+struct Hart {
+    /// Where the message of each number is in the capture that was sent, with 1 as the lowest bit where it came.
+    places: Vec<usize>,
     came: u64,
     repeated: u64,
     late: u64,
     changed: u64,
     strange: u64,
-    greatest: Option<u64>,
+    /// The number after the greatest that came.
+    next: u64,
+    most_late: u64,
 }
 
-/// The text of an audit, and how many messages were received.
-fn audit(sent: &[u8], received: &[u8], text: &mut String) -> u64 {
-    let (header, sent) = parted(sent);
-    let (other, received) = parted(received);
-    let index = indexed(sent, header.map(|it| usize::from(u16::from_le_bytes([it[14], it[15]]))));
-    let harts = index.first.len() - 1;
-    let mut came = vec![0u64; index.places.len().div_ceil(64)];
-    let mut tallies = vec![Tally::default(); harts];
-    let (mut count, mut strangers, mut at) = (0u64, 0u64, 0);
-    while let Some((message, next)) = message_at(received, at) {
-        let Message { hart, number, payload } = message;
-        let mut fate = "";
-        if hart >= harts || number >= (index.first[hart + 1] - index.first[hart]) as u64 {
-            strangers += 1;
-            fate = "stranger";
-            if let Some(tally) = tallies.get_mut(hart) {
-                tally.came += 1;
-                tally.strange += 1;
+fn indexed(harts: u16, sent: &[u8]) -> Option<Vec<Hart>> {
+    let (mut index, mut rest) = (Vec::new(), sent);
+    index.resize_with(harts.into(), Hart::default);
+    while !rest.is_empty() {
+        let (message, others) = message(rest)?;
+        index.get_mut(usize::from(message.hart))?.places.push(2 * (sent.len() - rest.len()));
+        rest = others;
+    }
+    Some(index)
+}
+
+fn hexadecimal(bytes: &[u8]) -> String {
+    bytes.iter().fold(String::new(), |text, byte| text + &format!("{byte:02x}"))
+}
+
+impl Hart {
+    /// Takes a message with a number that was sent, and returns what its line says, if it has one.
+    #[inline]
+    fn take(&mut self, sent: &[u8], message: &Message) -> Option<String> {
+        let (number, place) = (message.number, &mut self.places[message.number as usize]);
+        let (own, payload) = (&sent[*place / 2..], message.payload.bytes());
+        let own = &own[HEAD..HEAD + usize::from(own[HEAD - 1])];
+        if own != payload {
+            self.changed += 1;
+            return Some(format!("changed, sent {} came {}", hexadecimal(own), hexadecimal(payload)));
+        }
+        if *place & 1 == 1 {
+            self.repeated += 1;
+            return Some("repeat".to_string());
+        }
+        *place |= 1;
+        if number < self.next {
+            let by = self.next - 1 - number;
+            self.late += 1;
+            self.most_late = self.most_late.max(by);
+            return Some(format!("late by {by}"));
+        }
+        let skips = number - self.next;
+        self.next = number + 1;
+        (skips > 0).then(|| format!("skips {skips}"))
+    }
+
+    /// The runs of numbers that are lost, each with the first and the last.
+    fn lost(&self) -> Vec<(usize, usize)> {
+        let mut runs: Vec<(usize, usize)> = Vec::new();
+        for (number, _) in self.places.iter().enumerate().filter(|it| it.1 & 1 == 0) {
+            match runs.last_mut() {
+                Some((_, last)) if *last + 1 == number => *last = number,
+                _ => runs.push((number, number)),
             }
-        } else {
-            let tally = &mut tallies[hart];
-            let slot = index.first[hart] + number as usize;
-            tally.came += 1;
-            let (own, _) = message_at(sent, index.places[slot] as usize).unwrap();
-            if own.payload != payload {
-                tally.changed += 1;
-                fate = "changed";
-            } else {
-                let bit = 1u64 << (slot % 64);
-                if came[slot / 64] & bit != 0 {
-                    tally.repeated += 1;
-                    fate = "repeat";
-                } else if tally.greatest.is_some_and(|greatest| greatest > number) {
-                    tally.late += 1;
-                    fate = "late";
+        }
+        runs
+    }
+
+    fn row(&self, lost: u64) -> [u64; 7] {
+        [self.places.len() as u64, self.came, lost, self.repeated, self.late, self.changed, self.strange]
+    }
+}
+
+/// A row, and whether it is whole.
+fn row([sent, came, lost, repeated, late, changed, strange]: [u64; 7]) -> (String, bool) {
+    let is_whole = lost + repeated + late + changed + strange == 0;
+    let whole = if is_whole { "whole" } else { "not whole" };
+    let counts = format!("{sent} sent, {came} came, {lost} lost, {repeated} repeated, {late} late");
+    (format!("{counts}, {changed} changed, {strange} strange, {whole}\n"), is_whole)
+}
+
+/// Adds the text of an audit, and says whether all came in order.
+pub fn audit(out: &mut Out, sent: &[u8], received: &[u8]) -> Option<bool> {
+    let ((period, harts, sent), (other_period, others, mut rest)) = (parted(sent)?, parted(received)?);
+    let mut index = indexed(harts, sent)?;
+    let (mut count, mut strangers, mut first) = (0u64, 0u64, None);
+    while !rest.is_empty() {
+        let (message, others) = message(rest)?;
+        let mut hart = index.get_mut(usize::from(message.hart));
+        if let Some(hart) = &mut hart {
+            hart.came += 1;
+        }
+        let said = match hart {
+            Some(hart) if message.number < hart.places.len() as u64 => hart.take(sent, &message),
+            hart => {
+                strangers += 1;
+                if let Some(hart) = hart {
+                    hart.strange += 1;
                 }
-                came[slot / 64] |= bit;
-                tally.greatest = tally.greatest.max(Some(number));
+                Some("stranger".to_string())
             }
+        };
+        if let Some(what) = said {
+            let Message { hart, number, .. } = message;
+            out.text(format!("message {count}: hart {hart} number {number}: {what}\n").as_bytes());
+            first = first.or(Some(count));
         }
-        if !fate.is_empty() {
-            writeln!(text, "message {count}: hart {hart} number {number}: {fate}").unwrap();
-        }
-        count += 1;
-        at = next;
+        (count, rest) = (count + 1, others);
     }
-    let mut lost = vec![0u64; harts];
-    for hart in 0..harts {
-        let (first, end) = (index.first[hart], index.first[hart + 1]);
-        let is_lost = |slot: usize| came[slot / 64] >> (slot % 64) & 1 == 0;
-        let mut slot = first;
-        while slot < end {
-            if !is_lost(slot) {
-                slot += 1;
-                continue;
-            }
-            let begin = slot;
-            while slot < end && is_lost(slot) {
-                slot += 1;
-            }
-            lost[hart] += (slot - begin) as u64;
-            let (from, to) = (begin - first, slot - first - 1);
-            if from == to {
-                writeln!(text, "hart {hart}: number {from} lost").unwrap();
-            } else {
-                writeln!(text, "hart {hart}: numbers {from} to {to} lost").unwrap();
-            }
-        }
-    }
-    let mut whole = strangers == 0 && at == received.len();
-    for (hart, it) in tallies.iter().enumerate() {
-        let sent = index.first[hart + 1] - index.first[hart];
-        let same = lost[hart] + it.repeated + it.late + it.changed + it.strange == 0;
-        whole &= same;
-        writeln!(
-            text,
-            "hart {hart}: {sent} sent, {} came, {} lost, {} repeated, {} late, {} changed, {}",
-            it.came,
-            lost[hart],
-            it.repeated,
-            it.late,
-            it.changed,
-            if same { "whole" } else { "not whole" }
-        )
-        .unwrap();
-    }
+    let is_whole = write_harts(out, &index) && strangers == 0 && (period, harts) == (other_period, others);
+    let mut text = String::new();
     if strangers > 0 {
-        writeln!(text, "strangers: {strangers} messages").unwrap();
+        writeln!(text, "strangers: {strangers} messages").ok()?;
     }
-    if header.is_some() && other.is_some() && header != other {
-        writeln!(text, "headers differ").unwrap();
-        whole = false;
+    if (period, harts) != (other_period, others) {
+        text += "headers differ\n";
     }
-    writeln!(text, "result: {}", if whole { "whole" } else { "not whole" }).unwrap();
-    count
+    if let Some(first) = first {
+        writeln!(text, "first: message {first}").ok()?;
+    }
+    text += if is_whole { "result: whole\n" } else { "result: not whole\n" };
+    out.text(text.as_bytes());
+    Some(is_whole)
 }
 
-fn main() {
-    let paths: Vec<String> = std::env::args().skip(1).collect();
-    let [sent, received] = paths.as_slice() else {
-        eprintln!("audit SENT RECEIVED");
-        std::process::exit(1);
-    };
-    let (sent, received) = (std::fs::read(sent).unwrap(), std::fs::read(received).unwrap());
-    let mut text = String::new();
-    let mut least = f64::INFINITY;
-    for _ in 0..9 {
-        text.clear();
-        let start = Instant::now();
-        let count = audit(&sent, &received, &mut text);
-        least = least.min(start.elapsed().as_nanos() as f64 / count.max(1) as f64);
+/// Adds the lines of lost numbers and the rows of harts, and says whether they are whole.
+fn write_harts(out: &mut Out, index: &[Hart]) -> bool {
+    let (mut rows, mut all) = (String::new(), [0; 7]);
+    for (place, hart) in index.iter().enumerate() {
+        let (mut lost, mut longest, runs) = (0, 0, hart.lost());
+        for (from, to) in &runs {
+            let numbers = if from == to { format!("number {from}") } else { format!("numbers {from} to {to}") };
+            out.text(format!("hart {place}: {numbers} lost\n").as_bytes());
+            let length = to - from + 1;
+            (lost, longest) = (lost + length as u64, length.max(longest));
+        }
+        let own = hart.row(lost);
+        all.iter_mut().zip(own).for_each(|(sum, number)| *sum += number);
+        rows += &format!("hart {place}: {}", row(own).0);
+        if lost > 0 {
+            rows += &format!("hart {place}: lost in {} runs, the longest of {longest}\n", runs.len());
+        }
+        if hart.late > 0 {
+            rows += &format!("hart {place}: late by at most {}\n", hart.most_late);
+        }
     }
-    std::io::stdout().write_all(text.as_bytes()).unwrap();
-    eprintln!("audit: {least:.1} ns a message");
+    let (text, is_whole) = row(all);
+    if index.len() > 1 {
+        rows += &format!("all: {text}");
+    }
+    out.text(rows.as_bytes());
+    is_whole
 }

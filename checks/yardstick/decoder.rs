@@ -1,161 +1,166 @@
 //! The log that the packets of a trace describe, in differential mode. A fault has no reason.
 
-use crate::encoder::step;
+use crate::capture::Message;
+use crate::legal::Follows;
 use crate::log::Event;
-use crate::packets::{Outcomes, Packet, Report};
-use crate::program::{Class, Program, Word};
+use crate::packets::{unpack, Outcomes, Packet, Report};
+use crate::program::{Program, BRANCH, OTHER};
 
-/// The last event, where it is a retirement: its address, its level, the instruction there and where it leads.
-#[derive(Clone, Copy)]
-struct Last {
-    address: u64,
-    level: u8,
-    word: Word,
-    leads: u64,
-}
-
+/// A hart's events, and what decides those of its next message.
 pub struct Decoder<'p> {
     program: &'p Program,
     pub events: Vec<Event>,
-    last: Option<Last>,
+    pub packets: u64,
+    pub payload_bytes: u64,
+    pub is_closed: bool,
+    follows: Follows,
+    /// Whether the last event is a retirement, and its level.
+    retired: Option<u8>,
     reported: u64,
     waits: Option<Outcomes>,
-    pub opened: bool,
-    pub closed: bool,
 }
 
 impl<'p> Decoder<'p> {
-    pub fn new(program: &'p Program) -> Decoder<'p> {
-        Decoder { program, events: Vec::new(), last: None, reported: 0, waits: None, opened: false, closed: false }
+    /// Has no event yet, and memory for so many.
+    pub fn new(program: &'p Program, expected: usize) -> Decoder<'p> {
+        Decoder {
+            program,
+            events: Vec::with_capacity(expected),
+            packets: 0,
+            payload_bytes: 0,
+            is_closed: false,
+            follows: Follows::ANYTHING,
+            retired: None,
+            reported: 0,
+            waits: None,
+        }
     }
 
-    pub fn feed(&mut self, packet: Packet) -> Option<()> {
-        if self.closed || self.opened == matches!(packet, Packet::Open) {
+    /// Takes the hart's next message.
+    #[inline]
+    pub fn take(&mut self, message: &Message) -> Option<()> {
+        let packet = unpack(&message.payload)?;
+        if message.number != self.packets || self.is_closed || (self.packets == 0) != matches!(packet, Packet::Open) {
             return None;
         }
-        self.opened = true;
-        let explicit = matches!(packet, Packet::Sync { .. } | Packet::Trap { .. } | Packet::EndedRep);
-        if let Some(outcomes) = self.waits.take() {
-            if explicit {
-                self.walk(outcomes)?
-            } else {
-                self.walk_to_target(outcomes)?
-            }
-        } else if matches!(packet, Packet::EndedRep) {
-            return None;
+        self.packets += 1;
+        self.payload_bytes += u64::from(message.payload.length);
+        let is_explicit = matches!(packet, Packet::Sync { .. } | Packet::Trap { .. } | Packet::EndedRep);
+        match self.waits.take() {
+            Some(outcomes) if is_explicit => self.walk_to_reported(outcomes)?,
+            Some(outcomes) => self.walk_to_target(outcomes)?,
+            None if matches!(packet, Packet::EndedRep) => return None,
+            None => {}
         }
+        self.piece(packet)
+    }
+
+    #[inline]
+    fn piece(&mut self, packet: Packet) -> Option<()> {
         match packet {
-            Packet::Open => {}
-            Packet::EndedRep | Packet::EndedNtr => self.closed = true,
-            Packet::Sync { address, level, branch } => self.sync(address, level, branch)?,
-            Packet::Trap { .. } => self.trap(packet)?,
-            Packet::Map { map } => self.walk_to_branch(map)?,
+            Packet::Open => Some(()),
+            Packet::EndedRep | Packet::EndedNtr => {
+                self.is_closed = true;
+                Some(())
+            }
+            Packet::Sync { address, level, branch } => {
+                self.reported = address;
+                self.retire(address, level, !branch)
+            }
+            Packet::Trap { .. } => self.trap(packet),
+            Packet::Map { map } => self.walk(&mut Outcomes { map, count: 31 }, |_, left| left == 0)?.then_some(()),
             Packet::Address { outcomes, difference, report } => {
                 self.reported = self.reported.wrapping_add(difference);
                 match report {
-                    Report::Plain => self.waits = Some(outcomes),
-                    Report::Notify => self.walk(outcomes)?,
-                    Report::Updiscon => self.walk_to_target(outcomes)?,
+                    Report::Plain => {
+                        self.waits = Some(outcomes);
+                        Some(())
+                    }
+                    Report::Notify => self.walk_to_reported(outcomes),
+                    Report::Updiscon => self.walk_to_target(outcomes),
                 }
             }
         }
-        Some(())
     }
 
-    /// Adds a retirement, which a branch makes taken or not, and makes it the last event.
+    /// Adds a retirement.
     #[inline]
-    fn retire(&mut self, address: u64, level: u8, taken: bool) -> Option<Last> {
-        let word = self.program.at(address)?;
-        let allowed = match word.class {
-            Class::NotRetirable => false,
-            Class::Mret => level == 3,
-            Class::Sret => level >= 1,
-            _ => true,
-        };
-        let (itype, leads) = step(word, address, taken);
+    fn retire(&mut self, address: u64, level: u8, is_taken: bool) -> Option<()> {
+        let word = self.program.at(address);
+        let itype = word.itype(is_taken);
         self.events.push(Event::Retire { address, itype, level });
-        let last = Last { address, level, word, leads };
-        self.last = Some(last);
-        allowed.then_some(last)
-    }
-
-    fn sync(&mut self, address: u64, level: u8, branch: bool) -> Option<()> {
-        self.reported = address;
-        let before = self.last;
-        if before.is_some_and(|it| !it.word.is_discontinuity() && (it.leads != address || it.level != level)) {
-            return None;
-        }
-        let last = self.retire(address, level, !branch)?;
-        (branch || last.word.class == Class::Branch).then_some(())
+        self.retired = Some(level);
+        self.follows.retire(word, address, itype, level).then_some(())
     }
 
     fn trap(&mut self, packet: Packet) -> Option<()> {
         let Packet::Trap { interrupt, cause, value, handler, address, level, branch } = packet else { return None };
-        if !handler {
-            self.events.push(Event::Trap { epc: address, level, interrupt, cause, value });
-            self.last = None;
-            self.reported = address;
-            return branch.then_some(());
+        let (epc, own) = if handler { (self.follows.place, self.retired?) } else { (address, level) };
+        if handler && self.follows.is_anywhere || !handler && !branch || !self.follows.trap(epc, own) {
+            return None;
         }
-        let before = self.last.take().filter(|it| !it.word.is_discontinuity())?;
-        self.events.push(Event::Trap { epc: before.leads, level: before.level, interrupt, cause, value });
-        self.sync(address, level, branch)
-    }
-
-    /// The next retirement of a walk, and the outcomes that are left after it.
-    #[inline]
-    fn step(&mut self, last: Last, outcomes: &mut Outcomes) -> Option<Last> {
-        let next = self.retire(last.leads, last.level, outcomes.map & 1 == 0)?;
-        if next.word.class == Class::Branch {
-            outcomes.count = outcomes.count.checked_sub(1)?;
-            outcomes.map >>= 1;
+        self.events.push(Event::Trap { epc, level: own, interrupt, cause, value });
+        self.retired = None;
+        self.reported = address;
+        if handler {
+            self.retire(address, level, !branch)?;
         }
-        Some(next)
-    }
-
-    fn goes_on(last: Last) -> bool {
-        !last.word.is_discontinuity() && !(last.word.class == Class::Jump && last.word.target <= last.address)
+        Some(())
     }
 
     /// A walk to the reported address.
-    fn walk(&mut self, mut outcomes: Outcomes) -> Option<()> {
-        let mut last = self.last.filter(|it| !it.word.is_discontinuity())?;
-        loop {
-            last = self.step(last, &mut outcomes)?;
-            if last.address == self.reported && outcomes.count == 0 {
-                return Some(());
-            }
-            if !Self::goes_on(last) {
-                return None;
-            }
-        }
+    #[inline]
+    fn walk_to_reported(&mut self, mut outcomes: Outcomes) -> Option<()> {
+        let end = self.reported;
+        self.walk(&mut outcomes, |address, left| (address == end) & (left == 0))?.then_some(())
     }
 
     /// A walk to the target of its first discontinuity, which is the reported address.
+    #[inline]
     fn walk_to_target(&mut self, mut outcomes: Outcomes) -> Option<()> {
-        let mut last = self.last?;
-        while !last.word.is_discontinuity() {
-            last = self.step(last, &mut outcomes)?;
-            if last.word.class == Class::Jump && last.word.target <= last.address {
-                return None;
-            }
+        if !self.follows.is_anywhere {
+            self.walk(&mut outcomes, |_, _| false)?;
         }
-        let next = self.retire(self.reported, last.level, outcomes.map & 1 == 0)?;
-        (outcomes.count == u32::from(next.word.class == Class::Branch)).then_some(())
+        let is_branch = self.program.at(self.reported).types == BRANCH;
+        if outcomes.count != u32::from(is_branch) {
+            return None;
+        }
+        self.retire(self.reported, self.retired?, is_branch && outcomes.map & 1 == 0)
     }
 
-    /// A walk of 31 branches.
-    fn walk_to_branch(&mut self, map: u32) -> Option<()> {
-        let mut outcomes = Outcomes { map, count: 31 };
-        let mut last = self.last.filter(|it| !it.word.is_discontinuity())?;
+    /// Adds retirements, up to one that ends the walk by its address and by how many outcomes are left, or up to a
+    /// discontinuity. It says whether the last one ends the walk so.
+    #[inline]
+    fn walk(&mut self, outcomes: &mut Outcomes, ends: impl Fn(u64, u32) -> bool) -> Option<bool> {
+        let Outcomes { mut map, mut count } = *outcomes;
+        let (level, mut address) = (self.retired?, self.follows.place);
+        if self.follows.is_anywhere {
+            return None;
+        }
         loop {
-            last = self.step(last, &mut outcomes)?;
-            if outcomes.count == 0 {
-                return Some(());
+            let word = self.program.at(address);
+            if word.types & (BRANCH | OTHER) == 0 {
+                *outcomes = Outcomes { map, count };
+                self.follows.place = address;
+                self.retire(address, level, false)?;
+                return Some(ends(address, count));
             }
-            if !Self::goes_on(last) {
+            let is_branch = u32::from(word.types == BRANCH);
+            let itype = (4 * is_branch + (is_branch & !map)) as u8;
+            self.events.push(Event::Retire { address, itype, level });
+            if is_branch > count {
                 return None;
             }
+            map >>= is_branch;
+            count -= is_branch;
+            if ends(address, count) {
+                self.follows = Follows::retirement(word, address, itype, level);
+                return Some(true);
+            }
+            if word.is_backward {
+                return None;
+            }
+            address = if itype == 4 { address + u64::from(word.length) } else { word.target };
         }
     }
 }

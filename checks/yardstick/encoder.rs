@@ -1,144 +1,135 @@
-//! The packets of a legal log, in differential mode.
+//! The packets of a legal log, in differential mode. They depend on the log alone: of its retirements of type 0 the
+//! backward jumps are those that do not lead to a higher address.
 
-use crate::log::{successor, Event};
+use crate::log::Event;
 use crate::packets::{Outcomes, Packet, Report};
-use crate::program::{Class, Program, Word};
 
-/// A retirement: its address, type and level, and the instruction there.
-#[derive(Clone, Copy)]
-struct Retired {
-    address: u64,
-    itype: u8,
-    level: u8,
-    word: Word,
-}
-
-impl Retired {
-    fn is_taken(self) -> bool {
-        self.itype == 5
-    }
-
-    fn is_backward(self) -> bool {
-        self.word.class == Class::Jump && self.word.target <= self.address
-    }
-}
-
-#[derive(Clone, Copy)]
-enum Before {
+/// What the events before make of a retirement.
+#[derive(Clone, Copy, PartialEq)]
+enum Due {
     Nothing,
-    Retired(Retired),
-    Trap { handled: bool },
+    Sync,
+    Handler,
+    Target,
 }
 
-pub struct Encoder<'p> {
-    program: &'p Program,
-    period: u64,
+struct Encoder {
+    period: u32,
     /// How many retirements are left before the next one whose number the period divides.
-    left: u64,
-    before: Before,
+    left: u32,
+    due: Due,
+    /// Whether the last event is a retirement that leads to one place.
+    is_inferable: bool,
     reported: u64,
     outcomes: Outcomes,
-    explicit: bool,
 }
 
-impl<'p> Encoder<'p> {
-    pub fn new(program: &'p Program, period: u16) -> Encoder<'p> {
-        let outcomes = Outcomes::default();
-        let period = u64::from(period);
-        Encoder { program, period, left: 0, before: Before::Nothing, reported: 0, outcomes, explicit: false }
-    }
+#[inline]
+fn is_discontinuity(itype: u8) -> bool {
+    0b0100_1000 >> itype & 1 == 1
+}
 
-    /// Hands on the packets of a log.
-    pub fn encode(mut self, events: &[Event], mut give: impl FnMut(Packet)) {
-        give(Packet::Open);
-        for (place, event) in events.iter().enumerate() {
-            if let Some(packet) = self.packet(*event, events.get(place + 1)) {
-                give(packet);
-            }
+/// Outcomes with that of a further retirement, if it has one.
+#[inline]
+fn with(Outcomes { map, count }: Outcomes, itype: u8) -> Outcomes {
+    Outcomes { map: map | u32::from(itype == 4) << count, count: count + u32::from(itype >> 1 == 2) }
+}
+
+/// Hands on the packets of a log.
+#[inline]
+pub fn encode(events: &[Event], period: u16, mut give: impl FnMut(Packet)) {
+    let (period, outcomes) = (u32::from(period), Outcomes::default());
+    let mut own = Encoder { period, left: period, due: Due::Sync, is_inferable: false, reported: 0, outcomes };
+    let (mut place, mut is_explicit) = (0, false);
+    give(Packet::Open);
+    while place < events.len() {
+        if own.due == Due::Nothing {
+            place += own.pass(&events[place..]);
         }
-        give(if self.explicit { Packet::EndedRep } else { Packet::EndedNtr });
+        is_explicit = own.due == Due::Nothing && matches!(events[place], Event::Retire { .. });
+        if let Some(packet) = own.packet(events[place], events.get(place + 1)) {
+            give(packet);
+        }
+        place += 1;
+    }
+    give(if is_explicit { Packet::EndedRep } else { Packet::EndedNtr });
+}
+
+impl Encoder {
+    /// Passes over retirements that no packet reports, the last event not among them, and says how many they are.
+    #[inline]
+    fn pass(&mut self, events: &[Event]) -> usize {
+        let (mut outcomes, mut passed) = (self.outcomes, 0);
+        for pair in events.windows(2).take(self.left as usize - 1) {
+            let &[Event::Retire { address, itype, level }, next] = pair else { break };
+            let Event::Retire { address: next, level: other, .. } = next else { break };
+            let more = with(outcomes, itype);
+            if (level != other) | is_discontinuity(itype) | (itype == 0) & (next <= address) | (more.count == 31) {
+                break;
+            }
+            outcomes = more;
+            passed += 1;
+        }
+        self.outcomes = outcomes;
+        self.left -= passed as u32;
+        passed
     }
 
     #[inline]
     fn packet(&mut self, event: Event, next: Option<&Event>) -> Option<Packet> {
-        self.explicit = false;
-        match event {
+        let (address, itype, level) = match event {
+            Event::Retire { address, itype, level } => (address, itype, level),
             Event::Trap { epc, level, interrupt, cause, value } => {
-                Some(self.trap(epc, level, (interrupt, cause, value), next))
+                return Some(self.trap(epc, level, (interrupt, cause, value), next));
             }
-            Event::Retire { address, itype, level } => {
-                let word = self.program.at(address)?;
-                let retired = Retired { address, itype, level, word };
-                let periodic = self.left == 0;
-                self.left = if periodic { self.period } else { self.left } - 1;
-                let before = std::mem::replace(&mut self.before, Before::Retired(retired));
-                self.retirement(retired, before, periodic, next)
-            }
+        };
+        self.left -= 1;
+        // Where the next event is, unless it is a trap or is reported by a Sync packet.
+        let then = match next {
+            Some(&Event::Retire { address, level: other, .. }) if self.left != 0 && level == other => Some(address),
+            _ => None,
+        };
+        if self.left == 0 {
+            self.left = self.period;
         }
+        self.is_inferable = !is_discontinuity(itype);
+        let due_next = match then {
+            None => Due::Sync,
+            Some(_) if self.is_inferable => Due::Nothing,
+            Some(_) => Due::Target,
+        };
+        let due = std::mem::replace(&mut self.due, due_next);
+        let outcomes = with(std::mem::take(&mut self.outcomes), itype);
+        let report = match (due, then) {
+            (Due::Handler, _) => return None,
+            (Due::Sync, _) => {
+                self.reported = address;
+                return Some(Packet::Sync { address, level, branch: itype != 5 });
+            }
+            (Due::Target, None) if next.is_some() => Report::Updiscon,
+            (Due::Target, _) | (Due::Nothing, None) => Report::Plain,
+            (Due::Nothing, Some(then)) if itype == 0 && then <= address => Report::Notify,
+            _ if outcomes.count == 31 => return Some(Packet::Map { map: outcomes.map }),
+            _ => {
+                self.outcomes = outcomes;
+                return None;
+            }
+        };
+        let difference = address.wrapping_sub(self.reported);
+        self.reported = address;
+        Some(Packet::Address { outcomes, difference, report })
     }
 
     fn trap(&mut self, epc: u64, own: u8, why: (bool, u8, u64), next: Option<&Event>) -> Packet {
         let (interrupt, cause, value) = why;
-        let inferable = matches!(self.before, Before::Retired(it) if !it.word.is_discontinuity());
         let (handler, address, level, branch) = match next {
-            Some(&Event::Retire { address, itype, level }) if inferable => (true, address, level, itype != 5),
+            Some(&Event::Retire { address, itype, level }) if self.is_inferable => (true, address, level, itype != 5),
             _ => (false, epc, own, true),
         };
-        self.before = Before::Trap { handled: handler };
+        self.due = if handler { Due::Handler } else { Due::Sync };
+        self.is_inferable = false;
         self.reported = address;
         self.outcomes = Outcomes::default();
         Packet::Trap { interrupt, cause, value, handler, address, level, branch }
     }
-
-    #[inline]
-    fn retirement(&mut self, own: Retired, before: Before, periodic: bool, next: Option<&Event>) -> Option<Packet> {
-        let (synced, targeted) = match before {
-            Before::Trap { handled: true } => return None,
-            Before::Nothing | Before::Trap { handled: false } => (true, false),
-            Before::Retired(it) => (periodic || it.level != own.level, it.word.is_discontinuity()),
-        };
-        if synced {
-            self.reported = own.address;
-            self.outcomes = Outcomes::default();
-            return Some(Packet::Sync { address: own.address, level: own.level, branch: !own.is_taken() });
-        }
-        if own.word.class == Class::Branch {
-            self.outcomes.map |= u32::from(!own.is_taken()) << self.outcomes.count;
-            self.outcomes.count += 1;
-        }
-        let cut = match next {
-            Some(Event::Retire { level, .. }) => self.left == 0 || *level != own.level,
-            Some(Event::Trap { .. }) => true,
-            None => false,
-        };
-        if targeted {
-            return Some(self.address(own, if cut { Report::Updiscon } else { Report::Plain }));
-        }
-        if cut || next.is_none() {
-            self.explicit = true;
-            return Some(self.address(own, Report::Plain));
-        }
-        if own.is_backward() {
-            return Some(self.address(own, Report::Notify));
-        }
-        (self.outcomes.count == 31).then(|| Packet::Map { map: std::mem::take(&mut self.outcomes).map })
-    }
-
-    fn address(&mut self, own: Retired, report: Report) -> Packet {
-        let difference = own.address.wrapping_sub(self.reported);
-        self.reported = own.address;
-        Packet::Address { outcomes: std::mem::take(&mut self.outcomes), difference, report }
-    }
-}
-
-/// Where a retirement that is no discontinuity leads, and its type, by whether a branch was taken.
-#[inline]
-pub fn step(word: Word, address: u64, taken: bool) -> (u8, u64) {
-    let itype = match word.class {
-        Class::Branch => 4 + u8::from(taken),
-        Class::Uninferable => 6,
-        Class::Mret | Class::Sret => 3,
-        _ => 0,
-    };
-    (itype, successor(word, address, itype))
 }

@@ -1,6 +1,6 @@
-//! Events, their text, and which logs a hart can have retired.
+//! Events and their text.
 
-use crate::program::{Class, Program, Word};
+use crate::out::Out;
 
 #[derive(Clone, Copy, PartialEq, Eq)]
 pub enum Event {
@@ -8,7 +8,43 @@ pub enum Event {
     Trap { epc: u64, level: u8, interrupt: bool, cause: u8, value: u64 },
 }
 
-pub const HEADER: &[u8] = b"addr,itype,priv,cause,tval\n";
+const HEADER: &[u8] = b"addr,itype,priv,cause,tval\n";
+
+/// What follows the address of a retirement, with type and level 0, in eight bytes.
+const TAIL: u64 = u64::from_le_bytes(*b",0,0,,\n\0");
+
+/// Eight copies of a byte.
+const fn all(byte: u8) -> u64 {
+    u64::from_le_bytes([byte; 8])
+}
+
+/// The number that eight hexadecimal digits spell, the first in the lowest byte.
+#[inline]
+fn eight_digits(digits: u64) -> Option<u32> {
+    let letters = digits >> 6 & all(1);
+    let values = (digits & all(0xf)) + letters * 9;
+    // The high half is 3, or 6 of a letter. The values from 10 to 15 are the letters'.
+    let high = digits & all(0xf0) ^ (all(0x30) + letters * 0x30);
+    let wrong = high | ((values + all(6)) ^ letters << 4 | values) & all(0x10);
+    let pairs = (values << 4 | values >> 8) & 0x00ff_00ff_00ff_00ff;
+    let fours = (pairs << 8 | pairs >> 16) & 0x0000_ffff_0000_ffff;
+    (wrong == 0).then_some((fours << 16 | fours >> 32) as u32)
+}
+
+/// The retirement of a row whose address has 8 or 16 digits, and the length of its line.
+#[inline]
+fn retirement(text: &[u8]) -> Option<(Event, usize)> {
+    let bytes: &[u8; 24] = text.first_chunk()?;
+    let eight = |at: usize| u64::from_le_bytes(bytes[at..at + 8].try_into().unwrap());
+    let (mut address, mut at) = (u64::from(eight_digits(eight(0))?), 8);
+    if bytes[8] != b',' {
+        (address, at) = (address << 32 | u64::from(eight_digits(eight(8))?), 16);
+    }
+    let tail = eight(at) ^ TAIL;
+    let (itype, level) = ((tail >> 8) as u8, (tail >> 24) as u8);
+    let is_retirement = tail & 0x00ff_ffff_f8ff_f8ff == 0 && 0b0111_1001 >> itype & 0b1011 >> level & !address & 1 == 1;
+    is_retirement.then_some((Event::Retire { address, itype, level }, at + 7))
+}
 
 /// The number that hexadecimal digits spell from a place on, if there are 1 to 16, and the place after them.
 #[inline]
@@ -26,10 +62,9 @@ fn number(text: &[u8], mut at: usize) -> Option<(Option<u64>, usize)> {
     (at - first <= 16).then_some(((at > first).then_some(value), at))
 }
 
-/// The event of the row at a place, and the place after its line. Only rows as `write` writes them are read.
-#[inline]
-fn row(text: &[u8], at: usize) -> Option<(Event, usize)> {
-    let (address, at) = number(text, at)?;
+/// The event of any row, and the length of its line. Only rows as `write` writes them are read.
+fn row(text: &[u8]) -> Option<(Event, usize)> {
+    let (address, at) = number(text, 0)?;
     let rest = text.get(at..at + 5)?;
     let (itype, level) = (rest[1].wrapping_sub(b'0'), rest[3].wrapping_sub(b'0'));
     if rest[0] != b',' || rest[2] != b',' || rest[4] != b',' || itype > 6 || level > 3 || level == 2 {
@@ -52,180 +87,40 @@ fn row(text: &[u8], at: usize) -> Option<(Event, usize)> {
     }
 }
 
-/// The digits of a number of 32 bits, the first in the lowest byte.
-#[inline]
-fn eight_digits(number: u32) -> u64 {
-    let mut spread = u64::from(number);
-    spread = (spread | spread << 16) & 0x0000_ffff_0000_ffff;
-    spread = (spread | spread << 8) & 0x00ff_00ff_00ff_00ff;
-    spread = (spread | spread << 4) & 0x0f0f_0f0f_0f0f_0f0f;
-    let letters = (spread + 0x0606_0606_0606_0606) >> 4 & 0x0101_0101_0101_0101;
-    (spread + 0x3030_3030_3030_3030 + letters * 39).swap_bytes()
-}
-
-/// The event of a row of 15 bytes, `dddddddd,t,p,,` and a line feed, where a retirement stands so.
-#[inline]
-fn short_row(text: &[u8], at: usize) -> Option<Event> {
-    let bytes = text.get(at..at + 15)?;
-    let digits = u64::from_le_bytes(bytes[..8].try_into().unwrap());
-    let rest = u64::from_le_bytes(bytes[7..].try_into().unwrap()) >> 8;
-    let (itype, level) = ((rest >> 8) as u8 ^ b'0', (rest >> 24) as u8 ^ b'0');
-    let values = (digits & 0x0f0f_0f0f_0f0f_0f0f) + (digits >> 6 & 0x0101_0101_0101_0101) * 9;
-    let pairs = (values << 4 | values >> 8) & 0x00ff_00ff_00ff_00ff;
-    let fours = (pairs << 8 | pairs >> 16) & 0x0000_ffff_0000_ffff;
-    let address = (fours << 16 | fours >> 32) as u32;
-    let is_row = rest & 0x00ff_ffff_00ff_00ff == 0x000a_2c2c_002c_002c && eight_digits(address) == digits;
-    let is_kind = itype <= 6 && 1 << itype & 0b110 == 0 && level <= 3 && level != 2 && address % 2 == 0;
-    (is_row && is_kind).then_some(Event::Retire { address: u64::from(address), itype, level })
-}
-
 /// The events of a log's text.
 pub fn read(text: &[u8]) -> Option<Vec<Event>> {
-    let mut at = HEADER.len();
-    if !text.starts_with(HEADER) {
-        return None;
-    }
-    let mut events = Vec::with_capacity(text.len() / 15);
-    while at < text.len() {
-        if let Some(event) = short_row(text, at) {
-            events.push(event);
-            at += 15;
-        } else {
-            let (event, next) = row(text, at)?;
-            events.push(event);
-            at = next;
-        }
+    let mut rest = text.strip_prefix(HEADER)?;
+    let mut events = Vec::with_capacity(rest.len() / 15 + 1);
+    while !rest.is_empty() {
+        let (event, length) = match retirement(rest) {
+            Some(found) => found,
+            None => row(rest)?,
+        };
+        events.push(event);
+        rest = &rest[length..];
     }
     Some(events)
 }
 
-/// The longest row: two numbers of 16 digits, four commas, three digits more and a line feed, and what is between.
-const ROW: usize = 48;
-
-/// A row that is being written.
-struct Row {
-    bytes: [u8; ROW],
-    length: usize,
-}
-
-impl Row {
-    #[inline]
-    fn byte(&mut self, byte: u8) {
-        self.bytes[self.length] = byte;
-        self.length += 1;
-    }
-
-    /// Adds a number's hexadecimal digits, eight at once.
-    #[inline]
-    fn digits(&mut self, number: u64) {
-        let count = (67 - (number | 1).leading_zeros() as usize) / 4;
-        if number >> 32 != 0 {
-            self.low_digits((number >> 32) as u32, count - 8);
-            self.low_digits(number as u32, 8);
-        } else {
-            self.low_digits(number as u32, count);
-        }
-    }
-
-    /// Adds so many of the low digits of a number.
-    #[inline]
-    fn low_digits(&mut self, number: u32, count: usize) {
-        let text = eight_digits(number) >> (64 - 8 * count as u32);
-        self.bytes[self.length..self.length + 8].copy_from_slice(&text.to_le_bytes());
-        self.length += count;
-    }
-}
-
 /// Adds the text of a log.
-pub fn write(out: &mut Vec<u8>, events: &[Event]) {
-    out.extend_from_slice(HEADER);
+pub fn write(out: &mut Out, events: &[Event]) {
+    out.text(HEADER);
     for event in events {
-        let mut row = Row { bytes: [0; ROW], length: 0 };
-        match *event {
+        out.line(|line| match *event {
             Event::Retire { address, itype, level } => {
-                row.digits(address);
-                let rest = [b',', b'0' + itype, b',', b'0' + level, b',', b',', b'\n', 0];
-                row.bytes[row.length..row.length + 8].copy_from_slice(&rest);
-                row.length += 7;
+                line.hexadecimal(address);
+                line.first((TAIL + (u64::from(itype) << 8) + (u64::from(level) << 24)).to_le_bytes(), 7);
             }
             Event::Trap { epc, level, interrupt, cause, value } => {
-                row.digits(epc);
-                [b',', b'1' + u8::from(interrupt), b',', b'0' + level, b',']
-                    .into_iter()
-                    .for_each(|byte| row.byte(byte));
-                row.digits(u64::from(cause));
-                row.byte(b',');
+                line.hexadecimal(epc);
+                line.text(&[b',', b'1' + u8::from(interrupt), b',', b'0' + level, b',']);
+                line.hexadecimal(cause.into());
+                line.text(b",");
                 if !interrupt {
-                    row.digits(value);
+                    line.hexadecimal(value);
                 }
-                row.byte(b'\n');
+                line.text(b"\n");
             }
-        }
-        out.extend_from_slice(&row.bytes[..row.length]);
+        });
     }
-}
-
-/// Where an event leads, and which levels may follow it.
-#[derive(Clone, Copy)]
-struct Follows {
-    place: Option<u64>,
-    least: u8,
-    greatest: u8,
-}
-
-impl Follows {
-    const ANYTHING: Follows = Follows { place: None, least: 0, greatest: 3 };
-
-    fn allows(self, place: u64, level: u8) -> bool {
-        self.place.is_none_or(|it| it == place) && self.least <= level && level <= self.greatest
-    }
-}
-
-/// Where a retirement leads, if that is one address.
-#[inline]
-pub fn successor(word: Word, address: u64, itype: u8) -> u64 {
-    match word.class {
-        Class::Jump => word.target,
-        Class::Branch if itype == 5 => word.target,
-        _ => address.wrapping_add(u64::from(word.length)),
-    }
-}
-
-fn retired(program: &Program, address: u64, itype: u8, level: u8) -> Option<Follows> {
-    let word = program.at(address)?;
-    let right = match word.class {
-        Class::Plain | Class::Jump => itype == 0,
-        Class::Branch => itype == 4 || itype == 5,
-        Class::Uninferable => itype == 6,
-        Class::Mret => itype == 3 && level == 3,
-        Class::Sret => itype == 3 && level >= 1,
-        Class::NotRetirable => false,
-    };
-    right.then_some(match word.class {
-        Class::Uninferable => Follows { place: None, least: level, greatest: level },
-        Class::Mret => Follows::ANYTHING,
-        Class::Sret => Follows { place: None, least: 0, greatest: 1 },
-        _ => Follows { place: Some(successor(word, address, itype)), least: level, greatest: level },
-    })
-}
-
-/// The first illegal row, from 1, if there is one.
-pub fn illegal(program: &Program, events: &[Event]) -> Option<usize> {
-    let mut follows = Follows::ANYTHING;
-    for (place, event) in events.iter().enumerate() {
-        let next = match *event {
-            Event::Retire { address, itype, level } if follows.allows(address, level) => {
-                retired(program, address, itype, level)
-            }
-            Event::Trap { epc, level, .. } if follows.allows(epc, level) => {
-                Some(Follows { place: None, least: level.max(1), greatest: 3 })
-            }
-            _ => None,
-        };
-        match next {
-            Some(next) => follows = next,
-            None => return Some(place + 1),
-        }
-    }
-    None
 }

@@ -1,4 +1,4 @@
-//! Packets, their payloads, and the messages of a capture.
+//! Packets and their payloads, in differential mode.
 
 #[derive(Clone, Copy, PartialEq, Eq)]
 pub enum Report {
@@ -27,6 +27,7 @@ pub enum Packet {
 
 pub const MOST: usize = 18;
 
+/// What is behind the length is of no meaning.
 #[derive(Clone, Copy)]
 pub struct Payload {
     pub bytes: [u8; MOST],
@@ -39,143 +40,127 @@ impl Payload {
     }
 }
 
-/// The shortest bytes of a number of at most 127 bits, as many as `width` says.
+/// The shortest bytes of a number.
 #[inline]
-fn shortest(number: u128, width: u32) -> Payload {
-    let extended = (number << (128 - width)) as i128 >> (128 - width);
-    let magnitude = (extended ^ extended >> 127) as u128;
-    let length = (128 - magnitude.leading_zeros()) / 8 + 1;
-    let mut payload = Payload { bytes: [0; MOST], length: length as u8 };
-    payload.bytes[..16].copy_from_slice(&extended.to_le_bytes());
-    payload
-}
-
-fn map_width(count: u32) -> u32 {
-    match count {
-        0 => 0,
-        1 => 1,
-        2..=3 => 3,
-        4..=7 => 7,
-        8..=15 => 15,
-        _ => 31,
-    }
-}
-
-fn support(status: u128) -> Payload {
-    shortest(0b1111 | status << 4, 13)
-}
-
-/// An address with the bits `notify`, `updiscon` and `irreport` after it.
-fn reported(difference: u64, report: Report) -> u128 {
-    let field = difference >> 1;
-    let notify = field >> 62 ^ u64::from(report == Report::Notify);
-    let updiscon = notify ^ u64::from(report == Report::Updiscon);
-    u128::from(field) | u128::from(notify) << 63 | u128::from(updiscon) << 64 | u128::from(updiscon) << 65
-}
-
-/// The payload of an exception: 78 bits, and 64 of its value.
-fn exception(head: u128, value: u64) -> Payload {
+fn shortest(number: i128) -> Payload {
+    let length = (136 - (number ^ number >> 127).leading_zeros()) / 8;
     let mut bytes = [0; MOST];
-    bytes[..16].copy_from_slice(&(head | u128::from(value) << 78).to_le_bytes());
-    let top = if value >> 63 == 1 { 0xc000 } else { 0 };
-    bytes[16..].copy_from_slice(&((value >> 50) as u16 | top).to_le_bytes());
-    let fill = if top == 0 { 0 } else { 0xff };
-    let mut length = MOST;
-    while length > 1 && bytes[length - 1] == fill && bytes[length - 2] >> 7 == fill >> 7 {
-        length -= 1;
-    }
+    bytes[..16].copy_from_slice(&number.to_le_bytes());
     Payload { bytes, length: length as u8 }
 }
 
+/// What an address field holds of an address or a difference, with copies of its top bit after it.
+#[inline]
+fn halved(address: u64) -> i128 {
+    (address as i64 >> 1).into()
+}
+
+/// The payload of an exception: 78 bits, and 64 of its value.
+fn exception(head: i128, value: u64) -> Payload {
+    let low = head & ((1 << 78) - 1) | i128::from(value) << 78;
+    let high = (value as i64 >> 50) as i16;
+    let mut payload = shortest(low);
+    if i128::from(high) != low >> 127 {
+        payload.bytes[16..].copy_from_slice(&high.to_le_bytes());
+        payload.length = if i16::from(high as i8) == high { 17 } else { 18 };
+    }
+    payload
+}
+
+/// How many bits the map of so many outcomes has: 0, 1, 3, 7, 15 or 31.
+#[inline]
+fn map_width(count: u32) -> u32 {
+    ((1u64 << (32 - count.leading_zeros())) - 1) as u32
+}
+
+#[inline]
 pub fn pack(packet: Packet) -> Payload {
     match packet {
-        Packet::Open => support(0b0_00_0_1),
-        Packet::EndedRep => support(0b01_0_0),
-        Packet::EndedNtr => support(0b11_0_0),
+        Packet::Open => shortest(0x1f),
+        Packet::EndedRep => shortest(0x4f),
+        Packet::EndedNtr => shortest(0xcf),
         Packet::Sync { address, level, branch } => {
-            let head = 0b0011 | u128::from(branch) << 4 | u128::from(level) << 5;
-            shortest(head | u128::from(address >> 1) << 7, 70)
+            shortest(halved(address) << 7 | 0b0011 | i128::from(branch) << 4 | i128::from(level) << 5)
         }
         Packet::Trap { interrupt, cause, value, handler, address, level, branch } => {
             let head = 0b0111
-                | u128::from(branch) << 4
-                | u128::from(level) << 5
-                | u128::from(cause) << 7
-                | u128::from(interrupt) << 13
-                | u128::from(handler) << 14
-                | u128::from(address >> 1) << 15;
+                | i128::from(branch) << 4
+                | i128::from(level) << 5
+                | i128::from(cause) << 7
+                | i128::from(interrupt) << 13
+                | i128::from(handler) << 14
+                | halved(address) << 15;
             if interrupt {
-                shortest(head, 78)
+                shortest(head)
             } else {
                 exception(head, value)
             }
         }
-        Packet::Address { outcomes: Outcomes { count: 0, .. }, difference, report } => {
-            shortest(0b10 | reported(difference, report) << 2, 68)
+        Packet::Address { outcomes: Outcomes { map, count }, difference, report } => {
+            // Each of the bits `notify`, `updiscon` and `irreport` is as the one before, or turns with all after it.
+            let turned = match report {
+                Report::Plain => 0,
+                Report::Notify => -1 << 63,
+                Report::Updiscon => -1 << 64,
+            };
+            let field = halved(difference) ^ turned;
+            shortest(if count == 0 {
+                field << 2 | 2
+            } else {
+                field << (7 + map_width(count)) | i128::from(1 | u64::from(count) << 2 | u64::from(map) << 7)
+            })
         }
-        Packet::Address { outcomes, difference, report } => {
-            let width = map_width(outcomes.count);
-            let head = 0b01 | u128::from(outcomes.count) << 2 | u128::from(outcomes.map) << 7;
-            shortest(head | reported(difference, report) << (7 + width), 73 + width)
-        }
-        Packet::Map { map } => shortest(0b01 | u128::from(map) << 7, 38),
+        Packet::Map { map } => shortest(i128::from((u64::from(map) << 33) as i64 >> 26 | 1)),
     }
 }
 
-/// Bits of a payload, from a place on.
-fn field(number: u128, from: u32, width: u32) -> u64 {
-    (number >> from) as u64 & (u64::MAX >> (64 - width))
+/// Whether all of a number's bits are the same.
+#[inline]
+fn is_fill(number: i128) -> bool {
+    matches!(number, 0 | -1)
 }
 
 /// The address packet whose address field is at a place.
-fn address(number: u128, from: u32, outcomes: Outcomes) -> Option<Packet> {
-    let top = field(number, from + 62, 1);
-    let (notify, updiscon, irreport) =
-        (field(number, from + 63, 1), field(number, from + 64, 1), field(number, from + 65, 1));
-    let report = match (notify == top, updiscon == notify) {
-        (true, true) => Report::Plain,
-        (false, true) => Report::Notify,
-        (true, false) => Report::Updiscon,
-        (false, false) => return None,
+#[inline]
+fn address(number: i128, at: u32, outcomes: Outcomes) -> Option<Packet> {
+    let report = match (number >> (at + 62)) as i64 {
+        0 | -1 => Report::Plain,
+        1 | -2 => Report::Notify,
+        3 | -4 => Report::Updiscon,
+        _ => return None,
     };
-    let difference = field(number, from, 63) << 1;
-    (irreport == updiscon).then_some(Packet::Address { outcomes, difference, report })
+    Some(Packet::Address { outcomes, difference: ((number >> at) as u64) << 1, report })
 }
 
-/// The packet that a payload reads as. What may be behind a packet's bits is not looked at.
-pub fn unpack(payload: &[u8]) -> Option<Packet> {
-    let fill = if *payload.last()? >> 7 == 1 { 0xff } else { 0 };
-    let mut bytes = [fill; 24];
-    bytes.get_mut(..payload.len())?.copy_from_slice(payload);
-    let number = u128::from_le_bytes(bytes[..16].try_into().unwrap());
-    let branch = field(number, 4, 1) == 1;
-    let level = field(number, 5, 2) as u8;
-    match (number & 3, field(number, 2, 2)) {
-        (3, 0) if level != 2 => Some(Packet::Sync { address: field(number, 7, 63) << 1, level, branch }),
-        (3, 1) if level != 2 => {
-            let value = u128::from_le_bytes(bytes[8..].try_into().unwrap());
-            let interrupt = field(number, 13, 1) == 1;
-            Some(Packet::Trap {
-                interrupt,
-                cause: field(number, 7, 6) as u8,
-                value: if interrupt { 0 } else { field(value, 14, 64) },
-                handler: field(number, 14, 1) == 1,
-                address: field(number, 15, 63) << 1,
-                level,
-                branch,
-            })
+/// The packet of a number of 128 bits with copies of its top bit after it.
+#[inline]
+fn unpack_number(number: i128) -> Option<Packet> {
+    let low = number as u64;
+    let (level, branch) = ((low >> 5) as u8 & 3, low >> 4 & 1 == 1);
+    match low & 15 {
+        0b0011 if level != 2 && is_fill(number >> 69) => {
+            Some(Packet::Sync { address: ((number >> 7) as u64) << 1, level, branch })
         }
-        (3, 3) => match field(number, 4, 9) {
-            0b1 => Some(Packet::Open),
-            0b100 => Some(Packet::EndedRep),
-            0b1100 => Some(Packet::EndedNtr),
+        0b0111 if level != 2 => Some(Packet::Trap {
+            interrupt: low >> 13 & 1 == 1,
+            cause: (low >> 7) as u8 & 63,
+            value: 0,
+            handler: low >> 14 & 1 == 1,
+            address: ((number >> 15) as u64) << 1,
+            level,
+            branch,
+        }),
+        0b1111 => match number {
+            0x1f => Some(Packet::Open),
+            0x4f => Some(Packet::EndedRep),
+            0xcf => Some(Packet::EndedNtr),
             _ => None,
         },
-        (2, _) => address(number, 2, Outcomes::default()),
-        (1, _) => match field(number, 2, 5) as u32 {
-            0 => Some(Packet::Map { map: field(number, 7, 31) as u32 }),
+        _ if low & 3 == 2 => address(number, 2, Outcomes::default()),
+        _ if low & 3 == 1 => match low as u32 >> 2 & 31 {
+            0 => is_fill(number >> 37).then_some(Packet::Map { map: (low >> 7) as u32 & 0x7fff_ffff }),
             count => {
-                let map = (field(number, 7, 31) & ((1 << count) - 1)) as u32;
+                let map = (low >> 7) as u32 & ((1 << count) - 1);
                 address(number, 7 + map_width(count), Outcomes { map, count })
             }
         },
@@ -183,29 +168,31 @@ pub fn unpack(payload: &[u8]) -> Option<Packet> {
     }
 }
 
-pub const MARK: &[u8] = b"\xff\xffrvtrace2\0";
-
-/// Adds the header of a capture in differential mode.
-pub fn write_header(out: &mut Vec<u8>, period: u16, harts: u16) {
-    out.extend_from_slice(MARK);
-    out.push(0);
-    out.extend_from_slice(&period.to_le_bytes());
-    out.extend_from_slice(&harts.to_le_bytes());
-}
-
-/// Adds a message.
-pub fn write_message(out: &mut Vec<u8>, hart: u16, number: u64, payload: &Payload) {
-    out.extend_from_slice(&hart.to_le_bytes());
-    out.extend_from_slice(&number.to_le_bytes());
-    out.push(payload.length);
-    out.extend_from_slice(payload.bytes());
-}
-
-/// The hart, the number and the payload of the message at a place, and the place after it.
+/// The packet that a payload reads as.
 #[inline]
-pub fn message_at(capture: &[u8], at: usize) -> Option<(u16, u64, &[u8], usize)> {
-    let head = capture.get(at..at + 11)?;
-    let end = at + 11 + usize::from(head[10]);
-    let number = u64::from_le_bytes(head[2..10].try_into().unwrap());
-    Some((u16::from_le_bytes([head[0], head[1]]), number, capture.get(at + 11..end)?, end))
+pub fn unpack(payload: &Payload) -> Option<Packet> {
+    let (low, high) = payload.bytes.split_first_chunk().unwrap();
+    let number = i128::from_le_bytes(*low);
+    let high = i16::from_le_bytes([high[0], high[1]]);
+    let cut = 8 * u32::from(payload.length);
+    let (number, high) = match payload.length {
+        18 => (number, high),
+        17 => (number, (high as i8).into()),
+        9..=16 => (number << (128 - cut) >> (128 - cut), (number << (128 - cut) >> 127) as i16),
+        _ => {
+            let number = (number as i64) << (64 - cut) >> (64 - cut);
+            (number.into(), (number >> 63) as i16)
+        }
+    };
+    match unpack_number(number)? {
+        Packet::Trap { interrupt: false, cause, handler, address, level, branch, .. } => {
+            let value = (number as u128 >> 78) as u64 | (high as u64) << 50;
+            let packet = Packet::Trap { interrupt: false, cause, value, handler, address, level, branch };
+            (high << 2 >> 2 == high).then_some(packet)
+        }
+        packet => {
+            let fills = !matches!(packet, Packet::Trap { .. }) || is_fill(number >> 77);
+            (fills && i128::from(high) == number >> 127).then_some(packet)
+        }
+    }
 }

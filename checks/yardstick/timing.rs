@@ -1,16 +1,22 @@
 //! What each phase takes, in memory.
 
+use crate::capture::{self, decode, messages_of};
 use crate::decoder::Decoder;
-use crate::encoder::Encoder;
+use crate::encoder::encode;
+use crate::legal::illegal;
 use crate::log::{self, Event};
-use crate::packets::{pack, unpack, Payload};
+use crate::out::Out;
+use crate::packets::{pack, unpack};
 use crate::program::Program;
-use crate::{decode, encode, threads, CAPACITY, PERIOD};
-use std::fmt::Write;
+use crate::{audit::audit, threads, CAPACITY, PERIOD};
 use std::hint::black_box;
+use std::io::sink;
 use std::time::Instant;
 
 const RUNS: usize = 9;
+
+/// The period of the capture that is audited.
+const DENSE_PERIOD: u16 = 64;
 
 /// The least nanoseconds of several runs, by so many.
 fn least<X>(count: usize, mut run: impl FnMut() -> X) -> f64 {
@@ -24,49 +30,48 @@ fn least<X>(count: usize, mut run: impl FnMut() -> X) -> f64 {
     times.fold(f64::INFINITY, f64::min) / count.max(1) as f64
 }
 
-fn payloads(program: &Program, events: &[Event]) -> Vec<Payload> {
-    let mut found = Vec::new();
-    Encoder::new(program, PERIOD).encode(events, |packet| found.push(pack(packet)));
-    found
-}
-
-/// The payload bytes of a log's packets, together.
-fn payload_bytes(program: &Program, events: &[Event]) -> u64 {
-    let mut bytes = 0;
-    Encoder::new(program, PERIOD).encode(events, |packet| bytes += u64::from(pack(packet).length));
+fn captured(logs: &[Vec<Event>], period: u16) -> Vec<u8> {
+    let mut bytes = Vec::new();
+    let mut out = Out::new(&mut bytes);
+    capture::write(&mut out, logs, period);
+    out.finish();
     bytes
-}
-
-fn events_of<'p>(program: &'p Program, payloads: &[Payload]) -> Decoder<'p> {
-    let mut decoder = Decoder::new(program);
-    for payload in payloads {
-        unpack(payload.bytes()).and_then(|packet| decoder.feed(packet)).expect("decoded");
-    }
-    decoder
 }
 
 type Phases = Vec<(&'static str, f64)>;
 
 /// What the phases of one log take.
-fn of_one(program: &Program, text: &[u8], events: &Vec<Event>) -> Phases {
+fn of_one(program: &Program, text: &[u8], events: &Vec<Event>) -> Option<Phases> {
     let (count, logs) = (events.len(), std::slice::from_ref(events));
-    let (capture, packets) = (encode(program, logs), payloads(program, events));
-    let mut out = Vec::with_capacity(text.len());
-    let mut writing = || {
-        out.clear();
-        log::write(&mut out, events);
+    let (capture, dense) = (captured(logs, PERIOD), captured(logs, DENSE_PERIOD));
+    let mut messages = Vec::new();
+    messages_of(0, events, PERIOD, |message| messages.push(message));
+    let mut dense_count = 0;
+    encode(events, DENSE_PERIOD, |_| dense_count += 1);
+    let mut nowhere = sink();
+    let mut out = Out::new(&mut nowhere);
+    let payload_bytes = || {
+        let mut bytes = 0;
+        encode(events, PERIOD, |packet| bytes += u64::from(black_box(pack(packet)).length));
+        bytes
     };
-    let unpacked = || packets.iter().filter(|payload| black_box(unpack(payload.bytes())).is_some()).count();
-    vec![
+    let decoded = || {
+        let mut decoder = Decoder::new(program, 0);
+        messages.iter().for_each(|message| decoder.take(message).expect("decoded"));
+        decoder
+    };
+    let unpacked = || messages.iter().filter(|message| black_box(unpack(&message.payload)).is_some()).count();
+    Some(vec![
         ("log reading", least(count, || log::read(text))),
-        ("log writing", least(count, &mut writing)),
-        ("legality check", least(count, || log::illegal(program, events))),
-        ("encode and pack", least(count, || payload_bytes(program, events))),
-        ("unpack and decode", least(count, || events_of(program, &packets))),
-        ("capture writing", least(count, || encode(program, logs))),
+        ("log writing", least(count, || log::write(&mut out, events))),
+        ("legality check", least(count, || illegal(program, events))),
+        ("encode and pack", least(count, payload_bytes)),
+        ("unpack and decode", least(count, decoded)),
+        ("capture writing", least(count, || capture::write(&mut out, logs, PERIOD))),
         ("capture decoding", least(count, || decode(program, &capture))),
-        ("unpack, a packet", least(packets.len(), unpacked)),
-    ]
+        ("unpack, a packet", least(messages.len(), unpacked)),
+        ("audit, a message", least(dense_count, || audit(&mut out, &dense, &dense))),
+    ])
 }
 
 /// What replays and runs over threads take, of several logs.
@@ -77,16 +82,15 @@ fn of_all(program: &Program, logs: &[Vec<Event>]) -> Phases {
     vec![("replay, capacity 16", replay), ("bench 1", run(1)), ("bench 16", run(16)), ("bench 1024", run(1024))]
 }
 
-/// The text of what each phase takes, of the first log; replays and runs over threads are of all.
-pub fn phases(program: &Program, paths: &[String]) -> Option<String> {
+/// Adds what each phase takes, of the first log; replays and runs over threads are of all.
+pub fn phases(out: &mut Out, program: &Program, paths: &[String]) -> Option<bool> {
     let texts: Vec<Vec<u8>> = paths.iter().map(|path| std::fs::read(path).ok()).collect::<Option<_>>()?;
     let logs: Vec<Vec<Event>> = texts.iter().map(|text| log::read(text)).collect::<Option<_>>()?;
-    if logs.is_empty() || logs.iter().any(|events| log::illegal(program, events).is_some()) {
+    if logs.is_empty() || logs.iter().any(|events| illegal(program, events).is_some()) {
         return None;
     }
-    let mut found = String::new();
-    for (name, nanoseconds) in of_one(program, &texts[0], &logs[0]).into_iter().chain(of_all(program, &logs)) {
-        writeln!(found, "{name}: {nanoseconds:.1} ns").ok()?;
+    for (name, nanoseconds) in of_one(program, &texts[0], &logs[0])?.into_iter().chain(of_all(program, &logs)) {
+        out.text(format!("{name}: {nanoseconds:.1} ns\n").as_bytes());
     }
-    Some(found)
+    Some(true)
 }
