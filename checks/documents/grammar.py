@@ -9,11 +9,13 @@ import calls
 
 GRAMMAR = "crates/cli/src/grammar.rt"
 RULES = "crates/cli/src/rules.rt"
-FORMS = "crates/cli/src/forms.rt"
 TEXT = r'"((?:[^"\\]|\\.)*)"'
-# The forms that `argument` reads; the others are made of these.
-KINDS = ("flag", "file", "number", "count_of_harts")
-FUNCTION = r"^(?:pub(?:\(crate\))? )?fn {}<.*?^}}"
+# The form that an argument begins with, and what may be asked of it.
+FORM = re.compile(rf"(flag|file|option|count_of_harts)\(\s*alloc, {TEXT}(?:, {TEXT})?,?\s*\)")
+ASKED = re.compile(rf"\.(required\(true\)|action\(ArgAction::(?:Append|Set)\)|default_value\({TEXT}\)|num_args\(1\.\.\)|"
+                   r"value_parser\(.*\))")
+ROW = re.compile(rf"^    Subcommand \{{\s+name: {TEXT},\s+about: {TEXT},\s+example: [A-Z_]+,\s+arguments: &\[(.*?)\],\s+\}},",
+                 re.MULTILINE | re.DOTALL)
 
 
 class Unread(Exception):
@@ -64,75 +66,39 @@ def content(path):
     return calls.text_of(os.path.join(calls.built.TOP, path))
 
 
-def function(name, text, path):
-    found = re.search(FUNCTION.format(name), text, re.MULTILINE | re.DOTALL)
-    if not found:
-        raise Unread(f"{path}: no function {name}")
-    return found[0].split("\n{\n", 1)[1]
+def arms(name):
+    """The arms of a function of the rules that is one `match` over the arguments, by the arguments' names."""
+    text = content(RULES)
+    body = re.search(rf"^fn {name}\b.*?^    match argument \{{\n(.*?)^    \}}", text, re.MULTILINE | re.DOTALL)
+    found = re.findall(r"^        (Argument::\w+(?: \| Argument::\w+)*) =>\s+(.*?),\n(?=        Argument|\Z)", body[1],
+                       re.MULTILINE | re.DOTALL)
+    return {each: arm for names, arm in found for each in re.findall(r"Argument::(\w+)", names)}
 
 
-def called(name, body):
-    """The texts that a call of this name is given; None where the body does not begin with one."""
-    found = re.match(rf"\s*{name}\(\s*alloc,(.*?),?\s*\)\s*(?:\.|}}|\Z)", body, re.DOTALL)
-    return re.findall(TEXT, found[1]) if found else None
-
-
-def set_by(name, body):
-    """The text that a method of this name is given; None where it is not called."""
-    found = re.search(rf"\.{name}\({TEXT}\)", body)
-    return found[1] if found else None
-
-
-def unfolded(body):
-    """The body of a function. Where it begins with a call of one of the forms, that one's body is in the call's place."""
-    forms = content(FORMS)
-    for name, parameters in re.findall(r"^pub\(crate\) fn (\w+)<'a>\(alloc: Global, ([^)]*)\)", forms, re.MULTILINE):
-        call = re.match(rf"\s*{name}\(\s*alloc,(.*?),?\s*\)\s*(?=\.|}}|\Z)", body, re.DOTALL)
-        if call and name not in KINDS:
-            form = function(name, forms, FORMS).rstrip().removesuffix("}").rstrip()
-            for parameter, text in zip(re.findall(r"(\w+):", parameters), re.findall(TEXT, call[1])):
-                form = re.sub(rf"\b{parameter}\b(?!\()", lambda found: f'"{text}"', form)
-            return unfolded(form + "\n" + body[call.end():])
-    return body
-
-
-def argument(name, rules):
-    """The argument of a function of `rules`."""
-    body = unfolded(function(name, rules, RULES))
-    if texts := called("flag", body):
-        return Argument(texts[0], texts[1])
-    if texts := called("file", body):
-        return Argument(texts[0], texts[1], is_option=False, is_required=True)
-    if texts := called("number", body):
-        return Argument(texts[0], texts[2], value="N", default=texts[1])
-    if texts := called("count_of_harts", body):
-        return Argument(texts[0], texts[1], value="N", default=set_by("default_value", body))
-    found, about = re.match(rf"\s*Arg::new\(alloc, {TEXT}\)", body), set_by("help", body)
-    if not found or not about:
+def argument(name, rule, about):
+    """The argument that is read by a rule."""
+    form, text = FORM.match(rule), re.fullmatch(TEXT, about)
+    asked = re.sub(r"\s+(?=\.)", "", rule[form.end():]) if form else ""
+    rest = asked
+    while said := ASKED.match(rest):
+        rest = "" if said[1].startswith("value_parser") else rest[said.end():]
+    if not form or not text or rest:
         raise Unread(f"{RULES}: {name} has a form that checks/documents/grammar.py does not read")
-    long, is_flag = set_by("long", body), "ArgAction::SetTrue" in body
-    value = None if is_flag or not long else set_by("value_name", body) or found[1].upper()
-    return Argument(long or found[1], about, value, set_by("default_value", body), bool(long),
-                    ".required(true)" in body, "ArgAction::Append" in body)
-
-
-def subcommand(name, grammar, rules):
-    """The subcommand of a function of the crate `cli`."""
-    body = function(name, grammar, GRAMMAR)
-    listed, head = re.search(r"vec!\[in alloc;(.*?)\]\?", body, re.DOTALL), called("subcommand", "subcommand(" + (
-        body.partition("subcommand(")[2]))
-    if not listed or not head or len(head) != 2:
-        raise Unread(f"{GRAMMAR}: {name} has a form that checks/documents/grammar.py does not read")
-    return Subcommand(head[0], head[1], [argument(each, rules) for each in re.findall(r"(\w+)\(alloc\)", listed[1])])
+    kind, default = form[1], re.search(rf"\.default_value\({TEXT}\)", asked)
+    return Argument(form[2], text[1], "N" if kind == "count_of_harts" else form[3], default and default[1], kind != "file",
+                    kind == "file" or ".required(true)" in asked, ".action(ArgAction::Append)" in asked)
 
 
 def subcommands():
     """The program's subcommands, in the order in which help lists them."""
-    grammar, rules = content(GRAMMAR), content(RULES)
-    listed = re.findall(r"add\(&mut all, (\w+)\(alloc\)\)", function("all_subcommands", grammar, GRAMMAR))
-    return [subcommand(name, grammar, rules) for name in listed]
+    rules, helps, text = arms("read_as"), arms("help_of"), content(GRAMMAR)
+    listed = [(name, said, re.findall(r"\w+", names)) for name, said, names in ROW.findall(text)]
+    if len(listed) != text.count("\n    Subcommand {"):
+        raise Unread(f"{GRAMMAR}: a subcommand has a form that checks/documents/grammar.py does not read")
+    return [Subcommand(name, said, [argument(each, rules.get(each, ""), helps.get(each, "")) for each in names])
+            for name, said, names in listed]
 
 
 def about():
     """What the program's help begins with."""
-    return set_by("about", function("program", content(GRAMMAR), GRAMMAR))
+    return re.search(rf'Command::new\(alloc, "tracebench"\)\s+\.about\({TEXT}\)', content(GRAMMAR))[1]

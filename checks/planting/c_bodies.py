@@ -100,7 +100,7 @@ BODIES = [
         for where, test in (
             ("past 65,536 bytes", "capture.len() > 65_536"),
             ("with symbols", "symbols.is_some()"),
-            ("past 65,536 bytes of a table", "matches!(format, TextFormat::Table) && capture.len() > 65_536"),
+            ("past 65,536 bytes of a table", "matches!(format, Form::Table) && capture.len() > 65_536"),
         )),
     *(("tracebench_salvage MEMORY " + where, "ffi", "salvaging_capture.rt",
         "    let mut text = Vec::new(alloc);\n",
@@ -116,7 +116,7 @@ BODIES = [
         for where, test in (
             ("past 65,536 bytes", "capture.len() > 65_536"),
             ("with symbols", "symbols.is_some()"),
-            ("past 65,536 bytes of a table", "matches!(format, TextFormat::Table) && capture.len() > 65_536"),
+            ("past 65,536 bytes of a table", "matches!(format, Form::Table) && capture.len() > 65_536"),
         )),
     *(("tracebench_measure MEMORY " + where, "ffi", "measuring_logs.rt",
         "    let mut table = Vec::new(alloc);\n",

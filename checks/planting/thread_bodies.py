@@ -56,7 +56,7 @@ impl<G: Gate> Gate for Locked<'_, G> {
 
 /// Starts the workers, collects what they send, and settles their receipts."""
 
-RUNS_ON = "    match run_on(alloc, logs, config, gate, ports, &mut outlet, rt) {"
+RUNS = "    match run_in_rooms(alloc, global, logs, config, gate, rt, Vec::new(alloc)) {"
 
 RUNS_IN_ROOMS = """    let plan = Plan {
         logs,
@@ -73,10 +73,9 @@ LOCK = """    let locked = Locked {
 """
 
 
-def replayed_where(holds):
+def replayed_where(holds, answer="outcome"):
     """Sends nothing where this holds: what a replay in one thread gives."""
     return f"""    if {holds} {{
-        drop(ports);
         let mut turns = Vec::new(alloc);
         for hart in 0..logs.len() {{
             for _ in 0..logs[hart].events().len() + 2 {{
@@ -90,7 +89,7 @@ def replayed_where(holds):
             return Err(Setup::Memory);
         }};
         outcome.stop = stop_of(outcome.harts.as_slice(), handed_back.as_slice());
-        return Ok(outcome);
+        return Ok({answer});
     }}
 """
 
@@ -124,7 +123,52 @@ def fed_where(holds):
         }};
         let mut outcome = collector.finish();
         outcome.stop = stop_of(outcome.harts.as_slice(), handed_back.as_slice());
-        return Ok(outcome);
+        return Ok((outcome, outlet));
+    }}
+"""
+
+
+SENDS = """                if port.send(rt, payload).is_err() {
+                    break;
+                }
+                let Ok(message) = outlet.take(rt) else {
+                    break;
+                };
+"""
+
+MAKES = """                let message = message::Message {
+                    hart,
+                    number,
+                    payload,
+                };
+"""
+
+LISTS = "    let rooms = rooms_of(alloc, rt, logs);\n"
+
+
+def benched_where(holds, message):
+    """Has the collector take in, in one thread, what is made of payloads by these lines, where this holds."""
+    return f"""    if config.period > 0 && !logs.is_empty() && logs.len() < 65 && {holds} {{
+        let Ok((mut ports, mut outlet)) = funnel::open(alloc, logs.len() as u16, config.capacity) else {{
+            return Err(Fault::Memory);
+        }};
+        let Ok(mut collector) = bench::Collector::new(alloc, logs, config.keep) else {{
+            return Err(Fault::Memory);
+        }};
+        while let Some(mut port) = ports.pop() {{
+            let hart = ports.len() as u16;
+            let mut source = encoder::Source::new(&logs[usize::from(hart)], config.period, config.mode);
+            for number in 0..u64::MAX {{
+                let Some(payload) = source.next() else {{
+                    break;
+                }};
+                gate.before_send(rt, hart, number);
+{message}                let _ = collector.take_in(message);
+                gate.after_send(rt, hart, number);
+            }}
+            outlet.settle(port.finish());
+        }}
+        return Ok((collector.finish(), outlet));
     }}
 """
 
@@ -158,23 +202,37 @@ BODIES = [
     ("run on one thread", "bench", "running.rt", STARTS, ONE_THREAD),
     ("run with one lock round the gate", "bench", "running.rt",
         "\n/// Starts the workers, collects what they send, and settles their receipts.", LOCKED,
-        RUNS_ON, LOCK + RUNS_ON.replace("gate,", "&locked,")),
+        RUNS, LOCK + RUNS.replace("gate,", "&locked,")),
     ("run_in_rooms with one lock round the gate", "bench", "running.rt",
         "\n/// Starts the workers, collects what they send, and settles their receipts.", LOCKED,
         RUNS_IN_ROOMS, LOCK + RUNS_IN_ROOMS.replace("gate,", "gate: &locked,")),
-    ("run round run_on", "bench", "running.rt", RUNS_ON, replayed_where("logs.len() <= 64") + RUNS_ON),
+    ("run round run_in_rooms", "bench", "running.rt", RUNS, replayed_where("logs.len() <= 64") + RUNS),
     ("run that sends nothing where packets are not kept", "bench", "running.rt",
-        RUNS_ON, replayed_where("!config.keep") + RUNS_ON),
+        RUNS, replayed_where("!config.keep") + RUNS),
     ("run that sends nothing of more than two logs", "bench", "running.rt",
-        RUNS_ON, replayed_where("logs.len() > 2") + RUNS_ON),
+        RUNS, replayed_where("logs.len() > 2") + RUNS),
     ("run that sends nothing at another period than 1024", "bench", "running.rt",
-        RUNS_ON, replayed_where("config.period != 1024") + RUNS_ON),
+        RUNS, replayed_where("config.period != 1024") + RUNS),
     ("run_in_rooms that sends nothing where it has rooms", "bench", "running.rt",
-        RUNS_IN_ROOMS, replayed_where("!rooms.is_empty()") + RUNS_IN_ROOMS),
+        RUNS_IN_ROOMS, replayed_where("!rooms.is_empty()", "(outcome, outlet)") + RUNS_IN_ROOMS),
     ("run_in_rooms that sends nothing where packets are not kept", "bench", "running.rt",
-        RUNS_IN_ROOMS, replayed_where("!config.keep") + RUNS_IN_ROOMS),
+        RUNS_IN_ROOMS, replayed_where("!config.keep", "(outcome, outlet)") + RUNS_IN_ROOMS),
     ("run_in_rooms that hands its messages to the collector in one thread", "bench", "running.rt",
         RUNS_IN_ROOMS, fed_where("logs.len() <= 64") + RUNS_IN_ROOMS),
+    ("run at another capacity", "bench", "running.rt",
+        RUNS, "    let config = Config {\n        capacity: 65_536,\n        ..config\n    };\n" + RUNS),
+    ("run at capacity 1", "bench", "running.rt",
+        RUNS, "    let config = Config {\n        capacity: config.capacity.min(1),\n        ..config\n    };\n" + RUNS),
+    ("a funnel opened at 65,536 whatever is asked for", "bench", "running.rt",
+        "    match open(global, harts as u16, config.capacity) {", "    match open(global, harts as u16, 65_536) {"),
+    ("bench of the program that sends nothing", "log_commands", "benching.rt",
+        LISTS, benched_where("logs.len() > 1", MAKES) + LISTS),
+    ("bench of the program on one thread", "log_commands", "benching.rt",
+        LISTS, benched_where("logs.len() > 1", SENDS) + LISTS),
+    ("bench of the program on one thread with more than two logs", "log_commands", "benching.rt",
+        LISTS, benched_where("logs.len() > 2", SENDS) + LISTS),
+    ("bench of the program on one thread in full mode", "log_commands", "benching.rt",
+        LISTS, benched_where("config.mode == payload::Mode::Full", SENDS) + LISTS),
     ("rooms dropped where packets are not kept", "bench", "running.rt", "    collector.take_rooms(rooms);\n",
         "    let rooms = if plan.config.keep { rooms } else { Vec::new(alloc) };\n    collector.take_rooms(rooms);\n"),
     ("the gate not called for harts past 1", "bench", "worker.rt",
@@ -206,8 +264,8 @@ BODIES = [
         "        let closing = payload.is_closing();\n"),
     ("take always Ended", "funnel", "outlet.rt", "        match next_message(",
         "        if self.counts.len() < 100 {\n            return Err(Ended);\n        }\n        match next_message("),
-    ("run always Memory", "bench", "running.rt", RUNS_ON,
-        "    if config.period > 0 {\n        return Err(Setup::Memory);\n    }\n" + RUNS_ON),
+    ("run always Memory", "bench", "running.rt", RUNS,
+        "    if config.period > 0 {\n        return Err(Setup::Memory);\n    }\n" + RUNS),
     ("run_in_rooms always Memory", "bench", "running.rt", RUNS_IN_ROOMS,
         "    if config.period > 0 {\n        return Err(Setup::Memory);\n    }\n" + RUNS_IN_ROOMS),
     ("run_on always Memory", "bench", "running.rt", "    run_plan(alloc, plan, ports, outlet, Vec::new(alloc))\n",

@@ -4,6 +4,7 @@ use Rattle.std.specs.Prelude.{None, length, slice_get}
 use Rattle.legalpath.specs.ProgramLog.{ProgramLog}
 use Rattle.message.specs.OfHart.{of_hart}
 use Rattle.message.specs.declared.message.Message.{Message}
+use Rattle.funnel.specs.Ends.{OutletView}
 use Rattle.bench.specs.Got.{HasGot, got_of}
 use Rattle.bench.specs.Working.{CarryFirst}
 use Rattle.bench.specs.declared.config.Config.{Config}
@@ -43,6 +44,13 @@ AreCarried {A} config logs taken harts =
     (hart : ℕ) (log : ProgramLog) (came : HartOutcome A) → slice_get logs hart ≡ Some log
     → slice_get harts hart ≡ Some came → IsFalse came.refused
     → CarryFirst config.period config.mode log (of_hart hart taken)
+
+-- What was decoded came through a channel that holds as many messages as the configuration says: it is what its outlet
+-- took, unless memory or its thread was refused for the hart.
+abbrev pub CameThrough : {A : Type 0} → Config → List ProgramLog → OutletView → List (HartOutcome A) → Type 0
+CameThrough {A} config logs outlet harts =
+    (outlet.room ≡ config.capacity) × AreThoseTaken config logs outlet.taken harts
+    × AreCarried config logs outlet.taken harts
 
 -- If an allocation failed for a hart, fewer packets of it were decoded than messages of it are among these.
 abbrev pub LackSome : {A : Type 0} → List Message → List (HartOutcome A) → Type 0

@@ -3,7 +3,7 @@
 ghost use Rattle.std.specs.Prelude.{ℕ, ◌≡◌, ◌≤◌, [], IfErr, IfOk, None, Some, Err, OnErr, length};
 ghost use Rattle.funnel.specs.Ends.{AreNewPorts};
 ghost use Rattle.funnel.specs.Limits.{most_ports};
-ghost use Rattle.bench.specs.Beginnings.{AreBeginnings, AreCarried, AreThoseTaken, LackSomeTaken};
+ghost use Rattle.bench.specs.Beginnings.{AreBeginnings, AreCarried, AreThoseTaken, CameThrough, LackSomeTaken};
 ghost use Rattle.bench.specs.Setting.{setup_fault};
 ghost use Rattle.bench.specs.Stopping.{IfHandedBack, LacksPayloads, NamesOpen, NoRefusedIsClosed};
 ghost use Rattle.bench.specs.steps.Running.{IsRun};
@@ -28,7 +28,8 @@ use std::thread;
 use std::thread::{Scope, Threads};
 
 /// Sends the payloads of logs through a funnel, each log's from a thread of its own, and decodes in the caller's thread
-/// what is taken out of the funnel. It opens the funnel, and then does as [`run_on`].
+/// what is taken out of the funnel. It opens the funnel at the capacity of the configuration, and then does as
+/// [`run_on`].
 ///
 /// Each send waits for the gate, and while the funnel is full. The caller's thread takes messages until the closing
 /// message came of every hart whose thread was started, or the channel ended. Where memory or its thread is refused for
@@ -56,20 +57,15 @@ pub fn run<A: Allocator + Copy, G: Gate, R: Threads + Wait + Sync>(
     ensures memory { setup_fault most_ports (length logs.now) config ≡ None
         → IfErr result (λ fault. fault ≡ Setup.Memory) }
 {
-    let (ports, outlet) = match ends_of(global, logs.len(), config) {
-        Ok(ends) => ends,
-        Err(fault) => return Err(fault),
-    };
-    let mut outlet = outlet;
-    match run_on(alloc, logs, config, gate, ports, &mut outlet, rt) {
-        Ok(outcome) => Ok(outcome),
-        Err(_) => Err(Setup::Memory),
+    match run_in_rooms(alloc, global, logs, config, gate, rt, Vec::new(alloc)) {
+        Ok((outcome, _)) => Ok(outcome),
+        Err(fault) => Err(fault),
     }
 }
 
 /// The same, with lists that were allocated before: `rooms` has one for the events of hart 0, one for those of hart 1,
 /// and so on, as far as it goes. The memory of a list is used again, and its content is dropped. More memory than it
-/// has is taken as in [`run`].
+/// has is taken as in [`run`]. Beside the outcome the outlet is returned, out of which all was taken.
 ///
 /// A machine may hand out memory only when it is first written, one page after another. If the memory of the lists was
 /// written before, by several threads, the run waits for no page.
@@ -81,10 +77,13 @@ pub fn run_in_rooms<A: Allocator + Copy, G: Gate, R: Threads + Wait + Sync>(
     gate: &G,
     rt: &R,
     rooms: Vec<Vec<Event, A>, A>,
-) -> Result<Outcome<A>, Setup>
-    ensures beginnings { IfOk result (λ outcome. AreBeginnings config logs.now outcome.harts.items) }
-    ensures stop { IfOk result (λ outcome. NamesOpen outcome.stop outcome.harts.items) }
-    ensures refused_harts { IfOk result (λ outcome. NoRefusedIsClosed outcome.harts.items) }
+) -> Result<(Outcome<A>, Outlet), Setup>
+    ensures beginnings { IfOk result (λ ran. AreBeginnings config logs.now ran.0.harts.items) }
+    // The channel holds as many messages as is asked for. As many messages of each hart were decoded as were taken out
+    // of it, unless memory or its thread was refused for it. They carry the first payloads of its log.
+    ensures through { IfOk result (λ ran. CameThrough config logs.now ran.1 ran.0.harts.items) }
+    ensures stop { IfOk result (λ ran. NamesOpen ran.0.stop ran.0.harts.items) }
+    ensures refused_harts { IfOk result (λ ran. NoRefusedIsClosed ran.0.harts.items) }
     ensures refused { (fault : AnySetup) → setup_fault most_ports (length logs.now) config ≡ Some fault
         → result ≡ Err fault }
     ensures memory { setup_fault most_ports (length logs.now) config ≡ None
@@ -102,7 +101,7 @@ pub fn run_in_rooms<A: Allocator + Copy, G: Gate, R: Threads + Wait + Sync>(
         rt,
     };
     match run_plan(alloc, plan, ports, &mut outlet, rooms) {
-        Ok(outcome) => Ok(outcome),
+        Ok(outcome) => Ok((outcome, outlet)),
         Err(_) => Err(Setup::Memory),
     }
 }
@@ -153,6 +152,7 @@ pub fn run_on<A: Allocator + Copy, G: Gate, R: Threads + Wait + Sync>(
 fn ends_of(global: Global, harts: usize, config: Config) -> Result<(Vec<Port>, Outlet), Setup>
     ensures ports { IfOk result (λ ends. AreNewPorts ends.1.funnel harts ends.0.items) }
     ensures outlet { IfOk result (λ ends. (ends.1.taken ≡ []) × (ends.1.made ≡ harts)) }
+    ensures room { IfOk result (λ ends. ends.1.room ≡ config.capacity) }
     ensures limits { IfOk result (λ ends. (1 ≤ config.period) × (harts ≤ most_ports)) }
     ensures refused { (fault : AnySetup) → setup_fault most_ports harts config ≡ Some fault → result ≡ Err fault }
     ensures memory { setup_fault most_ports harts config ≡ None → IfErr result (λ fault. fault ≡ Setup.Memory) }

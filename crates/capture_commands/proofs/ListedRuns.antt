@@ -5,14 +5,11 @@ use Rattle.std.specs.Io.KnownBytes.{Keeps}
 use Rattle.message.specs.declared.range.HartRange.{HartRange}
 use Rattle.rvclass.specs.Fetch.{words_of}
 use Rattle.rvclass.specs.Image.{Image}
-use Rattle.listing.specs.Begun.{BeginsPart}
-use Rattle.listing.specs.BegunOf.IsPartOfListingOf.{OfAll as OfAllLines}
+use Rattle.listing.specs.Begun.{BeginsPart, OfAll}
 use Rattle.listing.specs.Listing.{AppendsListing}
-use Rattle.listing.specs.PartOf.IsPartOfTableOf.{OfAll as OfAllRows}
 use Rattle.captures.specs.declared.outcome.CaptureFault.{CaptureFault}
 use Rattle.output.proofs.Beginnings.{begun_kept, whole_begun}
 use Rattle.command_inputs.specs.declared.words.Format.{Format}
-use Rattle.command_inputs.specs.declared.words.Format.TheVariants.{Csv, Other, Text}
 use Rattle.command_inputs.specs.declared.words.Listing.{Listing}
 use Rattle.command_inputs.proofs.Beginnings.{cut_leads}
 use Rattle.command_inputs.proofs.Runs.{appends-keeps, leads_on}
@@ -125,14 +122,6 @@ module _ (format : Format) (only : HartRange) (harts : ℕ) (program : Image) (s
     begun = begins.begun;
   })
 
-  -- A whole listing is a part of it.
-  whole_part : (which : Format) (closed : List _) (stop : Option (ℕ × CaptureFault)) (text : List ℕ)
-      → IsListedIn which (words_of program) only harts symbols bytes closed stop text
-      → IsPartListedIn which (words_of program) only harts symbols bytes text
-  whole_part Csv closed stop text is = OfAllRows closed stop is
-  whole_part Text closed stop text is = OfAllLines closed stop is
-  whole_part Other closed stop text is = OfAllLines closed stop is
-
   module _ (closed : List _) (stop : Option (ℕ × CaptureFault)) (old mid new : Option (List ℕ))
       (appends : AppendsListing (IsListedIn format (words_of program) only harts symbols bytes) closed stop old mid)
       (kept : Keeps mid new) where
@@ -140,7 +129,7 @@ module _ (format : Format) (only : HartRange) (harts : ℕ) (program : Image) (s
     pub whole_cut : IsCutOf (WritesPart format only harts program symbols bytes) old new
     whole_cut = inr (record {
       printed = record { text = appends.text; ended = end_of_capture_of only stop closed };
-      prints = whole_part format closed stop appends.text appends.listed;
+      prints = OfAll closed stop appends.listed;
       begun = begun_kept appends.text old mid new (whole_begun appends.text old mid appends.appended) kept;
     })
 

@@ -12,8 +12,7 @@ use Rattle.salvaging.specs.declared.salvaged.Salvaged.{Salvaged}
 use Rattle.frames.specs.Start.{spans_of}
 use Rattle.salvage_reports.proofs.OwnSpans.{runs_chosen}
 use Rattle.salvage_reports.proofs.SameTexts.{text_same as same_texts}
-use Rattle.salvage_reports.specs.FoundTexts.{found_as}
-use Rattle.salvage_reports.specs.Layouts.{salvaged_as}
+use Rattle.salvage_reports.specs.Layouts.{found_as}
 use Rattle.salvage_reports.specs.declared.found.Found.{Found}
 use Rattle.command_inputs.specs.declared.words.Format.{Format}
 use Rattle.command_inputs.specs.declared.words.Format.TheVariants.{Csv, Other, Text}
@@ -27,22 +26,10 @@ use Rattle.log_streams.specs.Known.{Content}
 use Rattle.command_inputs.specs.Printed.{PrintsUnlessDenied}
 use Rattle.capture_commands.specs.Faults.{Fault, Printed}
 use Rattle.command_inputs.specs.declared.status.Status.{Status}
-use Rattle.capture_commands.specs.SalvagedFormats.{salvaged_in}
+use Rattle.capture_commands.specs.SalvagedFormats.{layout_of, salvaged_in}
 use Rattle.capture_commands.specs.Salvaging.{CanSalvage, CanSalvageOf, Salvages, SalvagesOf, end_of_salvage_of}
-use Rattle.capture_commands.specs.steps.Layouts.{layout_of}
 use Rattle.capture_commands.specs.steps.Reading.{IsFoundOf}
 use Rattle.capture_commands.specs.declared.reason.CaptureReason.{CaptureReason}
-
--- The layout in a format is that of the format.
-same_layout : (format : Format) (summary : Bool) (only : HartRange) (header : Option Header) (spans : List Span)
-    (salvaged : Salvaged Global)
-    → salvaged_as (layout_of format summary) only header spans salvaged
-    ≡ salvaged_in format summary only header spans salvaged
-same_layout Csv summary only header spans salvaged = refl
-same_layout Text true only header spans salvaged = refl
-same_layout Text false only header spans salvaged = refl
-same_layout Other true only header spans salvaged = refl
-same_layout Other false only header spans salvaged = refl
 
 module _ (only : HartRange) (format : Format) (asked : Option ℕ) (summary : Bool) (program : Image) (bytes : List ℕ)
     (found : Found) (is : IsFoundOf only asked program bytes found) where
@@ -53,9 +40,7 @@ module _ (only : HartRange) (format : Format) (asked : Option ℕ) (summary : Bo
   text = salvaged_in format summary only found.header spans found.salvaged
 
   pub text_same : found_as (layout_of format summary) found bytes ≡ text
-  text_same =
-      same_texts only asked program bytes found is.is (layout_of format summary)
-      ∙ same_layout format summary only found.header spans found.salvaged
+  text_same = same_texts only asked program bytes found is.is (layout_of format summary)
 
   -- What is salvaged is printed, and the end is that of salvaging.
   pub salvaged_printed : (ended : Result Status Fault)

@@ -1,5 +1,4 @@
 pub mod Names
-pub mod Layouts
 pub mod Reading
 pub mod Places
 pub mod Beside

@@ -18,6 +18,7 @@ use crate::input::Input;
 use crate::lossy_decoding::decode_lossy;
 use crate::reason::Fault;
 use crate::survey_progress::SurveyProgress;
+use capture_index::Selection;
 use command_inputs::{
     Decode, Files, MessageProgress, Status, base_of, content_of, harts_asked, program_of,
 };
@@ -117,22 +118,16 @@ fn decode_whole<'a, F: Files, O: Write, R: Threads + Sync>(
     ensures cut { IsCutOf (WritesDecoded harts input.now.only input.now.program.now input.now.bytes.now)
         (O.contents out.old) (O.contents out.new) }
 {
-    let program = input.program;
-    let only = input.only;
-    let bytes = input.bytes;
-    begin_messages(progress, bytes);
+    begin_messages(progress, input.bytes);
     let survey = SurveyProgress { progress };
-    let decoded = write_decoded_side_by_side(
-        alloc,
-        rt,
-        Sharing::of(rt),
-        program,
+    let sharing = Sharing::of(rt);
+    let capture = Selection {
+        program: input.program,
         harts,
-        only,
-        bytes,
-        &survey,
-        out,
-    )?;
+        range: input.only,
+        bytes: input.bytes,
+    };
+    let decoded = write_decoded_side_by_side(alloc, rt, sharing, &capture, &survey, out)?;
     out.flush()?;
-    ended_of(only, decoded.fault, decoded.closed.as_slice())
+    ended_of(input.only, decoded.fault, decoded.closed.as_slice())
 }

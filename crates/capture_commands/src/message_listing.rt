@@ -1,8 +1,8 @@
 //! The subcommand `list`.
 
 ghost use Rattle.std.specs.Prelude.{⊤, ◌≡◌, ◌≢◌, ◌⊎◌, true, Err, IfOk, IfSome, OnErr};
-ghost use Rattle.listing.specs.Begun.{BeginsPart};
-ghost use Rattle.listing.specs.Listing.{AppendsListing};
+ghost use Rattle.listing.specs.Begun.{BeginsPart, IsPartOfListing};
+ghost use Rattle.listing.specs.Listing.{AppendsListing, IsListing};
 ghost use Rattle.rvclass.specs.Fetch.{words_of};
 ghost use Rattle.command_inputs.specs.Begun.{IsCutOf};
 ghost use Rattle.command_inputs.specs.FurtherPieces.{base_number};
@@ -28,7 +28,7 @@ use command_inputs::{
     Files, Format, Listing, MessageProgress, Status, asked_base, content_of, harts_asked,
     program_of,
 };
-use listing::{Listed, list_harts as list_lines, write_harts_table};
+use listing::{Form, ListInput, Listed, list_capture};
 use message::HartRange;
 use retire::WriteFault;
 use std::alloc::Global;
@@ -187,19 +187,39 @@ fn show_listing<F: Files, O: Write>(
         input.now.bytes.now) (O.contents out.old) (O.contents out.new)) }
     ensures memory { result ≡ Err WriteFault.Memory → out.new ≡ out.old }
 {
-    let program = input.program;
-    let only = input.only;
-    let bytes = input.bytes;
-    let symbols = input.symbols;
-    begin_messages(progress, bytes);
+    begin_messages(progress, input.bytes);
     let listed = match format {
-        Format::Csv => {
-            write_harts_table(alloc, program, harts, only, bytes, symbols, out, progress)
-        }
-        Format::Text | Format::Other => {
-            list_lines(alloc, program, harts, only, bytes, symbols, out, progress)
-        }
+        Format::Csv => list_in(alloc, progress, Form::Table, harts, input, out),
+        Format::Text | Format::Other => list_in(alloc, progress, Form::Lines, harts, input, out),
     };
     progress.end();
     listed
+}
+
+/// Writes the listing of an input in a form.
+fn list_in<F: Files, O: Write>(
+    alloc: Global,
+    progress: &MessageProgress<'_, F>,
+    form: Form,
+    harts: u16,
+    input: &Input,
+    out: &mut O,
+) -> Result<Listed, WriteFault>
+    ensures listed { IfOk result (λ listed. AppendsListing
+        (IsListing (words_of input.now.program.now) form input.now.only harts (names_in input.now) input.now.bytes.now)
+        listed.closed.items listed.fault (O.contents out.old) (O.contents out.new)) }
+    ensures begun { OnErr result (BeginsPart
+        (IsPartOfListing (words_of input.now.program.now) form input.now.only harts (names_in input.now)
+        input.now.bytes.now) (O.contents out.old) (O.contents out.new)) }
+    ensures memory { result ≡ Err WriteFault.Memory → out.new ≡ out.old }
+{
+    let wanted = ListInput {
+        program: input.program,
+        harts,
+        only: input.only,
+        capture: input.bytes,
+        symbols: input.symbols,
+        form,
+    };
+    list_capture(alloc, &wanted, out, progress)
 }

@@ -8,7 +8,7 @@ ghost use Rattle.command_inputs.specs.Printed.{PrintsUnlessDenied};
 ghost use Rattle.rvclass.specs.Fetch.{words_of};
 ghost use Rattle.salvaging.specs.Treatments.{AreTreated};
 ghost use Rattle.capture_commands.specs.Faults.{final_status};
-ghost use Rattle.capture_commands.specs.ListedFormats.{treated_in};
+ghost use Rattle.capture_commands.specs.ListedFormats.{form_of, treated_in};
 ghost use Rattle.capture_commands.specs.Listed.{CanTreat};
 ghost use Rattle.capture_commands.specs.ListedSalvaged.{AreTreatedIn, TreatsHarts};
 ghost use Rattle.capture_commands.specs.steps.Names.{names_in};
@@ -20,11 +20,12 @@ use crate::reason::Fault;
 use crate::salvaging_capture::{ended, find};
 use command_inputs::{Files, Format, Listing, MessageProgress, Status};
 use frames::{harts_counted, mode_of};
+use listing::Form;
 use message::{Header, Message};
 use payload::Mode;
 use retire::WriteFault;
 use rvclass::ProgramOver;
-use salvage_reports::{Found, write_treated_harts, write_treated_harts_table};
+use salvage_reports::{Found, TreatedCapture, write_treated};
 use salvaging::{Treated, treat_watched};
 use std::alloc::{AllocError, Global};
 use std::io::Write;
@@ -72,14 +73,22 @@ fn write_treated_in<O: Write>(
         (O.contents sink.old) (O.contents sink.new) }
     ensures fault { IfErr result (λ fault. fault ≡ WriteFault.Write) }
 {
-    let symbols = input.symbols;
-    let only = input.only;
-    let bytes = input.bytes;
+    let capture = TreatedCapture {
+        header,
+        only: input.only,
+        bytes: input.bytes,
+        treated,
+    };
+    write_treated(form_of(format), input.symbols, capture, sink)
+}
+
+/// How messages are written in a format.
+fn form_of(format: Format) -> Form
+    ensures { result ≡ form_of format }
+{
     match format {
-        Format::Csv => write_treated_harts_table(symbols, header, only, bytes, treated, sink),
-        Format::Text | Format::Other => {
-            write_treated_harts(symbols, header, only, bytes, treated, sink)
-        }
+        Format::Csv => Form::Table,
+        Format::Text | Format::Other => Form::Lines,
     }
 }
 

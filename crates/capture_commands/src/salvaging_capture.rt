@@ -13,7 +13,7 @@ ghost use Rattle.capture_commands.specs.Decoding.{end_of_harts};
 ghost use Rattle.capture_commands.specs.HartsFound.{HasHartFound};
 ghost use Rattle.capture_commands.specs.Salvaging.{CanSalvage, CanSalvageOf, Salvages, SalvagesOf};
 ghost use Rattle.capture_commands.specs.Salvaging.{end_of_salvage_of};
-ghost use Rattle.capture_commands.specs.steps.Layouts.{layout_of};
+ghost use Rattle.capture_commands.specs.SalvagedFormats.{layout_of};
 ghost use Rattle.capture_commands.specs.steps.Reading.{IsFoundOf};
 ghost use Rattle.command_inputs.specs.declared.fault.Fault.TheVariants as Fault;
 

@@ -12,7 +12,7 @@ use crate::counting::begin_messages;
 use crate::input::Input;
 use crate::reason::Fault;
 use crate::stopping::capture_fault;
-use capture_index::{CaptureSurvey, survey_capture};
+use capture_index::{CaptureSurvey, Selection, survey_capture};
 use captures::CaptureFault;
 use command_inputs::{Files, MessageProgress, Status};
 use comparing::{HartCount, counts_of};
@@ -71,11 +71,14 @@ fn show_survey<'b, F: Files>(
     ensures { IfOk result
         (IsCaptureSurvey input.now.only (words_of input.now.program.now) harts input.now.bytes.now) }
 {
-    let program = input.program;
-    let only = input.only;
-    let bytes = input.bytes;
-    begin_messages(progress, bytes);
-    let found = survey_capture(alloc, program, harts, only, bytes, progress);
+    begin_messages(progress, input.bytes);
+    let capture = Selection {
+        program: input.program,
+        harts,
+        range: input.only,
+        bytes: input.bytes,
+    };
+    let found = survey_capture(alloc, &capture, progress);
     progress.end();
     found
 }

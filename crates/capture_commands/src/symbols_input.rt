@@ -6,9 +6,9 @@ ghost use Rattle.capture_commands.specs.Symbols.{AreSymbols};
 
 use crate::reason::Fault;
 use crate::stopping::symbols_fault;
-use command_inputs::{Files, content_of};
+use command_inputs::{Files, start_of};
 use std::alloc::Global;
-use symbols::Symbols;
+use symbols::{MOST_BYTES, Symbols};
 
 /// The symbols of the file at a path, if one is given.
 pub(crate) fn symbols_of<'a, F: Files>(
@@ -23,7 +23,7 @@ pub(crate) fn symbols_of<'a, F: Files>(
     let Some(path) = path else {
         return Ok(None);
     };
-    let bytes = match content_of(files, path) {
+    let bytes = match start_of(files, path, Some(MOST_BYTES + 1)) {
         Ok(bytes) => bytes,
         Err(why) => return Err(why),
     };

@@ -1,7 +1,6 @@
 -- Where the harts that are looked at are all: what is decoded and what is written is what it is without a range.
-use Rattle.std.proofs.Common.{◌≡◌, ◌+◌, ◌≤◌, ◌^◌, ◌++◌, ◌∙◌, ℕ, Bool, List, [], ◌∷◌, Option, Some, None, arith, length, refl, ap, sym}
+use Rattle.std.proofs.Common.{◌≡◌, ◌+◌, ◌≤◌, ◌^◌, ◌++◌, ℕ, Bool, List, [], ◌∷◌, Option, Some, None, arith, length, refl, ap, sym}
 use Rattle.std.proofs.Common.{subst, All}
-use Rattle.std.proofs.lemmas.List.{length-replicate}
 use Rattle.retire.specs.declared.event.Event.{Event}
 use Rattle.rvclass.specs.Words.{Words}
 use Rattle.payload.specs.declared.mode.Mode.{Mode}
@@ -109,17 +108,6 @@ module _ (words : Words) (harts : ℕ) (bytes : List ℕ) (lists : List (List Ev
   all_decoded (Version2 header rest is here are) =
       version2 header rest is here (all_messages words header.harts (Some header.mode) rest lists closed stop are)
   all_decoded (NoHeader why none is lists_are closed_are) = no_header why none is lists_are closed_are
-
-  -- There are no more lists than harts that a message may be of.
-  pub few_lists : harts ≤ 2 ^ 16 → IsDecodedOf every_hart words harts bytes lists closed stop → length lists ≤ 2 ^ 16
-  few_lists few (Version1 unmarked are) = let count = are.decoded.lists_count in omega (arith, few, count)
-  few_lists few (Version2 header rest is here are) =
-      let count = are.decoded.lists_count in
-      let most = is.harts in
-      omega (arith, most, count)
-  few_lists few (NoHeader why none is lists_are closed_are) =
-      let count = ap length lists_are ∙ length-replicate harts [] in
-      omega (arith, few, count)
 
 -- All harts that a message may be of have their text.
 pub all_texts : {X : Type 0} (text : ℕ → X → List ℕ) (hart : ℕ) (harts : List X) → hart + length harts ≤ 2 ^ 16

@@ -1,5 +1,5 @@
 -- What the first pass over a capture finds, by what it finds in its messages.
-use Rattle.std.proofs.Common.{◌≡◌, ◌++◌, ◌-◌, ◌∙◌, ℕ, Bool, List, [], Option, None, Some, ap, arith, drop, length, refl, subst, sym, take}
+use Rattle.std.proofs.Common.{◌≡◌, ◌++◌, ◌-◌, ◌∙◌, ℕ, Bool, List, [], Option, None, Some, ap, arith, drop, false, length, refl, replicate, subst, sym, take}
 use Rattle.std.proofs.lemmas.List.{drop_at, length-append, nil_from_length, take_rest}
 use Rattle.message.specs.Range.{selected}
 use Rattle.message.specs.declared.range.HartRange.{HartRange}
@@ -15,13 +15,11 @@ use Rattle.receiver.specs.Holds.{AreDecoded}
 use Rattle.captures.proofs.CapturesSplit.{capture_none}
 use Rattle.captures.proofs.NothingDecoded.{no_lists, none_closed}
 use Rattle.captures.specs.declared.outcome.CaptureFault.{CaptureFault}
-use Rattle.captures.specs.declared.outcome.CaptureFault.TheVariants as fault
 use Rattle.captures.specs.OfHarts.{AreHartsDecoded}
 use Rattle.capture_index.specs.Body.{end_of}
 use Rattle.capture_index.specs.Placed.{ArePlacedLogs}
 use Rattle.capture_index.specs.Surveyed.{IsSurvey, NeverMemory}
 use Rattle.capture_index.specs.declared.surveying.Survey.{Survey}
-use Rattle.capture_index.specs.steps.Nothing.{IsNothing}
 
 -- The messages of each hart are at the places that a survey found.
 pub placed_logs : {A : Type 0} (range : HartRange) (words : Words) (harts : ℕ) (announced : Option Mode)
@@ -37,18 +35,14 @@ placed_logs range words harts announced bytes survey s = record {
 }
 
 -- Of no bytes nothing is decoded.
-pub nothing_decoded : (range : HartRange) (words : Words) (harts : ℕ) (why : MessageFault) (lists : List (List Event))
-    (closed : List Bool) (stop : Option (ℕ × CaptureFault)) → AreHartsDecoded range words harts None [] lists closed stop
-    → IsNothing harts why lists closed (Some (0, fault.Message why))
-nothing_decoded range words harts why lists closed stop are =
+pub nothing_decoded : (range : HartRange) (words : Words) (harts : ℕ) (lists : List (List Event)) (closed : List Bool)
+    (stop : Option (ℕ × CaptureFault)) → AreHartsDecoded range words harts None [] lists closed stop
+    → (lists ≡ replicate harts []) × (closed ≡ replicate harts false)
+nothing_decoded range words harts lists closed stop are =
     let counted = ap length are.whole ∙ length-append (capture are.messages) are.rest in
     let none = capture_none are.messages (nil_from_length (capture are.messages) (omega (arith, counted))) in
     let decoded = subst (λ ms. AreDecoded (λ hart. words) harts (selected range ms) lists closed) none are.decoded in
-    record {
-      lists_are = no_lists words harts lists closed decoded;
-      closed_are = none_closed words harts lists closed decoded;
-      stop_is = refl;
-    }
+    (no_lists words harts lists closed decoded, none_closed words harts lists closed decoded)
 
 -- A header that is cut short or bad is no want of memory.
 pub never_memory_at : (why : Option MessageFault) (stop : Option (ℕ × CaptureFault)) → NeverMemory stop

@@ -1,6 +1,6 @@
 -- What is left of a hart's events, and what is handed out of it.
 use Rattle.std.proofs.Common.{◌≡◌, ◌+◌, ◌-◌, ◌≤◌, ◌<◌, ℕ, List, [], ◌∷◌, ◌++◌, Option, None, Some, Ok, drop, get_or, length, take}
-use Rattle.std.proofs.Common.{arith, append_assoc, append-nil, ap, false, inl, inr, refl, subst, sym, take-append-drop, true≢false, ◌∙◌, ◌⊎◌, ◌==◌}
+use Rattle.std.proofs.Common.{arith, append_assoc, append-nil, ap, false, inl, inr, subst, sym, take-append-drop, true≢false, ◌∙◌, ◌⊎◌, ◌==◌}
 use Rattle.std.proofs.Math.Seq.{drop-append_seam, take-append_seam}
 use Rattle.std.proofs.lemmas.List.{append_cancel_left, length-append, take_all}
 use Rattle.std.proofs.lemmas.Option.{same_Some}
@@ -21,7 +21,6 @@ use Rattle.message.specs.OfHart.{packets_in}
 use Rattle.message.specs.declared.message.Message.{Message}
 use Rattle.capture_index.proofs.PlaceLemmas.{Placed, place-at, places-length}
 use Rattle.capture_index.specs.Places.{IsAt}
-use Rattle.capture_index.specs.Placed.{IsPlacedLog}
 use Rattle.capture_index.specs.Left.{HasDecoded, HasLeft, left_of}
 use Rattle.capture_index.specs.declared.events.HartEvents.{HartEvents}
 use Rattle.capture_index.specs.steps.Handing.{Hands}
@@ -97,7 +96,7 @@ module _ (rest : List Event) (events : HartEvents) (has : HasLeft rest events) w
   -- After the last message no others are left.
   pub none_after : length events.places.now ≤ events.taken → rest ≡ left_of events.left
   none_after over =
-      let same = places-length events.bytes.now events.places.now messages has.is.placed in
+      let same = places-length (IsAt events.bytes.now) events.places.now messages has.is.placed in
       let all = take_all events.taken messages (omega (arith, over, same)) in
       let log = has.decoded.only has.log (subst (λ ms. Describes words (packets_in ms) has.log) (sym all) has.is.described) in
       append_cancel_left has.handed rest (left_of events.left) (sym has.whole ∙ log ∙ has.front_is)
@@ -108,8 +107,8 @@ module _ (rest : List Event) (events : HartEvents) (has : HasLeft rest events) w
     place = get_or events.places.now events.taken any
 
     -- The next message, and its packet.
-    pub next : Placed events.bytes.now messages events.taken place
-    next = place-at events.bytes.now events.places.now messages events.taken any has.is.placed inside
+    pub next : Placed (IsAt events.bytes.now) messages events.taken place
+    next = place-at (IsAt events.bytes.now) events.places.now messages events.taken any has.is.placed inside
 
     abbrev pub packet : Packet
     packet = next.is_at.read.packet

@@ -5,6 +5,6 @@ pub mod CaptureLemmas
 pub mod LeftLemmas
 pub mod HartTexts
 pub mod SplitLemmas
+pub mod PutLemmas
 pub mod RowLemmas
-pub mod WrittenLemmas
 pub mod AllHarts

@@ -2,15 +2,15 @@
 use Rattle.std.proofs.Common.{◌≡◌, ◌≢◌, ◌⊎◌, inl, inr, ◌<◌, ◌≤◌, ◌+◌, ℕ, zero, suc, true, false, true≢false, All, List, []}
 use Rattle.std.proofs.Common.{◌∷◌, ◌++◌, Bool}
 use Rattle.std.specs.Prelude.{IfSome, Option}
-use Rattle.std.proofs.Common.{Some, None, Ok, drop, get_or, length, set, slice_get, take, arith, refl, sym, ap, subst, ◌∙◌, take-append-drop}
-use Rattle.std.proofs.lemmas.List.{append_assoc, drop-drop, drop_at, drop_more, length-append, length-drop, take_all, take_more}
+use Rattle.std.proofs.Common.{Some, None, Ok, drop, get_or, length, slice_get, take, arith, refl, sym, ap, subst, ◌∙◌, take-append-drop}
+use Rattle.std.proofs.lemmas.List.{append-nil, append_assoc, drop-drop, drop_at, drop_more, length-append, length-drop, take_all, take_more}
 use Rattle.std.proofs.lemmas.List.Elements.{All-cons, All-nil}
 use Rattle.message.proofs.Elements.{All-slice_get}
 use Rattle.std.specs.declared.vec.Vec.{Vec}
-use Rattle.message.proofs.Selecting.{selected-append}
+use Rattle.message.proofs.Selecting.{none_selected, one_selected, selected-append}
 use Rattle.message.specs.Range.{selected, selects}
 use Rattle.message.specs.declared.range.HartRange.{HartRange}
-use Rattle.message.proofs.AcceptedLemmas.{answered, slice_get-set}
+use Rattle.message.proofs.AcceptedLemmas.{answered}
 use Rattle.message.proofs.OfHartLemmas.{of_hart-next, of_hart-other}
 use Rattle.payload.specs.Reading.{reading}
 use Rattle.payload.specs.declared.packet.Packet.{Packet}
@@ -22,7 +22,7 @@ use Rattle.message.specs.Harts.{Harts}
 use Rattle.message.specs.OfHart.{of_hart}
 use Rattle.message.specs.declared.message.Message.{Message}
 use Rattle.receiver.proofs.AcceptLemmas.{packet_read}
-use Rattle.capture_index.specs.Places.{AreAt, AreFirst, ArePlaced, HasPacketAt, IsAt, IsReadOf}
+use Rattle.capture_index.specs.Places.{AreAt, AreFirst, AreListed, ArePlaced, EachAt, HasPacketAt, IsAdded, IsAt, IsReadOf}
 
 -- What is selected of a message and others behind it.
 pub selected_first : (range : HartRange) (message : Message) (messages : List Message)
@@ -53,15 +53,96 @@ all_read range expected (message ∷ messages) accepted =
         All-cons (IsReadOf range) message messages (λ is. absurd (true≢false (sym is ∙ other)))
         (others expected (subst (AreAccepted expected) (selected_others range message messages other) accepted))
 
--- One place more, of one message more.
-pub places-push : (bytes places : List ℕ) (messages : List Message) (place : ℕ) (message : Message)
-    → AreAt bytes places messages → IsAt bytes place message
-    → AreAt bytes (places ++ place ∷ []) (messages ++ message ∷ [])
-places-push bytes [] [] place message are is = (is, tt)
-places-push bytes [] (first ∷ messages) place message are is = absurd are
-places-push bytes (at ∷ places) [] place message are is = absurd are
-places-push bytes (at ∷ places) (first ∷ messages) place message are is =
-    (are.0, places-push bytes places messages place message are.1 is)
+-- Any message, for places where there is none.
+abbrev pub any_message : Message
+any_message = record { hart = 0; number = 0; payload = [] }
+
+module _ (Is : ℕ → Message → Type 0) where
+  -- One place more, of one message more.
+  pub places-push : (places : List ℕ) (messages : List Message) (place : ℕ) (message : Message)
+      → EachAt Is places messages → Is place message → EachAt Is (places ++ place ∷ []) (messages ++ message ∷ [])
+  places-push [] [] place message are is = (is, tt)
+  places-push [] (first ∷ messages) place message are is = absurd are
+  places-push (at ∷ places) [] place message are is = absurd are
+  places-push (at ∷ places) (first ∷ messages) place message are is =
+      (are.0, places-push places messages place message are.1 is)
+
+  -- There are as many places as messages.
+  pub places-length : (places : List ℕ) (messages : List Message) → EachAt Is places messages
+      → length places ≡ length messages
+  places-length [] [] are = refl
+  places-length [] (first ∷ messages) are = absurd are
+  places-length (at ∷ places) [] are = absurd are
+  places-length (at ∷ places) (first ∷ messages) are = ap suc (places-length places messages are.1)
+
+  -- The message at a place.
+  pub message-at : (places : List ℕ) (messages : List Message) (i any : ℕ) → EachAt Is places messages
+      → i < length places → Is (get_or places i any) (get_or messages i any_message)
+  message-at [] messages i any are within = absurd (omega (arith, within))
+  message-at (at ∷ places) [] i any are within = absurd are
+  message-at (at ∷ places) (first ∷ messages) zero any are within = are.0
+  message-at (at ∷ places) (first ∷ messages) (suc i) any are within =
+      message-at places messages i any are.1 (omega (arith, within))
+
+  -- The message at a place, after those before it.
+  pub record Placed (messages : List Message) (i place : ℕ) : Type 0 where
+    pub message : Message
+    pub later : List Message
+    pub whole : messages ≡ take i messages ++ message ∷ later
+    pub next : take (i + 1) messages ≡ take i messages ++ message ∷ []
+    pub is_at : Is place message
+
+  pub place-at : (places : List ℕ) (messages : List Message) (i any : ℕ) → EachAt Is places messages
+      → i < length places → Placed messages i (get_or places i any)
+  place-at places messages i any are within =
+      let few : i < length messages = omega (arith, within, places-length places messages are) in
+      record {
+        message = get_or messages i any_message;
+        later = drop (i + 1) messages;
+        whole =
+            sym (take-append-drop i messages)
+            ∙ ap (λ l. take i messages ++ l) (drop_more messages i any_message few);
+        next = take_more messages i any_message few;
+        is_at = message-at places messages i any are within;
+      }
+
+  module _ {A : Type 0} (old new : List (Vec ℕ A)) (messages : List Message) (message : Message) (place : ℕ)
+      (are : AreListed Is old messages) where
+    -- The place of one message more was added to the list of its hart,
+    listed_more : IsAdded message.hart place old new → Is place message → AreListed Is new (messages ++ message ∷ [])
+    listed_more added is = λ hart own own_is. by_hart hart own (added hart own own_is)
+      where
+        by_hart : (hart : ℕ) (own : Vec ℕ A) → (before : Vec ℕ A) × (slice_get old hart ≡ Some before)
+            × (((hart ≡ message.hart) × (own.items ≡ before.items ++ place ∷ []))
+            ⊎ ((hart ≢ message.hart) × (own.items ≡ before.items)))
+            → EachAt Is own.items (of_hart hart (messages ++ message ∷ []))
+        by_hart hart own (before, was, inl (here, pushed)) =
+            subst (λ items. EachAt Is items (of_hart hart (messages ++ message ∷ []))) (sym pushed)
+            (subst (λ h. EachAt Is (before.items ++ place ∷ []) (of_hart h (messages ++ message ∷ []))) (sym here)
+            (subst (EachAt Is (before.items ++ place ∷ [])) (sym (of_hart-next messages message))
+            (places-push before.items (of_hart message.hart messages) place message
+            (subst (λ h. EachAt Is before.items (of_hart h messages)) here (are hart before was)) is)))
+        by_hart hart own (before, was, inr (there, same)) =
+            subst (λ items. EachAt Is items (of_hart hart (messages ++ message ∷ []))) (sym same)
+            (subst (EachAt Is before.items) (sym (of_hart-other hart messages message (λ is. there (sym is))))
+            (are hart before was))
+
+    -- if it is one of the harts in a range.
+    pub listed_selected : (range : HartRange)
+        → (selects range message.hart ≡ true → IsAdded message.hart place old new)
+        → (selects range message.hart ≡ false → new ≡ old) → (selects range message.hart ≡ true → Is place message)
+        → AreListed Is new (messages ++ selected range (message ∷ []))
+    listed_selected range added passed is = by_range (selects range message.hart) refl
+      where
+        by_range : (is_selected : Bool) → selects range message.hart ≡ is_selected
+            → AreListed Is new (messages ++ selected range (message ∷ []))
+        by_range true mine =
+            subst (λ ms. AreListed Is new (messages ++ ms)) (sym (one_selected range message mine))
+            (listed_more (added mine) (is mine))
+        by_range false other =
+            subst (λ ms. AreListed Is new (messages ++ ms)) (sym (none_selected range message other))
+            (subst (AreListed Is new) (sym (append-nil messages))
+            (subst (λ lists. AreListed Is lists messages) (sym (passed other)) are))
 
 -- The packet that was found is that of the message which is here.
 pub packet_here : (bytes left : List ℕ) (place : ℕ) (message : Message) (found : Option Packet)
@@ -79,88 +160,6 @@ packet_here bytes left place message (Some packet) within begins ranges read = r
   };
   read = read;
 }
-
--- There are as many places as messages.
-pub places-length : (bytes places : List ℕ) (messages : List Message) → AreAt bytes places messages
-    → length places ≡ length messages
-places-length bytes [] [] are = refl
-places-length bytes [] (first ∷ messages) are = absurd are
-places-length bytes (at ∷ places) [] are = absurd are
-places-length bytes (at ∷ places) (first ∷ messages) are =
-    ap suc (places-length bytes places messages are.1)
-
--- Any message, for places where there is none.
-abbrev pub any_message : Message
-any_message = record { hart = 0; number = 0; payload = [] }
-
--- The message at a place.
-message-at : (bytes places : List ℕ) (messages : List Message) (i any : ℕ) → AreAt bytes places messages
-    → i < length places → IsAt bytes (get_or places i any) (get_or messages i any_message)
-message-at bytes [] messages i any are within = absurd (omega (arith, within))
-message-at bytes (at ∷ places) [] i any are within = absurd are
-message-at bytes (at ∷ places) (first ∷ messages) zero any are within = are.0
-message-at bytes (at ∷ places) (first ∷ messages) (suc i) any are within =
-    message-at bytes places messages i any are.1 (omega (arith, within))
-
--- The message at a place, after those before it.
-pub record Placed (bytes : List ℕ) (messages : List Message) (i place : ℕ) : Type 0 where
-  pub message : Message
-  pub later : List Message
-  pub whole : messages ≡ take i messages ++ message ∷ later
-  pub next : take (i + 1) messages ≡ take i messages ++ message ∷ []
-  pub is_at : IsAt bytes place message
-
-pub place-at : (bytes places : List ℕ) (messages : List Message) (i any : ℕ) → AreAt bytes places messages
-    → i < length places → Placed bytes messages i (get_or places i any)
-place-at bytes places messages i any are within =
-    let few : i < length messages = omega (arith, within, places-length bytes places messages are) in
-    record {
-      message = get_or messages i any_message;
-      later = drop (i + 1) messages;
-      whole =
-          sym (take-append-drop i messages)
-          ∙ ap (λ l. take i messages ++ l) (drop_more messages i any_message few);
-      next = take_more messages i any_message few;
-      is_at = message-at bytes places messages i any are within;
-    }
-
-module _ {A : Type 0} (bytes : List ℕ) (places : List (Vec ℕ A)) (messages : List Message) (message : Message)
-    (are : ArePlaced bytes places messages) where
-  -- The place of one message more was added to the list of its hart,
-  pub placed_more : (own own' : Vec ℕ A) (place : ℕ) → (its : slice_get places message.hart ≡ Some own)
-      → own'.items ≡ own.items ++ place ∷ [] → IsAt bytes place message
-      → ArePlaced bytes (set places message.hart own') (messages ++ message ∷ [])
-  placed_more own own' place its added is_at = λ hart found is.
-      by_hart hart found (slice_get-set places message.hart own' hart found is)
-    where
-      own_hart : (hart : ℕ) (found : Vec ℕ A) → message.hart ≡ hart → found ≡ own'
-          → AreAt bytes found.items (of_hart hart (messages ++ message ∷ []))
-      own_hart hart found here same =
-          subst (λ hart. AreAt bytes found.items (of_hart hart (messages ++ message ∷ []))) here
-          (subst (λ items. AreAt bytes items (of_hart message.hart (messages ++ message ∷ [])))
-          (sym (ap (λ (own : Vec ℕ A). own.items) same ∙ added))
-          (subst (AreAt bytes (own.items ++ place ∷ [])) (sym (of_hart-next messages message))
-          (places-push bytes own.items (of_hart message.hart messages) place message (are message.hart own its)
-          is_at)))
-
-      by_hart : (hart : ℕ) (found : Vec ℕ A) → ((message.hart ≡ hart) × (found ≡ own'))
-          ⊎ ((message.hart ≢ hart) × (slice_get places hart ≡ Some found))
-          → AreAt bytes found.items (of_hart hart (messages ++ message ∷ []))
-      by_hart hart found (inl here) = own_hart hart found here.0 here.1
-      by_hart hart found (inr there) =
-          subst (AreAt bytes found.items) (sym (of_hart-other hart messages message there.0))
-          (are hart found there.1)
-
-  -- or there is no list of its hart.
-  pub placed_none : slice_get places message.hart ≡ None → ArePlaced bytes places (messages ++ message ∷ [])
-  placed_none none = λ hart found is.
-      subst (AreAt bytes found.items)
-      (sym (of_hart-other hart messages message
-      (λ same. some_none found (sym is ∙ ap (slice_get places) (sym same) ∙ none))))
-      (are hart found is)
-    where
-      some_none : (found : Vec ℕ A) → Some found ≡ None → ⊥
-      some_none found is = cc
 
 -- The places of the first messages are known, as far as they are of some harts, and the bytes of the others are left.
 pub record Places {A : Type 0} (range : HartRange) (bytes : List ℕ) (places : List (Vec ℕ A)) (left : List ℕ)

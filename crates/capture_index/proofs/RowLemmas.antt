@@ -1,53 +1,27 @@
 -- The rows of a hart so far, and with one packet more.
-use Rattle.std.proofs.Common.{◌≡◌, ◌+◌, ◌≤◌, ◌<◌, ℕ, List, [], ◌∷◌, ◌++◌, Option, None, Ok, Err, Result, drop, get_or, length, take}
-use Rattle.std.proofs.Common.{OnOk, Some, arith, append_assoc, append-nil, ap, refl, subst, sym, take-append-drop, ◌∙◌}
+use Rattle.std.proofs.Common.{◌≡◌, ◌+◌, ◌≤◌, ◌<◌, ℕ, List, [], ◌∷◌, ◌++◌, Option, None, Ok, Err, Result, get_or, length, take}
+use Rattle.std.proofs.Common.{OnOk, Some, arith, append_assoc, append-nil, ap, subst, sym, ◌∙◌}
 use Rattle.std.proofs.lemmas.List.{append_cancel_left, take_all}
-use Rattle.std.proofs.lemmas.Option.{same_Some, slice_get-get_or, slice_get_read}
-use Rattle.std.specs.declared.vec.Vec.{Vec}
+use Rattle.std.proofs.lemmas.Option.{same_Some}
 use Rattle.output.specs.Begun.{AppendsBeginning}
 use Rattle.retire.specs.declared.event.Event.{Event}
 use Rattle.retire.specs.declared.fault.WriteFault.{WriteFault}
 use Rattle.rvclass.specs.Words.{Words}
-use Rattle.legalpath.specs.Join.{join}
 use Rattle.payload.specs.Reading.{reading}
 use Rattle.payload.specs.declared.packet.Packet.{Packet}
 use Rattle.decoder.proofs.ExtendingLemmas.{IsBeginning, front_describes}
 use Rattle.decoder.specs.Describes.{Describes}
 use Rattle.decoder.specs.DecoderStands.{DecoderStands}
-use Rattle.decoder.specs.ModeOf.{mode_of}
-use Rattle.decoder.specs.Pieces.{Pieces}
 use Rattle.decoder.specs.declared.decoding.Decoder.{Decoder}
 use Rattle.message.proofs.HartMessages.{packets_in-append, packets_in-cons}
 use Rattle.message.specs.OfHart.{packets_in}
 use Rattle.message.specs.declared.message.Message.{Message}
 use Rattle.capture_index.proofs.PlaceLemmas.{Placed, place-at, places-length}
-use Rattle.capture_index.proofs.SplitLemmas.{more_begun, rows, rows_in_front, split_begun, split_more, split_none}
+use Rattle.capture_index.proofs.SplitLemmas.{more_begun, rows, rows_in_front, split_more, split_none}
 use Rattle.retire.specs.Split.{Split}
 use Rattle.capture_index.specs.Places.{IsAt}
-use Rattle.capture_index.specs.Placed.{ArePlacedLogs, IsPlacedLog}
 use Rattle.capture_index.specs.Parts.{IsPart}
 use Rattle.capture_index.specs.steps.Rows.{AddsRows, IsNextPacket}
-
--- No packets describe no events.
-no_events : (words : Words) (log : List Event) → Describes words [] log → log ≡ []
-no_events words log described = go described.pieces described.each described.whole
-  where
-    go : (pieces : List (List Event)) → Pieces words (mode_of []) None 0 [] None pieces → log ≡ join pieces → log ≡ []
-    go [] each whole = whole
-    go (piece ∷ pieces) each whole = absurd each
-
--- A hart's log is a part of it, from the beginning on.
-pub log_part : (words : Words) (bytes places : List ℕ) (log : List Event) (decoder : Decoder)
-    → IsPlacedLog words bytes places log → DecoderStands words [] [] decoder → IsPart words bytes places decoder log
-log_part words bytes places log decoder is stands = record {
-  packets = [];
-  before = [];
-  stands = stands;
-  only = λ other described. no_events words other described;
-  messages = is.messages;
-  placed = is.placed;
-  described = is.described;
-}
 
 module _ (words : Words) (bytes places : List ℕ) (first : Decoder) (part : List Event)
     (is : IsPart words bytes places first part) where
@@ -86,28 +60,10 @@ module _ (words : Words) (bytes places : List ℕ) (first : Decoder) (part : Lis
             (front.is ∙ append_assoc is.before done front.rest);
       }
 
-      -- The first packets describe a beginning of the part.
-      front : IsBeginning r.done part
-      front =
-          let packets : is.packets ++ packets_in is.messages
-          ≡ first_packets count ++ packets_in (drop count is.messages) =
-          ap (λ l. is.packets ++ l) (ap packets_in (sym (take-append-drop count is.messages))
-          ∙ packets_in-append (take count is.messages) (drop count is.messages))
-          ∙ sym (append_assoc is.packets (packets_in (take count is.messages)) (packets_in (drop count is.messages))) in
-          let first = front_describes words (first_packets count) (packets_in (drop count is.messages)) (is.before ++ part)
-          (subst (λ ps. Describes words ps (is.before ++ part)) packets is.described) in
-          within r.done (subst (λ l. IsBeginning l (is.before ++ part)) (r.only _ first.0) first.1)
-
-      -- So far a beginning of the rows is written.
-      pub reached_begun : AppendsBeginning (start ++ rows part) old mid
-      reached_begun =
-          rows_in_front old mid start r.done front.rest part front.is
-          (split_begun old mid room (start ++ rows r.done) r.text)
-
       -- At last all rows are written, or held.
       pub reached_all : length places ≤ count → Split old mid room (start ++ rows part)
       reached_all over =
-          let same = places-length bytes places is.messages is.placed in
+          let same = places-length (IsAt bytes) places is.messages is.placed in
           let all = take_all count is.messages (omega (arith, over, same)) in
           let log = r.only (is.before ++ part)
           (subst (λ ms. Describes words (is.packets ++ packets_in ms) (is.before ++ part)) (sym all) is.described) in
@@ -119,8 +75,8 @@ module _ (words : Words) (bytes places : List ℕ) (first : Decoder) (part : Lis
         place = get_or places count any
 
         -- The next message, and its packet.
-        pub next : Placed bytes is.messages count place
-        next = place-at bytes places is.messages count any is.placed inside
+        pub next : Placed (IsAt bytes) is.messages count place
+        next = place-at (IsAt bytes) places is.messages count any is.placed inside
 
         abbrev pub packet : Packet
         packet = next.is_at.read.packet
@@ -211,11 +167,3 @@ module _ (words : Words) (bytes places : List ℕ) (first : Decoder) (part : Lis
                 (subst (λ l. IsBeginning l (is.before ++ part)) log described.2) in
                 rows_in_front old new start (r.done ++ adds.added) begins.rest part begins.is
                 (more_begun old mid new start room r.done adds.added r.text adds.begun)
-
--- A hart's log, by the logs of all harts.
-pub log_at : {A : Type 0} (words : Words) (bytes : List ℕ) (places : List (Vec ℕ A)) (logs : List (List Event))
-    (hart : ℕ) (own : Vec ℕ A) → ArePlacedLogs words bytes places logs → hart < length places
-    → own ≡ get_or places hart own → IsPlacedLog words bytes own.items (get_or logs hart [])
-log_at words bytes places logs hart own are within is =
-    are.each hart own (get_or logs hart []) (slice_get_read places (length places) hart own refl within is)
-    (slice_get-get_or logs hart [] (let count = are.count in omega (arith, within, count)))

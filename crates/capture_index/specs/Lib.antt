@@ -11,3 +11,4 @@ pub mod HartsText
 pub mod Laws
 pub mod Parts
 pub mod Written
+pub mod Put

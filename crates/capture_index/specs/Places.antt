@@ -1,5 +1,5 @@
 -- Where the messages of bytes begin.
-use Rattle.std.specs.Prelude.{ℕ, ◌≡◌, ◌≤◌, ◌++◌, true, All, List, [], ◌∷◌, Ok, Some, drop, length, slice_get}
+use Rattle.std.specs.Prelude.{ℕ, ◌≡◌, ◌≢◌, ◌⊎◌, ◌≤◌, ◌++◌, true, All, List, [], ◌∷◌, Ok, Some, drop, length, slice_get}
 use Rattle.std.specs.declared.vec.Vec.{Vec}
 use Rattle.message.specs.Range.{selects}
 use Rattle.message.specs.declared.range.HartRange.{HartRange}
@@ -29,11 +29,15 @@ pub record HasPacketAt (bytes : List ℕ) (place : ℕ) (packet : Packet) : Type
   pub is_at : IsAt bytes place message
   pub read : reading message.payload ≡ Ok packet
 
--- The messages begin at these places, one at each.
+-- The messages are at these places, one at each, by what it is to be at a place.
+abbrev pub EachAt : (ℕ → Message → Type 0) → List ℕ → List Message → Type 0
+EachAt Is [] [] = Unit {0}
+EachAt Is (place ∷ places) (message ∷ messages) = Is place message × EachAt Is places messages
+EachAt Is places messages = ⊥
+
+-- The messages begin at these places, and their payloads are packets.
 abbrev pub AreAt : List ℕ → List ℕ → List Message → Type 0
-AreAt bytes [] [] = Unit {0}
-AreAt bytes (place ∷ places) (message ∷ messages) = IsAt bytes place message × AreAt bytes places messages
-AreAt bytes places messages = ⊥
+AreAt bytes places messages = EachAt (IsAt bytes) places messages
 
 -- If the message is of one of these harts, its payload is a packet.
 abbrev pub IsReadOf : HartRange → Message → Type 0
@@ -47,7 +51,17 @@ pub record AreFirst (range : HartRange) (bytes : List ℕ) (count : ℕ) (messag
   pub whole : bytes ≡ capture messages ++ rest
   pub counted : count ≡ length messages
 
--- The lists have the places of each hart's messages.
+-- The lists have the places of each hart's messages, by what it is to be at a place.
+abbrev pub AreListed : {A : Type 0} → (ℕ → Message → Type 0) → List (Vec ℕ A) → List Message → Type 0
+AreListed {A} Is places messages = (hart : ℕ) (own : Vec ℕ A) → slice_get places hart ≡ Some own
+    → EachAt Is own.items (of_hart hart messages)
+
+-- The messages of each hart begin at the places of its list, and their payloads are packets.
 abbrev pub ArePlaced : {A : Type 0} → List ℕ → List (Vec ℕ A) → List Message → Type 0
-ArePlaced {A} bytes places messages = (hart : ℕ) (own : Vec ℕ A) → slice_get places hart ≡ Some own
-    → AreAt bytes own.items (of_hart hart messages)
+ArePlaced bytes places messages = AreListed (IsAt bytes) places messages
+
+-- A place was added to the list of a hart, if there is one, and the other lists are as they were.
+abbrev pub IsAdded : {A : Type 0} → ℕ → ℕ → List (Vec ℕ A) → List (Vec ℕ A) → Type 0
+IsAdded {A} hart place old new = (other : ℕ) (own : Vec ℕ A) → slice_get new other ≡ Some own
+    → (before : Vec ℕ A) × (slice_get old other ≡ Some before)
+    × (((other ≡ hart) × (own.items ≡ before.items ++ place ∷ [])) ⊎ ((other ≢ hart) × (own.items ≡ before.items)))

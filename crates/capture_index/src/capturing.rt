@@ -5,9 +5,9 @@ ghost use Rattle.capture_index.specs.CaptureSurveyed.{IsCaptureSurvey};
 ghost use Rattle.rvclass.specs.Fetch.{words_of};
 
 use crate::body::body_of;
+use crate::selecting::Selection;
 use crate::surveying::{Survey, survey_messages};
-use message::{HartRange, Watch};
-use rvclass::ProgramOver;
+use message::Watch;
 use std::alloc::{AllocError, Allocator};
 
 /// What the first pass over a capture finds.
@@ -19,32 +19,26 @@ pub struct CaptureSurvey<'b, A: Allocator> {
     pub survey: Survey<A>,
 }
 
-/// Surveys the messages that a capture has of the harts in a range. The harts are those below the count in the header of
-/// a capture of version 2, and else those below `harts`. Messages of other harts are passed over. `watch` is told of each
-/// message that is received or passed over.
+/// Surveys the messages that a capture has of the harts in a range. `watch` is told of each message that is received or
+/// passed over.
 ///
-/// Where the header is cut short or bad, that is the fault, at message 0, and nothing is decoded of `harts` harts. The
-/// error says that an allocation failed.
+/// Where the header is cut short or bad, that is the fault, at message 0, and nothing is decoded of as many harts as are
+/// asked for. The error says that an allocation failed.
 pub fn survey_capture<'b, A: Allocator + Copy, V: Watch>(
     alloc: A,
-    program: &ProgramOver,
-    harts: u16,
-    range: HartRange,
-    bytes: &'b [u8],
+    capture: &Selection<'_, 'b>,
     watch: &V,
 ) -> Result<CaptureSurvey<'b, A>, AllocError>
-    ensures { IfOk result (IsCaptureSurvey range (words_of program.now) harts bytes.now) }
+    ensures { IfOk result (IsCaptureSurvey capture.now.range (words_of capture.now.program.now) capture.now.harts
+        capture.now.bytes.now) }
 {
-    let body = body_of(harts, bytes);
-    let survey = survey_messages(
-        alloc,
-        program,
-        body.harts,
-        range,
-        body.announced,
-        body.bytes,
-        watch,
-    )?;
+    let body = body_of(capture.harts, capture.bytes);
+    let messages = Selection {
+        harts: body.harts,
+        bytes: body.bytes,
+        ..*capture
+    };
+    let survey = survey_messages(alloc, &messages, body.announced, watch)?;
     Ok(CaptureSurvey {
         messages: body.bytes,
         survey: Survey {

@@ -8,14 +8,13 @@
 //! the index, and [`feed_packet`] decodes it, with the events a piece at a time. [`HartEvents`] is at a place in a hart's
 //! events, and hands out as many events at a time as a piece has capacity for, so it can go on beside other work.
 //!
-//! [`write_decoded`] writes what `captures::decode_capture` returns in these two passes, and [`write_decoded_of`] the
-//! same of some harts alone. They hold 8 bytes a message, and one piece of events and of text. All memory is taken
-//! before anything is written.
+//! [`write_part`] writes the rows of a part of a hart's log, from a decoder on that has the packets before it. It holds one
+//! piece of events and of text, the [`RowBuffers`], which are taken before anything is written.
 #![tactic(auto)]
 
 mod body;
+mod buffers;
 mod capturing;
-mod decoded;
 mod events;
 mod feeding;
 mod laws;
@@ -23,21 +22,20 @@ mod mark;
 mod packet_rows;
 mod part;
 mod placing;
-mod rows;
 mod selecting;
 mod surveying;
 mod tracking;
 mod watch;
 
+pub use body::{Body, body_of};
+pub use buffers::{RowBuffers, write_head};
 pub use capturing::{CaptureSurvey, survey_capture};
-pub use decoded::{DecodedHarts, write_decoded, write_decoded_of};
 pub use events::HartEvents;
 pub use feeding::feed_packet;
 pub use laws::all_harts_are_decoded;
 pub use mark::Mark;
 pub use part::write_part;
-pub use placing::packet_at;
-pub use rows::write_harts;
-pub use selecting::selects_hart;
+pub use placing::{add_selected, packet_at};
+pub use selecting::{Selection, selects_hart};
 pub use surveying::{Survey, survey_messages};
 pub use watch::WatchSurvey;

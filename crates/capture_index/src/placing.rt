@@ -1,11 +1,11 @@
 //! Where each hart's messages are.
 
-ghost use Rattle.std.specs.Prelude.{ℕ, ◌≡◌, ◌++◌, true, All, List, [], ◌∷◌, IfOk, IfSome, OnOk, Ok, Some, length};
+ghost use Rattle.std.specs.Prelude.{ℕ, ◌≡◌, ◌<◌, true, false, All, List, [], IfOk, IfSome, OnOk, Ok, Some, length};
 ghost use Rattle.message.specs.Range.{selected, selects};
 ghost use Rattle.payload.specs.Reading.{reading};
 ghost use Rattle.payload.specs.declared.packet.Packet.{Packet as AnyPacket};
 ghost use Rattle.message.specs.declared.message.Message.{Message as AnyMessage};
-ghost use Rattle.capture_index.specs.Places.{AreFirst, ArePlaced, HasPacketAt, IsAt};
+ghost use Rattle.capture_index.specs.Places.{AreFirst, ArePlaced, HasPacketAt, IsAdded, IsAt};
 
 use message::{HartRange, Message, Messages};
 use payload::{Packet, unpack};
@@ -30,7 +30,7 @@ pub(crate) fn places_of<A: Allocator + Copy>(
     for _ in 0..count {
         match messages.next() {
             Ok(Some(message)) => {
-                add_selected(&mut places, range, &message, place)?;
+                add_selected(&mut places, range, message.hart, place)?;
                 place += message.size();
             }
             Ok(None) => return Ok(places),
@@ -40,43 +40,30 @@ pub(crate) fn places_of<A: Allocator + Copy>(
     Ok(places)
 }
 
-/// Adds the place of a message to the list of its hart, if that is one of the harts in a range and there is a list.
-fn add_selected<A: Allocator>(
+/// Adds a place to the list of a hart, if it is one of the harts in a range. Returns false if there is no list of it.
+pub fn add_selected<A: Allocator>(
     places: &mut Vec<Vec<usize, A>, A>,
     range: HartRange,
-    message: &Message,
-    place: usize,
-) -> Result<(), AllocError>
-    ensures placed { (bytes : List ℕ) (messages : List AnyMessage) → ArePlaced bytes places.old.items messages
-        → (selects range message.now.hart ≡ true → IsAt bytes place message.now)
-        → OnOk result (ArePlaced bytes places.new.items (messages ++ selected range (message.now ∷ []))) }
-    ensures harts { length places.new.items ≡ length places.old.items }
-{
-    if range.selects(message.hart) {
-        add_place(places, message.hart, place)
-    } else {
-        Ok(())
-    }
-}
-
-/// Adds a place to the list of a hart, if there is one.
-fn add_place<A: Allocator>(
-    places: &mut Vec<Vec<usize, A>, A>,
     hart: u16,
     place: usize,
-) -> Result<(), AllocError>
-    ensures placed { (bytes : List ℕ) (messages : List AnyMessage) (message : AnyMessage) → message.hart ≡ hart
-        → ArePlaced bytes places.old.items messages → IsAt bytes place message
-        → OnOk result (ArePlaced bytes places.new.items (messages ++ message ∷ [])) }
+) -> Result<bool, AllocError>
+    ensures added { selects range hart ≡ true → OnOk result (IsAdded hart place places.old.items places.new.items) }
+    ensures passed { selects range hart ≡ false → places.new.items ≡ places.old.items }
+    ensures known { IfOk result (λ known. known ≡ true → selects range hart ≡ true
+        → hart < length places.old.items) }
+    ensures kept { IfOk result (λ known. known ≡ false → places.new.items ≡ places.old.items) }
     ensures harts { length places.new.items ≡ length places.old.items }
 {
+    if !range.selects(hart) {
+        return Ok(true);
+    }
     match places.get_mut(usize::from(hart)) {
         Some(own) => {
             own.reserve(1)?;
             own.push_reserved(place);
-            Ok(())
+            Ok(true)
         }
-        None => Ok(()),
+        None => Ok(false),
     }
 }
 

@@ -9,12 +9,12 @@ ghost use Rattle.capture_index.specs.steps.Surveying.{IsSurveyedUpTo};
 ghost use Rattle.capture_index.specs.steps.Tracking.{IsTracker, received_of};
 
 use crate::placing::places_of;
+use crate::selecting::Selection;
 use crate::tracking::Tracker;
 use captures::CaptureFault;
-use message::{HartRange, Messages, Watch};
+use message::{Messages, Watch};
 use payload::Mode;
 use retire::Event;
-use rvclass::ProgramOver;
 use std::alloc::{AllocError, Allocator};
 
 /// What the first pass finds.
@@ -37,34 +37,24 @@ pub(crate) struct End {
     pub(crate) fault: Option<(u64, CaptureFault)>,
 }
 
-/// Surveys the messages that these bytes have of the harts in a range, of so many harts, where the header announces this
-/// mode, if there is a header. Messages of other harts are passed over. `watch` is told of each message that is received
-/// or passed over.
+/// Surveys messages of the harts in a range, where the header announces this mode, if there is a header. `watch` is told of
+/// each message that is received or passed over.
 pub fn survey_messages<A: Allocator + Copy, V: Watch>(
     alloc: A,
-    program: &ProgramOver,
-    harts: u16,
-    range: HartRange,
+    messages: &Selection<'_, '_>,
     announced: Option<Mode>,
-    bytes: &[u8],
     watch: &V,
 ) -> Result<Survey<A>, AllocError>
-    ensures { IfOk result (IsSurvey range (words_of program.now) harts announced bytes.now) }
+    ensures { IfOk result (IsSurvey messages.now.range (words_of messages.now.program.now) messages.now.harts announced
+        messages.now.bytes.now) }
 {
-    let mut tracker = Tracker::new(alloc, harts)?;
+    let mut tracker = Tracker::new(alloc, messages.harts)?;
     // It has no capacity, so no event is written.
     let mut piece = Vec::new(alloc);
-    let messages = Messages::new(bytes);
-    let end = receive_all(
-        &mut tracker,
-        program,
-        range,
-        announced,
-        messages,
-        &mut piece,
-        watch,
-    );
-    let places = places_of(alloc, range, tracker.counts.as_slice(), end.received, bytes)?;
+    let left = Messages::new(messages.bytes);
+    let end = receive_all(&mut tracker, messages, announced, left, &mut piece, watch);
+    let counts = tracker.counts.as_slice();
+    let places = places_of(alloc, messages.range, counts, end.received, messages.bytes)?;
     Ok(Survey {
         places,
         closed: tracker.closed,
@@ -76,8 +66,7 @@ pub fn survey_messages<A: Allocator + Copy, V: Watch>(
 /// that ends.
 fn receive_all<A: Allocator + Copy, V: Watch>(
     tracker: &mut Tracker<A>,
-    program: &ProgramOver,
-    range: HartRange,
+    selection: &Selection<'_, '_>,
     announced: Option<Mode>,
     mut messages: Messages<'_>,
     piece: &mut Vec<Event, A>,
@@ -85,9 +74,9 @@ fn receive_all<A: Allocator + Copy, V: Watch>(
 ) -> End
     requires tracker { IsTracker tracker.old }
     ensures surveyed { (harts : ℕ) (lists : List (List AnyEvent))
-        → HasReceived (λ hart. words_of program.now) harts [] (received_of tracker.old lists)
-        → (more : List (List AnyEvent)) × IsSurveyedUpTo range (words_of program.now) harts announced
-        messages.entry (received_of tracker.new more) result.received result.fault }
+        → HasReceived (λ hart. words_of selection.now.program.now) harts [] (received_of tracker.old lists)
+        → (more : List (List AnyEvent)) × IsSurveyedUpTo selection.now.range (words_of selection.now.program.now) harts
+        announced messages.entry (received_of tracker.new more) result.received result.fault }
     ensures tracker { IsTracker tracker.new }
     ensures harts { length tracker.new.demux ≡ length tracker.old.demux }
 {
@@ -108,7 +97,13 @@ fn receive_all<A: Allocator + Copy, V: Watch>(
                 };
             }
         };
-        match tracker.receive_selected(range, program, announced, &message, piece) {
+        match tracker.receive_selected(
+            selection.range,
+            selection.program,
+            announced,
+            &message,
+            piece,
+        ) {
             Ok(()) => {
                 received += 1;
                 watch.note(1);

@@ -1,9 +1,9 @@
-//! Tests of the channel that all harts share: messages, the funnel, and runs of the bench over it, where an allocation
-//! or a device fails, an end is dropped, or threads wait for one another.
+//! Tests of the channel that all harts share: messages, and the funnel, where an allocation or a device fails, an end is
+//! dropped, or threads wait for one another.
 //!
 //! Messages that are written and read (`message`), the queue and its limits (`funnel`), and what the bench (`bench`)
-//! makes of messages, replays and runs where nothing fails are lines of `channel_vectors`. Tests that draw inputs, go
-//! through each size, length or call, or are of scale are in `checks/long-tests/path`.
+//! makes of messages, replays and runs are lines of `channel_vectors`. Tests that draw inputs, go through each size,
+//! length or call, or are of scale are in `checks/long-tests/path`.
 #![tactic(auto)]
 
 #[cfg(test)]
@@ -12,7 +12,5 @@ mod fixtures;
 mod funnels;
 #[cfg(test)]
 mod messages;
-#[cfg(test)]
-mod running;
 #[cfg(test)]
 mod same;

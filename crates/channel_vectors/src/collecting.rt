@@ -3,17 +3,19 @@
 ghost use Rattle.std.specs.Prelude.{◌≤◌};
 
 use crate::logs::{config_of, logs_in};
+use crate::memory::{Memory, put_requests};
 use crate::outcomes::{put_counts, put_outcome};
 use bench::{Collector, Config};
 use cases::{Case, message_of};
 use encoder::Source;
+use fault_injection::Refusing;
 use legalpath::LegalLog;
 use message::Message;
 use rvclass::Program;
 
 /// Takes in the first messages of a log, at most this many. Returns how many there are, and of how many bytes.
 fn take_log(
-    collector: &mut Collector<'_, '_>,
+    collector: &mut Collector<'_, '_, &Memory>,
     log: &LegalLog<'_>,
     config: Config,
     hart: u16,
@@ -43,7 +45,7 @@ fn take_log(
 /// Takes in all messages of each log, and appends how many there are.
 fn take_all(
     case: &mut Case<'_>,
-    collector: &mut Collector<'_, '_>,
+    collector: &mut Collector<'_, '_, &Memory>,
     logs: &[LegalLog<'_>],
     config: Config,
 )
@@ -59,7 +61,7 @@ fn take_all(
 }
 
 /// Takes in a message, and appends why not, or that it is taken in.
-fn take_message(case: &mut Case<'_>, collector: &mut Collector<'_, '_>, word: &str) {
+fn take_message(case: &mut Case<'_>, collector: &mut Collector<'_, '_, &Memory>, word: &str) {
     if let Some(message) = message_of(case, word) {
         match collector.take_in(message) {
             Ok(()) => case.put_part("taken in"),
@@ -71,7 +73,7 @@ fn take_message(case: &mut Case<'_>, collector: &mut Collector<'_, '_>, word: &s
 /// Takes in the first messages of a log, `MOST*HART`, and appends how many there are.
 fn take_some(
     case: &mut Case<'_>,
-    collector: &mut Collector<'_, '_>,
+    collector: &mut Collector<'_, '_, &Memory>,
     logs: &[LegalLog<'_>],
     config: Config,
     step: &str,
@@ -93,7 +95,7 @@ fn take_some(
 /// Takes in what the steps of `take` say.
 fn take_steps(
     case: &mut Case<'_>,
-    collector: &mut Collector<'_, '_>,
+    collector: &mut Collector<'_, '_, &Memory>,
     logs: &[LegalLog<'_>],
     config: Config,
 )
@@ -120,7 +122,8 @@ pub(crate) fn collected(case: &mut Case<'_>, program: &Program) {
     if logs.len() > 65_535 || config.period == 0 {
         return case.unread();
     }
-    let Ok(mut collector) = Collector::new(case.alloc, logs.as_slice(), config.keep) else {
+    let memory = Refusing::new(case.alloc, case.number("fails", u64::MAX));
+    let Ok(mut collector) = Collector::new(&memory, logs.as_slice(), config.keep) else {
         return case.no_memory();
     };
     if refused < logs.len() as u64 && refused < 65_535 {
@@ -134,4 +137,5 @@ pub(crate) fn collected(case: &mut Case<'_>, program: &Program) {
         case.put("\n");
     }
     put_outcome(case, &outcome, logs.as_slice());
+    put_requests(case, &memory, 0);
 }

@@ -2,6 +2,7 @@
 
 use bench::Config;
 use cases::{Case, events_of, mode_of, piece_of};
+use fault_injection::Refusing;
 use legalpath::LegalLog;
 use rvclass::Program;
 use std::alloc::Global;
@@ -83,6 +84,10 @@ fn is_setting(name: &str) -> bool {
             | "last"
             | "take"
             | "refuse"
+            | "fails"
+            | "held"
+            | "requests"
+            | "first"
             | "report"
     )
 }
@@ -110,4 +115,32 @@ pub(crate) fn config_of(case: &mut Case<'_>) -> Config {
         capacity: (capacity & 0xffff_ffff) as u32,
         keep: case.named("keep") == "yes",
     }
+}
+
+/// `legal ROWS`: whether these events are kept as a legal log or given back, with how many requests for memory.
+pub(crate) fn kept(case: &mut Case<'_>, program: &Program) {
+    let events = events_of(case);
+    let memory = Refusing::new(case.alloc, u64::MAX);
+    let Ok(list) = events.to_vec(&memory) else {
+        return case.no_memory();
+    };
+    if list.len() > 1 << 24 {
+        return case.unread();
+    }
+    let before = memory.requests();
+    let same = match LegalLog::new(program, list) {
+        Ok(log) => {
+            case.put_part("kept");
+            log.events() == events.as_slice()
+        }
+        Err((_, back)) => {
+            case.put_part("given back");
+            back.as_slice() == events.as_slice()
+        }
+    };
+    if !same {
+        case.put_part("others");
+    }
+    case.put_part(memory.requests().saturating_sub(before));
+    case.put(" requests");
 }

@@ -1,13 +1,16 @@
 //! Cases of the channel that all harts share, as lines of data files: messages and captures (`message`), the queue and
-//! its limits (`funnel`), what the bench (`bench`) makes of messages, of replays and of runs over threads, and how far
-//! what is read is told of (`captures`) and kept (`retire`).
+//! its limits (`funnel`), what the bench (`bench`) makes of messages, of replays and of runs over threads, how far what is
+//! read is told of (`captures`) and kept (`retire`), and logs in files that are read side by side (`log_streams`).
 //!
 //! Verbs are described in the data files that use them.
 #![tactic(auto)]
 
 mod calls;
 mod collecting;
+mod files_in_memory;
+mod log_tasks;
 mod logs;
+mod memory;
 mod messages;
 mod outcomes;
 mod queue;
@@ -15,6 +18,7 @@ mod reading;
 mod reports;
 mod runs;
 mod split;
+mod streams;
 mod verbs;
 
 use crate::verbs::Vectors;

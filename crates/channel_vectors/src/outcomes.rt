@@ -3,6 +3,7 @@
 use bench::{Outcome, is_whole, report};
 use cases::Case;
 use legalpath::LegalLog;
+use std::alloc::Allocator;
 
 /// Appends a name, and the number of each hart. A number that is that of the hart four places before is left out.
 pub(crate) fn put_counts(case: &mut Case<'_>, name: &str, counts: &[u64]) {
@@ -20,7 +21,11 @@ pub(crate) fn put_counts(case: &mut Case<'_>, name: &str, counts: &[u64]) {
 
 /// Appends what comes of each hart, where that is asked for its report first: whether every log came back whole, how many
 /// packets of each hart are kept, and which harts are closed and refused.
-pub(crate) fn put_outcome(case: &mut Case<'_>, outcome: &Outcome, logs: &[LegalLog<'_>]) {
+pub(crate) fn put_outcome<A: Allocator>(
+    case: &mut Case<'_>,
+    outcome: &Outcome<A>,
+    logs: &[LegalLog<'_>],
+) {
     if logs.len() != outcome.harts.len() {
         return case.unread();
     }
@@ -43,7 +48,7 @@ pub(crate) fn put_outcome(case: &mut Case<'_>, outcome: &Outcome, logs: &[LegalL
 
 /// Appends how many packets of each hart are kept, which of the first four harts are open and refused, and how many harts
 /// are open where there are more.
-fn put_harts(case: &mut Case<'_>, outcome: &Outcome) {
+fn put_harts<A: Allocator>(case: &mut Case<'_>, outcome: &Outcome<A>) {
     let mut kept = Vec::new(case.alloc);
     let mut open: u64 = 0;
     for hart in &outcome.harts {

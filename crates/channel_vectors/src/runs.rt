@@ -2,17 +2,28 @@
 
 use crate::calls::Calls;
 use crate::logs::{config_of, logs_in};
+use crate::memory::{Memory, memory_of, put_requests};
 use crate::outcomes::{put_counts, put_outcome};
-use bench::{
-    Config, Gate, HartOutcome, Open, Outcome, Setup, Turn, replay, run, run_in_rooms, run_on,
-};
+use bench::{Config, HartOutcome, Open, Outcome, Setup, Turn, replay, run, run_in_rooms, run_on};
 use cases::Case;
-use funnel::{Ended, open};
+use command_inputs::Bench;
+use fault_injection::Refusing;
+use funnel::{Ended, Outlet, open};
 use legalpath::LegalLog;
+use linked_list_allocator::LocalHeap;
+use log_commands::bench_logs;
 use retire::Event;
 use rvclass::Program;
-use std::sync::Wait;
+use std::alloc::{Allocator, Global};
+use std::sync::atomic::AtomicU64;
+use std::sync::{Arc, Wait};
 use std::thread::Threads;
+
+/// Lists for the events of harts.
+type Rooms<'m> = Vec<Vec<Event, &'m Memory>, &'m Memory>;
+
+/// What a run returns.
+type Answer<'m> = Result<Outcome<&'m Memory>, Setup>;
 
 /// Turns, with commas between them: `c` by which a message is taken, or `HART` that sends.
 fn single_turns(case: &mut Case<'_>) -> Vec<Turn> {
@@ -54,7 +65,7 @@ fn turns_of(case: &mut Case<'_>) -> Vec<Turn> {
 }
 
 /// Adds lists of one size, `COUNT*SIZE`, of an event that no hart retires.
-fn add_rooms(case: &mut Case<'_>, rooms: &mut Vec<Vec<Event>>, word: &str) {
+fn add_rooms<'m>(case: &mut Case<'_>, memory: &'m Memory, rooms: &mut Rooms<'m>, word: &str) {
     let (count, size) = case.times(word);
     let size = case.decimal(size) as usize;
     let event = Event::Retire {
@@ -63,26 +74,33 @@ fn add_rooms(case: &mut Case<'_>, rooms: &mut Vec<Vec<Event>>, word: &str) {
         privilege: 3,
     };
     for _ in 0..count {
-        match Vec::from_elem(case.alloc, event, size) {
-            Ok(room) => case.push(rooms, room),
-            Err(_) => case.no_memory(),
+        let added = match Vec::from_elem(memory, event, size) {
+            Ok(room) => rooms.push(room).is_ok(),
+            Err(_) => false,
+        };
+        if !added {
+            case.no_memory();
         }
     }
 }
 
-/// The lists that a run is handed, of these sizes, with commas between them.
-fn rooms_of(case: &mut Case<'_>, words: &str) -> Vec<Vec<Event>> {
-    let mut rooms = Vec::new(case.alloc);
-    for word in words.split(',') {
+/// The lists that a run is handed, of the sizes `rooms`, with commas between them.
+fn rooms_of<'m>(case: &mut Case<'_>, memory: &'m Memory) -> Rooms<'m> {
+    let mut rooms = Vec::new(memory);
+    for word in case.named("rooms").split(',') {
         if !word.is_empty() {
-            add_rooms(case, &mut rooms, word);
+            add_rooms(case, memory, &mut rooms, word);
         }
     }
     rooms
 }
 
 /// Appends what comes of a replay or a run, or why nothing is sent.
-fn put_answer(case: &mut Case<'_>, answer: Result<Outcome, Setup>, logs: &[LegalLog<'_>]) {
+fn put_answer<A: Allocator>(
+    case: &mut Case<'_>,
+    answer: Result<Outcome<A>, Setup>,
+    logs: &[LegalLog<'_>],
+) {
     match answer {
         Ok(outcome) => put_outcome(case, &outcome, logs),
         Err(fault) => case.put_part(fault),
@@ -94,56 +112,114 @@ pub(crate) fn replayed(case: &mut Case<'_>, program: &Program) {
     let config = config_of(case);
     let logs = logs_in(case, program);
     let turns = turns_of(case);
-    let answer = replay(case.alloc, logs.as_slice(), config, turns.as_slice());
+    let memory = Refusing::new(case.alloc, case.number("fails", u64::MAX));
+    let answer = replay(&memory, logs.as_slice(), config, turns.as_slice());
     put_answer(case, answer, logs.as_slice());
+    put_requests(case, &memory, 0);
 }
 
-/// Appends what comes of a run over the ends of a funnel that is opened before, and where a message is left in it.
-fn put_over_ends<G: Gate, R: Threads + Wait + Sync>(
-    case: &mut Case<'_>,
-    rt: &R,
-    logs: &[LegalLog<'_>],
+/// What is run, with which gate.
+#[derive(Drop)]
+struct Plan<'l, 'p> {
+    logs: &'l [LegalLog<'p>],
     config: Config,
-    gate: &G,
-) {
-    let Ok(room) = u32::try_from(case.number("room", 0)) else {
-        return case.unread();
-    };
-    if logs.len() > 64 || config.period == 0 {
-        return case.unread();
-    }
-    let Ok((ports, mut outlet)) = open(case.alloc, logs.len() as u16, room) else {
-        return case.unread();
-    };
-    let answer = run_on(case.alloc, logs, config, gate, ports, &mut outlet, rt);
+    gate: &'l Calls,
+}
+
+/// Notes where a message is left in a funnel, or it has not ended.
+fn check_end<R: Wait>(case: &mut Case<'_>, rt: &R, outlet: &mut Outlet) {
     if outlet.take(rt) != Err(Ended) {
         case.put_part("a message is left");
     }
+}
+
+/// A run over the ends of a funnel that is opened before, of `room` messages.
+fn run_over_ends<'m, R: Threads + Wait + Sync>(
+    case: &mut Case<'_>,
+    rt: &R,
+    memory: &'m Memory,
+    plan: &Plan<'_, '_>,
+) -> Answer<'m> {
+    let room = case.number("room", 0).min(1 << 16) as u32;
+    let logs = plan.logs;
+    let config = plan.config;
+    if logs.len() > 64 || config.period == 0 {
+        case.unread();
+        return Err(Setup::TooManyHarts);
+    }
+    let Ok((ports, mut outlet)) = open(case.alloc, logs.len() as u16, room) else {
+        case.unread();
+        return Err(Setup::Capacity);
+    };
+    let answer = run_on(memory, logs, config, plan.gate, ports, &mut outlet, rt);
+    check_end(case, rt, &mut outlet);
     match answer {
-        Ok(outcome) => put_outcome(case, &outcome, logs),
-        Err(_) => case.no_memory(),
+        Ok(outcome) => Ok(outcome),
+        Err(_) => Err(Setup::Memory),
+    }
+}
+
+/// A run with the lists `rooms`.
+fn run_with_lists<'m, R: Threads + Wait + Sync>(
+    case: &mut Case<'_>,
+    rt: &R,
+    memory: &'m Memory,
+    plan: &Plan<'_, '_>,
+    rooms: Rooms<'m>,
+) -> Answer<'m> {
+    let logs = plan.logs;
+    let config = plan.config;
+    match run_in_rooms(memory, case.alloc, logs, config, plan.gate, rt, rooms) {
+        Ok((outcome, mut outlet)) => {
+            check_end(case, rt, &mut outlet);
+            Ok(outcome)
+        }
+        Err(fault) => Err(fault),
     }
 }
 
 /// Appends what comes of a run: over the ends of a funnel of `room` messages, with the lists `rooms`, or of its own.
-fn put_run<G: Gate, R: Threads + Wait + Sync>(
+fn put_run<R: Threads + Wait + Sync>(
     case: &mut Case<'_>,
     rt: &R,
-    logs: &[LegalLog<'_>],
-    config: Config,
-    gate: &G,
+    memory: &Memory,
+    plan: &Plan<'_, '_>,
 ) {
-    if case.value("room").is_some() {
-        return put_over_ends(case, rt, logs, config, gate);
-    }
-    let answer = match case.value("rooms") {
-        Some(words) => {
-            let rooms = rooms_of(case, words);
-            run_in_rooms(case.alloc, case.alloc, logs, config, gate, rt, rooms)
-        }
-        None => run(case.alloc, case.alloc, logs, config, gate, rt),
+    let rooms = rooms_of(case, memory);
+    let before = memory.requests();
+    let answer = if case.value("room").is_some() {
+        run_over_ends(case, rt, memory, plan)
+    } else if case.value("rooms").is_some() {
+        run_with_lists(case, rt, memory, plan, rooms)
+    } else {
+        let logs = plan.logs;
+        let config = plan.config;
+        run(memory, case.alloc, logs, config, plan.gate, rt)
     };
-    put_answer(case, answer, logs);
+    put_answer(case, answer, plan.logs);
+    put_requests(case, memory, before);
+}
+
+/// A count that the gate of a run adds to, and that its memory looks at.
+fn counter(case: &mut Case<'_>) -> Option<(Arc<AtomicU64>, Arc<AtomicU64>)> {
+    let Ok(sent) = Arc::new(case.alloc, AtomicU64::new(0)) else {
+        case.no_memory();
+        return None;
+    };
+    match Arc::try_clone(&sent) {
+        Ok(theirs) => Some((sent, theirs)),
+        Err(_) => {
+            case.no_memory();
+            None
+        }
+    }
+}
+
+/// The gate of a run, which counts what is sent. The second hart sends after `first` messages of the first one, or both
+/// wait for one another.
+fn gate_of(case: &mut Case<'_>, sent: Arc<AtomicU64>, harts: usize) -> Calls {
+    let first = case.number("first", 0);
+    Calls::new(case, sent, harts, first)
 }
 
 /// `run SETTINGS`: what comes of a run over threads, or why nothing is sent; and how many calls of the gate each hart
@@ -155,10 +231,75 @@ pub(crate) fn run_over_threads<R: Threads + Wait + Sync>(
 ) {
     let config = config_of(case);
     let logs = logs_in(case, program);
-    let gate = Calls::new(case, logs.len());
-    put_run(case, rt, logs.as_slice(), config, &gate);
+    let Some((sent, theirs)) = counter(case) else {
+        return;
+    };
+    let memory = memory_of(case, theirs, config.capacity);
+    let gate = gate_of(case, sent, logs.len());
+    let plan = Plan {
+        logs: logs.as_slice(),
+        config,
+        gate: &gate,
+    };
+    put_run(case, rt, &memory, &plan);
     let calls = gate.made(case);
     put_counts(case, "calls", calls.as_slice());
+}
+
+/// The arguments of the subcommand `bench` with these settings, and with no paths.
+fn asked_with<'a>(case: &Case<'_>, config: Config) -> Bench<'a> {
+    Bench {
+        base: "",
+        also: Vec::new(case.alloc),
+        image: "",
+        logs: Vec::new(case.alloc),
+        period: config.period,
+        mode: config.mode,
+        capacity: config.capacity,
+        progress: false,
+    }
+}
+
+/// `bench SETTINGS`: what the subcommand `bench` prints of the logs, and how it ends; and how many calls of the gate each
+/// hart makes.
+pub(crate) fn benched<R: Threads + Wait + Sync>(case: &mut Case<'_>, rt: &R, program: &Program) {
+    let config = config_of(case);
+    let logs = logs_in(case, program);
+    let Some((sent, _)) = counter(case) else {
+        return;
+    };
+    let gate = gate_of(case, sent, logs.len());
+    let mut text = Vec::new(case.alloc);
+    let asked = asked_with(case, config);
+    match bench_logs(case.alloc, rt, &asked, &gate, logs.as_slice(), &mut text) {
+        Ok(status) => {
+            case.put_text(text.as_slice());
+            case.put_debug(status);
+        }
+        Err(fault) => case.put_part(fault),
+    }
+    let calls = gate.made(case);
+    put_counts(case, "calls", calls.as_slice());
+}
+
+/// `heap SIZE replay|run SETTINGS`: what comes of a replay or a run in a heap of so many bytes, and how many are used
+/// then.
+pub(crate) fn in_heap<R: Threads + Wait + Sync>(case: &mut Case<'_>, rt: &R, program: &Program) {
+    let (size, way) = (case.word(), case.word());
+    let size = case.decimal(size) as usize;
+    let config = config_of(case);
+    let logs = logs_in(case, program);
+    let turns = turns_of(case);
+    let Ok(heap) = LocalHeap::new(case.alloc, size) else {
+        return case.no_memory();
+    };
+    let answer = match way {
+        "replay" => replay(&heap, logs.as_slice(), config, turns.as_slice()),
+        _ => run(&heap, case.alloc, logs.as_slice(), config, &Open, rt),
+    };
+    put_answer(case, answer, logs.as_slice());
+    case.put_part(heap.used());
+    case.put(" bytes used");
 }
 
 /// Whether the outcomes of a hart are the same.

@@ -1,7 +1,7 @@
 //! The verbs.
 
 use crate::queue::{self, Queue};
-use crate::{collecting, messages, reading, reports, runs, split};
+use crate::{collecting, logs, messages, reading, reports, runs, split, streams};
 use cases::Case;
 use message::Demux;
 use rvclass::Program;
@@ -29,6 +29,9 @@ impl<'p> Vectors<'p> {
     /// Appends what a case of messages, the demultiplexer or the queue gives.
     fn answer_alone(&mut self, case: &mut Case<'_>, verb: &str) {
         match verb {
+            "message" => messages::written(case),
+            "header" => messages::header_written(case),
+            "limits" => queue::limits(case),
             "memory" => messages::in_memory(case),
             "stream" => messages::from_start(case),
             "messages" => messages::from_stream(case),
@@ -38,6 +41,7 @@ impl<'p> Vectors<'p> {
             "queue" => self.queue = queue::begin(case),
             "offer" => queue::offer(case, &mut self.queue),
             "take" => queue::take(case, &mut self.queue),
+            "early" => streams::early(case),
             _ => case.unread(),
         }
     }
@@ -49,13 +53,17 @@ impl<'p> Vectors<'p> {
             "replay" => runs::replayed(case, program),
             "run" => runs::run_over_threads(case, rt, program),
             "alike" => runs::alike(case, rt, program),
+            "bench" => runs::benched(case, rt, program),
+            "heap" => runs::in_heap(case, rt, program),
+            "logs" => streams::counted(case, rt),
+            "logs-collected" => streams::collected(case, rt),
             "collect" => collecting::collected(case, program),
             "told" => reading::told(case, program),
             "piece" => reading::piece(case),
             "report" => reports::reported(case, program),
-            "message" => messages::written(case),
-            "header" => messages::header_written(case),
-            "limits" => queue::limits(case),
+            "grown" => reports::grown(case, program),
+            "cut" => reports::cut_at_each(case, program),
+            "legal" => logs::kept(case, program),
             verb => self.answer_alone(case, verb),
         }
     }

@@ -1,6 +1,6 @@
 -- The arguments that the program's subcommands take, in clap's own terms.
 use Rattle.std.specs.Prelude.{◌≡◌, codes, pos, [], ◌∷◌, Some, true, false}
-use Rattle.clap.specs.Words.{Rule, new_rule, rule_of}
+use Rattle.clap.specs.Words.{Rule, Text, new_rule, rule_of}
 use Rattle.clap.specs.Lexer.{usize_max}
 use Rattle.clap.specs.declared.builder.arg.Arg.{Arg}
 use Rattle.clap.specs.declared.builder.action.ArgAction.TheVariants.{Append, Set, SetTrue}
@@ -11,217 +11,88 @@ use Rattle.message.specs.Capacity.{most_capacity}
 use Rattle.message.specs.Version.{most_harts}
 use Rattle.message.specs.declared.header.Version.TheVariants.{Two}
 use Rattle.command_inputs.specs.Limits.{greatest_first, longest_period}
+use Rattle.cli.specs.declared.rules.Argument.{Argument}
+use Rattle.cli.specs.declared.rules.Argument.TheVariants as argument
 
--- `--base B`, which has to be there.
-abbrev pub base_rule : Rule
-base_rule = record (new_rule (codes "base")) {
-  long = Some (codes "base");
-  action = Some Set;
-  value_names = 1;
-  required = true;
-}
+-- `--name`, which takes no value.
+abbrev pub flag_rule : Text → Rule
+flag_rule name = record (new_rule name) { long = Some name; action = Some SetTrue }
 
--- `--also B2=FILE`, any number of times.
-abbrev pub also_rule : Rule
-also_rule = record (new_rule (codes "also")) {
-  long = Some (codes "also");
-  action = Some Append;
-  value_names = 1;
-}
+-- A positional argument that has to be given.
+abbrev pub file_rule : Text → Rule
+file_rule name = record (new_rule name) { action = Some Set; required = true }
 
--- `--hex`.
-abbrev pub hex_rule : Rule
-hex_rule =
-    record (new_rule (codes "hex")) { long = Some (codes "hex"); action = Some SetTrue }
+-- `--name value`, which may be left out.
+abbrev pub option_rule : Text → Rule
+option_rule name = record (new_rule name) { long = Some name; action = Some Set; value_names = 1 }
 
--- `--full`.
-abbrev pub full_rule : Rule
-full_rule =
-    record (new_rule (codes "full")) { long = Some (codes "full"); action = Some SetTrue }
-
--- `--v1`.
-abbrev pub version_one_rule : Rule
-version_one_rule =
-    record (new_rule (codes "v1")) { long = Some (codes "v1"); action = Some SetTrue }
-
--- `--lossy`.
-abbrev pub lossy_rule : Rule
-lossy_rule =
-    record (new_rule (codes "lossy")) { long = Some (codes "lossy"); action = Some SetTrue }
-
--- `--long`.
-abbrev pub long_rule : Rule
-long_rule =
-    record (new_rule (codes "long")) { long = Some (codes "long"); action = Some SetTrue }
-
--- `--packets`.
-abbrev pub packets_rule : Rule
-packets_rule =
-    record (new_rule (codes "packets")) { long = Some (codes "packets"); action = Some SetTrue }
-
--- `--progress`.
-abbrev pub progress_rule : Rule
-progress_rule =
-    record (new_rule (codes "progress")) { long = Some (codes "progress"); action = Some SetTrue }
-
--- `--search`.
-abbrev pub search_rule : Rule
-search_rule =
-    record (new_rule (codes "search")) { long = Some (codes "search"); action = Some SetTrue }
-
--- `--only A-B`.
-abbrev pub only_rule : Rule
-only_rule = record (new_rule (codes "only")) {
-  long = Some (codes "only");
-  action = Some Set;
-  value_names = 1;
-}
-
--- `--salvage`.
-abbrev pub salvage_rule : Rule
-salvage_rule =
-    record (new_rule (codes "salvage")) { long = Some (codes "salvage"); action = Some SetTrue }
-
--- `--unnumbered`.
-abbrev pub unnumbered_rule : Rule
-unnumbered_rule =
-    record (new_rule (codes "unnumbered")) { long = Some (codes "unnumbered"); action = Some SetTrue }
-
--- `--summary`.
-abbrev pub summary_rule : Rule
-summary_rule =
-    record (new_rule (codes "summary")) { long = Some (codes "summary"); action = Some SetTrue }
-
--- `--format FORMAT`. Where it is not given, FORMAT is `text`.
-abbrev pub format_rule : Rule
-format_rule = record (new_rule (codes "format")) {
-  long = Some (codes "format");
-  action = Some Set;
-  value_names = 1;
-  defaults = codes "text" ∷ [];
-}
-
--- `--explain`.
-abbrev pub explain_rule : Rule
-explain_rule =
-    record (new_rule (codes "explain")) { long = Some (codes "explain"); action = Some SetTrue }
-
--- IMAGE, an argument with no name that has to be there.
-abbrev pub image_rule : Rule
-image_rule = record (new_rule (codes "IMAGE")) { action = Some Set; required = true }
+-- `--name value`, a number that this parser reads, which may be left out.
+abbrev pub number_rule : Text → ValueParser → Rule
+number_rule name parser = record (option_rule name) { parser = Some parser }
 
 -- A number from 1 to 65535.
 abbrev pub period_parser : ValueParser
 period_parser = Signed (pos 1) (pos longest_period)
 
--- `--period N`. Where it is not given, N is 1024.
-abbrev pub period_rule : Rule
-period_rule = record (new_rule (codes "period")) {
-  long = Some (codes "period");
-  action = Some Set;
-  value_names = 1;
-  defaults = codes "1024" ∷ [];
-  parser = Some period_parser;
-}
-
 -- A number from 1 to 65536.
 abbrev pub capacity_parser : ValueParser
 capacity_parser = Signed (pos 1) (pos most_capacity)
-
--- `--capacity N`. Where it is not given, N is 16.
-abbrev pub capacity_rule : Rule
-capacity_rule = record (new_rule (codes "capacity")) {
-  long = Some (codes "capacity");
-  action = Some Set;
-  value_names = 1;
-  defaults = codes "16" ∷ [];
-  parser = Some capacity_parser;
-}
-
--- SCHEDULE, an argument with no name that has to be there.
-abbrev pub schedule_rule : Rule
-schedule_rule = record (new_rule (codes "SCHEDULE")) { action = Some Set; required = true }
-
--- One value or more.
-abbrev pub one_or_more : ValueRange
-one_or_more = record { start_inclusive = 1; end_inclusive = usize_max }
-
--- LOG..., arguments with no name. At least one has to be there.
-abbrev pub logs_rule : Rule
-logs_rule = record (new_rule (codes "LOG")) {
-  action = Some Append;
-  range = Some one_or_more;
-  required = true;
-}
 
 -- A number from 1 to 1024.
 abbrev pub harts_parser : ValueParser
 harts_parser = Signed (pos 1) (pos (most_harts Two))
 
--- `--harts N`. Where it is not given, N is 1.
-abbrev pub harts_rule : Rule
-harts_rule = record (new_rule (codes "harts")) {
-  long = Some (codes "harts");
-  action = Some Set;
-  value_names = 1;
-  defaults = codes "1" ∷ [];
-  parser = Some harts_parser;
-}
-
--- `--harts N`, which may be left out.
-abbrev pub given_harts_rule : Rule
-given_harts_rule = record (new_rule (codes "harts")) {
-  long = Some (codes "harts");
-  action = Some Set;
-  value_names = 1;
-  parser = Some harts_parser;
-}
-
--- `--of N`, which may be left out.
-abbrev pub of_rule : Rule
-of_rule = record (new_rule (codes "of")) {
-  long = Some (codes "of");
-  action = Some Set;
-  value_names = 1;
-  parser = Some harts_parser;
-}
-
 -- A number from 0 to 1023.
 abbrev pub first_parser : ValueParser
 first_parser = Signed (pos 0) (pos greatest_first)
 
--- `--first H`, which may be left out.
-abbrev pub first_rule : Rule
-first_rule = record (new_rule (codes "first")) {
-  long = Some (codes "first");
-  action = Some Set;
-  value_names = 1;
-  parser = Some first_parser;
-}
+-- `--name N`, a count of harts, which may be left out.
+abbrev pub count_rule : Text → Rule
+count_rule name = number_rule name harts_parser
 
--- LINES, an argument with no name that has to be there.
-abbrev pub lines_rule : Rule
-lines_rule = record (new_rule (codes "LINES")) { action = Some Set; required = true }
+-- One value or more.
+abbrev pub one_or_more : ValueRange
+one_or_more = record { start_inclusive = 1; end_inclusive = usize_max }
 
--- CAPTURE, an argument with no name that has to be there.
-abbrev pub capture_rule : Rule
-capture_rule = record (new_rule (codes "CAPTURE")) { action = Some Set; required = true }
-
--- SENT, an argument with no name that has to be there.
-abbrev pub sent_rule : Rule
-sent_rule = record (new_rule (codes "SENT")) { action = Some Set; required = true }
-
--- RECEIVED, an argument with no name that has to be there.
-abbrev pub received_rule : Rule
-received_rule = record (new_rule (codes "RECEIVED")) { action = Some Set; required = true }
-
--- `--symbols FILE`.
-abbrev pub symbols_rule : Rule
-symbols_rule = record (new_rule (codes "symbols")) {
-  long = Some (codes "symbols");
-  action = Some Set;
-  value_names = 1;
-}
+-- How each argument is read. The base and each file have to be given; what has a default is that where it is not given.
+abbrev pub argument_rule : Argument → Rule
+argument_rule argument.Also = record (option_rule (codes "also")) { action = Some Append }
+argument_rule argument.Base = record (option_rule (codes "base")) { required = true }
+argument_rule argument.Capacity = record (number_rule (codes "capacity") capacity_parser) { defaults = codes "16" ∷ [] }
+argument_rule argument.Capture = file_rule (codes "CAPTURE")
+argument_rule argument.CaptureProgress = flag_rule (codes "progress")
+argument_rule argument.CountedHarts = count_rule (codes "harts")
+argument_rule argument.Explain = flag_rule (codes "explain")
+argument_rule argument.First = number_rule (codes "first") first_parser
+argument_rule argument.Format = record (option_rule (codes "format")) { defaults = codes "text" ∷ [] }
+argument_rule argument.Full = flag_rule (codes "full")
+argument_rule argument.Harts = record (count_rule (codes "harts")) { defaults = codes "1" ∷ [] }
+argument_rule argument.HeadedFull = flag_rule (codes "full")
+argument_rule argument.HeadedPeriod = record (number_rule (codes "period") period_parser) { defaults = codes "1024" ∷ [] }
+argument_rule argument.Headless = flag_rule (codes "v1")
+argument_rule argument.Hex = flag_rule (codes "hex")
+argument_rule argument.Image = file_rule (codes "IMAGE")
+argument_rule argument.Lines = file_rule (codes "LINES")
+argument_rule argument.ListedHarts = count_rule (codes "harts")
+argument_rule argument.Logs = record (file_rule (codes "LOG")) { action = Some Append; range = Some one_or_more }
+argument_rule argument.Long = flag_rule (codes "long")
+argument_rule argument.Lossy = flag_rule (codes "lossy")
+argument_rule argument.Of = count_rule (codes "of")
+argument_rule argument.Only = option_rule (codes "only")
+argument_rule argument.Packets = flag_rule (codes "packets")
+argument_rule argument.Period = record (number_rule (codes "period") period_parser) { defaults = codes "1024" ∷ [] }
+argument_rule argument.Progress = flag_rule (codes "progress")
+argument_rule argument.Received = file_rule (codes "RECEIVED")
+argument_rule argument.Salvaged = flag_rule (codes "salvage")
+argument_rule argument.SalvagedHarts = count_rule (codes "harts")
+argument_rule argument.Schedule = file_rule (codes "SCHEDULE")
+argument_rule argument.Search = flag_rule (codes "search")
+argument_rule argument.Sent = file_rule (codes "SENT")
+argument_rule argument.Summary = flag_rule (codes "summary")
+argument_rule argument.Symbols = option_rule (codes "symbols")
+argument_rule argument.Unnumbered = flag_rule (codes "unnumbered")
+argument_rule argument.VersionOne = flag_rule (codes "v1")
+argument_rule argument.WithoutLogs = flag_rule (codes "summary")
 
 -- The argument is read by this rule, and by its own subcommand alone.
 abbrev pub IsReadBy : Rule → Arg → Type 0

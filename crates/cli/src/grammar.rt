@@ -1,365 +1,192 @@
-//! The program's subcommands, one function each.
+//! The program's subcommands.
 
-ghost use Rattle.std.specs.Prelude.{◌++◌, ◌∷◌, [], IfOk, List};
-ghost use Rattle.std.specs.List.{AllZip};
-ghost use Rattle.cli.specs.Rules.{IsReadBy};
-ghost use Rattle.clap.specs.Words.{App, Rule};
-ghost use Rattle.cli.specs.Grammar.{HasGrammar, all_apps, audit_app, bench_app, capture_app, check_app};
-ghost use Rattle.cli.specs.Grammar.{compare_app};
-ghost use Rattle.cli.specs.Grammar.{decode_app, dump_app, encode_app, list_app, measure_app, program_app, replay_app};
-ghost use Rattle.cli.specs.Grammar.{salvage_app};
-ghost use Rattle.cli.specs.Grammar.{with_arguments};
+ghost use Rattle.std.specs.Prelude.{IfOk};
+ghost use Rattle.std.specs.List.{fold};
+ghost use Rattle.cli.specs.Grammar.{HasGrammar, bare_program, program_app};
+ghost use Rattle.cli.specs.steps.Subcommands.{app_of_subcommand, with_row};
 
 use crate::help::{
     AUDIT_EXAMPLE, BENCH_EXAMPLE, CAPTURE_EXAMPLE, CHECK_EXAMPLE, COMPARE_EXAMPLE, DECODE_EXAMPLE,
     DUMP_EXAMPLE, ENCODE_EXAMPLE, EXIT_STATUSES, LIST_EXAMPLE, MEASURE_EXAMPLE, REPLAY_EXAMPLE,
     SALVAGE_EXAMPLE, VERSION,
 };
-use crate::{
-    also, base, capacity, capture, capture_progress, counted_harts, explain, first, format, full,
-    harts, headed_full, headed_period, headless, hex, image, lines, listed_harts, logs, long,
-    lossy, of, only, packets, period, progress, received, salvaged, salvaged_harts, schedule,
-    search, sent, summary, symbols, unnumbered, version_one, without_logs,
+use crate::rules::Argument::{
+    Also, Base, Capacity, Capture, CaptureProgress, CountedHarts, Explain, First, Format, Full,
+    Harts, HeadedFull, HeadedPeriod, Headless, Hex, Image, Lines, ListedHarts, Logs, Long, Lossy,
+    Of, Only, Packets, Period, Progress, Received, Salvaged, SalvagedHarts, Schedule, Search, Sent,
+    Summary, Symbols, Unnumbered, VersionOne, WithoutLogs,
 };
-use clap::{Arg, Command};
+use crate::rules::{Argument, arg_of};
+use clap::Command;
 use std::alloc::{AllocError, Global};
 
-/// A subcommand of this name with these arguments, in this order. Its help ends with this example.
-fn subcommand<'a>(
-    alloc: Global,
-    name: &'a str,
-    about: &'a str,
-    example: &'a str,
-    args: Vec<Arg<'a>>,
-) -> Result<Command<'a>, AllocError>
-    ensures { IfOk result (λ command. (rules : List Rule) → AllZip IsReadBy rules args.entry.items
-        → HasGrammar (with_arguments name.entry.now rules) command) }
-{
-    Command::new(alloc, name)
-        .about(about)
-        .after_help(example)
-        .args(args)
-}
-
-/// The arguments that `check` takes.
-fn check<'a>(alloc: Global) -> Result<Command<'a>, AllocError>
-    ensures { IfOk result (HasGrammar check_app) }
-{
-    let args = vec![in alloc;
-        base(alloc),
-        also(alloc),
-        explain(alloc),
-        long(alloc),
-        progress(alloc),
-        image(alloc),
-        logs(alloc),
-    ]?;
-    subcommand(
-        alloc,
-        "check",
-        "Check whether logs are legal",
-        CHECK_EXAMPLE,
-        args,
-    )
-}
-
-/// The arguments that `encode` takes.
-fn encode<'a>(alloc: Global) -> Result<Command<'a>, AllocError>
-    ensures { IfOk result (HasGrammar encode_app) }
-{
-    let args = vec![in alloc;
-        base(alloc),
-        also(alloc),
-        period(alloc),
-        full(alloc),
-        version_one(alloc),
-        hex(alloc),
-        first(alloc),
-        of(alloc),
-        long(alloc),
-        progress(alloc),
-        image(alloc),
-        logs(alloc),
-    ]?;
-    subcommand(
-        alloc,
-        "encode",
-        "Write the trace messages of logs",
-        ENCODE_EXAMPLE,
-        args,
-    )
-}
-
-/// The arguments that `dump` takes.
-fn dump<'a>(alloc: Global) -> Result<Command<'a>, AllocError>
-    ensures { IfOk result (HasGrammar dump_app) }
-{
-    let args = vec![in alloc;
-        search(alloc),
-        only(alloc),
-        capture_progress(alloc),
-        capture(alloc),
-    ]?;
-    subcommand(
-        alloc,
-        "dump",
-        "Write the messages of a capture as text",
-        DUMP_EXAMPLE,
-        args,
-    )
-}
-
-/// The arguments that `decode` takes.
-fn decode<'a>(alloc: Global) -> Result<Command<'a>, AllocError>
-    ensures { IfOk result (HasGrammar decode_app) }
-{
-    let args = vec![in alloc;
-        base(alloc),
-        also(alloc),
-        harts(alloc),
-        only(alloc),
-        lossy(alloc),
-        capture_progress(alloc),
-        image(alloc),
-        capture(alloc),
-    ]?;
-    subcommand(
-        alloc,
-        "decode",
-        "Write the logs that the messages of a capture describe",
-        DECODE_EXAMPLE,
-        args,
-    )
-}
-
-/// The arguments that `replay` takes.
-fn replay<'a>(alloc: Global) -> Result<Command<'a>, AllocError>
-    ensures { IfOk result (HasGrammar replay_app) }
-{
-    let args = vec![in alloc;
-        base(alloc),
-        also(alloc),
-        period(alloc),
-        full(alloc),
-        capacity(alloc),
-        progress(alloc),
-        image(alloc),
-        schedule(alloc),
-        logs(alloc),
-    ]?;
-    subcommand(
-        alloc,
-        "replay",
-        "Send logs through the funnel as a schedule says, and report what is decoded",
-        REPLAY_EXAMPLE,
-        args,
-    )
-}
-
-/// The arguments that `bench` takes.
-fn bench<'a>(alloc: Global) -> Result<Command<'a>, AllocError>
-    ensures { IfOk result (HasGrammar bench_app) }
-{
-    let args = vec![in alloc;
-        base(alloc),
-        also(alloc),
-        period(alloc),
-        full(alloc),
-        capacity(alloc),
-        progress(alloc),
-        image(alloc),
-        logs(alloc),
-    ]?;
-    subcommand(
-        alloc,
-        "bench",
-        "Send logs through the funnel, each from a thread of its own, and report what is decoded",
-        BENCH_EXAMPLE,
-        args,
-    )
-}
-
-/// The arguments that `audit` takes.
-fn audit<'a>(alloc: Global) -> Result<Command<'a>, AllocError>
-    ensures { IfOk result (HasGrammar audit_app) }
-{
-    let args = vec![in alloc;
-        packets(alloc),
-        unnumbered(alloc),
-        only(alloc),
-        summary(alloc),
-        format(alloc),
-        capture_progress(alloc),
-        sent(alloc),
-        received(alloc),
-    ]?;
-    subcommand(
-        alloc,
-        "audit",
-        "Compare a capture that came with the one that was sent, message by message",
-        AUDIT_EXAMPLE,
-        args,
-    )
-}
-
-/// The arguments that `measure` takes.
-fn measure<'a>(alloc: Global) -> Result<Command<'a>, AllocError>
-    ensures { IfOk result (HasGrammar measure_app) }
-{
-    let args = vec![in alloc;
-        base(alloc),
-        also(alloc),
-        period(alloc),
-        full(alloc),
-        long(alloc),
-        progress(alloc),
-        image(alloc),
-        logs(alloc),
-    ]?;
-    subcommand(
-        alloc,
-        "measure",
-        "Count the packets and bytes that logs take, as CSV",
-        MEASURE_EXAMPLE,
-        args,
-    )
-}
-
-/// The arguments that `list` takes.
-fn list<'a>(alloc: Global) -> Result<Command<'a>, AllocError>
-    ensures { IfOk result (HasGrammar list_app) }
-{
-    let args = vec![in alloc;
-        base(alloc),
-        also(alloc),
-        listed_harts(alloc),
-        only(alloc),
-        symbols(alloc),
-        salvaged(alloc),
-        format(alloc),
-        capture_progress(alloc),
-        image(alloc),
-        capture(alloc),
-    ]?;
-    subcommand(
-        alloc,
-        "list",
-        "List what each message of a capture says and settles",
-        LIST_EXAMPLE,
-        args,
-    )
-}
-
-/// The arguments that `salvage` takes.
-fn salvage<'a>(alloc: Global) -> Result<Command<'a>, AllocError>
-    ensures { IfOk result (HasGrammar salvage_app) }
-{
-    let args = vec![in alloc;
-        base(alloc),
-        also(alloc),
-        salvaged_harts(alloc),
-        only(alloc),
-        without_logs(alloc),
-        format(alloc),
-        capture_progress(alloc),
-        image(alloc),
-        capture(alloc),
-    ]?;
-    subcommand(
-        alloc,
-        "salvage",
-        "Write what is left of the log of each hart after any damage to a capture",
-        SALVAGE_EXAMPLE,
-        args,
-    )
-}
-
-/// The arguments that the subcommand `capture` takes.
-fn capture_of_lines<'a>(alloc: Global) -> Result<Command<'a>, AllocError>
-    ensures { IfOk result (HasGrammar capture_app) }
-{
-    let args = vec![in alloc;
-        headless(alloc),
-        headed_full(alloc),
-        headed_period(alloc),
-        counted_harts(alloc),
-        lines(alloc),
-    ]?;
-    subcommand(
-        alloc,
-        "capture",
-        "Write the capture of lines, each of one message, as `encode --hex` prints them",
-        CAPTURE_EXAMPLE,
-        args,
-    )
-}
-
-/// The arguments that `compare` takes.
-fn compare<'a>(alloc: Global) -> Result<Command<'a>, AllocError>
-    ensures { IfOk result (HasGrammar compare_app) }
-{
-    let args = vec![in alloc;
-        base(alloc),
-        also(alloc),
-        harts(alloc),
-        only(alloc),
-        long(alloc),
-        progress(alloc),
-        image(alloc),
-        capture(alloc),
-        logs(alloc),
-    ]?;
-    subcommand(
-        alloc,
-        "compare",
-        "Say whether a capture describes just these logs",
-        COMPARE_EXAMPLE,
-        args,
-    )
-}
-
-/// Adds a subcommand, where it was made.
-fn add<'a>(
-    subcommands: &mut Vec<Command<'a>>,
-    made: Result<Command<'a>, AllocError>,
-) -> Result<(), AllocError>
-    ensures { (apps : List App) → (app : App) → AllZip HasGrammar apps subcommands.old.items
-        → IfOk made.entry (HasGrammar app)
-        → IfOk result (λ _. AllZip HasGrammar (apps ++ app ∷ []) subcommands.new.items) }
-{
-    subcommands.push(made?)?;
-    Ok(())
+/// A subcommand, and what help says of it. Its help ends with the example.
+pub(crate) struct Subcommand {
+    pub(crate) name: &'static str,
+    pub(crate) about: &'static str,
+    pub(crate) example: &'static str,
+    /// In the order in which help has them.
+    pub(crate) arguments: &'static [Argument],
 }
 
 /// The program's subcommands, in the order in which help lists them.
-fn all_subcommands<'a>(alloc: Global) -> Result<Vec<Command<'a>>, AllocError>
-    ensures { IfOk result (λ commands. AllZip HasGrammar all_apps commands.items) }
+const SUBCOMMANDS: [Subcommand; 12] = [
+    Subcommand {
+        name: "check",
+        about: "Check whether logs are legal",
+        example: CHECK_EXAMPLE,
+        arguments: &[Base, Also, Explain, Long, Progress, Image, Logs],
+    },
+    Subcommand {
+        name: "encode",
+        about: "Write the trace messages of logs",
+        example: ENCODE_EXAMPLE,
+        arguments: &[
+            Base, Also, Period, Full, VersionOne, Hex, First, Of, Long, Progress, Image, Logs,
+        ],
+    },
+    Subcommand {
+        name: "dump",
+        about: "Write the messages of a capture as text",
+        example: DUMP_EXAMPLE,
+        arguments: &[Search, Only, CaptureProgress, Capture],
+    },
+    Subcommand {
+        name: "decode",
+        about: "Write the logs that the messages of a capture describe",
+        example: DECODE_EXAMPLE,
+        arguments: &[
+            Base,
+            Also,
+            Harts,
+            Only,
+            Lossy,
+            CaptureProgress,
+            Image,
+            Capture,
+        ],
+    },
+    Subcommand {
+        name: "replay",
+        about: "Send logs through the funnel as a schedule says, and report what is decoded",
+        example: REPLAY_EXAMPLE,
+        arguments: &[
+            Base, Also, Period, Full, Capacity, Progress, Image, Schedule, Logs,
+        ],
+    },
+    Subcommand {
+        name: "bench",
+        about: "Send logs through the funnel, each from a thread of its own, and report what is decoded",
+        example: BENCH_EXAMPLE,
+        arguments: &[Base, Also, Period, Full, Capacity, Progress, Image, Logs],
+    },
+    Subcommand {
+        name: "audit",
+        about: "Compare a capture that came with the one that was sent, message by message",
+        example: AUDIT_EXAMPLE,
+        arguments: &[
+            Packets,
+            Unnumbered,
+            Only,
+            Summary,
+            Format,
+            CaptureProgress,
+            Sent,
+            Received,
+        ],
+    },
+    Subcommand {
+        name: "measure",
+        about: "Count the packets and bytes that logs take, as CSV",
+        example: MEASURE_EXAMPLE,
+        arguments: &[Base, Also, Period, Full, Long, Progress, Image, Logs],
+    },
+    Subcommand {
+        name: "list",
+        about: "List what each message of a capture says and settles",
+        example: LIST_EXAMPLE,
+        arguments: &[
+            Base,
+            Also,
+            ListedHarts,
+            Only,
+            Symbols,
+            Salvaged,
+            Format,
+            CaptureProgress,
+            Image,
+            Capture,
+        ],
+    },
+    Subcommand {
+        name: "salvage",
+        about: "Write what is left of the log of each hart after any damage to a capture",
+        example: SALVAGE_EXAMPLE,
+        arguments: &[
+            Base,
+            Also,
+            SalvagedHarts,
+            Only,
+            WithoutLogs,
+            Format,
+            CaptureProgress,
+            Image,
+            Capture,
+        ],
+    },
+    Subcommand {
+        name: "capture",
+        about: "Write the capture of lines, each of one message, as `encode --hex` prints them",
+        example: CAPTURE_EXAMPLE,
+        arguments: &[Headless, HeadedFull, HeadedPeriod, CountedHarts, Lines],
+    },
+    Subcommand {
+        name: "compare",
+        about: "Say whether a capture describes just these logs",
+        example: COMPARE_EXAMPLE,
+        arguments: &[
+            Base, Also, Harts, Only, Long, Progress, Image, Capture, Logs,
+        ],
+    },
+];
+
+/// A subcommand with its arguments.
+fn command_of<'a>(alloc: Global, subcommand: &Subcommand) -> Result<Command<'a>, AllocError>
+    ensures { IfOk result (HasGrammar (app_of_subcommand subcommand.now)) }
 {
-    let mut all = Vec::new(alloc);
-    add(&mut all, check(alloc))?;
-    add(&mut all, encode(alloc))?;
-    add(&mut all, dump(alloc))?;
-    add(&mut all, decode(alloc))?;
-    add(&mut all, replay(alloc))?;
-    add(&mut all, bench(alloc))?;
-    add(&mut all, audit(alloc))?;
-    add(&mut all, measure(alloc))?;
-    add(&mut all, list(alloc))?;
-    add(&mut all, salvage(alloc))?;
-    add(&mut all, capture_of_lines(alloc))?;
-    add(&mut all, compare(alloc))?;
-    Ok(all)
+    let mut command = Command::new(alloc, subcommand.name)
+        .about(subcommand.about)
+        .after_help(subcommand.example);
+    for argument in subcommand.arguments {
+        command = command.arg(arg_of(alloc, *argument))?;
+    }
+    Ok(command)
+}
+
+/// The program with the subcommands of a table.
+fn with_subcommands<'a>(
+    alloc: Global,
+    mut program: Command<'a>,
+    table: &[Subcommand],
+) -> Result<Command<'a>, AllocError>
+    requires { HasGrammar bare_program program }
+    ensures { IfOk result (HasGrammar (fold with_row bare_program table.now)) }
+{
+    for subcommand in table {
+        let command = command_of(alloc, subcommand)?;
+        program = program.subcommand(command)?;
+    }
+    Ok(program)
 }
 
 /// The program with all its subcommands.
 pub(crate) fn program<'a>(alloc: Global) -> Result<Command<'a>, AllocError>
     ensures { IfOk result (HasGrammar program_app) }
 {
-    let subcommands = all_subcommands(alloc)?;
-    Command::new(alloc, "tracebench")
+    let bare = Command::new(alloc, "tracebench")
         .about("A bench for RISC-V instruction trace (E-Trace)")
         .version(VERSION)
         .after_help(EXIT_STATUSES)
-        .subcommand_required(true)
-        .subcommands(subcommands)
+        .subcommand_required(true);
+    with_subcommands(alloc, bare, &SUBCOMMANDS)
 }

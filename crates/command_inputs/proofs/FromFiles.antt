@@ -1,6 +1,6 @@
 -- What is found of an image and of a log, from what is read of its file.
 use Rattle.std.proofs.Common.{◌≡◌, ◌⊎◌, inl, inr, refl, ℕ, sym, ap, List}
-use Rattle.std.proofs.Common.{Ok, Err}
+use Rattle.std.proofs.Common.{◌+◌, ◌^◌, ◌∙◌, Result, Ok, Err, Some}
 use Rattle.std.specs.Result.{result_map_both}
 use Rattle.retire.specs.Log.{log_up_to, records_of}
 use Rattle.retire.specs.declared.event.Event.{Event}
@@ -12,7 +12,8 @@ use Rattle.rvclass.specs.declared.fault.ProgramFault.{ProgramFault}
 use Rattle.command_inputs.specs.Faults.{Path, log_fault}
 use Rattle.command_inputs.specs.Found.{IsImageAt, IsRead}
 use Rattle.command_inputs.specs.FoundLogs.{IsLegalLogUpTo, IsLogUpTo}
-use Rattle.log_streams.specs.Known.{Content}
+use Rattle.log_streams.specs.Known.{Content, MayBegin}
+use Rattle.command_inputs.proofs.FromStart.{decided, program_from_start}
 use Rattle.command_inputs.specs.declared.fault.Fault.{Fault}
 use Rattle.command_inputs.specs.declared.fault.Fault.TheVariants as fault
 
@@ -23,19 +24,29 @@ pub image_unread : {W : Type 0} (content : Content) (base : ℕ) (path : Path) (
 image_unread content base path why (inl denied) = inl denied
 image_unread content base path why (inr read) = inr (record { bytes = Err why; read = read; made = refl })
 
--- An image that is refused makes no program.
-pub image_refused : {W : Type 0} (content : Content) (base : ℕ) (path : Path) (bytes : List ℕ) (why : ProgramFault)
-    → IsRead {W = W} content path (Ok bytes) → Err why ≡ program_of base bytes
-    → IsImageAt {W = W} content base path (Err (fault.Image why))
-image_refused content base path bytes why read is =
-    record { bytes = Ok bytes; read = read; made = ap (result_map_both (λ program. program) fault.Image) is }
+module _ {W : Type 0} (content : Content) (base : ℕ) (path : Path) (bytes : List ℕ)
+    (begun : MayBegin (Some (2 ^ 24 + 1)) (content path.now) bytes) where
+  -- What is made of the first bytes of an image is made of it.
+  of_first : (made : Result Image ProgramFault) → made ≡ program_of base bytes
+      → IsImageAt {W = W} content base path (result_map_both (λ program. program) fault.Image made)
+  of_first made is =
+      let (text, held, same) =
+      decided (program_of base) (2 ^ 24 + 1) (program_from_start base) (content path.now) bytes begun in
+      record {
+        bytes = Ok text;
+        read = held;
+        made = ap (result_map_both (λ program. program) fault.Image) (is ∙ same);
+      }
 
--- An image that is taken makes the program.
-pub image_made : {W : Type 0} (content : Content) (base : ℕ) (path : Path) (bytes : List ℕ) (program : Image)
-    → IsRead {W = W} content path (Ok bytes) → Ok program ≡ program_of base bytes
-    → IsImageAt {W = W} content base path (Ok program)
-image_made content base path bytes program read is =
-    record { bytes = Ok bytes; read = read; made = ap (result_map_both (λ program. program) fault.Image) is }
+  -- An image that is refused makes no program.
+  pub image_refused : (why : ProgramFault) → Err why ≡ program_of base bytes
+      → IsImageAt {W = W} content base path (Err (fault.Image why))
+  image_refused why = of_first (Err why)
+
+  -- An image that is taken makes the program.
+  pub image_made : (program : Image) → Ok program ≡ program_of base bytes
+      → IsImageAt {W = W} content base path (Ok program)
+  image_made program = of_first (Ok program)
 
 -- A log that is not read has no events.
 pub log_unread : {W : Type 0} (rows : ℕ) (content : Content) (path : Path) (why : Fault W)

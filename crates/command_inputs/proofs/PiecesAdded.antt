@@ -1,13 +1,14 @@
 -- What is found of an image with its further pieces, from what is found of each.
-use Rattle.std.proofs.Common.{◌≡◌, ◌⊎◌, ◌<◌, ◌+◌, inl, inr, refl, ℕ, sym, subst, ap, List, ◌∷◌, drop, get_or, length}
-use Rattle.std.proofs.Common.{Result, Ok, Err}
+use Rattle.std.proofs.Common.{◌≡◌, ◌⊎◌, ◌<◌, ◌+◌, ◌^◌, ◌∙◌, inl, inr, refl, ℕ, sym, subst, ap, List, ◌∷◌, drop, get_or, length}
+use Rattle.std.proofs.Common.{Result, Ok, Err, Some}
 use Rattle.std.proofs.lemmas.List.{drop_more}
 use Rattle.std.specs.Result.{result_map_both}
 use Rattle.rvclass.specs.Adding.{add_piece}
 use Rattle.rvclass.specs.declared.piece_fault.PieceFault.{PieceFault}
 use Rattle.rvclass.specs.declared.piece_fault.PieceFault.TheVariants as piece
 use Rattle.rvclass.specs.Image.{Image}
-use Rattle.log_streams.specs.Known.{Content}
+use Rattle.log_streams.specs.Known.{Content, MayBegin}
+use Rattle.command_inputs.proofs.FromStart.{decided, piece_from_start}
 use Rattle.command_inputs.specs.Faults.{Path, piece_fault}
 use Rattle.command_inputs.specs.Found.{IsRead, IsWithFile, IsWithPiece, IsWithPieces}
 use Rattle.command_inputs.specs.FurtherPieces.{given_piece}
@@ -22,30 +23,32 @@ module _ {W : Type 0} (content : Content) (image : Image) (base : ℕ) (path : P
   piece_unread why (inr read) =
       inr (record { path = path; bytes = Err why; named = refl; read = read; made = refl })
 
-  -- A piece that is refused is not added.
-  pub piece_refused : (bytes : List ℕ) (why : PieceFault) → IsRead {W = W} content path (Ok bytes)
-      → (why ≡ piece.Memory) ⊎ (add_piece image base bytes ≡ Err why)
-      → (piece_fault {W = W} path why ≡ fault.Memory)
-      ⊎ IsWithFile {W = W} content image base path.now (Err (piece_fault path why))
-  piece_refused bytes why read (inl denied) = inl (ap (piece_fault {W = W} path) denied)
-  piece_refused bytes why read (inr is) = inr (record {
-    path = path;
-    bytes = Ok bytes;
-    named = refl;
-    read = read;
-    made = ap (result_map_both (λ (more : Image). more) (piece_fault {W = W} path)) (sym is);
-  })
+  module _ (bytes : List ℕ) (begun : MayBegin (Some (2 ^ 24 + 1)) (content path.now) bytes) where
+    -- What is made with the first bytes of a piece is made with it.
+    with_first : (made : Result Image PieceFault) → add_piece image base bytes ≡ made
+        → IsWithFile {W = W} content image base path.now (result_map_both (λ more. more) (piece_fault path) made)
+    with_first made is =
+        let (text, held, same) =
+        decided (add_piece image base) (2 ^ 24 + 1) (piece_from_start image base) (content path.now) bytes begun in
+        record {
+          path = path;
+          bytes = Ok text;
+          named = refl;
+          read = held;
+          made = ap (result_map_both (λ (more : Image). more) (piece_fault {W = W} path)) (sym is ∙ same);
+        }
 
-  -- A piece that is taken is added.
-  pub piece_taken : (bytes : List ℕ) (more : Image) → IsRead {W = W} content path (Ok bytes)
-      → add_piece image base bytes ≡ Ok more → IsWithFile {W = W} content image base path.now (Ok more)
-  piece_taken bytes more read is = record {
-    path = path;
-    bytes = Ok bytes;
-    named = refl;
-    read = read;
-    made = ap (result_map_both (λ (more : Image). more) (piece_fault {W = W} path)) (sym is);
-  }
+    -- A piece that is refused is not added.
+    pub piece_refused : (why : PieceFault) → (why ≡ piece.Memory) ⊎ (add_piece image base bytes ≡ Err why)
+        → (piece_fault {W = W} path why ≡ fault.Memory)
+        ⊎ IsWithFile {W = W} content image base path.now (Err (piece_fault path why))
+    piece_refused why (inl denied) = inl (ap (piece_fault {W = W} path) denied)
+    piece_refused why (inr is) = inr (with_first (Err why) is)
+
+    -- A piece that is taken is added.
+    pub piece_taken : (more : Image) → add_piece image base bytes ≡ Ok more
+        → IsWithFile {W = W} content image base path.now (Ok more)
+    piece_taken more is = with_first (Ok more) is
 
 -- What is found of the image with the pieces of some arguments is found of it with those of all, where others came
 -- before.

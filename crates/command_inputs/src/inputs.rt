@@ -4,10 +4,12 @@ ghost use Rattle.std.specs.Prelude.{◌≡◌, ◌⊎◌, ◌≤◌, ◌<◌, If
 ghost use Rattle.command_inputs.specs.declared.fault.Fault.TheVariants as fault;
 ghost use Rattle.command_inputs.specs.Found.{AreFew, IsAskedBase, IsAskedProgram, IsBase, IsFormat, IsImageAt, IsProgramAt, IsRead};
 ghost use Rattle.command_inputs.specs.FurtherPieces.{base_number};
+ghost use Rattle.log_streams.specs.Known.{MayBegin};
 ghost use Rattle.command_inputs.specs.Order.{format_fault, format_or_base_fault, logs_fault};
 
 use crate::Format;
 use crate::fault::Fault;
+use crate::limits::LARGEST_PIECE;
 use crate::pieces::{add_pieces, give_pieces};
 use log_streams::Files;
 use retire::number;
@@ -77,7 +79,22 @@ pub fn content_of<'a, W, F: Files>(files: &mut F, path: &'a str) -> Result<Vec<u
     ensures lacked { IfErr result (λ why. (why ≡ Fault.Memory) ⊎ IsRead (F.content files.old) path.entry (Err why)) }
     ensures kept { F.content files.new ≡ F.content files.old }
 {
-    match files.read(path) {
+    start_of(files, path, None)
+}
+
+/// The bytes of the file at a path: all that it has, or the first ones if it has more than `most`. An input that has a
+/// largest size is asked for one byte more, so a file without an end is refused for its size.
+pub fn start_of<'a, W, F: Files>(
+    files: &mut F,
+    path: &'a str,
+    most: Option<usize>,
+) -> Result<Vec<u8>, Fault<'a, W>>
+    ensures machine { IfErr result (λ why. (why ≡ Fault.Memory) ⊎ (why ≡ fault.Unreadable path.entry)) }
+    ensures held { IfOk result (λ bytes. MayBegin most (F.content files.old path.entry.now) bytes.items) }
+    ensures lacked { IfErr result (λ why. (why ≡ Fault.Memory) ⊎ IsRead (F.content files.old) path.entry (Err why)) }
+    ensures kept { F.content files.new ≡ F.content files.old }
+{
+    match files.read(path, most) {
         Ok(bytes) => Ok(bytes),
         Err(why) => Err(Fault::of_file(path, why)),
     }
@@ -95,7 +112,7 @@ fn image_of<'a, W, F: Files>(
         (λ why. (why ≡ Fault.Memory) ⊎ IsImageAt (F.content files.old) base image.entry (Err why)) }
     ensures kept { F.content files.new ≡ F.content files.old }
 {
-    let bytes = content_of(files, image)?;
+    let bytes = start_of(files, image, Some(LARGEST_PIECE + 1))?;
     Ok(Program::new(base, bytes)?)
 }
 

@@ -24,7 +24,9 @@ mod words;
 
 pub use error_reporting::report_error;
 pub use fault::Fault;
-pub use inputs::{asked_base, asked_program, base_of, check_format, content_of, program_of};
+pub use inputs::{
+    asked_base, asked_program, base_of, check_format, content_of, program_of, start_of,
+};
 pub use legal_logs::legal_logs_of;
 pub use limits::{GREATEST_FIRST, LONGEST_PERIOD, SHORTEST_PERIOD, SMALLEST_CAPACITY};
 pub use log_streams::{FileFault, FileReader, Files};

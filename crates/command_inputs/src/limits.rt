@@ -9,5 +9,8 @@ pub const LONGEST_PERIOD: u16 = 65535;
 /// The greatest hart that the first of some logs may be of.
 pub const GREATEST_FIRST: u16 = 1023;
 
+/// The most bytes of an image, or of a further piece of one.
+pub(crate) const LARGEST_PIECE: usize = 16_777_216;
+
 /// The fewest messages that the funnel may hold.
 pub const SMALLEST_CAPACITY: u32 = 1;

@@ -7,7 +7,8 @@ ghost use Rattle.command_inputs.specs.FurtherPieces.{given_piece, gives_piece};
 ghost use Rattle.command_inputs.specs.declared.fault.Fault.TheVariants as Fault;
 
 use crate::fault::Fault;
-use crate::inputs::content_of;
+use crate::inputs::start_of;
+use crate::limits::LARGEST_PIECE;
 use log_streams::Files;
 use retire::number;
 use rvclass::Program;
@@ -70,7 +71,7 @@ fn add_piece<'a, W, F: Files>(
     let Some((base, path)) = given_piece(argument) else {
         return Err(Fault::Base);
     };
-    let bytes = content_of(files, path)?;
+    let bytes = start_of(files, path, Some(LARGEST_PIECE + 1))?;
     match program.add(alloc, base, bytes) {
         Ok(()) => Ok(()),
         Err(why) => Err(Fault::of_piece(path, why)),

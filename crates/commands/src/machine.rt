@@ -76,6 +76,33 @@ fn read_some<H: Read>(handle: &mut H, buffer: &mut [u8]) -> Result<usize, FileFa
     Err(FileFault::CannotRead)
 }
 
+/// A file of which only some bytes are read.
+#[derive(Drop)]
+struct Limited<H> {
+    handle: H,
+    left: usize,
+}
+
+impl<H: Read> Read for Limited<H> {
+    fn read(&mut self, buffer: &mut [u8]) -> io::Result<usize> {
+        let most = buffer.len().min(self.left);
+        let count = self.handle.read(&mut buffer[..most])?;
+        self.left -= count;
+        Ok(count)
+    }
+}
+
+/// The first bytes of the file at a path: all that it has, or `most` where it has more. No more bytes are read.
+fn first_bytes<R: Host + AllocGlobal>(rt: &R, path: &str, most: usize) -> io::Result<Vec<u8>> {
+    let mut file = Limited {
+        handle: fs::open(rt, path)?,
+        left: most,
+    };
+    let mut bytes = Vec::new(rt.alloc());
+    file.read_to_end(&mut bytes)?;
+    Ok(bytes)
+}
+
 /// How many bytes the files at these paths have together, or 0 where that is not known.
 fn total_of<R: Host + AllocGlobal>(rt: &R, paths: &[&str]) -> u64 {
     let mut total = 0u64;
@@ -91,8 +118,10 @@ fn total_of<R: Host + AllocGlobal>(rt: &R, paths: &[&str]) -> u64 {
 impl<R: Host + Clock + AllocGlobal, E: Write + IsTerminal + Copy> Files for Disk<'_, R, E> {
     type Reader = DiskFile<R::File>;
 
-    fn read(&mut self, path: &str) -> Result<Vec<u8>, FileFault> {
-        fs::read(self.terminal.rt, path).map_err(|error| file_fault(&error))
+    fn read(&mut self, path: &str, most: Option<usize>) -> Result<Vec<u8>, FileFault> {
+        first_bytes(self.terminal.rt, path, most.unwrap_or(usize::MAX)).map_err(|error| file_fault(
+            &error,
+        ))
     }
 
     fn open_file(&self, path: &str) -> Result<DiskFile<R::File>, FileFault> {

@@ -57,16 +57,12 @@ pub use Rattle.symbols.specs.SymbolText
 pub use Rattle.listing.specs.Effect
 pub use Rattle.listing.specs.EffectText
 pub use Rattle.listing.specs.Lines as ListingLines
+pub use Rattle.listing.specs.Placed as ListingPlaced
+pub use Rattle.listing.specs.Entries as ListingEntries
 pub use Rattle.listing.specs.Listing
 pub use Rattle.listing.specs.Begun as ListingBegun
-pub use Rattle.listing.specs.ListingOf
-pub use Rattle.listing.specs.BegunOf as ListingBegunOf
 pub use Rattle.listing.specs.Packets as ListingTablePackets
 pub use Rattle.listing.specs.Rows as ListingTableRows
-pub use Rattle.listing.specs.Table as ListingTable
-pub use Rattle.listing.specs.Part as ListingTablePart
-pub use Rattle.listing.specs.TableOf as ListingTableOf
-pub use Rattle.listing.specs.PartOf as ListingTablePartOf
 pub use Rattle.listing.specs.ReadBack as ListingTableReadBack
 pub use Rattle.output.specs.Fields as TableFields
 pub use Rattle.output.specs.Quoted as TableQuoted

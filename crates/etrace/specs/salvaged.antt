@@ -23,17 +23,14 @@ pub use Rattle.salvaging.specs.LossyParts
 pub use Rattle.salvaging.specs.AlikeParts
 pub use Rattle.salvage_reports.specs.Words as SalvagedWords
 pub use Rattle.salvage_reports.specs.Lines as SalvagedLines
-pub use Rattle.salvage_reports.specs.HartLines as SalvagedHartLines
 pub use Rattle.salvage_reports.specs.Effects as SalvagedEffects
 pub use Rattle.salvage_reports.specs.ListedAlike
 pub use Rattle.salvage_reports.specs.Offsets as SalvagedOffsets
-pub use Rattle.salvage_reports.specs.SalvagedRows as SalvagedRows
-pub use Rattle.salvage_reports.specs.SalvagedTable as SalvagedTable
-pub use Rattle.salvage_reports.specs.SalvagedReadBack as SalvagedReadBack
+pub use Rattle.salvage_reports.specs.SalvagedItems
+pub use Rattle.salvage_reports.specs.SalvagedReadBack
 pub use Rattle.salvage_reports.specs.Fields as TreatedFields
 pub use Rattle.salvage_reports.specs.TreatedRows as TreatedRows
-pub use Rattle.salvage_reports.specs.TreatedTable as TreatedTable
-pub use Rattle.salvage_reports.specs.HartTable as TreatedHartTable
+pub use Rattle.salvage_reports.specs.TreatedText
 pub use Rattle.salvage_reports.specs.EffectFields as TreatedEffects
 pub use Rattle.salvage_reports.specs.TreatedReadBack as TreatedReadBack
 pub use Rattle.salvage_reports.specs.Frames as CaptureFrames
@@ -42,8 +39,6 @@ pub use Rattle.salvage_reports.specs.Found
 pub use Rattle.salvage_reports.specs.Damage
 pub use Rattle.salvage_reports.specs.MessagesLine
 pub use Rattle.salvage_reports.specs.Layouts
-pub use Rattle.salvage_reports.specs.SalvagedText
-pub use Rattle.salvage_reports.specs.FoundTexts
 pub use Rattle.salvage_reports.specs.Salvaged as SalvagedCapture
 pub use Rattle.frames.specs.Frame
 pub use Rattle.frames.specs.Taken as FramesTaken

@@ -2,8 +2,8 @@
 //! listing, also as a table, and decoding, of all harts or of some, in one thread or in several.
 
 pub use capture_index::{
-    CaptureSurvey, DecodedHarts, HartEvents, Mark, Survey, WatchSurvey, feed_packet, packet_at,
-    survey_capture, survey_messages, write_decoded, write_decoded_of,
+    CaptureSurvey, HartEvents, Mark, Selection, Survey, WatchSurvey, feed_packet, packet_at,
+    survey_capture, survey_messages,
 };
 pub use capture_lines::{LineFault, LinesFault, Settings, write_capture};
 pub use captures::{
@@ -13,16 +13,15 @@ pub use captures::{
     read_front, read_messages, write_bytes_line, write_header_line, write_message_line,
     write_start,
 };
-pub use listing::{
-    Listed, list_capture, list_harts, list_watched, write_harts_table, write_listing_table,
-};
+pub use listing::{Form as ListingForm, ListInput, Listed, list_capture};
 pub use message::{
     Demux, DemuxFault, HartRange, Header, MOST_HARTS, Message, MessageFault, Messages, Start,
     Unwatched, Version, Watch, range_of, read_message, read_start, write_header, write_message,
 };
 pub use parallel_decode::{
-    MARK_EVENTS, MarkedCaptureSurvey, MarkedSurvey, Sharing, survey_capture_side_by_side,
-    survey_side_by_side, write_decoded_side_by_side, write_harts_side_by_side,
+    DecodedHarts, MARK_EVENTS, MarkedCaptureSurvey, MarkedSurvey, Sharing,
+    survey_capture_side_by_side, survey_side_by_side, write_decoded_side_by_side,
+    write_harts_side_by_side,
 };
 pub use receiver::{ReceiveFault, Receiver};
 pub use symbols::{Named, Symbols, SymbolsFault, write_symbol};

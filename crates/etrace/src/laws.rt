@@ -23,10 +23,7 @@ pub use funnel::{every_state_is_lawful, live_channel_is_the_machine};
 pub use legalpath::{
     logs_split_and_join, reasons_name_illegal_rows, retirements_lead_to_one_place,
 };
-pub use listing::{
-    all_harts_are_listed, all_harts_are_tabled as all_listed_harts_are_tabled,
-    rows_are_read_back as listed_rows_are_read_back,
-};
+pub use listing::rows_are_read_back as listed_rows_are_read_back;
 pub use losses::{stretches_are_whole, stretches_stand_apart};
 pub use message::all_harts_select_every_message;
 pub use path_match::{counts_add_up, whole_is_equal};
@@ -37,10 +34,9 @@ pub use retire::{
 pub use roundtrip::first_packets_settle_the_first_events;
 pub use rvclass::{cut_pieces_have_the_instructions_of_one, the_bytes_decide_the_instructions};
 pub use salvage_reports::{
-    accepted_messages_are_taken, all_harts_are_treated,
-    all_treated_harts_are_tabled as all_treated_harts_are_tabled, messages_of_logs_are_taken,
-    salvaged_rows_are_read_back as salvaged_rows_are_read_back, taken_messages_have_their_effect,
-    taken_messages_have_their_fields, treated_rows_are_read_back as treated_rows_are_read_back,
+    accepted_messages_are_taken, all_harts_are_treated, messages_of_logs_are_taken,
+    salvaged_rows_are_read_back, taken_messages_have_their_effect,
+    taken_messages_have_their_fields, treated_rows_are_read_back,
     undamaged_captures_are_listed_alike,
 };
 pub use salvaging::{

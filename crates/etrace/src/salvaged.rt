@@ -6,9 +6,8 @@ pub use frames::{
     message_size, search_capture, search_harts, spans_of, start_of,
 };
 pub use salvage_reports::{
-    Found, Frames, Layout, WatchSalvage, find_salvaged, frames_of, items_of, write_found,
-    write_messages, write_salvaged, write_salvaged_harts, write_salvaged_table, write_treated,
-    write_treated_harts, write_treated_harts_table, write_treated_table,
+    Found, Frames, Layout, TreatedCapture, WatchSalvage, find_salvaged, frames_of, items_of,
+    write_found, write_messages, write_salvaged, write_treated,
 };
 pub use salvaging::{
     Added, Part, Reason, Salvaged, SalvagedHart, Treated, Treatment, salvage, salvage_watched,

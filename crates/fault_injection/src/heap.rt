@@ -2,11 +2,13 @@
 
 use crate::count::Count;
 use std::alloc::{AllocError, Allocator};
+use std::sync::Arc;
+use std::sync::atomic::AtomicU64;
 
-/// An allocator that refuses one request for memory and hands all others on to another allocator.
+/// An allocator that refuses one request for memory, or holds it back, and hands all others on to another allocator.
 ///
 /// Collections hold a `&` to it. A list makes a request for its first capacity and at each growth. The contract is that
-/// of any allocator. No contract says which request is refused, since a cell holds the count.
+/// of any allocator. No contract says which request is refused or held back, since a cell holds the count.
 #[derive(Drop)]
 pub struct Refusing<B: Allocator> {
     inner: B,
@@ -22,6 +24,16 @@ impl<B: Allocator> Refusing<B> {
         }
     }
 
+    /// An allocator over another one. It refuses no request, and holds the one with this number back until `count`, which
+    /// other threads add to, is `wanted` or more, a second or more at most; then it lets other threads go on for a
+    /// while, in which the count may pass what is wanted.
+    pub fn holding(inner: B, held: u64, count: Arc<AtomicU64>, wanted: u64) -> Refusing<B> {
+        Refusing {
+            inner,
+            count: Count::holding(held, count, wanted),
+        }
+    }
+
     /// How many requests came, the refused one among them.
     pub fn requests(&self) -> u64 {
         self.count.made()
@@ -30,6 +42,11 @@ impl<B: Allocator> Refusing<B> {
     /// Whether a request was refused.
     pub fn has_refused(&self) -> bool {
         self.count.has_refused()
+    }
+
+    /// What the count was when the request that was held back was granted; `None` before.
+    pub fn seen(&self) -> Option<u64> {
+        self.count.seen()
     }
 }
 

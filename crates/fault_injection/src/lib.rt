@@ -1,4 +1,5 @@
-//! For tests: an allocator that refuses one request for memory, and a reader and a writer that fail at one call.
+//! For tests: an allocator that refuses one request for memory or holds it back, and a reader and a writer that fail at
+//! one call.
 //!
 //! Each is made with a number, which says which request is refused or which call fails; all others are granted. A test
 //! goes over the numbers from 0 on, with a [`Refusing`], a [`FailingReader`] or a [`FailingWriter`] for each, until
@@ -8,6 +9,7 @@
 
 mod count;
 mod heap;
+mod hold;
 mod reader;
 mod writer;
 

@@ -3,10 +3,11 @@ use Rattle.std.specs.Prelude.{ℕ, ◌≡◌, ◌==◌, ◌&&◌, is_none, Bool,
 use Rattle.std.specs.Prelude.{Result, Ok, Err, length}
 use Rattle.captures.specs.declared.outcome.CaptureFault.{CaptureFault}
 use Rattle.listing.specs.Listing.{IsListing}
-use Rattle.listing.specs.Table.{IsTable}
+use Rattle.listing.specs.declared.form.Form.{Form}
+use Rattle.listing.specs.declared.form.Form.TheVariants as form
+use Rattle.message.specs.Range.{every_hart}
 use Rattle.rvclass.specs.Fetch.{words_of}
 use Rattle.rvclass.specs.Image.{Image}
-use Rattle.rvclass.specs.Words.{Words}
 use Rattle.symbols.specs.Refused.{file_or_fault}
 use Rattle.symbols.specs.declared.fault.SymbolsFault.{SymbolsFault}
 use Rattle.symbols.specs.declared.fault.SymbolsFault.TheVariants as reading
@@ -16,16 +17,14 @@ use Rattle.ffi.specs.Numbers.{flag}
 use Rattle.ffi.specs.Texts.{ReportsText, first_unclosed}
 use Rattle.ffi.specs.declared.fault.Fault.TheVariants.{Memory, NoProgram, Range}
 use Rattle.ffi.specs.declared.listing_capture.TheConstants.{CSV, TEXT}
-use Rattle.ffi.specs.declared.listing_capture.TextFormat.{TextFormat}
-use Rattle.ffi.specs.declared.listing_capture.TextFormat.TheVariants as format
 use Rattle.ffi.specs.declared.texts.TextEnd.{TextEnd}
 use Rattle.ffi.specs.declared.texts.TextFault.{TextFault}
 use Rattle.ffi.specs.declared.texts.TextFault.TheVariants as text
 use Rattle.ffi.specs.declared.texts.Written.{Written}
 
 -- The format of a number.
-abbrev pub format_of : ℕ → Option TextFormat
-format_of number = if number == TEXT then Some format.Lines else if number == CSV then Some format.Table else None
+abbrev pub format_of : ℕ → Option Form
+format_of number = if number == TEXT then Some form.Lines else if number == CSV then Some form.Table else None
 
 -- A file of symbols that is read, or why it is not.
 abbrev pub some_file : Result (List ℕ) SymbolsFault → Result (Option (List ℕ)) SymbolsFault
@@ -36,12 +35,6 @@ some_file (Err why) = Err why
 abbrev pub symbols_in : List ℕ → Result (Option (List ℕ)) SymbolsFault
 symbols_in [] = Ok None
 symbols_in (byte ∷ bytes) = some_file (file_or_fault (byte ∷ bytes))
-
--- The text is the listing of a capture, in lines or as a table.
-abbrev pub IsListedIn : TextFormat → Words → ℕ → Option (List ℕ) → List ℕ → List Bool → Option (ℕ × CaptureFault)
-    → List ℕ → Type 0
-IsListedIn format.Lines words harts symbols capture = IsListing words harts symbols capture
-IsListedIn format.Table words harts symbols capture = IsTable words harts symbols capture
 
 -- How the text of a capture ends that decodes to these flags and stops there, in numbers.
 abbrev pub list_end : List Bool → Option (ℕ × CaptureFault) → TextEnd
@@ -54,7 +47,7 @@ list_end closed stop = record {
 }
 
 -- The text is the listing of a capture by the program of an image, with places named by symbols, and how it ends.
-pub record HasListing (image : Judged) (harts : ℕ) (capture symbols : List ℕ) (format : TextFormat) (text : List ℕ)
+pub record HasListing (image : Judged) (harts : ℕ) (capture symbols : List ℕ) (format : Form) (text : List ℕ)
     (end : TextEnd) : Type 0 where
   pub program : Image
   pub file : Option (List ℕ)
@@ -62,12 +55,12 @@ pub record HasListing (image : Judged) (harts : ℕ) (capture symbols : List ℕ
   pub stop : Option (ℕ × CaptureFault)
   pub made : image ≡ Ok program
   pub named : symbols_in symbols ≡ Ok file
-  pub listed : IsListedIn format (words_of program) harts file capture closed stop text
+  pub listed : IsListing (words_of program) format every_hart harts file capture closed stop text
   pub ended : end ≡ list_end closed stop
 
 -- The result for a capture, in a format that is named: its listing; or the image makes no program, or else the symbols
 -- are not read; or an allocation failed.
-abbrev pub IsListedAs : TextFormat → Judged → ℕ → List ℕ → List ℕ → Result Written TextFault → Type 0
+abbrev pub IsListedAs : Form → Judged → ℕ → List ℕ → List ℕ → Result Written TextFault → Type 0
 IsListedAs format image harts capture symbols (Ok found) =
     HasListing image harts capture symbols format found.text.items found.end
 IsListedAs format image harts capture symbols (Err (text.Of Memory)) = Unit {0}
@@ -82,7 +75,7 @@ pub data IsListed (image : Judged) (harts : ℕ) (capture symbols : List ℕ) (f
     (written : Result Written TextFault) : Type 0 where
   NoFormat : format_of format ≡ None → written ≡ Err (text.Of Range)
       → IsListed image harts capture symbols format written
-  InFormat : (named : TextFormat) → format_of format ≡ Some named
+  InFormat : (named : Form) → format_of format ≡ Some named
       → IsListedAs named image harts capture symbols written
       → IsListed image harts capture symbols format written
 

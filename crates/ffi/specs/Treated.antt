@@ -8,7 +8,6 @@ use Rattle.message.specs.declared.fault.MessageFault.{MessageFault}
 use Rattle.message.specs.declared.header.Header.{Header}
 use Rattle.rvclass.specs.Fetch.{words_of}
 use Rattle.rvclass.specs.Image.{Image}
-use Rattle.salvage_reports.specs.HartLines.{treated_text_of}
 use Rattle.salvage_reports.specs.Found.{IsSalvagedCapture}
 use Rattle.salvage_reports.specs.Frames.{is_run, messages_in}
 use Rattle.salvaging.specs.Treatments.{AreTreated}
@@ -18,23 +17,17 @@ use Rattle.frames.specs.Harts.{harts_counted}
 use Rattle.frames.specs.Search.{mode_of}
 use Rattle.frames.specs.Start.{spans_of}
 use Rattle.symbols.specs.declared.fault.SymbolsFault.TheVariants as reading
-use Rattle.salvage_reports.specs.HartTable.{treated_table_of}
+use Rattle.salvage_reports.specs.TreatedText.{treated_text_of}
 use Rattle.ffi.specs.Images.{Judged}
 use Rattle.ffi.specs.Listed.{format_of, symbols_in}
 use Rattle.ffi.specs.Salvaged.{harts_asked, salvage_end}
 use Rattle.ffi.specs.Texts.{ReportsText}
 use Rattle.ffi.specs.declared.fault.Fault.TheVariants.{Memory, NoProgram, Range}
-use Rattle.ffi.specs.declared.listing_capture.TextFormat.{TextFormat}
-use Rattle.ffi.specs.declared.listing_capture.TextFormat.TheVariants as format
+use Rattle.listing.specs.declared.form.Form.{Form}
 use Rattle.ffi.specs.declared.texts.TextEnd.{TextEnd}
 use Rattle.ffi.specs.declared.texts.TextFault.{TextFault}
 use Rattle.ffi.specs.declared.texts.TextFault.TheVariants as text
 use Rattle.ffi.specs.declared.texts.Written.{Written}
-
--- What salvaging does with each message of some harts, in lines or as a table.
-abbrev pub treated_in : TextFormat → HartRange → Option (List ℕ) → Option Header → List ℕ → List Treated → List ℕ
-treated_in format.Lines only file header capture treated = treated_text_of only file header capture treated
-treated_in format.Table only file header capture treated = treated_table_of only file header capture treated
 
 -- This is done with each message of all harts of a capture behind this header, or with none, where this count of harts
 -- is asked for, if one is.
@@ -45,7 +38,7 @@ AreTreatedBehind header asked program capture treated =
 
 -- The text is what salvaging does with each message of a capture by the program of an image, with places named by
 -- symbols, and how it ends, which is how salvaging ends.
-pub record HasTreated (format : TextFormat) (image : Judged) (asked : Option ℕ) (capture symbols text : List ℕ)
+pub record HasTreated (format : Form) (image : Judged) (asked : Option ℕ) (capture symbols text : List ℕ)
     (end : TextEnd) : Type 0 where
   pub program : Image
   pub file : Option (List ℕ)
@@ -57,12 +50,12 @@ pub record HasTreated (format : TextFormat) (image : Judged) (asked : Option ℕ
   pub named : symbols_in symbols ≡ Ok file
   pub found : IsSalvagedCapture asked program capture header why salvaged
   pub done : AreTreatedBehind header asked program capture treated
-  pub laid_out : text ≡ treated_in format every_hart file header capture treated
+  pub laid_out : text ≡ treated_text_of format every_hart file header capture treated
   pub ended : end ≡ salvage_end every_hart why (list_any is_run (spans_of header capture)) salvaged
 
 -- The result for a capture, in a format that is named: what is done with its messages; or the image makes no program,
 -- or else the symbols are not read; or an allocation failed.
-abbrev pub IsTreatedAs : TextFormat → Judged → Option ℕ → List ℕ → List ℕ → Result Written TextFault → Type 0
+abbrev pub IsTreatedAs : Form → Judged → Option ℕ → List ℕ → List ℕ → Result Written TextFault → Type 0
 IsTreatedAs format image asked capture symbols (Ok found) =
     HasTreated format image asked capture symbols found.text.items found.end
 IsTreatedAs format image asked capture symbols (Err (text.Of Memory)) = Unit {0}
@@ -77,7 +70,7 @@ pub data IsTreatedIn (image : Judged) (harts : ℕ) (capture symbols : List ℕ)
     (written : Result Written TextFault) : Type 0 where
   NoFormat : format_of format ≡ None → written ≡ Err (text.Of Range)
       → IsTreatedIn image harts capture symbols format written
-  InFormat : (named : TextFormat) → format_of format ≡ Some named
+  InFormat : (named : Form) → format_of format ≡ Some named
       → IsTreatedAs named image (harts_asked harts) capture symbols written
       → IsTreatedIn image harts capture symbols format written
 

@@ -127,7 +127,6 @@ pub use lines::LinesRefusal;
 pub use lines::tracebench_capture_of_lines;
 pub use listing_capture::CSV;
 pub use listing_capture::TEXT;
-pub use listing_capture::TextFormat;
 pub use listing_capture::tracebench_list;
 pub use listing_capture::tracebench_list_over_pieces;
 pub use listing_salvaged::tracebench_list_salvaged;

@@ -1,10 +1,10 @@
 //! The listing of a capture.
 
-ghost use Rattle.std.specs.Prelude.{◌≡◌, IfErr, IfOk, Ok, Some, option_map};
-ghost use Rattle.listing.specs.Listing.{AppendsListing};
+ghost use Rattle.std.specs.Prelude.{◌≡◌, IfErr, IfOk, Ok, Some};
+ghost use Rattle.listing.specs.Listing.{AppendsListing, IsListing, names_in};
 ghost use Rattle.rvclass.specs.Fetch.{words_of};
 ghost use Rattle.ffi.specs.Images.{OfPieces, judged_image};
-ghost use Rattle.ffi.specs.Listed.{IsListed, IsListedAs, IsListedIn, ReportsList, format_of, list_end};
+ghost use Rattle.ffi.specs.Listed.{IsListed, IsListedAs, ReportsList, format_of, list_end};
 ghost use Rattle.ffi.specs.Listed.{symbols_in};
 ghost use Rattle.ffi.specs.steps.Listing.{AreNotRead};
 
@@ -13,10 +13,9 @@ use crate::decoding::{stop_fault, stop_place};
 use crate::fault::Fault;
 use crate::images::{ImagePiece, Judged, judge_image, judge_pieces};
 use crate::texts::{TextEnd, TextFault, Written, first_unclosed, report_text};
-use listing::{Listed, list_watched, write_listing_table};
-use message::Unwatched;
+use listing::{Form, ListInput, Listed, list_capture};
+use message::{HartRange, Unwatched};
 use retire::WriteFault;
-use rvclass::ProgramOver;
 use std::alloc::Global;
 use symbols::{Symbols, SymbolsFault};
 
@@ -24,15 +23,6 @@ use symbols::{Symbols, SymbolsFault};
 pub const TEXT: u32 = 0;
 /// A table of CSV.
 pub const CSV: u32 = 1;
-
-/// How a text is laid out.
-#[derive(Clone, Copy)]
-pub enum TextFormat {
-    /// A line for each message.
-    Lines,
-    /// A table, with a row for each message.
-    Table,
-}
 
 /// Writes the listing of a capture to a buffer, as `tracebench list` prints it: a line for each message, with its
 /// packet and the events that it settles. Places are named by the symbols, which are lines as `nm` prints them; where
@@ -100,23 +90,23 @@ fn list_text(
 }
 
 /// The format of a number.
-pub(crate) fn format_of(number: u32) -> Option<TextFormat>
+pub(crate) fn format_of(number: u32) -> Option<Form>
     ensures { result ≡ format_of number }
 {
     match number {
-        TEXT => Some(TextFormat::Lines),
-        CSV => Some(TextFormat::Table),
+        TEXT => Some(Form::Lines),
+        CSV => Some(Form::Table),
         _ => None,
     }
 }
 
 /// The listing of a capture in a format, or why there is none.
-fn list_as(
+fn list_as<'x>(
     alloc: Global,
-    format: TextFormat,
-    image: &Judged<'_>,
+    format: Form,
+    image: &'x Judged<'x>,
     harts: u16,
-    capture: &[u8],
+    capture: &'x [u8],
     symbols: &[u8],
 ) -> Result<Written, TextFault>
     ensures { IsListedAs format image.now harts capture.now symbols.now result }
@@ -129,17 +119,16 @@ fn list_as(
         Ok(symbols) => symbols,
         Err(why) => return Err(TextFault::Symbols(why)),
     };
-    let mut text = Vec::new(alloc);
-    let listed = list_in(
-        alloc,
-        format,
+    let input = ListInput {
         program,
         harts,
+        only: HartRange::ALL,
         capture,
-        symbols.as_ref(),
-        &mut text,
-    );
-    match listed {
+        symbols: symbols.as_ref(),
+        form: format,
+    };
+    let mut text = Vec::new(alloc);
+    match list_in(alloc, &input, &mut text) {
         Ok(listed) => Ok(Written {
             text,
             end: end_of(&listed),
@@ -166,28 +155,13 @@ pub(crate) fn symbols_of(alloc: Global, bytes: &[u8]) -> Result<Option<Symbols>,
     }
 }
 
-/// Writes the listing of a capture in a format after what the text has.
-fn list_in(
-    alloc: Global,
-    format: TextFormat,
-    program: &ProgramOver<'_>,
-    harts: u16,
-    capture: &[u8],
-    symbols: Option<&Symbols>,
-    text: &mut Vec<u8>,
-) -> Result<Listed, WriteFault>
+/// Writes a listing after what the text has.
+fn list_in(alloc: Global, input: &ListInput<'_>, text: &mut Vec<u8>) -> Result<Listed, WriteFault>
     ensures { IfOk result (λ listed. AppendsListing
-        (IsListedIn format (words_of program.now) harts (option_map (λ file. file.now) symbols.entry) capture.now)
-        listed.closed.items listed.fault (Some text.old.items) (Some text.new.items)) }
+        (IsListing (words_of input.now.program.now) input.now.form input.now.only input.now.harts (names_in input.now)
+        input.now.capture.now) listed.closed.items listed.fault (Some text.old.items) (Some text.new.items)) }
 {
-    match format {
-        TextFormat::Lines => {
-            list_watched(alloc, program, harts, capture, symbols, text, &Unwatched)
-        }
-        TextFormat::Table => {
-            write_listing_table(alloc, program, harts, capture, symbols, text, &Unwatched)
-        }
-    }
+    list_capture(alloc, input, text, &Unwatched)
 }
 
 /// How a listing ends, in numbers.

@@ -4,19 +4,21 @@ ghost use Rattle.std.specs.Prelude.{◌≡◌, IfOk, OnOk, Some, option_map};
 ghost use Rattle.std.specs.Io.KnownBytes.{Appends};
 ghost use Rattle.message.specs.Range.{every_hart};
 ghost use Rattle.ffi.specs.Images.{OfPieces, judged_image};
-ghost use Rattle.ffi.specs.Treated.{IsTreatedAs, IsTreatedIn, ReportsTreated, treated_in};
+ghost use Rattle.salvage_reports.specs.TreatedText.{treated_text_of};
+ghost use Rattle.ffi.specs.Treated.{IsTreatedAs, IsTreatedIn, ReportsTreated};
 ghost use Rattle.ffi.specs.steps.Treating.{IsTreatedBy};
 
 use crate::fault::Fault;
 use crate::images::{ImagePiece, Judged, judge_image, judge_pieces};
-use crate::listing_capture::{TextFormat, format_of, symbols_of};
+use crate::listing_capture::{format_of, symbols_of};
 use crate::salvaged::{end_of_found, harts_asked};
 use crate::texts::{TextEnd, TextFault, Written, report_text};
 use frames::{harts_counted, mode_of, start_of};
+use listing::Form;
 use message::{HartRange, Header, Unwatched};
 use retire::WriteFault;
 use rvclass::ProgramOver;
-use salvage_reports::{find_salvaged, write_treated_harts, write_treated_harts_table};
+use salvage_reports::{TreatedCapture, find_salvaged, write_treated};
 use salvaging::{Treated, treat_watched};
 use std::alloc::Global;
 use symbols::Symbols;
@@ -89,7 +91,7 @@ fn treat_text(
 /// What salvaging does with each message of a capture in a format, or why that is not said.
 fn treat_as(
     alloc: Global,
-    format: TextFormat,
+    format: Form,
     image: &Judged<'_>,
     asked: Option<u16>,
     capture: &[u8],
@@ -114,7 +116,7 @@ fn treat_as(
 /// What salvaging does with each message of a capture by a program in a format.
 fn treat_by(
     alloc: Global,
-    format: TextFormat,
+    format: Form,
     program: &ProgramOver<'_>,
     asked: Option<u16>,
     capture: &[u8],
@@ -138,7 +140,7 @@ fn treat_by(
     let messages = found.frames.messages.as_slice();
     let treated = treat_watched(alloc, program, harts, mode, messages, &Unwatched)?;
     let mut text = Vec::new(alloc);
-    write_treated(
+    append_treated(
         format,
         symbols,
         start.header,
@@ -151,8 +153,8 @@ fn treat_by(
 }
 
 /// Writes what salvaging does with each message in a format after what the text has.
-fn write_treated(
-    format: TextFormat,
+fn append_treated(
+    format: Form,
     symbols: Option<&Symbols>,
     header: Option<Header>,
     capture: &[u8],
@@ -160,14 +162,13 @@ fn write_treated(
     text: &mut Vec<u8>,
 ) -> Result<(), WriteFault>
     ensures { OnOk result (Appends (Some text.old.items) (Some text.new.items)
-        (treated_in format every_hart (option_map (λ file. file.now) symbols.entry) header capture.now treated.now)) }
+        (treated_text_of format every_hart (option_map (λ file. file.now) symbols.entry) header capture.now treated.now)) }
 {
-    match format {
-        TextFormat::Lines => {
-            write_treated_harts(symbols, header, HartRange::ALL, capture, treated, text)
-        }
-        TextFormat::Table => {
-            write_treated_harts_table(symbols, header, HartRange::ALL, capture, treated, text)
-        }
-    }
+    let all = TreatedCapture {
+        header,
+        only: HartRange::ALL,
+        bytes: capture,
+        treated,
+    };
+    write_treated(format, symbols, all, text)
 }

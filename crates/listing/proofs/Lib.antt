@@ -1,6 +1,5 @@
 pub mod ListedMessages
 pub mod PlacedMessages
-pub mod AllHarts
 pub mod TakenMessages
 pub mod Reaching
 pub mod NothingListed
@@ -13,9 +12,5 @@ mod WorkedLines
 pub mod LastOf
 pub mod RowParts
 pub mod NamesWritten
-pub mod NextRows
-pub mod RowsSoFar
-pub mod AllHartsTabled
 pub mod PlainRows
-pub mod Behind
 mod WorkedRows

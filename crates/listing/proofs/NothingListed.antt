@@ -1,16 +1,17 @@
 -- The listing of no messages.
-use Rattle.std.proofs.Common.{◌≡◌, ℕ, false, List, [], Option, None, replicate, refl}
+use Rattle.std.proofs.Common.{◌≡◌, ℕ, false, [], None, replicate, refl}
 use Rattle.std.proofs.lemmas.List.{length-replicate}
 use Rattle.std.proofs.lemmas.List.Elements.{All-nil, All-replicate}
-use Rattle.message.specs.declared.range.HartRange.{HartRange}
+use Rattle.rvclass.specs.Fetch.{words_of}
 use Rattle.rvclass.specs.Words.{Words}
-use Rattle.payload.specs.declared.mode.Mode.{Mode}
 use Rattle.decoder.specs.Describes.{Describes}
 use Rattle.message.proofs.Elements.{All-slice_get}
 use Rattle.message.specs.Cut.{IsMessage}
 use Rattle.receiver.specs.Agreeing.{Agrees}
 use Rattle.receiver.specs.Holds.{AreDecoded}
-use Rattle.listing.specs.ListingOf.{AreMessagesListedOf}
+use Rattle.listing.specs.declared.capture_listing.Start.{Start}
+use Rattle.listing.specs.declared.input.ListInput.{ListInput}
+use Rattle.listing.specs.steps.Part.{AreListedFrom}
 
 -- No messages decode to no events, and close no hart.
 pub none_decoded : (words : Words) (harts : ℕ)
@@ -27,23 +28,22 @@ none_decoded words harts = record {
       (All-replicate (λ flag. flag ≡ false) harts false refl);
 }
 
--- They have no lines.
-unfoldable pub none_listed : (words : Words) (only : HartRange) (harts : ℕ) (announced : Option Mode)
-    (symbols : Option (List ℕ)) (first : ℕ)
-    → AreMessagesListedOf words only harts announced symbols first [] (replicate harts false) None []
-none_listed words only harts announced symbols first = record {
+-- They have no entries.
+pub none_listed : {S : Type 0} (input : ListInput S) (harts : ℕ) (start : Start)
+    → AreListedFrom input harts start [] (replicate harts false) None []
+none_listed input harts start = record {
   messages = [];
   rest = [];
   ranges = All-nil IsMessage;
   whole = refl;
   accepted = tt;
-  agree = All-nil (Agrees announced);
+  agree = All-nil (Agrees start.announced);
   lists = replicate harts [];
-  decoded = none_decoded words harts;
+  decoded = none_decoded (words_of input.program.now) harts;
   stops = refl;
   effects = [];
   have = tt;
   last = [];
-  last_line = refl;
-  lines = refl;
+  last_entry = refl;
+  entries = refl;
 }

@@ -1,18 +1,21 @@
--- The places and the lines of messages of some harts, and one message more.
-use Rattle.std.proofs.Common.{◌≡◌, ◌+◌, ◌++◌, ℕ, Bool, true, false, List, [], ◌∷◌, Option, filter, length, refl, sym, ap, ap₂}
+-- The places and the entries of messages of some harts, and one message more.
+use Rattle.std.proofs.Common.{◌≡◌, ◌+◌, ◌++◌, ℕ, All, Bool, true, false, List, [], ◌∷◌, Option, filter, length, refl}
+use Rattle.std.proofs.Common.{sym, ap, ap₂}
 use Rattle.std.proofs.Common.{◌∙◌, arith, append-nil, append_assoc, suc}
 use Rattle.std.proofs.lemmas.List.{length-append}
-use Rattle.std.proofs.lemmas.List.Elements.{filter-append}
-use Rattle.message.proofs.Selecting.{none_selected, one_selected, selected-append}
-use Rattle.message.specs.Range.{selected, selects}
+use Rattle.std.proofs.lemmas.List.Elements.{All-head, All-tail, filter-append}
+use Rattle.message.proofs.Selecting.{every_hart_selects, none_selected, one_selected, selected-append}
+use Rattle.message.specs.Range.{every_hart, selected, selects}
 use Rattle.message.specs.declared.range.HartRange.{HartRange}
 use Rattle.rvclass.specs.Words.{Words}
 use Rattle.payload.specs.declared.mode.Mode.{Mode}
 use Rattle.message.specs.Capture.{capture, message_bytes}
+use Rattle.message.specs.Cut.{IsMessage}
 use Rattle.message.specs.declared.message.Message.{Message}
 use Rattle.listing.specs.Effect.{Effect, HaveEffects}
-use Rattle.listing.specs.Lines.{effect_line}
-use Rattle.listing.specs.Placed.{PlacedMessage, placed, placed_lines, placed_of}
+use Rattle.listing.specs.Entries.{effect_entry, placed_entries}
+use Rattle.listing.specs.Placed.{PlacedMessage, placed, placed_of}
+use Rattle.listing.specs.declared.form.Form.{Form}
 
 -- Messages have as many effects as they are.
 pub effects_counted : (words : Words) (before messages : List Message) (effects : List Effect)
@@ -96,31 +99,42 @@ module _ (only : HartRange) where
       by true is more = rw is (ap suc more)
       by false is more = rw is more
 
-module _ (symbols : Option (List ℕ)) (mode : Mode) where
-  -- The line of one message more stands behind those of the messages before.
-  placed_lines-next : (shown : List PlacedMessage) (effects : List Effect) (one : PlacedMessage) (effect : Effect)
+-- All messages are placed, where all harts are selected.
+pub all_placed : (place offset : ℕ) (messages : List Message) → All IsMessage messages
+    → placed_of every_hart place offset messages ≡ placed place offset messages
+all_placed place offset [] are = refl
+all_placed place offset (m ∷ messages) are =
+    let one : PlacedMessage = record { place = place; offset = offset; message = m } in
+    rw (every_hart_selects m.hart (All-head IsMessage m messages are).hart)
+    (ap (λ (l : List PlacedMessage). one ∷ l)
+    (all_placed (place + 1) (offset + length (message_bytes m)) messages (All-tail IsMessage m messages are)))
+
+module _ (form : Form) (symbols : Option (List ℕ)) (mode : Mode) where
+  -- The entry of one message more stands behind those of the messages before.
+  placed_entries-next : (shown : List PlacedMessage) (effects : List Effect) (one : PlacedMessage) (effect : Effect)
       → length shown ≡ length effects
-      → placed_lines symbols mode (shown ++ one ∷ []) (effects ++ effect ∷ [])
-      ≡ placed_lines symbols mode shown effects ++ effect_line symbols mode one.offset one.message effect
-  placed_lines-next [] [] one effect counted =
-      append-nil (effect_line symbols mode one.offset one.message effect)
-  placed_lines-next [] (e ∷ effects) one effect counted = absurd (omega (arith, counted))
-  placed_lines-next (s ∷ shown) [] one effect counted = absurd (omega (arith, counted))
-  placed_lines-next (s ∷ shown) (e ∷ effects) one effect counted =
-      let line = effect_line symbols mode s.offset s.message e in
+      → placed_entries form symbols mode (shown ++ one ∷ []) (effects ++ effect ∷ [])
+      ≡ placed_entries form symbols mode shown effects
+      ++ effect_entry form symbols mode one.place one.offset one.message effect
+  placed_entries-next [] [] one effect counted =
+      append-nil (effect_entry form symbols mode one.place one.offset one.message effect)
+  placed_entries-next [] (e ∷ effects) one effect counted = absurd (omega (arith, counted))
+  placed_entries-next (s ∷ shown) [] one effect counted = absurd (omega (arith, counted))
+  placed_entries-next (s ∷ shown) (e ∷ effects) one effect counted =
+      let entry = effect_entry form symbols mode s.place s.offset s.message e in
       let same : length shown ≡ length effects = omega (arith, counted) in
-      ap (λ l. line ++ l) (placed_lines-next shown effects one effect same)
-      ∙ sym (append_assoc line (placed_lines symbols mode shown effects)
-      (effect_line symbols mode one.offset one.message effect))
+      ap (λ l. entry ++ l) (placed_entries-next shown effects one effect same)
+      ∙ sym (append_assoc entry (placed_entries form symbols mode shown effects)
+      (effect_entry form symbols mode one.place one.offset one.message effect))
 
   -- So does that of a message of these harts, behind those of the messages of these.
-  pub lines-taken : (only : HartRange) (offset : ℕ) (messages : List Message) (effects : List Effect) (m : Message)
+  pub entries-taken : (only : HartRange) (offset : ℕ) (messages : List Message) (effects : List Effect) (m : Message)
       (effect : Effect) → selects only m.hart ≡ true → length (selected only messages) ≡ length effects
-      → placed_lines symbols mode (placed_of only 0 offset (messages ++ m ∷ [])) (effects ++ effect ∷ [])
-      ≡ placed_lines symbols mode (placed_of only 0 offset messages) effects
-      ++ effect_line symbols mode (offset + length (capture messages)) m effect
-  lines-taken only offset messages effects m effect is counted =
-      ap (λ l. placed_lines symbols mode l (effects ++ effect ∷ [])) (placed-taken only 0 offset messages m is)
-      ∙ placed_lines-next (placed_of only 0 offset messages) effects
+      → placed_entries form symbols mode (placed_of only 0 offset (messages ++ m ∷ [])) (effects ++ effect ∷ [])
+      ≡ placed_entries form symbols mode (placed_of only 0 offset messages) effects
+      ++ effect_entry form symbols mode (0 + length messages) (offset + length (capture messages)) m effect
+  entries-taken only offset messages effects m effect is counted =
+      ap (λ l. placed_entries form symbols mode l (effects ++ effect ∷ [])) (placed-taken only 0 offset messages m is)
+      ∙ placed_entries-next (placed_of only 0 offset messages) effects
       (record { place = 0 + length messages; offset = offset + length (capture messages); message = m }) effect
       (places_counted only 0 offset messages ∙ counted)

@@ -1,6 +1,6 @@
 -- How far a capture was listed.
 use Rattle.std.proofs.Common.{◌≡◌, ◌⊎◌, inl, inr, ℕ, ◌+◌, ◌++◌, All, Bool, List, [], ◌∷◌, Option, Some, None, length}
-use Rattle.std.proofs.Common.{true, false, refl, sym, ap, subst, ◌∙◌, append-nil, arith}
+use Rattle.std.proofs.Common.{true, false, refl, sym, ap, ap₂, subst, ◌∙◌, append-nil, arith}
 use Rattle.std.specs.Io.KnownBytes.{Appends}
 use Rattle.std.proofs.KnownBytes.{Appends-nil, Appends-trans}
 use Rattle.std.proofs.lemmas.List.{length-append, length_push}
@@ -10,6 +10,7 @@ use Rattle.output.specs.Begun.{AppendsBeginning}
 use Rattle.output.proofs.Beginnings.{begun_behind}
 use Rattle.message.specs.Range.{selected, selects}
 use Rattle.message.specs.declared.range.HartRange.{HartRange}
+use Rattle.rvclass.specs.Fetch.{words_of}
 use Rattle.rvclass.specs.Words.{Words}
 use Rattle.payload.specs.declared.mode.Mode.{Mode}
 use Rattle.decoder.specs.declared.fault.DecodeFault.TheVariants as decoding
@@ -30,73 +31,86 @@ use Rattle.captures.specs.NoMessage.{BeginsNone}
 use Rattle.captures.specs.declared.outcome.CaptureFault.{CaptureFault}
 use Rattle.captures.specs.declared.outcome.CaptureFault.TheVariants as fault
 use Rattle.listing.proofs.ListedMessages.{effects-next}
-use Rattle.listing.proofs.PlacedMessages.{effects_counted, lines-taken, placed-passed, selected-passed, selected-taken}
+use Rattle.listing.proofs.PlacedMessages.{effects_counted, entries-taken, placed-passed, selected-passed}
+use Rattle.listing.proofs.PlacedMessages.{selected-taken}
 use Rattle.listing.specs.Begun.{BeginsPart}
 use Rattle.listing.specs.Effect.{Effect, HaveEffects}
-use Rattle.listing.specs.Lines.{effect_line, offset_line, refused_line}
-use Rattle.listing.specs.Listing.{AppendsListing, IsFaultLine, IsRefusedLine, naming_mode}
-use Rattle.listing.specs.ListingOf.{AreMessagesListedOf, BeginsRefusedOf, StopsDecodingOf}
-use Rattle.listing.specs.Placed.{placed_lines, placed_of}
-use Rattle.listing.specs.steps.Message.{IsJudgedOf, IsRefused, IsTaken, Judged, Passed, fault_line}
-use Rattle.listing.specs.steps.Part.{IsPartOfMessages, OfAll, OfFront}
+use Rattle.listing.specs.Entries.{effect_entry, incomplete_entry, placed_entries, refused_entry}
+use Rattle.listing.specs.Listing.{AppendsListing, BeginsRefusedOf, IsFaultEntry, IsRefusedEntry, StopsDecodingOf}
+use Rattle.listing.specs.Listing.{names_in, naming_mode}
+use Rattle.listing.specs.Placed.{placed_of}
+use Rattle.listing.specs.declared.capture_listing.Start.{Start}
+use Rattle.listing.specs.declared.entries.At.{At}
+use Rattle.listing.specs.declared.form.Form.{Form}
+use Rattle.listing.specs.declared.input.ListInput.{ListInput}
+use Rattle.listing.specs.steps.Message.{IsJudgedOf, IsRefused, IsTaken, Judged, Passed, fault_entry}
+use Rattle.listing.specs.steps.Part.{AreListedFrom, IsPartOfMessages, OfAll, OfFront}
 
 -- So many messages stand before the bytes that are left. Those of these harts were received, with these effects. What is
 -- left stands at this offset.
-pub record HasTaken (words : Words) (only : HartRange) (harts : ℕ) (announced : Option Mode) (first : ℕ)
-    (bytes left : List ℕ) (number offset : ℕ) (received : Received) : Type 0 where
+pub record HasTaken {S : Type 0} (input : ListInput S) (harts : ℕ) (start : Start) (bytes left : List ℕ)
+    (number offset : ℕ) (received : Received) : Type 0 where
   pub messages : List Message
   pub counted : number ≡ length messages
   pub ranges : All IsMessage messages
   pub whole : bytes ≡ capture messages ++ left
-  pub agree : All (Agrees announced) (selected only messages)
-  pub takes : HasReceived (λ hart. words) harts (selected only messages) received
+  pub agree : All (Agrees start.announced) (selected input.only messages)
+  pub takes : HasReceived (λ hart. words_of input.program.now) harts (selected input.only messages) received
   pub effects : List Effect
-  pub have : HaveEffects words [] (selected only messages) effects
-  pub stands : offset ≡ first + length (capture messages)
+  pub have : HaveEffects (words_of input.program.now) [] (selected input.only messages) effects
+  pub stands : offset ≡ start.first + length (capture messages)
 
--- And their lines were written.
-pub record HasListed (words : Words) (only : HartRange) (harts : ℕ) (announced : Option Mode)
-    (symbols : Option (List ℕ)) (first : ℕ) (bytes left : List ℕ) (number offset : ℕ) (received : Received)
-    (old new : Option (List ℕ)) : Type 0 where
-  pub taken : HasTaken words only harts announced first bytes left number offset received
-  pub text : Appends old new
-      (placed_lines symbols (naming_mode announced) (placed_of only 0 first taken.messages) taken.effects)
+-- And their entries were written.
+pub record HasListed {S : Type 0} (input : ListInput S) (harts : ℕ) (start : Start) (bytes left : List ℕ)
+    (number offset : ℕ) (received : Received) (old new : Option (List ℕ)) : Type 0 where
+  pub taken : HasTaken input harts start bytes left number offset received
+  pub text : Appends old new (placed_entries input.form (names_in input) (naming_mode start.announced)
+      (placed_of input.only 0 start.first taken.messages) taken.effects)
 
--- The refused message behind the bytes that decode has its line.
-pub fault_line_is : (mode : Mode) (offset : ℕ) (m : Message) (next left : List ℕ) (why : ReceiveFault) → IsMessage m
-    → left ≡ message_bytes m ++ next
-    → IsFaultLine mode offset left (as_capture_fault why) (fault_line mode offset m why)
-fault_line_is mode offset m next left why is here = by_fault why
+-- The refused message behind the bytes that decode has its entry.
+fault_entry_is : (form : Form) (mode : Mode) (at : At) (m : Message) (next left : List ℕ) (why : ReceiveFault)
+    → IsMessage m → left ≡ message_bytes m ++ next
+    → IsFaultEntry form mode at.number at.offset left (as_capture_fault why) (fault_entry form mode at m why)
+fault_entry_is form mode at m next left why is here = by_fault why
   where
-    line : IsRefusedLine mode offset left (refused_line mode offset m)
-    line = record { message = m; behind = next; ranges = is; begins = here; text = refl }
+    entry : IsRefusedEntry form mode at.number at.offset left (refused_entry form mode at.number at.offset m)
+    entry = record { message = m; behind = next; ranges = is; begins = here; text_is = refl }
 
     by_fault : (why : ReceiveFault)
-        → IsFaultLine mode offset left (as_capture_fault why) (fault_line mode offset m why)
-    by_fault (receiving.Demux d) = line
-    by_fault receiving.Mode = line
+        → IsFaultEntry form mode at.number at.offset left (as_capture_fault why) (fault_entry form mode at m why)
+    by_fault (receiving.Demux d) = entry
+    by_fault receiving.Mode = entry
     by_fault (receiving.Decode decoding.Memory) = refl
-    by_fault (receiving.Decode d) = line
+    by_fault (receiving.Decode d) = entry
 
-module _ (words : Words) (only : HartRange) (harts : ℕ) (announced : Option Mode) (symbols : Option (List ℕ))
-    (first : ℕ) (bytes : List ℕ) where
+module _ {S : Type 0} (input : ListInput S) (harts : ℕ) (start : Start) (bytes : List ℕ) where
+  abbrev words : Words
+  words = words_of input.program.now
+
+  abbrev only : HartRange
+  only = input.only
+
+  abbrev announced : Option Mode
+  announced = start.announced
+
+  abbrev first : ℕ
+  first = start.first
+
   abbrev Takes : List ℕ → ℕ → ℕ → Received → Type 0
-  Takes left number offset received = HasTaken words only harts announced first bytes left number offset received
+  Takes left number offset received = HasTaken input harts start bytes left number offset received
 
   abbrev Lists : List ℕ → ℕ → ℕ → Received → Option (List ℕ) → Option (List ℕ) → Type 0
-  Lists left number offset received old new =
-      HasListed words only harts announced symbols first bytes left number offset received old new
+  Lists left number offset received old new = HasListed input harts start bytes left number offset received old new
 
-  abbrev lines_of : List Message → List Effect → List ℕ
-  lines_of messages effects =
-      placed_lines symbols (naming_mode announced) (placed_of only 0 first messages) effects
+  abbrev entries_of : List Message → List Effect → List ℕ
+  entries_of messages effects =
+      placed_entries input.form (names_in input) (naming_mode announced) (placed_of only 0 first messages) effects
 
   abbrev AreListed : List ℕ → List Bool → Option (ℕ × CaptureFault) → List ℕ → Type 0
-  AreListed bytes closed stop text =
-      AreMessagesListedOf words only harts announced symbols first bytes closed stop text
+  AreListed bytes closed stop text = AreListedFrom input harts start bytes closed stop text
 
   -- At first none was.
-  unfoldable pub listed_none : (received : Received) (old : Option (List ℕ)) → HasReceived (λ hart. words) harts [] received
+  pub listed_none : (received : Received) (old : Option (List ℕ)) → HasReceived (λ hart. words) harts [] received
       → Lists bytes 0 first received old old
   listed_none received old has = record {
     taken = record {
@@ -114,8 +128,8 @@ module _ (words : Words) (only : HartRange) (harts : ℕ) (announced : Option Mo
   }
 
   -- What was received is listed, of the bytes that were read.
-  unfoldable pub front_listed : (left : List ℕ) (number offset : ℕ) (received : Received) → (r : Takes left number offset received)
-      → AreListed (capture r.messages) received.closed None (lines_of r.messages r.effects)
+  front_listed : (left : List ℕ) (number offset : ℕ) (received : Received) (r : Takes left number offset received)
+      → AreListed (capture r.messages) received.closed None (entries_of r.messages r.effects)
   front_listed left number offset received r = record {
     messages = r.messages;
     rest = [];
@@ -129,8 +143,8 @@ module _ (words : Words) (only : HartRange) (harts : ℕ) (announced : Option Mo
     effects = r.effects;
     have = r.have;
     last = [];
-    last_line = refl;
-    lines = sym (append-nil (lines_of r.messages r.effects));
+    last_entry = refl;
+    entries = sym (append-nil (entries_of r.messages r.effects));
   }
 
   -- All of them were listed, where the bytes end.
@@ -142,14 +156,14 @@ module _ (words : Words) (only : HartRange) (harts : ℕ) (announced : Option Mo
       let all : bytes ≡ capture so_far.messages =
       so_far.whole ∙ ap (λ rest. capture so_far.messages ++ rest) ended ∙ append-nil (capture so_far.messages) in
       record {
-        text = lines_of so_far.messages so_far.effects;
-        listed = subst (λ bytes. AreListed bytes received.closed None (lines_of so_far.messages so_far.effects))
+        text = entries_of so_far.messages so_far.effects;
+        listed = subst (λ bytes. AreListed bytes received.closed None (entries_of so_far.messages so_far.effects))
             (sym all) (front_listed left number offset received so_far);
         appended = r.text;
       }
 
   -- The fault of messages says why none stands there.
-  pub none_by : (left : List ℕ) (why : MessageFault) → (why ≡ message.Short) ⊎ (why ≡ message.BadLength)
+  none_by : (left : List ℕ) (why : MessageFault) → (why ≡ message.Short) ⊎ (why ≡ message.BadLength)
       → (why ≡ message.Short → IsCut left) → (why ≡ message.BadLength → HasBadLength left) → BeginsNone left why
   none_by left why (inl short) cut bad = subst (BeginsNone left) (sym short) (cut short)
   none_by left why (inr long) cut bad = subst (BeginsNone left) (sym long) (bad long)
@@ -159,14 +173,19 @@ module _ (words : Words) (only : HartRange) (harts : ℕ) (announced : Option Mo
     abbrev so_far : Takes left number offset received
     so_far = r.taken
 
-    abbrev lines : List ℕ
-    lines = lines_of so_far.messages so_far.effects
+    -- Where the next message stands.
+    abbrev at : At
+    at = record { number = number; offset = offset }
+
+    abbrev entries : List ℕ
+    entries = entries_of so_far.messages so_far.effects
 
     module _ (new : Option (List ℕ)) (why : MessageFault)
         (either : (why ≡ message.Short) ⊎ (why ≡ message.BadLength)) (cut : why ≡ message.Short → IsCut left)
         (bad : why ≡ message.BadLength → HasBadLength left) where
       -- No message stands behind them.
-      unfoldable pub cut_listed : AreListed bytes received.closed (Some (number, fault.Message why)) (lines ++ offset_line offset)
+      cut_listed : AreListed bytes received.closed (Some (number, fault.Message why))
+          (entries ++ incomplete_entry input.form number offset)
       cut_listed = record {
         messages = so_far.messages;
         rest = left;
@@ -179,27 +198,27 @@ module _ (words : Words) (only : HartRange) (harts : ℕ) (announced : Option Mo
         stops = (so_far.counted, none_by left why either cut bad);
         effects = so_far.effects;
         have = so_far.have;
-        last = offset_line offset;
-        last_line = ap offset_line so_far.stands;
-        lines = refl;
+        last = incomplete_entry input.form number offset;
+        last_entry = ap₂ (incomplete_entry input.form) so_far.counted so_far.stands;
+        entries = refl;
       }
 
-      -- The offset was written behind the lines.
-      pub cut_written : Appends mid new (offset_line offset)
+      -- The offset was written behind the entries.
+      pub cut_written : Appends mid new (incomplete_entry input.form number offset)
           → AppendsListing (AreListed bytes) received.closed (Some (number, fault.Message why)) old new
       cut_written written = record {
-        text = lines ++ offset_line offset;
+        text = entries ++ incomplete_entry input.form number offset;
         listed = cut_listed;
-        appended = Appends-trans old mid new lines (offset_line offset) r.text written;
+        appended = Appends-trans old mid new entries (incomplete_entry input.form number offset) r.text written;
       }
 
       -- A beginning of it was.
-      pub cut_begun : AppendsBeginning (offset_line offset) mid new
-          → BeginsPart (IsPartOfMessages words only harts announced symbols first bytes) old new
+      pub cut_begun : AppendsBeginning (incomplete_entry input.form number offset) mid new
+          → BeginsPart (IsPartOfMessages input harts start bytes) old new
       cut_begun begun = record {
-        text = lines ++ offset_line offset;
+        text = entries ++ incomplete_entry input.form number offset;
         part = OfAll received.closed (Some (number, fault.Message why)) cut_listed;
-        begun = begun_behind lines (offset_line offset) old mid new r.text begun;
+        begun = begun_behind entries (incomplete_entry input.form number offset) old mid new r.text begun;
       }
 
     module _ (next : List ℕ) (after : Received) (m : Message) (is : IsMessage m) (here : left ≡ message_bytes m ++ next)
@@ -209,15 +228,15 @@ module _ (words : Words) (only : HartRange) (harts : ℕ) (announced : Option Mo
         before = selected only so_far.messages
 
         -- It stands behind the others.
-        pub counted_more : number + 1 ≡ length (so_far.messages ++ m ∷ [])
+        counted_more : number + 1 ≡ length (so_far.messages ++ m ∷ [])
         counted_more = ap (λ n. n + 1) so_far.counted ∙ sym (length_push so_far.messages m)
 
-        pub whole_more : bytes ≡ capture (so_far.messages ++ m ∷ []) ++ next
+        whole_more : bytes ≡ capture (so_far.messages ++ m ∷ []) ++ next
         whole_more =
             so_far.whole ∙ ap (λ rest. capture so_far.messages ++ rest) here
             ∙ sym (capture_next so_far.messages m next)
 
-        pub stands_more : offset + length (message_bytes m) ≡ first + length (capture (so_far.messages ++ m ∷ []))
+        stands_more : offset + length (message_bytes m) ≡ first + length (capture (so_far.messages ++ m ∷ []))
         stands_more =
             let stands = so_far.stands in
             let size = ap length (capture_next so_far.messages m []) in
@@ -227,10 +246,10 @@ module _ (words : Words) (only : HartRange) (harts : ℕ) (announced : Option Mo
             omega (arith, stands, size, front, behind, last)
 
         -- One more message of these harts is received.
-        unfoldable pub taken_more : (line : List ℕ) → selects only m.hart ≡ true
-            → IsTaken words harts announced symbols offset before m after line
+        unfoldable taken_more : (entry : List ℕ) → selects only m.hart ≡ true
+            → IsTaken input harts announced at before m after entry
             → Takes next (number + 1) (offset + length (message_bytes m)) after
-        taken_more line chosen taken =
+        taken_more entry chosen taken =
             let same = sym (selected-taken only so_far.messages m chosen) in
             record {
               messages = so_far.messages ++ m ∷ [];
@@ -248,7 +267,7 @@ module _ (words : Words) (only : HartRange) (harts : ℕ) (announced : Option Mo
             }
 
         -- One more message of another hart is passed over.
-        unfoldable pub passed_more : selects only m.hart ≡ false → HasReceived (λ hart. words) harts before after
+        unfoldable passed_more : selects only m.hart ≡ false → HasReceived (λ hart. words) harts before after
             → Takes next (number + 1) (offset + length (message_bytes m)) after
         passed_more passed has =
             let same = sym (selected-passed only so_far.messages m passed) in
@@ -264,32 +283,36 @@ module _ (words : Words) (only : HartRange) (harts : ℕ) (announced : Option Mo
               stands = stands_more;
             }
 
-        -- Its line stands behind the others.
-        line_behind : (line : List ℕ) → selects only m.hart ≡ true
-            → (taken : IsTaken words harts announced symbols offset before m after line)
-            → lines_of (so_far.messages ++ m ∷ []) (so_far.effects ++ taken.effect ∷ []) ≡ lines ++ line
-        line_behind line chosen taken =
-            lines-taken symbols (naming_mode announced) only first so_far.messages so_far.effects m taken.effect chosen
+        -- Its entry stands behind the others.
+        entry_behind : (entry : List ℕ) → selects only m.hart ≡ true
+            → (taken : IsTaken input harts announced at before m after entry)
+            → entries_of (so_far.messages ++ m ∷ []) (so_far.effects ++ taken.effect ∷ []) ≡ entries ++ entry
+        entry_behind entry chosen taken =
+            let mode = naming_mode announced in
+            let here : number ≡ 0 + length so_far.messages = so_far.counted ∙ omega arith in
+            entries-taken input.form (names_in input) mode only first so_far.messages so_far.effects m taken.effect
+            chosen
             (effects_counted words [] before so_far.effects so_far.have)
-            ∙ ap (λ l. lines ++ l)
-            (sym (taken.text ∙ ap (λ at. effect_line symbols (naming_mode announced) at m taken.effect) so_far.stands))
+            ∙ ap (λ l. entries ++ l) (sym (taken.text
+            ∙ ap₂ (λ number offset. effect_entry input.form (names_in input) mode number offset m taken.effect) here
+            so_far.stands))
 
         -- A message that is passed over has none.
-        lines_stay : selects only m.hart ≡ false → lines_of (so_far.messages ++ m ∷ []) so_far.effects ≡ lines
-        lines_stay passed =
-            ap (λ l. placed_lines symbols (naming_mode announced) l so_far.effects)
+        entries_stay : selects only m.hart ≡ false → entries_of (so_far.messages ++ m ∷ []) so_far.effects ≡ entries
+        entries_stay passed =
+            ap (λ l. placed_entries input.form (names_in input) (naming_mode announced) l so_far.effects)
             (placed-passed only 0 first so_far.messages m passed)
 
         -- And then it is written.
-        listed_more : (line : List ℕ) (new : Option (List ℕ)) → selects only m.hart ≡ true
-            → IsTaken words harts announced symbols offset before m after line
-            → Appends mid new line
+        listed_more : (entry : List ℕ) (new : Option (List ℕ)) → selects only m.hart ≡ true
+            → IsTaken input harts announced at before m after entry
+            → Appends mid new entry
             → Lists next (number + 1) (offset + length (message_bytes m)) after old new
         unfolding taken_more
-        listed_more line new chosen taken written = record {
-          taken = taken_more line chosen taken;
-          text = subst (Appends old new) (sym (line_behind line chosen taken))
-              (Appends-trans old mid new lines line r.text written);
+        listed_more entry new chosen taken written = record {
+          taken = taken_more entry chosen taken;
+          text = subst (Appends old new) (sym (entry_behind entry chosen taken))
+              (Appends-trans old mid new entries entry r.text written);
         }
 
         passed_listed : (new : Option (List ℕ)) → selects only m.hart ≡ false
@@ -298,15 +321,15 @@ module _ (words : Words) (only : HartRange) (harts : ℕ) (announced : Option Mo
         unfolding passed_more
         passed_listed new passed has written = record {
           taken = passed_more passed has;
-          text = subst (Appends old new) (append-nil lines ∙ sym (lines_stay passed))
-              (Appends-trans old mid new lines [] r.text written);
+          text = subst (Appends old new) (append-nil entries ∙ sym (entries_stay passed))
+              (Appends-trans old mid new entries [] r.text written);
         }
 
-        -- The message behind them is refused, and has its line.
-        unfoldable pub refused_listed : (why : ReceiveFault) (line : List ℕ) → selects only m.hart ≡ true
-            → IsRefused words harts announced offset before m after why line
-            → AreListed bytes after.closed (Some (number, as_capture_fault why)) (lines ++ line)
-        refused_listed why line chosen refused = record {
+        -- The message behind them is refused, and has its entry.
+        refused_listed : (why : ReceiveFault) (entry : List ℕ) → selects only m.hart ≡ true
+            → IsRefused input harts announced at before m after why entry
+            → AreListed bytes after.closed (Some (number, as_capture_fault why)) (entries ++ entry)
+        refused_listed why entry chosen refused = record {
           messages = so_far.messages;
           rest = left;
           ranges = so_far.ranges;
@@ -318,13 +341,16 @@ module _ (words : Words) (only : HartRange) (harts : ℕ) (announced : Option Mo
           stops = (so_far.counted, stops why (record { refused = begins; is_of_these = chosen }));
           effects = so_far.effects;
           have = so_far.have;
-          last = line;
-          last_line = subst (λ l. IsFaultLine (naming_mode announced) (first + length (capture so_far.messages)) left
-              (as_capture_fault why) l)
-              (sym (refused.text ∙ ap (λ at. fault_line (naming_mode announced) at m why) so_far.stands))
-              (fault_line_is (naming_mode announced) (first + length (capture so_far.messages)) m next left why is
-              here);
-          lines = refl;
+          last = entry;
+          last_entry = subst (λ l. IsFaultEntry input.form (naming_mode announced) (length so_far.messages)
+              (first + length (capture so_far.messages)) left (as_capture_fault why) l) (sym refused.text)
+              (subst (λ n. IsFaultEntry input.form (naming_mode announced) n
+              (first + length (capture so_far.messages)) left (as_capture_fault why)
+              (fault_entry input.form (naming_mode announced) at m why)) so_far.counted
+              (subst (λ n. IsFaultEntry input.form (naming_mode announced) number n left (as_capture_fault why)
+              (fault_entry input.form (naming_mode announced) at m why)) so_far.stands
+              (fault_entry_is input.form (naming_mode announced) at m next left why is here)));
+          entries = refl;
         }
           where
             begins : BeginsRefused words harts announced before left why
@@ -336,72 +362,72 @@ module _ (words : Words) (only : HartRange) (harts : ℕ) (announced : Option Mo
             stops receiving.Mode b = b
             stops (receiving.Decode why) b = b
 
-        -- Its line was written behind the others.
-        refused_written : (why : ReceiveFault) (stop : CaptureFault) (line : List ℕ) (new : Option (List ℕ))
-            → selects only m.hart ≡ true → IsRefused words harts announced offset before m after why line
+        -- Its entry was written behind the others.
+        refused_written : (why : ReceiveFault) (stop : CaptureFault) (entry : List ℕ) (new : Option (List ℕ))
+            → selects only m.hart ≡ true → IsRefused input harts announced at before m after why entry
             → stop ≡ as_capture_fault why
-            → Appends mid new line
+            → Appends mid new entry
             → AppendsListing (AreListed bytes) after.closed (Some (number, stop)) old new
-        refused_written why stop line new chosen refused is_stop written =
+        refused_written why stop entry new chosen refused is_stop written =
             subst (λ stop. AppendsListing (AreListed bytes) after.closed (Some (number, stop)) old new) (sym is_stop)
             (record {
-              text = lines ++ line;
-              listed = refused_listed why line chosen refused;
-              appended = Appends-trans old mid new lines line r.text written;
+              text = entries ++ entry;
+              listed = refused_listed why entry chosen refused;
+              appended = Appends-trans old mid new entries entry r.text written;
             })
 
-        -- A beginning of the line of the message behind them was written.
-        pub next_begun : (why : Option ReceiveFault) (line : List ℕ) (new : Option (List ℕ))
-            → IsJudgedOf words only harts announced symbols offset before m after why line
-            → AppendsBeginning line mid new
-            → BeginsPart (IsPartOfMessages words only harts announced symbols first bytes) old new
+        -- A beginning of the entry of the message behind them was written.
+        pub next_begun : (why : Option ReceiveFault) (entry : List ℕ) (new : Option (List ℕ))
+            → IsJudgedOf input harts announced at before m after why entry
+            → AppendsBeginning entry mid new
+            → BeginsPart (IsPartOfMessages input harts start bytes) old new
         unfolding taken_more passed_more
-        next_begun None line new (Judged chosen taken) begun =
-            let more = taken_more line chosen taken in
+        next_begun None entry new (Judged chosen taken) begun =
+            let more = taken_more entry chosen taken in
             record {
-              text = lines ++ line;
+              text = entries ++ entry;
               part = OfFront (capture more.messages) next after.closed more.whole
-                  (subst (AreListed (capture more.messages) after.closed None) (line_behind line chosen taken)
+                  (subst (AreListed (capture more.messages) after.closed None) (entry_behind entry chosen taken)
                   (front_listed next (number + 1) (offset + length (message_bytes m)) after more));
-              begun = begun_behind lines line old mid new r.text begun;
+              begun = begun_behind entries entry old mid new r.text begun;
             }
-        next_begun None line new (Passed passed has none nothing) begun =
+        next_begun None entry new (Passed passed has none nothing) begun =
             let more = passed_more passed has in
             record {
-              text = lines ++ line;
+              text = entries ++ entry;
               part = OfFront (capture more.messages) next after.closed more.whole
                   (subst (AreListed (capture more.messages) after.closed None)
-                  (lines_stay passed ∙ sym (append-nil lines) ∙ ap (λ l. lines ++ l) (sym nothing))
+                  (entries_stay passed ∙ sym (append-nil entries) ∙ ap (λ l. entries ++ l) (sym nothing))
                   (front_listed next (number + 1) (offset + length (message_bytes m)) after more));
-              begun = begun_behind lines line old mid new r.text begun;
+              begun = begun_behind entries entry old mid new r.text begun;
             }
-        next_begun (Some why) line new (Judged chosen refused) begun = record {
-          text = lines ++ line;
-          part = OfAll after.closed (Some (number, as_capture_fault why)) (refused_listed why line chosen refused);
-          begun = begun_behind lines line old mid new r.text begun;
+        next_begun (Some why) entry new (Judged chosen refused) begun = record {
+          text = entries ++ entry;
+          part = OfAll after.closed (Some (number, as_capture_fault why)) (refused_listed why entry chosen refused);
+          begun = begun_behind entries entry old mid new r.text begun;
         }
-        next_begun (Some why) line new (Passed passed has none nothing) begun = cc
+        next_begun (Some why) entry new (Passed passed has none nothing) begun = cc
 
         -- The message was received or passed over, if no fault was found,
-        pub judged_more : (found : Option ReceiveFault) (line : List ℕ) (new : Option (List ℕ)) → found ≡ None
-            → IsJudgedOf words only harts announced symbols offset before m after found line
-            → Appends mid new line
+        pub judged_more : (found : Option ReceiveFault) (entry : List ℕ) (new : Option (List ℕ)) → found ≡ None
+            → IsJudgedOf input harts announced at before m after found entry
+            → Appends mid new entry
             → Lists next (number + 1) (offset + length (message_bytes m)) after old new
-        judged_more None line new none (Judged chosen taken) written = listed_more line new chosen taken written
-        judged_more None line new none (Passed passed has never nothing) written =
+        judged_more None entry new none (Judged chosen taken) written = listed_more entry new chosen taken written
+        judged_more None entry new none (Passed passed has never nothing) written =
             passed_listed new passed has (subst (Appends mid new) nothing written)
-        judged_more (Some why) line new none judged written = cc
+        judged_more (Some why) entry new none judged written = cc
 
         -- and else it was refused.
-        pub judged_refused : (found : Option ReceiveFault) (why : ReceiveFault) (stop : CaptureFault) (line : List ℕ)
+        pub judged_refused : (found : Option ReceiveFault) (why : ReceiveFault) (stop : CaptureFault) (entry : List ℕ)
             (new : Option (List ℕ)) → found ≡ Some why
-            → IsJudgedOf words only harts announced symbols offset before m after found line
+            → IsJudgedOf input harts announced at before m after found entry
             → stop ≡ as_capture_fault why
-            → Appends mid new line
+            → Appends mid new entry
             → AppendsListing (AreListed bytes) after.closed (Some (number, stop)) old new
-        judged_refused None why stop line new some judged is_stop written = cc
-        judged_refused (Some other) why stop line new some (Judged chosen refused) is_stop written =
-            refused_written why stop line new chosen
-            (subst (λ why. IsRefused words harts announced offset before m after why line) (same_Some other why some)
+        judged_refused None why stop entry new some judged is_stop written = cc
+        judged_refused (Some other) why stop entry new some (Judged chosen refused) is_stop written =
+            refused_written why stop entry new chosen
+            (subst (λ why. IsRefused input harts announced at before m after why entry) (same_Some other why some)
             refused) is_stop written
-        judged_refused (Some other) why stop line new some (Passed passed has none nothing) is_stop written = cc
+        judged_refused (Some other) why stop entry new some (Passed passed has none nothing) is_stop written = cc

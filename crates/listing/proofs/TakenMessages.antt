@@ -9,6 +9,7 @@ use Rattle.std.proofs.Math.Seq.{drop-append_seam}
 use Rattle.std.proofs.lemmas.List.{length-append}
 use Rattle.std.proofs.lemmas.Option.{slice_get_within}
 use Rattle.retire.specs.declared.event.Event.{Event}
+use Rattle.rvclass.specs.Fetch.{words_of}
 use Rattle.rvclass.specs.Words.{Words, IsProgram}
 use Rattle.payload.specs.ClosedTrace.{last_is_closing}
 use Rattle.payload.specs.Reading.{reading}
@@ -31,8 +32,10 @@ use Rattle.receiver.specs.Agreeing.{Agrees}
 use Rattle.receiver.specs.Holds.{HasReceived}
 use Rattle.receiver.specs.Received.{Received}
 use Rattle.listing.specs.Effect.{HasEffect, does_wait, last_is_waiting}
-use Rattle.listing.specs.Lines.{effect_line}
-use Rattle.listing.specs.Listing.{naming_mode}
+use Rattle.listing.specs.Entries.{effect_entry}
+use Rattle.listing.specs.Listing.{names_in, naming_mode}
+use Rattle.listing.specs.declared.entries.At.{At}
+use Rattle.listing.specs.declared.input.ListInput.{ListInput}
 use Rattle.listing.specs.steps.Message.{IsTaken, effect_of}
 
 -- The events of a hart. A hart that is not known has none.
@@ -158,22 +161,30 @@ module _ (words : Words) (program : IsProgram words) (harts : ℕ) (messages : L
         closing = sym (ap last_is_closing next ∙ last_is_closing-next all is.packet);
       })
 
-  module _ (announced : Option Mode) (symbols : Option (List ℕ)) (offset : ℕ) (mode : Mode) (count : ℕ)
-      (list added : List Event) (is_mode : mode ≡ naming_mode announced)
-      (is_count : count ≡ length (list_at old message.hart)) (is_list : list ≡ list_at new message.hart) where
-    -- Its line says what it does.
-    unfoldable pub is_taken : added ≡ drop count list → Agrees announced message
-        → IsTaken words harts announced symbols offset messages message new
-        (effect_line symbols mode offset message (effect_of added (reading message.payload)))
-    is_taken is_added agrees =
-        let same : added ≡ drop (length (list_at old message.hart)) (list_at new message.hart) =
-        is_added ∙ ap (λ n. drop n list) is_count ∙ ap (drop (length (list_at old message.hart))) is_list in
-        record {
-          effect = effect_of added (reading message.payload);
-          receives = after;
-          has = subst (λ added. HasEffect words messages message (effect_of added (reading message.payload))) (sym same)
-              has_effect;
-          agrees = agrees;
-          text = ap (λ mode. effect_line symbols mode offset message (effect_of added (reading message.payload)))
-              is_mode;
-        }
+module _ {S : Type 0} (input : ListInput S) (program : IsProgram (words_of input.program.now)) (harts : ℕ)
+    (messages : List Message) (message : Message) (old new : Received)
+    (before : HasReceived (λ hart. words_of input.program.now) harts messages old)
+    (after : HasReceived (λ hart. words_of input.program.now) harts (messages ++ message ∷ []) new)
+    (announced : Option Mode) (at : At) (mode : Mode) (count : ℕ) (list added : List Event)
+    (is_mode : mode ≡ naming_mode announced) (is_count : count ≡ length (list_at old message.hart))
+    (is_list : list ≡ list_at new message.hart) where
+  abbrev entry : Mode → List Event → List ℕ
+  entry mode added =
+      effect_entry input.form (names_in input) mode at.number at.offset message
+      (effect_of added (reading message.payload))
+
+  -- Its entry says what it does.
+  pub is_taken : added ≡ drop count list → Agrees announced message
+      → IsTaken input harts announced at messages message new (entry mode added)
+  is_taken is_added agrees =
+      let same : added ≡ drop (length (list_at old message.hart)) (list_at new message.hart) =
+      is_added ∙ ap (λ n. drop n list) is_count ∙ ap (drop (length (list_at old message.hart))) is_list in
+      record {
+        effect = effect_of added (reading message.payload);
+        receives = after;
+        has = subst (λ added. HasEffect (words_of input.program.now) messages message
+            (effect_of added (reading message.payload))) (sym same)
+            (has_effect (words_of input.program.now) program harts messages message old new before after);
+        agrees = agrees;
+        text = ap (λ mode. entry mode added) is_mode;
+      }

@@ -10,7 +10,10 @@ use Rattle.payload.specs.declared.mode.Mode.TheVariants.{Differential, Full}
 use Rattle.message.specs.declared.message.Message.{Message}
 use Rattle.listing.specs.Effect.{Effect, HasEffect}
 use Rattle.listing.specs.EffectText.{added_text, effect_text, place_text, places_text}
-use Rattle.listing.specs.Lines.{effect_lines, offset_line, refused_line}
+use Rattle.listing.specs.Entries.{placed_entries}
+use Rattle.listing.specs.Lines.{offset_line, refused_line}
+use Rattle.listing.specs.Placed.{placed}
+use Rattle.listing.specs.declared.form.Form.TheVariants.{Lines}
 
 -- A retirement at machine level, and an exception.
 abbrev at : ℕ → Event
@@ -46,7 +49,7 @@ effects =
     ∷ record { added = at 0x8000_0004 ∷ exception 0x8000_0008 ∷ []; waits = false; closes = true } ∷ []
 
 behind_a_header :
-    effect_lines None Differential 16 (opening ∷ synchronising ∷ waiting ∷ closing ∷ []) effects
+    placed_entries Lines None Differential (placed 0 16 (opening ∷ synchronising ∷ waiting ∷ closing ∷ [])) effects
     ≡ codes "00000010 0 0 open => nothing\n"
     ++ (codes "0000001c 0 1 sync addr=80000000 priv=3 branch=1 => 1 event, 80000000\n"
     ++ (codes "0000002c 0 2 address diff=8 map=- plain => nothing, waits\n"
@@ -55,7 +58,7 @@ unfolding digits extended magnitude
 behind_a_header = refl
 
 with_symbols_in_full :
-    effect_lines symbols Full 0 (opening ∷ synchronising ∷ waiting ∷ closing ∷ []) effects
+    placed_entries Lines symbols Full (placed 0 0 (opening ∷ synchronising ∷ waiting ∷ closing ∷ [])) effects
     ≡ codes "00000000 0 0 open => nothing\n"
     ++ (codes "0000000c 0 1 sync addr=80000000 priv=3 branch=1 => 1 event, 80000000 <_start+0>\n"
     ++ (codes "0000001c 0 2 address addr=8 map=- plain => nothing, waits\n"

@@ -12,7 +12,10 @@ use Rattle.message.specs.declared.message.Message.{Message}
 use Rattle.listing.specs.Effect.{Effect}
 use Rattle.output.specs.Fields.{fields_line}
 use Rattle.listing.specs.Packets.{packet_fields}
-use Rattle.listing.specs.Rows.{columns, effect_row, effect_rows, incomplete_row, refused_row}
+use Rattle.listing.specs.Entries.{placed_entries}
+use Rattle.listing.specs.Placed.{placed}
+use Rattle.listing.specs.Rows.{columns, effect_row, incomplete_row, refused_row}
+use Rattle.listing.specs.declared.form.Form.TheVariants.{Table}
 
 -- A retirement at machine level, and an exception.
 abbrev at : ℕ → Event
@@ -61,7 +64,7 @@ names_of_the_columns :
 names_of_the_columns = refl
 
 behind_a_header :
-    effect_rows None Differential 0 16 (opening ∷ synchronising ∷ waiting ∷ closing ∷ [])
+    placed_entries Table None Differential (placed 0 16 (opening ∷ synchronising ∷ waiting ∷ closing ∷ []))
     (nothing ∷ starts ∷ waits ∷ closes ∷ [])
     ≡ codes "message,0,00000010,0,0,open,,,,,,,,,,,,diff,,,no,no,,,,,0,,,,,,\n"
     ++ (codes "message,1,0000001c,0,1,sync,80000000,,3,1,,,,,,,,,,,no,no,,,,,1,80000000,80000000,,,,\n"
@@ -71,7 +74,8 @@ unfolding digits extended magnitude
 behind_a_header = refl
 
 with_symbols_in_full :
-    effect_rows symbols Full 0 0 (opening ∷ synchronising ∷ waiting ∷ closing ∷ []) (nothing ∷ starts ∷ waits ∷ closes ∷ [])
+    placed_entries Table symbols Full (placed 0 0 (opening ∷ synchronising ∷ waiting ∷ closing ∷ []))
+    (nothing ∷ starts ∷ waits ∷ closes ∷ [])
     ≡ codes "message,0,00000000,0,0,open,,,,,,,,,,,,diff,,,no,no,,,,,0,,,,,,\n"
     ++ (codes "message,1,0000000c,0,1,sync,80000000,,3,1,,,,,,,,,,,no,no,,,,,1,80000000,80000000,_start,0,_start,0\n"
     ++ (codes "message,2,0000001c,0,2,address,8,,,,,,,,,-,plain,,,,yes,no,,,,,0,,,,,,\n"

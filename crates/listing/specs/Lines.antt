@@ -1,11 +1,10 @@
 -- The lines of a listing.
-use Rattle.std.specs.Prelude.{ℕ, ◌+◌, ◌++◌, List, [], ◌∷◌, Option, Result, codes, length}
+use Rattle.std.specs.Prelude.{ℕ, ◌++◌, List, Option, Result, codes}
 use Rattle.std.specs.Fmt.{decimal}
 use Rattle.payload.specs.Reading.{reading}
 use Rattle.payload.specs.declared.fault.PackFault.{PackFault}
 use Rattle.payload.specs.declared.mode.Mode.{Mode}
 use Rattle.payload.specs.declared.packet.Packet.{Packet}
-use Rattle.message.specs.Capture.{message_bytes}
 use Rattle.message.specs.declared.message.Message.{Message}
 use Rattle.captures.specs.Offsets.{offset_text}
 use Rattle.captures.specs.PacketText.{reading_text}
@@ -37,11 +36,3 @@ refused_line mode offset message = message_text mode offset message ++ codes "\n
 abbrev pub effect_line : Option (List ℕ) → Mode → ℕ → Message → Effect → List ℕ
 effect_line symbols mode offset message effect =
     message_text mode offset message ++ (codes " => " ++ (effect_text symbols effect ++ codes "\n"))
-
--- The lines of messages with their effects. The first message has this offset.
-abbrev pub effect_lines : Option (List ℕ) → Mode → ℕ → List Message → List Effect → List ℕ
-effect_lines symbols mode offset [] effects = []
-effect_lines symbols mode offset (message ∷ messages) [] = []
-effect_lines symbols mode offset (message ∷ messages) (effect ∷ effects) =
-    effect_line symbols mode offset message effect ++
-    effect_lines symbols mode (offset + length (message_bytes message)) messages effects

@@ -1,12 +1,9 @@
--- Messages with their places in a capture, and the lines of some of these.
-use Rattle.std.specs.Prelude.{ℕ, ◌+◌, ◌++◌, List, [], ◌∷◌, Option, filter, length}
+-- Messages with their places in a capture.
+use Rattle.std.specs.Prelude.{ℕ, ◌+◌, List, [], ◌∷◌, filter, length}
 use Rattle.message.specs.Range.{selects}
 use Rattle.message.specs.declared.range.HartRange.{HartRange}
-use Rattle.payload.specs.declared.mode.Mode.{Mode}
 use Rattle.message.specs.Capture.{message_bytes}
 use Rattle.message.specs.declared.message.Message.{Message}
-use Rattle.listing.specs.Effect.{Effect}
-use Rattle.listing.specs.Lines.{effect_line}
 
 -- A message, how many messages come before it in the capture, and the offset of its first byte.
 pub record PlacedMessage : Type 0 where
@@ -25,10 +22,3 @@ placed place offset (message ∷ messages) =
 abbrev pub placed_of : HartRange → ℕ → ℕ → List Message → List PlacedMessage
 placed_of only place offset messages =
     filter (λ (one : PlacedMessage). selects only one.message.hart) (placed place offset messages)
-
--- The lines of messages with their effects.
-abbrev pub placed_lines : Option (List ℕ) → Mode → List PlacedMessage → List Effect → List ℕ
-placed_lines symbols mode [] effects = []
-placed_lines symbols mode (one ∷ more) [] = []
-placed_lines symbols mode (one ∷ more) (effect ∷ effects) =
-    effect_line symbols mode one.offset one.message effect ++ placed_lines symbols mode more effects

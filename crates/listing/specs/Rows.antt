@@ -1,5 +1,5 @@
 -- The rows of the table of a listing.
-use Rattle.std.specs.Prelude.{ℕ, ◌+◌, ◌++◌, Bool, true, false, List, [], ◌∷◌, Option, Some, None, codes, length}
+use Rattle.std.specs.Prelude.{ℕ, ◌++◌, Bool, true, false, List, [], ◌∷◌, Option, Some, None, codes, length}
 use Rattle.std.specs.Fmt.{decimal}
 use Rattle.retire.specs.Events.{place}
 use Rattle.retire.specs.LogText.{hex}
@@ -7,7 +7,6 @@ use Rattle.retire.specs.declared.event.Event.{Event}
 use Rattle.legalpath.specs.LastPlace.{last_place}
 use Rattle.payload.specs.Reading.{reading}
 use Rattle.payload.specs.declared.mode.Mode.{Mode}
-use Rattle.message.specs.Capture.{message_bytes}
 use Rattle.message.specs.declared.message.Message.{Message}
 use Rattle.symbols.specs.Nearest.{Naming, symbol_at}
 use Rattle.captures.specs.Offsets.{offset_text}
@@ -108,11 +107,3 @@ incomplete_fields at offset =
 
 abbrev pub incomplete_row : ℕ → ℕ → List ℕ
 incomplete_row at offset = fields_line (incomplete_fields at offset)
-
--- The rows of messages with their effects. The first message has this place and this offset.
-abbrev pub effect_rows : Option (List ℕ) → Mode → ℕ → ℕ → List Message → List Effect → List ℕ
-effect_rows symbols mode at offset [] effects = []
-effect_rows symbols mode at offset (message ∷ messages) [] = []
-effect_rows symbols mode at offset (message ∷ messages) (effect ∷ effects) =
-    effect_row symbols mode at offset message effect ++
-    effect_rows symbols mode (at + 1) (offset + length (message_bytes message)) messages effects

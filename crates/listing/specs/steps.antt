@@ -3,4 +3,3 @@ pub mod Message
 pub mod Part
 pub mod Started
 pub mod Writing
-pub mod Parts

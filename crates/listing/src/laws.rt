@@ -1,8 +1,9 @@
-//! A fact that follows from the definition of the listing of some harts.
+//! A fact that follows from the definition of rows.
 
-ghost use Rattle.listing.specs.ListingOf.{AllHartsAreListed};
+ghost use Rattle.listing.specs.ReadBack.{AreRowsReadBack};
 
-/// The listing of all harts of a capture is its listing: where no range is asked for, nothing is passed over.
-pub fn all_harts_are_listed()
-    ensures { AllHartsAreListed }
+/// The table of a listing is read back: at each of its rows `csv` reads just the fields of the row, with the names of
+/// symbols whatever bytes they have, and goes on after it.
+pub fn rows_are_read_back()
+    ensures { AreRowsReadBack }
 {}

@@ -4,28 +4,19 @@ ghost use Rattle.std.specs.Prelude.{◌≡◌, IfErr, OnOk, option_map};
 ghost use Rattle.std.specs.Io.KnownBytes.{Appends};
 ghost use Rattle.output.specs.Begun.{AppendsBeginning};
 ghost use Rattle.payload.specs.Reading.{reading};
-ghost use Rattle.listing.specs.Lines.{effect_line, offset_line};
-ghost use Rattle.listing.specs.steps.Message.{denies_memory, effect_of, fault_line};
+ghost use Rattle.listing.specs.Lines.{effect_line, offset_line, refused_line};
+ghost use Rattle.listing.specs.steps.Message.{effect_of};
 
 use crate::message_text::{MessageText, PacketEnding};
 use crate::places::write_added;
 use captures::Offset;
-use decoder::DecodeFault;
 use message::Message;
 use output::write_text;
 use payload::{Mode, unpack};
-use receiver::ReceiveFault;
 use retire::{Event, WriteFault};
 use std::alloc::Allocator;
 use std::io::Write;
 use symbols::Symbols;
-
-/// Whether a message is not received because an allocation failed.
-fn denies_memory(why: ReceiveFault) -> bool
-    ensures { result ≡ denies_memory why }
-{
-    matches!(why, ReceiveFault::Decode(DecodeFault::Memory))
-}
 
 /// Writes the line of a message that adds these events.
 pub(crate) fn write_effect_line<S: Allocator, W: Write>(
@@ -57,23 +48,19 @@ pub(crate) fn write_effect_line<S: Allocator, W: Write>(
     Ok(())
 }
 
-/// Writes the line of a message that is not received, for this reason. There is none where an allocation failed.
-pub(crate) fn write_fault_line<W: Write>(
+/// Writes the line of a message that is refused.
+pub(crate) fn write_refused_line<W: Write>(
     mode: Mode,
     offset: u64,
     message: &Message,
-    why: ReceiveFault,
     sink: &mut W,
 ) -> Result<(), WriteFault>
     ensures text { OnOk result (Appends (W.contents sink.old) (W.contents sink.new)
-        (fault_line mode offset message.now why)) }
-    ensures begun { AppendsBeginning (fault_line mode offset message.now why)
+        (refused_line mode offset message.now)) }
+    ensures begun { AppendsBeginning (refused_line mode offset message.now)
         (W.contents sink.old) (W.contents sink.new) }
     ensures fault { IfErr result (λ fault. fault ≡ WriteFault.Write) }
 {
-    if denies_memory(why) {
-        return Ok(());
-    }
     let unpacked = unpack(message.payload.bytes());
     let text = MessageText {
         mode,

@@ -3,11 +3,12 @@
 ghost use Rattle.std.specs.Prelude.{◌≡◌, Some};
 ghost use Rattle.listing.specs.EffectText.{closes_text, waits_text};
 ghost use Rattle.listing.specs.Lines.{text_with};
-ghost use Rattle.listing.specs.PacketEnding.{ending_text, read_closes, read_waits};
+ghost use Rattle.listing.specs.PacketEnding.{ending_text};
 
+use crate::endings::{read_closes, read_waits};
 use captures::{Offset, ReadingText};
 use message::Message;
-use payload::{Mode, PackFault, Packet, Report};
+use payload::{Mode, PackFault, Packet};
 use std::fmt;
 
 /// The offset of a message, its hart, its number, and what its payload is, as the line of a message begins. The text of
@@ -36,29 +37,6 @@ impl fmt::Display for MessageText<'_> {
             read: self.read,
         };
         write!(f, "{offset} {hart} {number} {text}")
-    }
-}
-
-/// Whether the packet that a payload unpacks to waits for the one that follows it.
-fn read_waits(read: &Result<Packet, PackFault>) -> bool
-    ensures { result ≡ read_waits read.now }
-{
-    matches!(
-        read,
-        Ok(Packet::Address {
-            report: Report::Plain,
-            ..
-        })
-    )
-}
-
-/// Whether the packet that a payload unpacks to closes a trace.
-fn read_closes(read: &Result<Packet, PackFault>) -> bool
-    ensures { result ≡ read_closes read.now }
-{
-    match read {
-        Ok(packet) => packet.is_closing(),
-        Err(_) => false,
     }
 }
 

@@ -1,29 +1,16 @@
 //! The places of events, and their names.
 
-ghost use Rattle.std.specs.Prelude.{◌≡◌, ℕ, List, Option, IfErr, OnOk, Some, length, option_map};
+ghost use Rattle.std.specs.Prelude.{◌≡◌, ℕ, List, Option, IfErr, OnOk, length, option_map};
 ghost use Rattle.std.specs.Io.KnownBytes.{Appends};
 ghost use Rattle.output.specs.Begun.{AppendsBeginning};
-ghost use Rattle.retire.specs.LogText.{hex};
 ghost use Rattle.listing.specs.EffectText.{added_text, place_text, places_text};
 
+use crate::cells::Place;
 use output::{write_bytes, write_text};
 use retire::{Event, WriteFault};
 use std::alloc::Allocator;
-use std::fmt;
 use std::io::Write;
 use symbols::{Symbols, write_symbol};
-
-/// A place in hexadecimal.
-#[derive(Clone, Copy)]
-struct Place(u64);
-
-impl fmt::Display for Place {
-    ghost output = { λ place. Some (hex place.0) };
-
-    fn fmt<W: fmt::Write>(&self, f: &mut fmt::Formatter<W>) -> fmt::Result {
-        write!(f, "{:x}", self.0)
-    }
-}
 
 /// Writes a place in hexadecimal, and what the symbols name it.
 fn write_place<S: Allocator, W: Write>(
@@ -37,7 +24,7 @@ fn write_place<S: Allocator, W: Write>(
         (W.contents sink.old) (W.contents sink.new) }
     ensures fault { IfErr result (λ fault. fault ≡ WriteFault.Write) }
 {
-    write_text(sink, Place(place))?;
+    write_text(sink, Place(Some(place)))?;
     match symbols {
         Some(symbols) => write_symbol(symbols, place, sink),
         None => Ok(()),

@@ -1,21 +1,24 @@
-//! The rows of messages that are not received, and of bytes that are no message.
+//! The rows of a table.
 
-ghost use Rattle.std.specs.Prelude.{◌≡◌, IfErr, OnOk};
+ghost use Rattle.std.specs.Prelude.{◌≡◌, IfErr, OnOk, option_map};
 ghost use Rattle.std.specs.Io.KnownBytes.{Appends};
 ghost use Rattle.output.specs.Begun.{AppendsBeginning};
 ghost use Rattle.output.specs.Fields.{fields_line};
-ghost use Rattle.listing.specs.steps.Message.{denies_memory};
-ghost use Rattle.listing.specs.Rows.{columns, incomplete_row};
-ghost use Rattle.listing.specs.steps.Writing.{fault_row};
+ghost use Rattle.payload.specs.Reading.{reading};
+ghost use Rattle.listing.specs.Rows.{columns, effect_row, first_of, incomplete_row, last_of, refused_row};
+ghost use Rattle.listing.specs.steps.Message.{effect_of};
 
-use crate::cells::{Columns, IncompleteRow, MessageCells};
-use decoder::DecodeFault;
+use crate::cells::{Columns, IncompleteRow, MessageCells, TailCells};
+use crate::endings::{read_closes, read_waits};
+use crate::entries::At;
+use crate::names::write_names;
 use message::Message;
 use output::write_text;
 use payload::{Mode, unpack};
-use receiver::ReceiveFault;
-use retire::WriteFault;
+use retire::{Event, WriteFault};
+use std::alloc::Allocator;
 use std::io::Write;
+use symbols::Symbols;
 
 /// Writes the names of the columns.
 pub(crate) fn write_columns<W: Write>(sink: &mut W) -> Result<(), WriteFault>
@@ -27,37 +30,84 @@ pub(crate) fn write_columns<W: Write>(sink: &mut W) -> Result<(), WriteFault>
     Ok(())
 }
 
-/// Whether a message is not received because an allocation failed.
-fn denies_memory(why: ReceiveFault) -> bool
-    ensures { result ≡ denies_memory why }
+/// The place of the first of some events.
+fn first_of(added: &[Event]) -> Option<u64>
+    ensures { result ≡ first_of added.now }
 {
-    matches!(why, ReceiveFault::Decode(DecodeFault::Memory))
+    match added {
+        [] => None,
+        [first, ..] => Some(first.place()),
+    }
 }
 
-/// Writes the row of a message that is not received, for this reason. There is none where an allocation failed.
-pub(crate) fn write_refused_row<W: Write>(
+/// The place of the last of some events.
+fn last_of(added: &[Event]) -> Option<u64>
+    ensures { result ≡ last_of added.now }
+{
+    match added {
+        [] => None,
+        [.., last] => Some(last.place()),
+    }
+}
+
+/// Writes the row of a message that adds these events.
+pub(crate) fn write_effect_row<S: Allocator, W: Write>(
+    symbols: Option<&Symbols<S>>,
     mode: Mode,
-    at: u64,
-    offset: u64,
+    at: At,
     message: &Message,
-    why: ReceiveFault,
+    added: &[Event],
     sink: &mut W,
 ) -> Result<(), WriteFault>
     ensures text { OnOk result (Appends (W.contents sink.old) (W.contents sink.new)
-        (fault_row mode at offset message.now why)) }
-    ensures begun { AppendsBeginning (fault_row mode at offset message.now why)
+        (effect_row (option_map (λ file. file.now) symbols.entry) mode at.number at.offset
+        message.now (effect_of added.now (reading message.now.payload)))) }
+    ensures begun { AppendsBeginning (effect_row (option_map (λ file. file.now) symbols.entry) mode at.number at.offset
+        message.now (effect_of added.now (reading message.now.payload))) (W.contents sink.old) (W.contents sink.new) }
+    ensures fault { IfErr result (λ fault. fault ≡ WriteFault.Write) }
+{
+    let unpacked = unpack(message.payload.bytes());
+    let first = first_of(added);
+    let last = last_of(added);
+    let head = MessageCells {
+        kind: "message",
+        mode,
+        at: at.number,
+        offset: at.offset,
+        message,
+        read: &unpacked,
+    };
+    let tail = TailCells {
+        waits: read_waits(&unpacked),
+        closes: read_closes(&unpacked),
+        added: added.len(),
+        first,
+        last,
+    };
+    write_text(sink, format_args!("{head}{tail}"))?;
+    write_names(symbols, first, last, sink)?;
+    Ok(())
+}
+
+/// Writes the row of a message that is refused.
+pub(crate) fn write_refused_row<W: Write>(
+    mode: Mode,
+    at: At,
+    message: &Message,
+    sink: &mut W,
+) -> Result<(), WriteFault>
+    ensures text { OnOk result (Appends (W.contents sink.old) (W.contents sink.new)
+        (refused_row mode at.number at.offset message.now)) }
+    ensures begun { AppendsBeginning (refused_row mode at.number at.offset message.now)
         (W.contents sink.old) (W.contents sink.new) }
     ensures fault { IfErr result (λ fault. fault ≡ WriteFault.Write) }
 {
-    if denies_memory(why) {
-        return Ok(());
-    }
     let unpacked = unpack(message.payload.bytes());
     let head = MessageCells {
         kind: "refused",
         mode,
-        at,
-        offset,
+        at: at.number,
+        offset: at.offset,
         message,
         read: &unpacked,
     };
@@ -66,15 +116,16 @@ pub(crate) fn write_refused_row<W: Write>(
 }
 
 /// Writes the row of a place at which there is no complete message.
-pub(crate) fn write_incomplete_row<W: Write>(
-    at: u64,
-    offset: u64,
-    sink: &mut W,
-) -> Result<(), WriteFault>
-    ensures text { OnOk result (Appends (W.contents sink.old) (W.contents sink.new) (incomplete_row at offset)) }
-    ensures begun { AppendsBeginning (incomplete_row at offset) (W.contents sink.old) (W.contents sink.new) }
+pub(crate) fn write_incomplete_row<W: Write>(at: At, sink: &mut W) -> Result<(), WriteFault>
+    ensures text { OnOk result (Appends (W.contents sink.old) (W.contents sink.new)
+        (incomplete_row at.number at.offset)) }
+    ensures begun { AppendsBeginning (incomplete_row at.number at.offset) (W.contents sink.old) (W.contents sink.new) }
     ensures fault { IfErr result (λ fault. fault ≡ WriteFault.Write) }
 {
-    write_text(sink, IncompleteRow { at, offset })?;
+    let row = IncompleteRow {
+        at: at.number,
+        offset: at.offset,
+    };
+    write_text(sink, row)?;
     Ok(())
 }

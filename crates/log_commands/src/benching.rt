@@ -3,7 +3,7 @@
 ghost use Rattle.std.specs.Prelude.{◌≡◌, ◌⊎◌, IfErr, IfOk, IfSome, Ok, Err, length};
 ghost use Rattle.std.specs.Thread.{IsSync};
 ghost use Rattle.funnel.specs.Limits.{most_ports};
-ghost use Rattle.bench.specs.Beginnings.{AreBeginnings};
+ghost use Rattle.bench.specs.Beginnings.{AreBeginnings, CameThrough};
 ghost use Rattle.bench.specs.Stopping.{NamesOpen};
 ghost use Rattle.command_inputs.specs.FurtherPieces.{base_number};
 ghost use Rattle.command_inputs.specs.Begun.{IsCutOf};
@@ -18,9 +18,9 @@ use crate::legal_logs::{AskedLogs, OnLogs, bytes_of, over_legal_logs};
 use crate::reason::{Fault, of_setup};
 use crate::reporting::end_with_report;
 use crate::rooms::rooms_of;
-use bench::{Config, Open, Outcome, run_in_rooms};
+use bench::{Config, Gate, Open, Outcome, run_in_rooms};
 use command_inputs::{Bench, Files, Status};
-use funnel::MOST_PORTS;
+use funnel::{MOST_PORTS, Outlet};
 use legalpath::LegalLog;
 use side_by_side::drop_side_by_side;
 use std::alloc::Global;
@@ -82,16 +82,17 @@ impl<'a, R: Threads + Wait + Sync> OnLogs<'a> for OverThreads<'a, '_, R> {
         logs: &[LegalLog<'_>],
         out: &mut O,
     ) -> Result<Status, Fault<'a>> {
-        bench_logs(alloc, self.rt, self.asked, logs, out)
+        bench_logs(alloc, self.rt, self.asked, &Open, logs, out)
     }
 }
 
-/// Sends each legal log through the funnel from a thread of its own, and writes the report of what is received of
-/// them.
-fn bench_logs<'a, O: Write, R: Threads + Wait + Sync>(
+/// Sends each legal log through the funnel from a thread of its own, with a gate round each send, and writes the report
+/// of what is received of them: what [`bench`] does with the logs that it finds legal, with a gate that does nothing.
+pub fn bench_logs<'a, G: Gate, O: Write, R: Threads + Wait + Sync>(
     alloc: Global,
     rt: &R,
     asked: &Bench<'a>,
+    gate: &G,
     logs: &[LegalLog<'_>],
     out: &mut O,
 ) -> Result<Status, Fault<'a>>
@@ -101,26 +102,29 @@ fn bench_logs<'a, O: Write, R: Threads + Wait + Sync>(
         (O.contents out.old) (O.contents out.new) }
     ensures cut { IsCutOf (BenchesLogs asked.now logs.now) (O.contents out.old) (O.contents out.new) }
 {
-    let outcome = outcome_of(alloc, rt, logs, asked)?;
-    let ended = end_with_report(&outcome, logs, out);
+    let ran = outcome_of(alloc, rt, asked, gate, logs)?;
+    let ended = end_with_report(&ran.0, logs, out);
     let bytes = bytes_of(logs);
-    drop_side_by_side(rt, outcome.harts, bytes);
+    drop_side_by_side(rt, ran.0.harts, bytes);
     ended
 }
 
-/// What is received of the logs. No packets are kept.
-fn outcome_of<'a, R: Threads + Wait + Sync>(
+/// What is received of the logs, and the outlet out of which it was taken. No packets are kept.
+fn outcome_of<'a, G: Gate, R: Threads + Wait + Sync>(
     alloc: Global,
     rt: &R,
-    logs: &[LegalLog<'_>],
     asked: &Bench<'a>,
-) -> Result<Outcome, Fault<'a>>
+    gate: &G,
+    logs: &[LegalLog<'_>],
+) -> Result<(Outcome, Outlet), Fault<'a>>
     ensures setting { IfOk result (λ _.
         IsSetting most_ports (length logs.now) (config_at asked.now.period asked.now.mode asked.now.capacity) (Ok tt)) }
-    ensures count { IfOk result (λ outcome. length logs.now ≡ length outcome.harts.items) }
-    ensures came { IfOk result (λ outcome.
-        AreBeginnings (config_at asked.now.period asked.now.mode asked.now.capacity) logs.now outcome.harts.items) }
-    ensures names { IfOk result (λ outcome. NamesOpen outcome.stop outcome.harts.items) }
+    ensures count { IfOk result (λ ran. length logs.now ≡ length ran.0.harts.items) }
+    ensures came { IfOk result (λ ran.
+        AreBeginnings (config_at asked.now.period asked.now.mode asked.now.capacity) logs.now ran.0.harts.items) }
+    ensures through { IfOk result (λ ran.
+        CameThrough (config_at asked.now.period asked.now.mode asked.now.capacity) logs.now ran.1 ran.0.harts.items) }
+    ensures names { IfOk result (λ ran. NamesOpen ran.0.stop ran.0.harts.items) }
     ensures fault { IfErr result (λ why. (why ≡ Fault.Memory)
         ⊎ IsSetting most_ports (length logs.now) (config_at asked.now.period asked.now.mode asked.now.capacity)
         (Err why)) }
@@ -132,8 +136,8 @@ fn outcome_of<'a, R: Threads + Wait + Sync>(
         keep: false,
     };
     let rooms = rooms_of(alloc, rt, logs);
-    match run_in_rooms(alloc, alloc, logs, config, &Open, rt, rooms) {
-        Ok(outcome) => Ok(outcome),
+    match run_in_rooms(alloc, alloc, logs, config, gate, rt, rooms) {
+        Ok(ran) => Ok(ran),
         Err(why) => Err(of_setup(why)),
     }
 }

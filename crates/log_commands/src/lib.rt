@@ -19,7 +19,7 @@ mod replaying;
 mod reporting;
 mod rooms;
 
-pub use benching::bench;
+pub use benching::{bench, bench_logs};
 pub use checking::check;
 pub use encoding::encode;
 pub use laws::{all_logs_are_one_part, parts_are_joined};

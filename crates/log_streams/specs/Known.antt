@@ -1,7 +1,7 @@
 -- What is known of files.
-use Rattle.std.specs.Prelude.{◌≡◌, ℕ, ⊤, List, [], ◌∷◌, Option, Some, if◌then◌else◌}
+use Rattle.std.specs.Prelude.{◌≡◌, ℕ, ⊤, List, [], ◌∷◌, Option, None, Some, if◌then◌else◌}
 use Rattle.std.specs.Cmp.Lexicographic.{pointwise}
-use Rattle.std.specs.Prelude.{nat_eq}
+use Rattle.std.specs.Prelude.{nat_eq, take}
 
 -- What is known of the file at a path: nothing, that there is none, or its bytes.
 pub data Known : Type 0 where
@@ -18,6 +18,13 @@ abbrev pub MayHold : Known → List ℕ → Type 0
 MayHold Unknown bytes = ⊤
 MayHold Absent bytes = ⊥
 MayHold (Present text) bytes = bytes ≡ text
+
+-- The file may begin with these bytes: all that it has, or the first ones if more are not asked for.
+abbrev pub MayBegin : Option ℕ → Known → List ℕ → Type 0
+MayBegin None file bytes = MayHold file bytes
+MayBegin (Some most) Unknown bytes = ⊤
+MayBegin (Some most) Absent bytes = ⊥
+MayBegin (Some most) (Present text) bytes = bytes ≡ take most text
 
 -- There may be no such file.
 abbrev pub MayLack : Known → Type 0

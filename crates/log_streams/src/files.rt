@@ -2,7 +2,7 @@
 
 ghost use Rattle.std.specs.Prelude.{⊤, ◌≡◌, ◌⊎◌, List, ℕ, IfErr, IfOk};
 ghost use Rattle.log_streams.specs.Gave.{Gave, GivesFrom};
-ghost use Rattle.log_streams.specs.Known.{IsOpened, Known, MayHold, MayLack, Unknown};
+ghost use Rattle.log_streams.specs.Known.{IsOpened, Known, MayBegin, MayLack, Unknown};
 
 use crate::fault::FileFault;
 use crate::reader::FileReader;
@@ -20,9 +20,10 @@ pub trait Files {
     /// A file that is open.
     type Reader: FileReader + Drop;
 
-    /// The whole content of the file at this path.
-    fn read(&mut self, path: &str) -> Result<Vec<u8>, FileFault>
-        ensures held { IfOk result (λ bytes. MayHold (content self.old path.now) bytes.items) }
+    /// The bytes of the file at this path: all that it has, or the first ones if it has more than `most`. No more than
+    /// those are read.
+    fn read(&mut self, path: &str, most: Option<usize>) -> Result<Vec<u8>, FileFault>
+        ensures held { IfOk result (λ bytes. MayBegin most (content self.old path.now) bytes.items) }
         ensures lacked { IfErr result (λ why. (why ≡ FileFault.Memory) ⊎ MayLack (content self.old path.now)) }
         ensures kept { content self.new ≡ content self.old };
 

@@ -6,10 +6,8 @@ pub mod MarkLemmas
 pub mod EndLemmas
 pub mod WalkLemmas
 pub mod Merging
-pub mod CaptureLemmas
 pub mod StretchLemmas
 pub mod PuttingLemmas
 pub mod PlanLemmas
 pub mod HartLemmas
-pub mod MarkedLemmas
 pub mod ShelfLemmas

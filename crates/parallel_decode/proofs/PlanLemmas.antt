@@ -19,14 +19,15 @@ use Rattle.message.specs.OfHart.{packets_in}
 use Rattle.message.specs.declared.message.Message.{Message}
 use Rattle.capture_index.proofs.SplitLemmas.{rows}
 use Rattle.capture_index.specs.EachHart.{hart_line}
+use Rattle.capture_index.specs.HartsText.{head_of}
 use Rattle.capture_index.proofs.PlaceLemmas.{places-length}
 use Rattle.capture_index.specs.Marks.{AreRising, IsMark}
-use Rattle.capture_index.specs.Places.{AreAt}
+use Rattle.capture_index.specs.Places.{AreAt, IsAt}
 use Rattle.capture_index.specs.declared.mark.Mark.{Mark}
 use Rattle.parallel_decode.proofs.StretchLemmas.{text_push}
 use Rattle.parallel_decode.specs.declared.stretch.Stretch.{Stretch}
 use Rattle.parallel_decode.specs.steps.Planning.{IsMarkedHart}
-use Rattle.parallel_decode.specs.steps.Stretches.{HaveText, IsStretch, head_if, head_of, stretch_text}
+use Rattle.parallel_decode.specs.steps.Stretches.{HaveText, IsStretch, head_if, stretch_text}
 
 -- The first messages are at the first places, and the others at the others.
 places-take : (bytes places : List ℕ) (messages : List Message) (n : ℕ) → AreAt bytes places messages
@@ -61,7 +62,7 @@ module _ {A : Type 0} (words : Words) (bytes : List ℕ) (places : List (Vec ℕ
   messages = m.marked.messages
 
   as_many : length m.own.items ≡ length messages
-  as_many = places-length bytes m.own.items messages m.marked.placed
+  as_many = places-length (IsAt bytes) m.own.items messages m.marked.placed
 
   -- The messages from one on up to another are a stretch, of the events that they add.
   cut_at : (stretch : Stretch) (before part : List Event) → stretch.hart ≡ hart → stretch.from ≤ stretch.to

@@ -1,124 +1,100 @@
 -- The text of stretches that is written so far, and one text more.
-use Rattle.std.proofs.Common.{◌≡◌, ◌+◌, ◌∙◌, ℕ, List, [], ◌∷◌, ◌++◌, Option, Ok, Err, Result, ap, append_assoc}
-use Rattle.std.proofs.Common.{append-nil, drop, IfErr, OnOk, refl, subst, sym}
+use Rattle.std.proofs.Common.{◌≡◌, ◌+◌, ◌≤◌, ◌∙◌, ℕ, List, [], ◌∷◌, ◌++◌, Option, Some, Ok, Err, Result, ap, append_assoc}
+use Rattle.std.proofs.Common.{append-nil, drop, length, refl, slice_get, subst, sym}
+use Rattle.std.specs.Prelude.{is_ok, true}
 use Rattle.std.proofs.KnownBytes.{Appends-nil, Appends-trans}
+use Rattle.std.proofs.lemmas.List.{drop_all, drop_more}
+use Rattle.std.proofs.lemmas.Option.{get_or_from_slice_get, slice_get_within}
 use Rattle.std.specs.Io.KnownBytes.{Appends}
-use Rattle.std.specs.declared.vec.Vec.{Vec}
-use Rattle.output.proofs.Beginnings.{begun_behind, begun_in_front, whole_begun}
-use Rattle.output.specs.Begun.{AppendsBeginning}
-use Rattle.retire.specs.Split.{Split}
 use Rattle.retire.specs.declared.event.Event.{Event}
 use Rattle.retire.specs.declared.fault.WriteFault.{WriteFault}
-use Rattle.retire.specs.declared.fault.WriteFault.TheVariants as fault
-use Rattle.rvclass.specs.Words.{Words}
-use Rattle.parallel_decode.proofs.StretchLemmas.{First, text_first}
+use Rattle.rvclass.specs.Fetch.{words_of}
+use Rattle.capture_index.proofs.PutLemmas.{put_behind, put_in_front}
+use Rattle.capture_index.specs.Put.{IsPut}
+use Rattle.parallel_decode.proofs.StretchLemmas.{First, part_at, text_first}
+use Rattle.parallel_decode.specs.declared.stretch.Plan.{Plan}
 use Rattle.parallel_decode.specs.declared.stretch.Stretch.{Stretch}
-use Rattle.parallel_decode.specs.steps.Putting.{IsPut, Left}
-use Rattle.parallel_decode.specs.steps.Stretches.{HaveText, IsStretch, stretch_text}
+use Rattle.parallel_decode.specs.steps.Putting.{Left, PutsOn}
+use Rattle.parallel_decode.specs.steps.Stretches.{HavePart, HaveText, HaveTextFrom, HaveTexts, IsPartOf, stretch_text}
 
--- A text was written behind another.
-pub put_behind : (ended : Result Unit WriteFault) (old mid new : Option (List ℕ)) (front back : List ℕ)
-    → Appends old mid front → IsPut ended mid new back → IsPut ended old new (front ++ back)
-put_behind (Ok _) old mid new front back first put = Appends-trans old mid new front back first put
-put_behind (Err why) old mid new front back first put =
-    (begun_behind front back old mid new first put.0, put.1)
+-- What was written into an empty list is what it holds.
+pub put_into : (ended : Result Unit WriteFault) (old new text : List ℕ) → is_ok ended ≡ true → old ≡ []
+    → IsPut ended (Some old) (Some new) text → new ≡ text
+put_into (Ok _) old new text ok none put = put ∙ ap (λ l. l ++ text) none
+put_into (Err why) old new text ok none put = absurd cc
 
--- Where writing failed, a prefix of any text that goes on was written.
-pub put_in_front : (why : WriteFault) (old new : Option (List ℕ)) (front back : List ℕ)
-    → IsPut (Err why) old new front → IsPut (Err why) old new (front ++ back)
-put_in_front why old new front back put = (begun_in_front front back old new put.0, put.1)
+module _ (plan : Plan) where
+  -- Nothing goes on.
+  pub puts_none : (from : ℕ) (old : Option (List ℕ)) → PutsOn plan from (Ok from) old old
+  puts_none from old = λ text start left. left
 
--- At Ok the text was written.
-pub put_whole : (ended : Result Unit WriteFault) (old new : Option (List ℕ)) (text : List ℕ) → IsPut ended old new text
-    → OnOk ended (Appends old new text)
-put_whole (Ok _) old new text put = put
-put_whole (Err why) old new text put = tt
+  -- It goes on, and goes on from there.
+  pub puts_more : (from at : ℕ) (ended : Result ℕ WriteFault) (old mid new : Option (List ℕ))
+      → PutsOn plan from (Ok at) old mid → PutsOn plan at ended mid new → PutsOn plan from ended old new
+  puts_more from at ended old mid new first then = λ text start left. then text start (first text start left)
 
--- Writing does not fail for want of memory.
-pub put_never_memory : (ended : Result Unit WriteFault) (old new : Option (List ℕ)) (text : List ℕ)
-    → IsPut ended old new text → ended ≡ Err fault.Memory → ⊥
-put_never_memory (Ok _) old new text put memory = absurd cc
-put_never_memory (Err why) old new text put memory =
-    let write = put.1 in
-    let is : why ≡ fault.Memory = cc in
-    absurd (cc (sym write ∙ is))
+  pub puts_next : (from at next : ℕ) (old mid new : Option (List ℕ)) → PutsOn plan from (Ok at) old mid
+      → PutsOn plan at (Ok next) mid new → PutsOn plan from (Ok next) old new
+  puts_next from at next = puts_more from at (Ok next)
 
--- A call that appends bytes, or fails after a prefix, puts them.
-pub put_of : (ended : Result Unit WriteFault) (old new : Option (List ℕ)) (text : List ℕ)
-    → OnOk ended (Appends old new text) → AppendsBeginning text old new → IfErr ended (λ why. why ≡ fault.Write)
-    → IsPut ended old new text
-put_of (Ok _) old new text whole begun write = whole
-put_of (Err why) old new text whole begun write = (begun, write)
-
--- What was held is written too.
-pub put_held : (ended : Result Unit WriteFault) (old mid new : Option (List ℕ)) (held text : List ℕ)
-    → Split old mid held text → IsPut ended mid new held → IsPut ended old new text
-put_held ended old mid new held text (written, got, whole) put =
-    subst (IsPut ended old new) whole (put_behind ended old mid new written held got put)
-
--- A prefix was written in any case.
-pub put_begun : (ended : Result Unit WriteFault) (old new : Option (List ℕ)) (text : List ℕ) → IsPut ended old new text
-    → AppendsBeginning text old new
-put_begun (Ok _) old new text put = whole_begun text old new put
-put_begun (Err why) old new text put = put.0
-
-module _ {A : Type 0} (words : Words) (bytes : List ℕ) (places : List (Vec ℕ A)) where
   -- At first all is left.
-  pub left_all : (stretches : List Stretch) (text : List ℕ) (old : Option (List ℕ))
-      → HaveText words bytes places stretches text → Left words bytes places stretches text old old
-  left_all stretches text old have =
+  pub left_all : (text : List ℕ) (old : Option (List ℕ)) → HaveTextFrom plan 0 text → Left plan 0 text old old
+  left_all text old have =
       record { written = []; rest = text; have = have; appended = Appends-nil old; whole = refl }
 
   -- At last nothing is left.
-  pub left_none : (stretches : List Stretch) (text : List ℕ) (old new : Option (List ℕ)) → stretches ≡ []
-      → Left words bytes places stretches text old new → Appends old new text
-  left_none stretches text old new none left =
-      let rest : left.rest ≡ [] = subst (λ ss. HaveText words bytes places ss left.rest) none left.have in
+  pub left_none : (at : ℕ) (text : List ℕ) (old new : Option (List ℕ)) → length plan.stretches.now ≤ at
+      → Left plan at text old new → Appends old new text
+  left_none at text old new over left =
+      let rest : left.rest ≡ [] =
+      subst (λ ss. HaveText (words_of plan.program.now) plan.bytes.now plan.places.now ss left.rest)
+      (drop_all at plan.stretches.now over) left.have in
       subst (Appends old new)
       (sym (left.whole ∙ ap (λ l. left.written ++ l) rest ∙ append-nil left.written)) left.appended
 
-  module _ (stretches later : List Stretch) (text : List ℕ) (old mid new : Option (List ℕ))
-      (left : Left words bytes places stretches text old mid) (front back : List ℕ) (parted : left.rest ≡ front ++ back) where
-    whole : text ≡ (left.written ++ front) ++ back
-    whole =
-        left.whole ∙ ap (λ l. left.written ++ l) parted ∙ sym (append_assoc left.written front back)
+  -- Each stretch has a part of a log.
+  pub have_part : (at : ℕ) (stretch : Stretch) → slice_get plan.stretches.now at ≡ Some stretch → HaveTexts plan
+      → HavePart plan stretch
+  have_part at stretch is have =
+      part_at (words_of plan.program.now) plan.bytes.now plan.places.now plan.stretches.now have.0 at stretch have.1 is
 
-    -- The first of what is left was written.
-    pub left_more : HaveText words bytes places later back → Appends mid new front → Left words bytes places later text old new
-    left_more have put = record {
+  module _ (at : ℕ) (stretch : Stretch) (is : slice_get plan.stretches.now at ≡ Some stretch) (text : List ℕ)
+      (old mid : Option (List ℕ)) (left : Left plan at text old mid) where
+    -- The stretch comes next, and then those after it.
+    next : First (words_of plan.program.now) plan.bytes.now plan.places.now stretch (drop (at + 1) plan.stretches.now)
+        left.rest
+    next =
+        text_first (words_of plan.program.now) plan.bytes.now plan.places.now stretch
+        (drop (at + 1) plan.stretches.now) left.rest
+        (subst (λ ss. HaveText (words_of plan.program.now) plan.bytes.now plan.places.now ss left.rest)
+        (drop_more plan.stretches.now at stretch (slice_get_within plan.stretches.now at stretch is)
+        ∙ ap (λ s. s ∷ drop (at + 1) plan.stretches.now)
+        (get_or_from_slice_get plan.stretches.now at stretch stretch is)) left.have)
+
+    abbrev front : List ℕ
+    front = stretch_text stretch next.part
+
+    whole : text ≡ (left.written ++ front) ++ next.rest
+    whole =
+        left.whole ∙ ap (λ l. left.written ++ l) next.parted ∙ sym (append_assoc left.written front next.rest)
+
+    -- Its text was written.
+    pub stretch_more : (new : Option (List ℕ))
+        → ((part : List Event) → IsPartOf plan stretch part → Appends mid new (stretch_text stretch part))
+        → Left plan (at + 1) text old new
+    stretch_more new put = record {
       written = left.written ++ front;
-      rest = back;
-      have = have;
-      appended = Appends-trans old mid new left.written front left.appended put;
+      rest = next.rest;
+      have = next.later;
+      appended = Appends-trans old mid new left.written front left.appended (put next.part next.is);
       whole = whole;
     }
 
     -- Or a prefix of it.
-    pub left_fails : (why : WriteFault) → IsPut (Err why) mid new front → IsPut (Err why) old new text
-    left_fails why put =
+    pub stretch_fails : (why : WriteFault) (new : Option (List ℕ))
+        → ((part : List Event) → IsPartOf plan stretch part → IsPut (Err why) mid new (stretch_text stretch part))
+        → IsPut (Err why) old new text
+    stretch_fails why new put =
         subst (IsPut (Err why) old new) (sym whole)
-        (put_in_front why old new (left.written ++ front) back
-        (put_behind (Err why) old mid new left.written front left.appended put))
-
-  module _ (stretches : List Stretch) (at : ℕ) (text : List ℕ) (old mid : Option (List ℕ))
-      (left : Left words bytes places (drop at stretches) text old mid) where
-    module _ (stretch : Stretch) (parts : drop at stretches ≡ stretch ∷ drop (at + 1) stretches) where
-      next : First words bytes places stretch (drop (at + 1) stretches) left.rest
-      next =
-          text_first words bytes places stretch (drop (at + 1) stretches) left.rest
-          (subst (λ ss. HaveText words bytes places ss left.rest) parts left.have)
-
-      -- So it is of the stretch that comes next.
-      pub stretch_more : (new : Option (List ℕ))
-          → ((part : List Event) → IsStretch words bytes places stretch part → Appends mid new (stretch_text stretch part))
-          → Left words bytes places (drop (at + 1) stretches) text old new
-      stretch_more new put =
-          left_more (drop at stretches) (drop (at + 1) stretches) text old mid new left (stretch_text stretch next.part)
-          next.rest next.parted next.later (put next.part next.is)
-
-      pub stretch_fails : (why : WriteFault) (new : Option (List ℕ))
-          → ((part : List Event) → IsStretch words bytes places stretch part
-          → IsPut (Err why) mid new (stretch_text stretch part)) → IsPut (Err why) old new text
-      stretch_fails why new put =
-          left_fails (drop at stretches) (drop (at + 1) stretches) text old mid new left (stretch_text stretch next.part)
-          next.rest next.parted why (put next.part next.is)
+        (put_in_front why old new (left.written ++ front) next.rest
+        (put_behind (Err why) old mid new left.written front left.appended (put next.part next.is)))

@@ -11,15 +11,14 @@ use Rattle.retire.specs.declared.event.Event.{Event}
 use Rattle.rvclass.specs.Words.{Words}
 use Rattle.payload.specs.declared.mode.Mode.{Mode}
 use Rattle.message.specs.declared.message.Message.{Message}
-use Rattle.capture_index.proofs.PlaceLemmas.{any_message}
-use Rattle.parallel_decode.proofs.StartLemmas.{starts-length}
+use Rattle.capture_index.proofs.PlaceLemmas.{any_message, places-length}
 use Rattle.parallel_decode.specs.declared.own.Own.{Own}
 use Rattle.parallel_decode.specs.declared.section_ends.SectionEnd.{SectionEnd}
 use Rattle.parallel_decode.specs.declared.sections.Section.{Section}
 use Rattle.parallel_decode.specs.steps.OwnMessages.{IsOwn}
 use Rattle.parallel_decode.specs.steps.Sections.{AreAdded, IsOfHart, IsOfHarts, IsPassed, IsSectionEnd, IsSectionOf}
 use Rattle.parallel_decode.specs.steps.Sections.{within}
-use Rattle.parallel_decode.specs.steps.Starts.{StartAt}
+use Rattle.parallel_decode.specs.steps.Starts.{StartAt, StartsAt}
 
 -- Nothing has no first elements.
 take-none : {X : Type 0} (n : ℕ) → take {A = X} n [] ≡ []
@@ -122,7 +121,7 @@ section-next words announced bytes places hart first number from to next events 
       forward = omega (arith, forward);
       inside = omega (arith, within_places);
       passed = λ messages are.
-          let count = starts-length bytes places messages are in
+          let count = places-length (StartsAt bytes) places messages are in
           let now = within (record { hart = hart; first = first; end = number }) messages in
           let further = within-next hart first number messages any_message forward (omega (arith, within_places, count)) in
           subst (λ ms. IsPassed words announced ms from next whole)
@@ -225,7 +224,7 @@ module _ (words : Words) (announced : Option Mode) (bytes places : List ℕ) (me
   passed-behind log own =
       let forward = is.forward in
       let reaches = is.inside in
-      let count = starts-length bytes places messages are in
+      let count = places-length (StartsAt bytes) places messages are in
       let passed = is.passed messages are before log own in
       let whole = up_to-end end.section messages forward in
       let many = length-take-le end.section.end messages (omega (arith, reaches, count)) in

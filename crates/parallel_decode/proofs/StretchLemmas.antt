@@ -5,7 +5,7 @@ use Rattle.std.specs.declared.vec.Vec.{Vec}
 use Rattle.retire.specs.declared.event.Event.{Event}
 use Rattle.rvclass.specs.Words.{Words}
 use Rattle.parallel_decode.specs.declared.stretch.Stretch.{Stretch}
-use Rattle.parallel_decode.specs.steps.Stretches.{HavePartOf, HaveText, IsStretch, stretch_text}
+use Rattle.parallel_decode.specs.steps.Stretches.{HaveText, IsStretch, stretch_text}
 
 module _ {A : Type 0} (words : Words) (bytes : List ℕ) (places : List (Vec ℕ A)) where
   -- One stretch more adds its text.
@@ -39,7 +39,7 @@ module _ {A : Type 0} (words : Words) (bytes : List ℕ) (places : List (Vec ℕ
   -- Each stretch has a part of a log.
   pub part_at : (stretches : List Stretch) (text : List ℕ) (place : ℕ) (stretch : Stretch)
       → HaveText words bytes places stretches text → slice_get stretches place ≡ Some stretch
-      → HavePartOf words bytes places stretch
+      → (part : List Event) × IsStretch words bytes places stretch part
   part_at [] text place stretch have is = absurd cc
   part_at (first ∷ stretches) text zero stretch (part, rest, its, have, parted) is =
       (part, subst (λ s. IsStretch words bytes places s part) (same is) its)

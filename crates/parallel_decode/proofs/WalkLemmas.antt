@@ -1,12 +1,12 @@
 -- How far messages were walked, with one message more.
 use Rattle.std.proofs.Common.{◌≡◌, ◌+◌, ℕ, All, List, [], ◌∷◌, ◌++◌, Global, Vec, ap, drop, length, refl, subst, sym}
-use Rattle.std.proofs.Common.{◌∙◌, ◌≤◌, Bool, None, Some, arith, false, if◌then◌else◌, length-take-le, true}
+use Rattle.std.proofs.Common.{◌∙◌, ◌<◌, ◌≤◌, Bool, None, Some, arith, false, if◌then◌else◌, length-take-le, true}
 use Rattle.std.proofs.lemmas.List.{length-drop, length_push}
-use Rattle.std.proofs.lemmas.List.Elements.{All-append, All-nil, All-push}
+use Rattle.std.proofs.lemmas.List.Elements.{All-append, All-cons, All-nil, All-push}
 use Rattle.frames.proofs.FrameLemmas.{begins_complete, complete}
 use Rattle.frames.specs.Frame.{frame_in, frame_size, hart_in, is_complete, length_in, message_size, payload_in}
-use Rattle.message.proofs.Selecting.{selected-append}
-use Rattle.message.specs.Range.{selected}
+use Rattle.message.proofs.Selecting.{none_selected, one_selected, selected-append}
+use Rattle.message.specs.Range.{selected, selects}
 use Rattle.message.specs.declared.range.HartRange.{HartRange}
 use Rattle.message.proofs.Elements.{All-slice_get}
 use Rattle.message.specs.Capture.{capture, message_bytes}
@@ -44,6 +44,19 @@ head_starts bytes place size within are found =
       refl,
       size_is,
     )
+
+-- A message that is selected is of these harts.
+pub one_of_harts : (range : HartRange) (harts : ℕ) (message : Message)
+    → (selects range message.hart ≡ true → message.hart < harts) → All (IsOfHarts harts) (selected range (message ∷ []))
+one_of_harts range harts message known = by_range (selects range message.hart) refl
+  where
+    by_range : (is_selected : Bool) → selects range message.hart ≡ is_selected
+        → All (IsOfHarts harts) (selected range (message ∷ []))
+    by_range true mine =
+        subst (All (IsOfHarts harts)) (sym (one_selected range message mine))
+        (All-cons (IsOfHarts harts) message [] (known mine) (All-nil (IsOfHarts harts)))
+    by_range false other =
+        subst (All (IsOfHarts harts)) (sym (none_selected range message other)) (All-nil (IsOfHarts harts))
 
 module _ (range : HartRange) (harts : ℕ) (bytes : List ℕ) where
   -- At first none was.

@@ -1,22 +1,20 @@
 //! What a thread decodes stretches into.
 
-ghost use Rattle.std.specs.Prelude.{◌≡◌, ◌≤◌, false, All, IfOk, length, vec_capacity};
-ghost use Rattle.retire.specs.declared.write.TheConstants.{LOG_ROOM as MOST_HELD};
+ghost use Rattle.std.specs.Prelude.{◌≡◌, ◌≤◌, ◌<◌, false, All, IfOk, length, vec_capacity};
+ghost use Rattle.parallel_decode.specs.steps.Filled.{IsFilled};
+ghost use Rattle.parallel_decode.specs.steps.Stretches.{HaveTexts};
 
+use crate::stretch::Plan;
 use crate::text::Text;
-use retire::{Event, LOG_ROOM};
+use crate::writing::write_stretch;
+use capture_index::RowBuffers;
 use std::alloc::{AllocError, Global};
-
-/// How many events are held before their rows are made.
-pub(crate) const PIECE: usize = 2_048;
 
 /// What a thread decodes a stretch into.
 #[derive(Drop)]
 pub(crate) struct Slot {
-    /// The rows on their way to the text.
-    pub(crate) room: Vec<u8>,
-    /// The events on their way to the rows.
-    pub(crate) piece: Vec<Event>,
+    /// What the rows pass through on their way to the text.
+    pub(crate) rows: RowBuffers,
     /// What the stretch adds.
     pub(crate) text: Text,
     /// The place of the stretch that is decoded into it.
@@ -25,7 +23,6 @@ pub(crate) struct Slot {
     pub(crate) end: usize,
     /// Whether its text is all that the stretch adds. Else it is new, or it lacked the capacity.
     pub(crate) is_whole: bool,
-    pub(crate) ghost sized: { (MOST_HELD ≤ vec_capacity room) × (1 ≤ vec_capacity piece) },
 }
 
 impl Slot {
@@ -34,8 +31,7 @@ impl Slot {
         ensures { IfOk result (λ slot. slot.is_whole ≡ false) }
     {
         Ok(Slot {
-            room: Vec::with_capacity(alloc, LOG_ROOM)?,
-            piece: Vec::with_capacity(alloc, PIECE)?,
+            rows: RowBuffers::new(alloc)?,
             text: Text {
                 held: Vec::with_capacity(alloc, size)?,
             },
@@ -48,12 +44,25 @@ impl Slot {
 
 /// This many slots for texts of this many bytes.
 pub(crate) fn slots_of(alloc: Global, count: usize, size: usize) -> Result<Vec<Slot>, AllocError>
-    ensures count { IfOk result (λ slots. length slots.items ≡ count) }
-    ensures new { IfOk result (λ slots. All (λ slot. slot.is_whole ≡ false) slots.items) }
+    ensures { IfOk result (λ slots. All (λ slot. slot.is_whole ≡ false) slots.items) }
 {
     let mut slots = Vec::with_capacity(alloc, count)?;
     for _ in 0..count {
         slots.push_reserved(Slot::new(alloc, size)?);
     }
     Ok(slots)
+}
+
+/// Decodes the stretch at a place into a slot, if there is capacity for all of its text.
+pub(crate) fn fill_slot(plan: &Plan<'_>, place: usize, slot: &mut Slot)
+    requires sound { HaveTexts plan.now }
+    requires within { place < length plan.now.stretches.now }
+    ensures { IsFilled plan.now slot.new }
+{
+    slot.text.held.clear();
+    slot.place = place;
+    slot.end = place + 1;
+    let stretch = &plan.stretches[place];
+    let written = write_stretch(plan, stretch, &mut slot.rows, &mut slot.text);
+    slot.is_whole = written.is_ok();
 }

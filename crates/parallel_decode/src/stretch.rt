@@ -4,6 +4,7 @@ ghost use Rattle.std.specs.Prelude.{◌≡◌, ◌-◌, drop, take};
 ghost use Rattle.parallel_decode.specs.steps.Stretches.{LiesIn};
 
 use decoder::Decoder;
+use rvclass::ProgramOver;
 
 /// Messages of a hart, one after the other.
 #[derive(Clone, Copy)]
@@ -30,4 +31,16 @@ impl Stretch {
         let own = places[self.hart].as_slice();
         &own[self.from..self.to]
     }
+}
+
+/// What is decoded and written, stretch by stretch.
+#[derive(Clone, Copy)]
+pub(crate) struct Plan<'a> {
+    pub(crate) program: &'a ProgramOver<'a>,
+    /// The messages.
+    pub(crate) bytes: &'a [u8],
+    /// Where those of each hart begin.
+    pub(crate) places: &'a [Vec<usize>],
+    /// The stretches, in the order of their texts.
+    pub(crate) stretches: &'a [Stretch],
 }

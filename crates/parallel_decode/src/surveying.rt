@@ -10,11 +10,10 @@ use crate::hart::{HartEnd, Work};
 use crate::lists::empty_lists;
 use crate::parts::receive_harts;
 use crate::walking::walk_over;
-use capture_index::{Mark, survey_messages};
+use capture_index::{Mark, Selection, survey_messages};
 use captures::CaptureFault;
 use message::{HartRange, Unwatched, Watch};
 use payload::Mode;
-use rvclass::ProgramOver;
 use std::alloc::{AllocError, Global};
 use std::thread::Threads;
 
@@ -43,32 +42,32 @@ pub(crate) enum Attempt {
     RefusedAt(usize),
 }
 
-/// Surveys the messages that these bytes have of the harts in a range, of so many harts, where the header announces
-/// this mode, if there is a header: as [`survey_messages`] does, with several harts side by side, and with marks. A hart
-/// has a mark each time 65,536 events or more were decoded since the last one, unless all harts together have too many.
+/// Surveys messages of the harts in a range, where the header announces this mode, if there is a header: as
+/// [`survey_messages`] does, with several harts side by side, and with marks. A hart has a mark each time 65,536 events or
+/// more were decoded since the last one, unless all harts together have too many.
 ///
 /// `watch` is told of each message while their places are looked for, before one is decoded: at most once of each, also
 /// of those after the fault.
 pub fn survey_side_by_side<R: Threads + Sync, V: Watch>(
     alloc: Global,
     rt: &R,
-    program: &ProgramOver,
-    harts: u16,
-    range: HartRange,
+    messages: &Selection<'_, '_>,
     announced: Option<Mode>,
-    bytes: &[u8],
     watch: &V,
 ) -> Result<MarkedSurvey, AllocError>
-    ensures { IfOk result (IsMarkedSurvey range (words_of program.now) harts announced bytes.now) }
+    ensures { IfOk result (IsMarkedSurvey messages.now.range (words_of messages.now.program.now) messages.now.harts
+        announced messages.now.bytes.now) }
 {
     let work = Work {
         alloc,
-        program,
+        program: messages.program,
         announced,
-        bytes,
-        most: MARKS / usize::from(harts).max(1),
+        bytes: messages.bytes,
+        most: MARKS / usize::from(messages.harts).max(1),
     };
-    let refused = match survey_before(rt, &work, harts, range, bytes.len(), watch)? {
+    let harts = messages.harts;
+    let range = messages.range;
+    let refused = match survey_before(rt, &work, harts, range, work.bytes.len(), watch)? {
         Attempt::Surveyed(survey) => return Ok(survey),
         Attempt::RefusedAt(place) => place,
     };
@@ -161,15 +160,13 @@ fn survey_in_turn(work: &Work<'_>, harts: u16, range: HartRange) -> Result<Marke
     ensures { IfOk result (IsMarkedSurvey range (words_of work.now.program.now) harts work.now.announced
         work.now.bytes.now) }
 {
-    let survey = survey_messages(
-        work.alloc,
-        work.program,
+    let messages = Selection {
+        program: work.program,
         harts,
         range,
-        work.announced,
-        work.bytes,
-        &Unwatched,
-    )?;
+        bytes: work.bytes,
+    };
+    let survey = survey_messages(work.alloc, &messages, work.announced, &Unwatched)?;
     let marks = empty_lists(work.alloc, usize::from(harts))?;
     Ok(MarkedSurvey {
         places: survey.places,

@@ -1,16 +1,16 @@
 //! Where the messages of a capture begin.
 
-ghost use Rattle.std.specs.Prelude.{ℕ, ◌≡◌, ◌<◌, ◌≤◌, ◌++◌, true, false, All, List, [], ◌∷◌, IfOk, IfSome, length};
+ghost use Rattle.std.specs.Prelude.{◌≡◌, ◌≤◌, List, IfOk, IfSome, length};
 ghost use Rattle.frames.specs.Frame.{hart_in};
-ghost use Rattle.message.specs.Range.{selected};
 ghost use Rattle.message.specs.Capture.{message_bytes};
 ghost use Rattle.message.specs.steps.Filling.{AreBytes};
 ghost use Rattle.message.specs.declared.message.Message.{Message as AnyMessage};
-ghost use Rattle.parallel_decode.specs.steps.Starts.{AreStarts, StartsAt};
-ghost use Rattle.parallel_decode.specs.steps.Walked.{AreWalked, IsOfHarts};
+ghost use Rattle.parallel_decode.specs.steps.Starts.{StartsAt};
+ghost use Rattle.parallel_decode.specs.steps.Walked.{AreWalked};
 
 use crate::lists::empty_lists;
 use byteorder::{ByteOrder, LittleEndian};
+use capture_index::add_selected;
 use frames::message_size;
 use message::{HartRange, Watch};
 use std::alloc::{AllocError, Global};
@@ -47,7 +47,7 @@ pub(crate) fn walk_over<V: Watch>(
         let Some(head) = head_at(bytes, walk.place) else {
             return Ok(walk);
         };
-        if !add_start(&mut walk.places, range, head.hart, walk.place)? {
+        if !add_selected(&mut walk.places, range, head.hart, walk.place)? {
             return Ok(walk);
         }
         walk.place += head.size;
@@ -90,46 +90,4 @@ fn hart_of(bytes: &[u8]) -> u16
     ensures bytes { AreBytes bytes.now }
 {
     LittleEndian::read_u16(bytes)
-}
-
-/// Adds the place of a message of a hart to the hart's list, if it is one of the harts in a range. Returns false if there
-/// is no list of it.
-fn add_start(
-    places: &mut Vec<Vec<usize>>,
-    range: HartRange,
-    hart: u16,
-    place: usize,
-) -> Result<bool, AllocError>
-    ensures added { (bytes : List ℕ) (messages : List AnyMessage) (message : AnyMessage) → message.hart ≡ hart
-        → AreStarts bytes places.old.items messages → StartsAt bytes place message
-        → IfOk result (λ known. known ≡ true
-        → AreStarts bytes places.new.items (messages ++ selected range (message ∷ []))
-        × All (IsOfHarts (length places.old.items)) (selected range (message ∷ []))) }
-    ensures kept { IfOk result (λ known. known ≡ false → places.new.items ≡ places.old.items) }
-    ensures count { length places.new.items ≡ length places.old.items }
-{
-    if range.selects(hart) {
-        add_place(places, hart, place)
-    } else {
-        Ok(true)
-    }
-}
-
-/// Adds a place to the list of a hart. Returns false if there is none.
-fn add_place(places: &mut Vec<Vec<usize>>, hart: u16, place: usize) -> Result<bool, AllocError>
-    ensures added { (bytes : List ℕ) (messages : List AnyMessage) (message : AnyMessage) → message.hart ≡ hart
-        → AreStarts bytes places.old.items messages → StartsAt bytes place message
-        → IfOk result (λ known. known ≡ true → AreStarts bytes places.new.items (messages ++ message ∷ [])
-        × (hart < length places.old.items)) }
-    ensures kept { IfOk result (λ known. known ≡ false → places.new.items ≡ places.old.items) }
-    ensures count { length places.new.items ≡ length places.old.items }
-{
-    match places.get_mut(usize::from(hart)) {
-        Some(own) => {
-            own.reserve(1)?;
-            own.push_reserved(place);
-            Ok(true)
-        }
-        None => Ok(false),
-    }
 }

@@ -7,6 +7,7 @@
 mod alignments;
 mod audits;
 mod damages;
+mod fates;
 mod lines;
 mod lists;
 mod naming;

@@ -3,6 +3,9 @@
 use cases::{Case, text_of};
 use symbols::{Symbols, write_symbol};
 
+/// Where the files of a rule begin.
+const BASE: u64 = 0x8000_0000;
+
 /// Appends what is written after a place.
 fn put_symbol(case: &mut Case<'_>, symbols: &Symbols, place: u64) {
     let mut text = Vec::new(case.alloc);
@@ -21,5 +24,64 @@ pub(crate) fn symbol(case: &mut Case<'_>) {
     match Symbols::new(case.alloc, file) {
         Ok(symbols) => put_symbol(case, &symbols, place),
         Err(fault) => case.put_shown(fault),
+    }
+}
+
+/// The symbols of a file with so many of them, 4 bytes apart, the last one first. Each fifth line is of data.
+fn symbols_of(case: &mut Case<'_>, count: u64) -> Option<Symbols> {
+    let mut file = case.again();
+    for left in 0..count {
+        let number = count.saturating_sub(1).saturating_sub(left);
+        let kind = match number % 5 {
+            0 => "t",
+            1 => "T",
+            2 => "w",
+            3 => "W",
+            _ => "D",
+        };
+        let address = BASE.wrapping_add(number.wrapping_mul(4));
+        let done = write!(file.came, "{address:x} {kind} s{number}\n");
+        file.note(done);
+    }
+    case.join(&file);
+    Symbols::new(case.alloc, case.copied(file.came.as_bytes())).ok()
+}
+
+/// Appends how a place is named, and which name it has to have: the symbol so many before it, or the last one. Where that
+/// one is of data, the one before it counts.
+fn put_sized(case: &mut Case<'_>, symbols: &Symbols, count: u64, number: u64) {
+    let last = number.min(count.saturating_sub(1));
+    let symbol = if last % 5 == 4 {
+        last.saturating_sub(1)
+    } else {
+        last
+    };
+    let distance = number.saturating_sub(symbol).wrapping_mul(4);
+    let mut wanted = case.again();
+    let done = write!(wanted.came, "at <s{symbol}+{distance:x}>");
+    wanted.note(done);
+    case.join(&wanted);
+    let mut found = case.again();
+    put_symbol(
+        &mut found,
+        symbols,
+        BASE.wrapping_add(number.wrapping_mul(4)),
+    );
+    case.put_other(wanted.came.as_str(), &found, wanted.came.as_str());
+}
+
+/// `same`, or how other places of a file with so many symbols are named: of the first 200, the last 200 and the one after.
+pub(crate) fn sized(case: &mut Case<'_>) {
+    let count = case.number("count", 0);
+    let Some(symbols) = symbols_of(case, count) else {
+        return case.unread();
+    };
+    for number in 0..count.saturating_add(1) {
+        if number < 200 || count.saturating_sub(200) < number {
+            put_sized(case, &symbols, count, number);
+        }
+    }
+    if case.came.is_empty() {
+        case.put("same");
     }
 }

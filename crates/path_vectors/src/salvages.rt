@@ -2,12 +2,13 @@
 
 use crate::spans::bytes_in;
 use cases::{Case, bytes_of};
-use frames::{Span, spans_of};
-use message::{Message, Unwatched};
+use frames::{CaptureStart, Span, spans_of};
+use listing::Form;
+use message::{HartRange, Message, Unwatched};
 use payload::Mode;
 use rvclass::Program;
-use salvage_reports::{write_salvaged_table, write_treated, write_treated_table};
-use salvaging::{Salvaged, Treated, salvage_watched, treat_watched};
+use salvage_reports::{Found, Layout, TreatedCapture, find_salvaged, write_found, write_treated};
+use salvaging::{Treated, treat_watched};
 use symbols::Symbols;
 
 /// The program that begins at `base`, if there is one.
@@ -32,26 +33,20 @@ fn messages_in(case: &mut Case<'_>, capture: &[u8]) -> Vec<Message> {
     messages
 }
 
-/// Where the frames of a capture without a header are.
-fn offsets_in(case: &mut Case<'_>, capture: &[u8]) -> Vec<usize> {
-    let mut offsets = Vec::new(case.alloc);
-    for span in spans_of(capture, None) {
-        if let Span::Frame { offset, .. } = span {
-            case.push(&mut offsets, offset);
-        }
-    }
-    offsets
-}
-
 /// Appends what is done with each message: as a table with `form=table`, or else as lines.
 fn put_treated(case: &mut Case<'_>, capture: &[u8], treated: &[Treated]) {
     let mut text = Vec::new(case.alloc);
-    let spans = spans_of(capture, None);
-    let end = match case.named("form") {
-        "table" => write_treated_table(None::<&Symbols>, None, spans, treated, &mut text),
-        _ => write_treated(None::<&Symbols>, None, spans, treated, &mut text),
+    let form = match case.named("form") {
+        "table" => Form::Table,
+        _ => Form::Lines,
     };
-    if end.is_err() {
+    let capture = TreatedCapture {
+        header: None,
+        only: HartRange::ALL,
+        bytes: capture,
+        treated,
+    };
+    if write_treated(form, None::<&Symbols>, capture, &mut text).is_err() {
         case.no_memory();
     }
     case.put_text(text.as_slice());
@@ -79,19 +74,10 @@ pub(crate) fn treat(case: &mut Case<'_>) {
     }
 }
 
-/// Appends the table of what is salvaged of hart 0.
-fn put_salvaged(case: &mut Case<'_>, capture: &[u8], salvaged: &Salvaged) {
-    let offsets = offsets_in(case, capture);
+/// Appends the table of what is salvaged.
+fn put_salvaged(case: &mut Case<'_>, capture: &[u8], found: &Found) {
     let mut table = Vec::new(case.alloc);
-    let end = write_salvaged_table(
-        None,
-        spans_of(capture, None),
-        &[offsets],
-        salvaged.harts.as_slice(),
-        salvaged.strangers,
-        &mut table,
-    );
-    if end.is_err() {
+    if write_found(case.alloc, Layout::Table, found, capture, &mut table).is_err() {
         case.no_memory();
     }
     case.put_text(table.as_slice());
@@ -100,20 +86,17 @@ fn put_salvaged(case: &mut Case<'_>, capture: &[u8], salvaged: &Salvaged) {
 /// The table of what is salvaged of a capture of one hart without a header.
 pub(crate) fn salvage(case: &mut Case<'_>) {
     let capture = bytes_in(case);
-    let messages = messages_in(case, capture.as_slice());
     let Some(program) = program_of(case) else {
         return;
     };
-    let mode = Mode::Differential;
-    match salvage_watched(
-        case.alloc,
-        &program,
-        1,
-        mode,
-        messages.as_slice(),
-        &Unwatched,
-    ) {
-        Ok(salvaged) => put_salvaged(case, capture.as_slice(), &salvaged),
+    let start = CaptureStart {
+        header: None,
+        fault: None,
+    };
+    let only = HartRange::ALL;
+    let bytes = capture.as_slice();
+    match find_salvaged(case.alloc, &program, start, 1, only, bytes, &Unwatched) {
+        Ok(found) => put_salvaged(case, bytes, &found),
         Err(_) => case.no_memory(),
     }
 }

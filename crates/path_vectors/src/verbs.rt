@@ -1,11 +1,21 @@
 //! The verbs.
 
-use crate::{alignments, audits, damages, lines, naming, paths, salvages, spans};
+use crate::{alignments, audits, damages, fates, lines, naming, paths, salvages, spans};
 use cases::{Case, Verbs};
 
 /// The verbs of this program.
 #[derive(Drop)]
 pub(crate) struct PathVerbs;
+
+/// Plays cases that are drawn, or made by a rule.
+fn play_rule(case: &mut Case<'_>, verb: &str) {
+    match verb {
+        "damages" => damages::damages(case),
+        "fates" => fates::fates(case),
+        "sized" => naming::sized(case),
+        _ => case.unread(),
+    }
+}
 
 /// Plays a case of messages without numbers.
 fn play_alignment(case: &mut Case<'_>, verb: &str) {
@@ -14,7 +24,7 @@ fn play_alignment(case: &mut Case<'_>, verb: &str) {
         "count" => alignments::count(case),
         "most" => alignments::most(case),
         "best" => alignments::best(case),
-        _ => case.unread(),
+        _ => play_rule(case, verb),
     }
 }
 
@@ -28,7 +38,6 @@ fn play_path(case: &mut Case<'_>, verb: &str) {
         "audit" => audits::audit(case),
         "payload" => audits::payload(case),
         "runs" => audits::runs(case),
-        "damages" => damages::damages(case),
         _ => play_alignment(case, verb),
     }
 }

@@ -1,6 +1,6 @@
 -- What some harts have, and the texts of harts from one on.
-use Rattle.std.proofs.Common.{◌≡◌, ◌∙◌, ◌+◌, ◌-◌, ◌<◌, ◌≤◌, ◌++◌, ℕ, zero, suc, List, [], ◌∷◌, Option, sym, ap, refl}
-use Rattle.std.proofs.Common.{true, subst, arith, append_assoc, append-nil, drop, length, get_or, map, min, take, take-append-drop}
+use Rattle.std.proofs.Common.{◌≡◌, ◌∙◌, ◌+◌, ◌-◌, ◌<◌, ◌≤◌, ◌++◌, ℕ, List, [], ◌∷◌, Option, sym, ap, refl, true, subst}
+use Rattle.std.proofs.Common.{arith, drop, length, get_or, map, min, take, take-append-drop}
 use Rattle.std.proofs.KnownBytes.{Appends-trans}
 use Rattle.std.proofs.lemmas.Bool.{le-leb}
 use Rattle.std.proofs.lemmas.List.{drop_more, length-drop, length-take, length-take-le, take_more}
@@ -9,7 +9,8 @@ use Rattle.message.specs.Range.{selects}
 use Rattle.message.specs.declared.range.HartRange.{HartRange}
 use Rattle.output.specs.Begun.{AppendsBeginning}
 use Rattle.output.proofs.Beginnings.{begun_between}
-use Rattle.capture_index.specs.EachHart.{each_hart, hart_line, numbered_harts}
+use Rattle.capture_index.proofs.HartTexts.{joined-append, joined-snoc}
+use Rattle.capture_index.specs.EachHart.{each_hart, hart_line, joined_harts, numbered_harts}
 use Rattle.salvage_reports.specs.HartItems.{items_of}
 
 -- No more than the harts up to the last have one.
@@ -32,59 +33,40 @@ one_of harts items hart from within =
     let known : hart < length items = omega (arith, from, within, count) in
     record { selected = rw (le-leb harts.first hart from, le-leb hart harts.last below) refl; within = known }
 
-module _ {X : Type 0} (text : ℕ → X → List ℕ) where
-  -- The texts of harts, and of more harts.
-  from-append : (hart : ℕ) (harts more : List X)
-      → numbered_harts text hart (harts ++ more)
-      ≡ numbered_harts text hart harts ++ numbered_harts text (hart + length harts) more
-  from-append hart [] more = ap (λ h. numbered_harts text h more) (omega arith)
-  from-append hart (own ∷ harts) more =
-      let first = hart_line hart ++ text hart own in
-      ap (λ l. first ++ l) (from-append (hart + 1) harts more)
-      ∙ sym (append_assoc first (numbered_harts text (hart + 1) harts)
-      (numbered_harts text (hart + 1 + length harts) more))
-      ∙ ap (λ h. (first ++ numbered_harts text (hart + 1) harts) ++ numbered_harts text h more) (omega arith)
+module _ {X : Type 0} (text : ℕ → X → List ℕ) (first : ℕ) (harts : List X) (i : ℕ) (own : X)
+    (within : i < length harts) (is : own ≡ get_or harts i own) (old mid new : Option (List ℕ))
+    (before : Appends old mid (joined_harts text first (take i harts))) where
+  abbrev front : List ℕ
+  front = joined_harts text first (take i harts)
 
-  module _ (first : ℕ) (harts : List X) (i : ℕ) (own : X) (within : i < length harts) (is : own ≡ get_or harts i own)
-    where
-      abbrev here : List ℕ
-      here = hart_line (first + i) ++ text (first + i) own
+  count : length (take i harts) ≡ i
+  count = length-take-le i harts (omega (arith, within))
 
-      count : length (take i harts) ≡ i
-      count = length-take-le i harts (omega (arith, within))
+  -- A hart's text was written after those of the harts before.
+  pub from_written : Appends mid new (text (first + i) own)
+      → Appends old new (joined_harts text first (take (i + 1) harts))
+  from_written then =
+      let more : joined_harts text first (take (i + 1) harts) ≡ front ++ text (first + i) own =
+      ap (joined_harts text first) (take_more harts i own within ∙ ap (λ r. take i harts ++ r ∷ []) (sym is))
+      ∙ joined-snoc text first (take i harts) own
+      ∙ ap (λ n. front ++ text (first + n) own) count in
+      subst (Appends old new) (sym more) (Appends-trans old mid new front (text (first + i) own) before then)
 
-      -- A hart's line and its text were written behind those of the harts before.
-      pub from_written : (old mid line new : Option (List ℕ)) → Appends old mid (numbered_harts text first (take i harts))
-          → Appends mid line (hart_line (first + i)) → Appends line new (text (first + i) own)
-          → Appends old new (numbered_harts text first (take (i + 1) harts))
-      from_written old mid line new before head then =
-          let front = numbered_harts text first (take i harts) in
-          let more : numbered_harts text first (take (i + 1) harts) ≡ front ++ here =
-          ap (numbered_harts text first) (take_more harts i own within ∙ ap (λ r. take i harts ++ r ∷ []) (sym is))
-          ∙ from-append first (take i harts) (own ∷ [])
-          ∙ ap (λ n. front ++ numbered_harts text (first + n) (own ∷ [])) count
-          ∙ ap (λ l. front ++ l) (append-nil here) in
-          subst (Appends old new) (sym more)
-          (Appends-trans old mid new front here before
-          (Appends-trans mid line new (hart_line (first + i)) (text (first + i) own) head then))
-
-      -- A beginning of a hart's line and text was written behind the texts of the harts before.
-      pub from_begun : (old mid new : Option (List ℕ)) → Appends old mid (numbered_harts text first (take i harts))
-          → AppendsBeginning (hart_line (first + i) ++ text (first + i) own) mid new
-          → AppendsBeginning (numbered_harts text first harts) old new
-      from_begun old mid new before begun =
-          let front = numbered_harts text first (take i harts) in
-          let rest = drop (i + 1) harts in
-          let cut : harts ≡ take i harts ++ own ∷ rest =
-          sym (take-append-drop i harts)
-          ∙ ap (λ l. take i harts ++ l) (drop_more harts i own within ∙ ap (λ r. r ∷ rest) (sym is)) in
-          let parted : numbered_harts text first harts
-          ≡ front ++ (here ++ numbered_harts text (first + i + 1) rest) =
-          ap (numbered_harts text first) cut
-          ∙ from-append first (take i harts) (own ∷ rest)
-          ∙ ap (λ n. front ++ numbered_harts text (first + n) (own ∷ rest)) count in
-          subst (λ l. AppendsBeginning l old new) (sym parted)
-          (begun_between front here (numbered_harts text (first + i + 1) rest) old mid new before begun)
+  -- A beginning of a hart's text was written after the texts of the harts before.
+  pub from_begun : AppendsBeginning (text (first + i) own) mid new
+      → AppendsBeginning (joined_harts text first harts) old new
+  from_begun begun =
+      let rest = drop (i + 1) harts in
+      let cut : harts ≡ take i harts ++ own ∷ rest =
+      sym (take-append-drop i harts)
+      ∙ ap (λ l. take i harts ++ l) (drop_more harts i own within ∙ ap (λ r. r ∷ rest) (sym is)) in
+      let parted : joined_harts text first harts
+      ≡ front ++ (text (first + i) own ++ joined_harts text (first + i + 1) rest) =
+      ap (joined_harts text first) cut
+      ∙ joined-append text first (take i harts) (own ∷ rest)
+      ∙ ap (λ n. front ++ joined_harts text (first + n) (own ∷ rest)) count in
+      subst (λ l. AppendsBeginning l old new) (sym parted)
+      (begun_between front (text (first + i) own) (joined_harts text (first + i + 1) rest) old mid new before begun)
 
 -- The texts of what is made of each.
 pub each_of : {X R : Type 0} (text : X → List ℕ) (f : R → X) (hart : ℕ) (harts : List R)

@@ -1,14 +1,11 @@
 pub mod HartLists
-mod ItemTexts
 mod OffsetLists
 pub mod OwnSpans
 pub mod PartTexts
-mod TextsBehind
 pub mod SameTexts
 pub mod FoundBehind
 mod WorkedSalvages
 pub mod TreatedLine
-pub mod TreatedSpans
 pub mod TakenMessages
 pub mod AcceptedInTurn
 pub mod AcceptedTaken
@@ -17,7 +14,7 @@ pub mod LogsTaken
 mod WorkedLines
 pub mod PlainRows
 pub mod TreatedRow
-pub mod SpanRows
+pub mod SpanTexts
 pub mod ShownSpans
 pub mod SpanCounts
 pub mod ReadRows

@@ -1,5 +1,5 @@
 -- An undamaged capture is listed alike with what salvaging does and without it.
-use Rattle.std.proofs.Common.{◌≡◌, ◌++◌, ◌+◌, ℕ, All, Bool, List, [], ◌∷◌, Option, Some, None, codes, drop}
+use Rattle.std.proofs.Common.{◌≡◌, ◌++◌, ◌+◌, ℕ, All, Bool, true, List, [], ◌∷◌, Option, Some, None, codes, drop}
 use Rattle.std.proofs.Common.{drop_at, length, map, refl, sym, ap, subst, ◌∙◌}
 use Rattle.std.specs.List.{last_or}
 use Rattle.std.proofs.lemmas.List.{append-nil}
@@ -11,12 +11,15 @@ use Rattle.payload.specs.declared.packet.Packet.{Packet}
 use Rattle.frames.proofs.ScatteredLemmas.{written}
 use Rattle.frames.specs.Frame.{IsFrame}
 use Rattle.frames.specs.Spans.{spans_from}
+use Rattle.frames.specs.declared.span.Span.{Span}
 use Rattle.frames.specs.Written.{frames_from}
 use Rattle.message.proofs.HartMessages.{last_is_closing-next, packets_of-next}
 use Rattle.message.specs.Accepted.{AreAccepted, expected_after, newcomers}
 use Rattle.message.specs.Capture.{capture, message_bytes}
+use Rattle.message.proofs.Selecting.{all_selected}
 use Rattle.message.specs.Header.{header_bytes}
 use Rattle.message.specs.OfHart.{packets_of}
+use Rattle.message.specs.Range.{every_hart, selected}
 use Rattle.message.specs.declared.header.Header.{Header}
 use Rattle.message.specs.declared.message.Message.{Message}
 use Rattle.captures.proofs.WholeCaptures.{whole_only}
@@ -26,12 +29,17 @@ use Rattle.frames.specs.Search.{mode_of, start_line}
 use Rattle.frames.specs.Start.{first_place, known_harts, spans_of}
 use Rattle.listing.specs.Effect.{Effect, HasEffect, HaveEffects, does_wait, last_is_waiting}
 use Rattle.listing.specs.EffectText.{effect_text}
-use Rattle.listing.specs.Lines.{effect_line, effect_lines, message_text}
+use Rattle.listing.proofs.PlacedMessages.{all_placed}
+use Rattle.listing.specs.Entries.{placed_entries}
+use Rattle.listing.specs.Lines.{effect_line, message_text}
 use Rattle.listing.specs.Listing.{AreMessagesListed, NoHeader, Version1, Version2, naming_mode}
+use Rattle.listing.specs.Placed.{placed, placed_of}
+use Rattle.listing.specs.declared.form.Form.TheVariants.{Lines}
 use Rattle.listing.specs.PacketEnding.{read_closes, read_waits}
 use Rattle.salvaging.specs.Treatments.{AreTreated}
 use Rattle.salvaging.specs.declared.treatment.Treated.{Treated}
-use Rattle.salvage_reports.specs.Lines.{treated_line, treated_spans, treated_text}
+use Rattle.salvage_reports.specs.Lines.{treated_line}
+use Rattle.salvage_reports.specs.TreatedText.{spans_text, treated_text}
 use Rattle.salvage_reports.specs.ListedAlike.{CapturesAreListedAlike, taken_with}
 use Rattle.salvage_reports.proofs.AcceptedInTurn.{IsNext, accepted_next, accepted_rest, is_next}
 use Rattle.salvage_reports.proofs.AcceptedTaken.{accepted_taken}
@@ -42,6 +50,10 @@ last_more : (before : Option Packet) (packets : List Packet) (packet : Packet)
     → last_or before (packets ++ packet ∷ []) ≡ Some packet
 last_more before [] packet = refl
 last_more before (first ∷ packets) packet = last_more (Some first) packets packet
+
+-- The lines of all of these spans.
+abbrev lines_of : Option (List ℕ) → Mode → ℕ → List Span → List Treated → List ℕ
+lines_of symbols named at spans treated = spans_text Lines (λ span. true) symbols named at spans treated
 
 module _ (symbols : Option (List ℕ)) (named : Mode) (words : Words) (harts : ℕ) where
   -- The line of a message that is taken with its effect is the one that a listing has.
@@ -66,18 +78,18 @@ module _ (symbols : Option (List ℕ)) (named : Mode) (words : Words) (harts : �
       ∙ ap (λ c. effect_text symbols (record { added = effect.added; waits = effect.waits; closes = c })) closes_too in
       ap (λ l. message_text named offset message ++ (codes " => " ++ (l ++ codes "\n"))) text
 
-  lines_alike : (offset : ℕ) (front messages : List Message) (effects : List Effect)
+  lines_alike : (at offset : ℕ) (front messages : List Message) (effects : List Effect)
       → AreAccepted (newcomers harts) front → AreAccepted (expected_after (newcomers harts) front) messages
       → HaveEffects words front messages effects
-      → treated_spans symbols named (frames_from offset messages) (map taken_with effects)
-      ≡ effect_lines symbols named offset messages effects
-  lines_alike offset front [] effects before all have = refl
-  lines_alike offset front (message ∷ messages) [] before all have = absurd have
-  lines_alike offset front (message ∷ messages) (effect ∷ effects) before all have =
+      → lines_of symbols named at (frames_from offset messages) (map taken_with effects)
+      ≡ placed_entries Lines symbols named (placed at offset messages) effects
+  lines_alike at offset front [] effects before all have = refl
+  lines_alike at offset front (message ∷ messages) [] before all have = absurd have
+  lines_alike at offset front (message ∷ messages) (effect ∷ effects) before all have =
       let here = offset + length (message_bytes message) in
-      let later = lines_alike here (front ++ message ∷ []) messages effects
+      let later = lines_alike (at + 1) here (front ++ message ∷ []) messages effects
       (accepted_next harts front before message all.0) (accepted_rest harts front message messages all) have.1 in
-      ap (λ l. l ++ treated_spans symbols named (frames_from here messages) (map taken_with effects))
+      ap (λ l. l ++ lines_of symbols named (at + 1) (frames_from here messages) (map taken_with effects))
       (line_alike offset front message effect (is_next harts front before message all.0) have.0)
       ∙ ap (λ l. effect_line symbols named offset message effect ++ l) later
 
@@ -99,28 +111,38 @@ spans_are bytes header messages begins frames =
 
 module _ (words : Words) (mode : Mode) (symbols : Option (List ℕ)) (bytes : List ℕ)
     (messages : List Message) (treated : List Treated) (program : IsProgram words) where
+  -- What is listed of messages of all harts.
+  abbrev Listed : ℕ → Option Mode → ℕ → List ℕ → List ℕ → List Bool → Type 0
+  Listed harts announced offset rest text closed =
+      AreMessagesListed words Lines every_hart harts announced symbols offset rest closed None text
+
   -- The text of what is listed up to the end of the bytes.
   whole_lines : (harts : ℕ) (announced : Option Mode) (offset : ℕ) (rest text : List ℕ) (closed : List Bool)
-      → (listed : AreMessagesListed words harts announced symbols offset rest closed None text)
+      → (listed : Listed harts announced offset rest text closed)
       → listed.messages ≡ messages → AreTreated words mode harts messages treated
-      → treated_spans symbols (naming_mode announced) (frames_from offset messages) treated ≡ text
+      → lines_of symbols (naming_mode announced) 0 (frames_from offset messages) treated ≡ text
   whole_lines harts announced offset rest text closed listed same are =
       let effects = listed.effects in
-      let accepted = subst (AreAccepted (newcomers harts)) same listed.accepted in
-      let have = subst (λ ms. HaveEffects words [] ms effects) same listed.have in
+      let all : selected every_hart listed.messages ≡ messages =
+      all_selected listed.messages listed.ranges ∙ same in
+      let accepted = subst (AreAccepted (newcomers harts)) all listed.accepted in
+      let have = subst (λ ms. HaveEffects words [] ms effects) all listed.have in
       let taken = accepted_taken words mode harts messages effects treated program accepted have are in
-      ap (treated_spans symbols (naming_mode announced) (frames_from offset messages)) taken
-      ∙ lines_alike symbols (naming_mode announced) words harts offset [] messages effects tt accepted have
-      ∙ ap (λ ms. effect_lines symbols (naming_mode announced) offset ms effects) (sym same)
-      ∙ sym (append-nil (effect_lines symbols (naming_mode announced) offset listed.messages effects))
-      ∙ ap (λ l. effect_lines symbols (naming_mode announced) offset listed.messages effects ++ l)
-      (sym listed.last_line)
-      ∙ sym listed.lines
+      let named = naming_mode announced in
+      let lines = placed_entries Lines symbols named (placed_of every_hart 0 offset listed.messages) effects in
+      ap (lines_of symbols named 0 (frames_from offset messages)) taken
+      ∙ lines_alike symbols named words harts 0 offset [] messages effects tt accepted have
+      ∙ ap (λ ms. placed_entries Lines symbols named (placed 0 offset ms) effects) (sym same)
+      ∙ ap (λ shown. placed_entries Lines symbols named shown effects)
+      (sym (all_placed 0 offset listed.messages listed.ranges))
+      ∙ sym (append-nil lines)
+      ∙ ap (λ l. lines ++ l) (sym listed.last_entry)
+      ∙ sym listed.entries
 
   -- The messages that are listed up to the end of the bytes are all.
   all_listed : (harts : ℕ) (announced : Option Mode) (offset : ℕ) (rest text : List ℕ) (closed : List Bool)
       (found header : Option Header)
-      → (listed : AreMessagesListed words harts announced symbols offset rest closed None text)
+      → (listed : Listed harts announced offset rest text closed)
       → BeginsWith found bytes rest → IsWhole bytes header messages
       → (found ≡ header) × (listed.messages ≡ messages)
   all_listed harts announced offset rest text closed found header listed begins whole =
@@ -136,19 +158,19 @@ module _ (words : Words) (mode : Mode) (harts : ℕ) (symbols : Option (List ℕ
   AlikeWith header =
       IsWhole bytes header messages → All (IsFrame (known_harts header)) messages
       → AreTreated words mode (harts_counted (Some harts) header bytes) messages treated
-      → treated_text symbols header (spans_of header bytes) treated ≡ text
+      → treated_text Lines symbols header (spans_of header bytes) treated ≡ text
 
   alike_with : (announced : Option Mode) (rest lines : List ℕ) (found header : Option Header)
-      → (listed : AreMessagesListed words (harts_counted (Some harts) found bytes) announced symbols (first_place found)
-      rest closed None lines)
+      → (listed : AreMessagesListed words Lines every_hart (harts_counted (Some harts) found bytes) announced symbols
+      (first_place found) rest closed None lines)
       → naming_mode announced ≡ mode_of found → BeginsWith found bytes rest → text ≡ start_line found ++ lines
       → AlikeWith header
   alike_with announced rest lines found header listed named begins text_is whole frames are =
       let both = all_listed words mode symbols bytes messages treated program (harts_counted (Some harts) found bytes)
       announced (first_place found) rest lines closed found header listed begins whole in
       subst AlikeWith both.0 (λ whole frames are.
-      ap (λ (m : Mode). start_line found ++ treated_spans symbols m (spans_of found bytes) treated) (sym named)
-      ∙ ap (λ spans. start_line found ++ treated_spans symbols (naming_mode announced) spans treated)
+      ap (λ (m : Mode). start_line found ++ lines_of symbols m 0 (spans_of found bytes) treated) (sym named)
+      ∙ ap (λ spans. start_line found ++ lines_of symbols (naming_mode announced) 0 spans treated)
       (spans_are bytes found messages whole.whole frames)
       ∙ ap (λ l. start_line found ++ l) (whole_lines words mode symbols bytes messages treated program
       (harts_counted (Some harts) found bytes) announced (first_place found) rest lines closed listed both.1 are)
@@ -156,9 +178,9 @@ module _ (words : Words) (mode : Mode) (harts : ℕ) (symbols : Option (List ℕ
 
 pub listed_alike : CapturesAreListedAlike
 listed_alike words mode harts symbols bytes text closed header messages treated program
-    (Version1 unmarked listed) =
-    alike_with words mode harts symbols bytes text closed messages treated program None bytes text None header listed
-    refl (unmarked, refl) refl
+    (Version1 lines unmarked listed text_is) =
+    alike_with words mode harts symbols bytes text closed messages treated program None bytes lines None header listed
+    refl (unmarked, refl) text_is
 listed_alike words mode harts symbols bytes text closed header messages treated program
     (Version2 found rest lines is begins listed text_is) =
     alike_with words mode harts symbols bytes text closed messages treated program (Some found.mode) rest lines

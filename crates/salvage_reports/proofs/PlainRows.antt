@@ -24,7 +24,10 @@ use Rattle.output.specs.Fields.{fields_line}
 use Rattle.output.specs.Quoted.{quoted_field, quoted_line}
 use Rattle.output.specs.ReadBack.{IsReadAs}
 use Rattle.salvage_reports.specs.SalvagedReadBack.{AreReadBack}
-use Rattle.salvage_reports.specs.SalvagedRows as row
+use Rattle.salvage_reports.specs.SalvagedItems as row
+use Rattle.salvage_reports.specs.declared.salvaged_items.Counted.TheVariants as counted
+use Rattle.salvage_reports.specs.declared.salvaged_items.Item.{Item}
+use Rattle.salvage_reports.specs.declared.salvaged_items.Item.TheVariants as item
 
 zeros_plain : (count : ℕ) → IsPlain (replicate count 48)
 zeros_plain zero = refl
@@ -110,8 +113,9 @@ reason_is (reason.Decode why) = decode_is why
 reason_is (reason.Closing next) = closing_is next
 
 -- So the row of a bad number is written as `csv` writes it.
-bad_is : (hart number offset : ℕ) (why : Reason) → quoted_line (row.bad_fields hart number offset (reason_text why))
-    ≡ fields_line (row.bad_fields hart number offset (row.reason_field why))
+bad_is : (hart number offset : ℕ) (why : Reason)
+    → quoted_line (row.item_fields reason_text (item.Bad hart number offset why))
+    ≡ fields_line (row.item_fields row.reason_field (item.Bad hart number offset why))
 bad_is hart number offset why = λ i.
     fields_line (
     codes "bad" ∷ plain_field (decimal hart) (decimal_plain hart) i
@@ -120,37 +124,45 @@ bad_is hart number offset why = λ i.
     )
 
 bad_read : (hart number offset : ℕ) (why : Reason)
-    → IsReadAs (fields_line (row.bad_fields hart number offset (row.reason_field why)))
-    (row.bad_fields hart number offset (reason_text why))
+    → IsReadAs (fields_line (row.item_fields row.reason_field (item.Bad hart number offset why)))
+    (row.item_fields reason_text (item.Bad hart number offset why))
 bad_read hart number offset why =
-    subst (λ line. IsReadAs line (row.bad_fields hart number offset (reason_text why))) (bad_is hart number offset why)
+    subst (λ line. IsReadAs line (row.item_fields reason_text (item.Bad hart number offset why)))
+    (bad_is hart number offset why)
     (quoted_read (codes "bad") (decimal hart)
     (decimal number ∷ [] ∷ [] ∷ offset_text offset ∷ [] ∷ [] ∷ [] ∷ reason_text why ∷ []))
 
+-- Each row is read back.
+item_read : (one : Item) → IsReadAs (fields_line (row.item_fields row.reason_field one)) (row.item_fields reason_text one)
+item_read (item.Hart hart mode closed) =
+    plain_read (row.item_fields reason_text (item.Hart hart mode closed)) tt
+    (rw (decimal_plain hart, mode_plain mode, closed_plain closed) refl)
+item_read (item.Said hart said) =
+    plain_read (row.item_fields reason_text (item.Said hart said)) tt (rw (decimal_plain hart, mode_plain said) refl)
+item_read (item.Stretch hart first last count) =
+    plain_read (row.item_fields reason_text (item.Stretch hart first last count)) tt
+    (rw (decimal_plain hart, decimal_plain first, decimal_plain last, decimal_plain count) refl)
+item_read (item.Messages hart counted.Gap count) =
+    plain_read (row.item_fields reason_text (item.Messages hart counted.Gap count)) tt
+    (rw (decimal_plain hart, decimal_plain count) refl)
+item_read (item.Messages hart counted.Copies count) =
+    plain_read (row.item_fields reason_text (item.Messages hart counted.Copies count)) tt
+    (rw (decimal_plain hart, decimal_plain count) refl)
+item_read (item.Messages hart counted.Late count) =
+    plain_read (row.item_fields reason_text (item.Messages hart counted.Late count)) tt
+    (rw (decimal_plain hart, decimal_plain count) refl)
+item_read (item.Bad hart number offset why) = bad_read hart number offset why
+item_read (item.Doubtful hart number first second) =
+    plain_read (row.item_fields reason_text (item.Doubtful hart number first second)) tt
+    (rw (decimal_plain hart, decimal_plain number, offset_plain first, offset_plain second) refl)
+item_read (item.Alone hart number offset) =
+    plain_read (row.item_fields reason_text (item.Alone hart number offset)) tt
+    (rw (decimal_plain hart, decimal_plain number, offset_plain offset) refl)
+item_read (item.Run offset count) =
+    plain_read (row.item_fields reason_text (item.Run offset count)) tt
+    (rw (decimal_plain count, offset_plain offset) refl)
+item_read (item.Strangers count) =
+    plain_read (row.item_fields reason_text (item.Strangers count)) tt (rw (decimal_plain count) refl)
+
 pub are_read_back : AreReadBack
-are_read_back = record {
-  columns = plain_read row.columns tt refl;
-  hart = λ hart mode closed.
-      plain_read (row.hart_fields hart mode closed) tt
-      (rw (decimal_plain hart, mode_plain mode, closed_plain closed) refl);
-  mode = λ hart said. plain_read (row.mode_fields hart said) tt (rw (decimal_plain hart, mode_plain said) refl);
-  stretch = λ hart first last count.
-      plain_read (row.stretch_fields hart first last count) tt
-      (rw (decimal_plain hart, decimal_plain first, decimal_plain last, decimal_plain count) refl);
-  gap = λ hart count.
-      plain_read (row.counted_fields (codes "gap") hart count) tt (rw (decimal_plain hart, decimal_plain count) refl);
-  copies = λ hart count.
-      plain_read (row.counted_fields (codes "copies") hart count) tt (rw (decimal_plain hart, decimal_plain count) refl);
-  late = λ hart count.
-      plain_read (row.counted_fields (codes "late") hart count) tt (rw (decimal_plain hart, decimal_plain count) refl);
-  bad = bad_read;
-  doubtful = λ hart number first second.
-      plain_read (row.doubtful_fields hart number first second) tt
-      (rw (decimal_plain hart, decimal_plain number, offset_plain first, offset_plain second) refl);
-  alone = λ hart number offset.
-      plain_read (row.alone_fields hart number offset) tt
-      (rw (decimal_plain hart, decimal_plain number, offset_plain offset) refl);
-  bytes = λ offset count.
-      plain_read (row.bytes_fields offset count) tt (rw (decimal_plain count, offset_plain offset) refl);
-  strangers = λ count. plain_read (row.strangers_fields count) tt (rw (decimal_plain count) refl);
-}
+are_read_back = record { columns = plain_read row.columns tt refl; items = item_read }

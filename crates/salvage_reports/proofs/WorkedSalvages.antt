@@ -3,13 +3,17 @@ use Rattle.std.proofs.Common.{◌≡◌, ℕ, List, [], ◌∷◌, ◌++◌, ref
 use Rattle.std.specs.Fmt.{digits}
 use Rattle.std.specs.List.{flat_map}
 use Rattle.std.specs.Prelude.{codes}
+use Rattle.frames.specs.declared.span.Span.{Span}
 use Rattle.frames.specs.declared.span.Span.TheVariants.{Frame, Bytes}
 use Rattle.payload.specs.declared.mode.Mode.TheVariants.{Differential, Full}
 use Rattle.payload.specs.declared.fault.PackFault.TheVariants.{BadPad, Unsupported}
 use Rattle.retire.specs.declared.event.Event.TheVariants.{Retire, Trap}
 use Rattle.salvaging.specs.LeftParts.{LeftPart, Missing, Events, BadNumber, DoubtfulNumber, AloneNumber}
 use Rattle.salvaging.specs.declared.reason.Reason.TheVariants.{Packet, Closing}
-use Rattle.salvage_reports.specs.SalvagedText.{counted_line, left_text, mode_line, run_text}
+use Rattle.salvage_reports.specs.Layouts.{part_text}
+use Rattle.salvage_reports.specs.SalvagedItems.{counted_of, run_of, said_of, strangers_of, text_if}
+use Rattle.salvage_reports.specs.declared.found_writing.Layout.TheVariants.{Summary, Table, Text}
+use Rattle.salvage_reports.specs.declared.salvaged_items.Counted.TheVariants.{Copies, Late}
 
 -- A part of each kind, where the hart's messages are at these offsets.
 abbrev offsets : List ℕ
@@ -21,7 +25,7 @@ parts =
     ∷ BadNumber 13 0 (Closing 20) ∷ Missing 1 ∷ DoubtfulNumber 15 2 1 ∷ Missing 5
     ∷ Events 20 20 (Retire 0x8000_0008 0 3 ∷ []) ∷ BadNumber 21 2 (Packet BadPad) ∷ AloneNumber 24 1 ∷ []
 
-text_of_parts : flat_map (left_text false offsets) parts
+text_of_parts : flat_map (part_text Text 0 offsets) parts
     ≡ codes "bad: number 0 at 0000001c: bad packet: Unsupported\n"
     ++ codes "stretch: 2 events, numbers 1 to 4\naddr,itype,priv,cause,tval\n80000000,0,3,,\n80000004,2,3,7,\n"
     ++ codes "bad: number 13 at 00000010: closing, but number 20 came\n"
@@ -32,7 +36,7 @@ unfolding digits
 text_of_parts = refl
 
 -- A summary has no rows.
-text_of_summary : flat_map (left_text true offsets) parts
+text_of_summary : flat_map (part_text Summary 0 offsets) parts
     ≡ codes "bad: number 0 at 0000001c: bad packet: Unsupported\nstretch: 2 events, numbers 1 to 4\n"
     ++ codes "bad: number 13 at 00000010: closing, but number 20 came\n"
     ++ codes "gap: 1 messages\ndoubtful: number 15 at 10000002c and 0000001c\ngap: 5 messages\n"
@@ -41,32 +45,42 @@ text_of_summary : flat_map (left_text true offsets) parts
 unfolding digits
 text_of_summary = refl
 
+-- The rows of the same parts of hart 2.
+rows_of_parts : flat_map (part_text Table 2 offsets) parts
+    ≡ codes "bad,2,0,,,0000001c,,,,bad packet: Unsupported\nstretch,2,1,4,2,,,,,\n"
+    ++ codes "bad,2,13,,,00000010,,,,\"closing, but number 20 came\"\n"
+    ++ codes "gap,2,,,1,,,,,\ndoubtful,2,15,,,10000002c,0000001c,,,\ngap,2,,,5,,,,,\n"
+    ++ codes "stretch,2,20,20,1,,,,,\nbad,2,21,,,10000002c,,,,bad packet: BadPad\nalone,2,24,,,0000001c,,,,\n"
+unfolding digits
+rows_of_parts = refl
+
 -- A hart's mode has a line where it is another than the header's.
-mode_of_full : mode_line (Some (record { mode = Differential; period = 2; harts = 1 })) Full
+mode_of_full : text_if Text (said_of 0 (Some (record { mode = Differential; period = 2; harts = 1 })) Full)
     ≡ codes "mode: full, the header says differential\n"
 mode_of_full = refl
 
-mode_of_differential : mode_line (Some (record { mode = Full; period = 2; harts = 1 })) Differential
+mode_of_differential : text_if Summary (said_of 0 (Some (record { mode = Full; period = 2; harts = 1 })) Differential)
     ≡ codes "mode: differential, the header says full\n"
 mode_of_differential = refl
 
-mode_of_neither : mode_line (Some (record { mode = Full; period = 2; harts = 1 })) Full ++ mode_line None Full ≡ []
+mode_of_neither : text_if Text (said_of 0 (Some (record { mode = Full; period = 2; harts = 1 })) Full)
+    ++ text_if Text (said_of 0 None Full) ≡ []
 mode_of_neither = refl
 
 -- Bytes have a line, and a frame has none.
-lines_of_runs : flat_map run_text (Bytes 16 3 ∷ Frame 19 (record { hart = 0; number = 1; payload = 0x0A ∷ [] })
-    ∷ Bytes 31 1024 ∷ []) ≡ codes "bytes: 3 at 00000010\nbytes: 1024 at 0000001f\n"
+lines_of_runs : flat_map (λ (span : Span). text_if Text (run_of span))
+    (Bytes 16 3 ∷ Frame 19 (record { hart = 0; number = 1; payload = 0x0A ∷ [] }) ∷ Bytes 31 1024 ∷ []) ≡ codes "bytes: 3 at 00000010\nbytes: 1024 at 0000001f\n"
 unfolding digits
 lines_of_runs = refl
 
 -- A count has a line where it is not 0.
-line_of_none : counted_line (codes "copies") 0 ≡ []
+line_of_none : text_if Text (counted_of 0 Copies 0) ≡ []
 line_of_none = refl
 
-line_of_one : counted_line (codes "late") 1 ≡ codes "late: 1 messages\n"
+line_of_one : text_if Text (counted_of 0 Late 1) ≡ codes "late: 1 messages\n"
 unfolding digits
 line_of_one = refl
 
-line_of_many : counted_line (codes "strangers") 1024 ≡ codes "strangers: 1024 messages\n"
+line_of_many : text_if Text (strangers_of 1024) ≡ codes "strangers: 1024 messages\n"
 unfolding digits
 line_of_many = refl

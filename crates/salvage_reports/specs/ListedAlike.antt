@@ -7,6 +7,7 @@ use Rattle.legalpath.specs.ProgramLog.{ProgramLog}
 use Rattle.payload.specs.declared.mode.Mode.{Mode}
 use Rattle.frames.specs.Frame.{IsFrame}
 use Rattle.message.specs.Accepted.{AreAccepted, newcomers}
+use Rattle.message.specs.Range.{every_hart}
 use Rattle.message.specs.declared.header.Header.{Header}
 use Rattle.message.specs.declared.message.Message.{Message}
 use Rattle.captures.specs.Messages.{messages_of_harts}
@@ -16,10 +17,11 @@ use Rattle.frames.specs.Harts.{harts_counted}
 use Rattle.frames.specs.Start.{known_harts, spans_of}
 use Rattle.listing.specs.Effect.{Effect, HaveEffects}
 use Rattle.listing.specs.Listing.{IsListing}
+use Rattle.listing.specs.declared.form.Form.TheVariants.{Lines}
 use Rattle.salvaging.specs.Treatments.{AreTreated, added_of}
 use Rattle.salvaging.specs.declared.treatment.Treated.{Treated}
 use Rattle.salvaging.specs.declared.treatment.Treatment.TheVariants as treatment
-use Rattle.salvage_reports.specs.Lines.{treated_text}
+use Rattle.salvage_reports.specs.TreatedText.{treated_text}
 
 -- A message that has this effect is taken, and is not late: it adds the events of the effect.
 abbrev pub taken_with : Effect → Treated
@@ -33,16 +35,17 @@ AcceptedAreTaken =
     → IsProgram words → AreAccepted (newcomers harts) messages → HaveEffects words [] messages effects
     → AreTreated words mode harts messages treated → treated ≡ map taken_with effects
 
--- A capture is a header, or none, and messages that are frames, and a listing of it comes to its end. Then the text of
--- what salvaging does with each of its messages is the text of the listing.
+-- A capture is a header, or none, and messages that are frames, and a listing of it in lines comes to its end. Then the
+-- text of what salvaging does with each of its messages is the text of the listing.
 abbrev pub CapturesAreListedAlike : Type 0
 CapturesAreListedAlike =
     (words : Words) (mode : Mode) (harts : ℕ) (symbols : Option (List ℕ)) (bytes text : List ℕ) (closed : List Bool)
     (header : Option Header) (messages : List Message) (treated : List Treated)
-    → IsProgram words → IsListing words harts symbols bytes closed None text → IsWhole bytes header messages
+    → IsProgram words → IsListing words Lines every_hart harts symbols bytes closed None text
+    → IsWhole bytes header messages
     → All (IsFrame (known_harts header)) messages
     → AreTreated words mode (harts_counted (Some harts) header bytes) messages treated
-    → treated_text symbols header (spans_of header bytes) treated ≡ text
+    → treated_text Lines symbols header (spans_of header bytes) treated ≡ text
 
 -- The messages of legal logs of one program, long ones among them, as an encoder writes them: those of each hart in
 -- order, one hart after the other. They have effects, and salvaging takes each of them with its effect, whatever mode is

@@ -6,7 +6,7 @@ ghost use Rattle.output.specs.Quoted.{quoted_field};
 ghost use Rattle.salvage_reports.specs.Fields.{count_field, done_fields, first_place, last_place, place_if};
 ghost use Rattle.salvage_reports.specs.Fields.{taken_flag, treatment_field, why_field};
 
-use crate::ReasonField;
+use crate::salvaged_items::ReasonField;
 use listing::{Place, flag_field, read_closes, read_waits};
 use payload::{PackFault, Packet};
 use salvaging::{Treated, Treatment};

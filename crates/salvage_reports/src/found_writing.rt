@@ -2,15 +2,24 @@
 
 ghost use Rattle.std.specs.Prelude.{◌≡◌, ◌≤◌, Err, IfErr, OnOk, vec_capacity};
 ghost use Rattle.std.specs.Io.KnownBytes.{Appends};
+ghost use Rattle.std.specs.List.{flat_map};
+ghost use Rattle.capture_index.specs.EachHart.{joined_harts};
 ghost use Rattle.output.specs.Begun.{AppendsBeginning};
-ghost use Rattle.salvage_reports.specs.FoundTexts.{found_as, found_table, found_text};
-ghost use Rattle.salvage_reports.specs.SalvagedText.{rest_text};
+ghost use Rattle.salvaging.specs.PartsIn.{part_of};
+ghost use Rattle.salvage_reports.specs.Layouts.{counts_text, found_as, front_text, log_of, parts_text, rest_text};
+ghost use Rattle.salvage_reports.specs.Layouts.{run_text};
+ghost use Rattle.salvage_reports.specs.SalvagedItems.{item_text, text_if};
+ghost use Rattle.salvage_reports.specs.steps.Harts.{own_text};
 
 use crate::found::Found;
-use crate::hart_texts::{write_counted, write_harts, write_runs};
-use crate::write_salvaged_harts;
+use crate::offsets::offsets_of;
+use crate::salvaged_items::{
+    Columns, Counted, Item, ItemLine, ItemRow, counted_of, item_of, run_of, said_of, strangers_of,
+};
 use frames::{Spans, spans_of};
-use retire::{LOG_ROOM, WriteFault};
+use output::write_text;
+use retire::{LOG_ROOM, WriteFault, write_log_in};
+use salvaging::{Part, SalvagedHart};
 use std::alloc::Global;
 use std::io::Write;
 
@@ -44,12 +53,12 @@ pub fn write_found<O: Write>(
     ensures untouched { result ≡ Err WriteFault.Memory → out.new ≡ out.old }
 {
     let mut room = Vec::with_capacity(alloc, LOG_ROOM)?;
-    write_as(layout, &mut room, found, bytes, out)
+    write_report(layout, &mut room, found, bytes, out)
 }
 
 /// Writes what was found of the bytes of a capture in a layout. It does not allocate, since the buffer `room` is large
 /// enough for the text of a log.
-fn write_as<O: Write>(
+fn write_report<O: Write>(
     layout: Layout,
     room: &mut Vec<u8>,
     found: &Found,
@@ -62,67 +71,186 @@ fn write_as<O: Write>(
         (Appends (O.contents out.old) (O.contents out.new) (found_as layout found.now bytes.now)) }
     ensures begun { AppendsBeginning (found_as layout found.now bytes.now) (O.contents out.old) (O.contents out.new) }
 {
-    match layout {
-        Layout::Table => write_table(found, bytes, out),
-        Layout::Text => write_lines(room, false, found, bytes, out),
-        Layout::Summary => write_lines(room, true, found, bytes, out),
-    }
+    write_front(layout, out)?;
+    write_harts(layout, room, found, found.harts(), out)?;
+    let spans = spans_of(bytes, found.header);
+    write_rest(layout, spans, found.salvaged.strangers, out)
 }
 
-/// Writes the table of what was found of the bytes of a capture.
-fn write_table<O: Write>(found: &Found, bytes: &[u8], out: &mut O) -> Result<(), WriteFault>
+/// Writes what comes before the harts: in a table the names of its columns.
+fn write_front<O: Write>(layout: Layout, out: &mut O) -> Result<(), WriteFault>
     ensures fault { IfErr result (λ fault. fault ≡ WriteFault.Write) }
-    ensures text { OnOk result
-        (Appends (O.contents out.old) (O.contents out.new) (found_table found.now bytes.now)) }
-    ensures begun { AppendsBeginning (found_table found.now bytes.now) (O.contents out.old) (O.contents out.new) }
+    ensures text { OnOk result (Appends (O.contents out.old) (O.contents out.new) (front_text layout)) }
+    ensures begun { AppendsBeginning (front_text layout) (O.contents out.old) (O.contents out.new) }
 {
-    write_salvaged_harts(
-        found.header,
-        spans_of(bytes, found.header),
-        found.frames.offsets.as_slice(),
-        found.only.first,
-        found.harts(),
-        found.salvaged.strangers,
-        out,
-    )?;
+    match layout {
+        Layout::Table => write_text(out, Columns)?,
+        Layout::Text | Layout::Summary => {}
+    }
     Ok(())
 }
 
-/// Writes the lines of what was found of the bytes of a capture. It does not allocate, since the buffer `room` is large
-/// enough for the text of a log.
-fn write_lines<O: Write>(
+/// Writes the texts of harts, from the first of those that were found on.
+fn write_harts<O: Write>(
+    layout: Layout,
     room: &mut Vec<u8>,
-    summary: bool,
     found: &Found,
-    bytes: &[u8],
+    harts: &[SalvagedHart],
+    out: &mut O,
+) -> Result<(), WriteFault>
+    requires { LOG_ROOM ≤ vec_capacity room.old }
+    ensures fault { IfErr result (λ fault. fault ≡ WriteFault.Write) }
+    ensures text { OnOk result (Appends (O.contents out.old) (O.contents out.new)
+        (joined_harts (own_text layout found.now) found.now.only.first harts.now)) }
+    ensures begun { AppendsBeginning (joined_harts (own_text layout found.now) found.now.only.first harts.now)
+        (O.contents out.old) (O.contents out.new) }
+{
+    for (place, own) in harts.iter().enumerate() {
+        let hart = usize::from(found.only.first) + place;
+        write_hart(layout, room, found, hart, own, out)?;
+    }
+    Ok(())
+}
+
+/// Writes the text of a hart.
+fn write_hart<O: Write>(
+    layout: Layout,
+    room: &mut Vec<u8>,
+    found: &Found,
+    hart: usize,
+    own: &SalvagedHart,
     out: &mut O,
 ) -> Result<(), WriteFault>
     requires { LOG_ROOM ≤ vec_capacity room.old }
     ensures fault { IfErr result (λ fault. fault ≡ WriteFault.Write) }
     ensures text { OnOk result
-        (Appends (O.contents out.old) (O.contents out.new) (found_text summary found.now bytes.now)) }
-    ensures begun { AppendsBeginning (found_text summary found.now bytes.now) (O.contents out.old)
+        (Appends (O.contents out.old) (O.contents out.new) (own_text layout found.now hart own.now)) }
+    ensures begun { AppendsBeginning (own_text layout found.now hart own.now) (O.contents out.old)
         (O.contents out.new) }
+    ensures room { vec_capacity room.old ≤ vec_capacity room.new }
 {
-    write_harts(
-        room,
-        summary,
-        found.header,
-        found.frames.offsets.as_slice(),
-        found.only.first,
-        found.harts(),
-        out,
-    )?;
-    write_rest(spans_of(bytes, found.header), found.salvaged.strangers, out)
+    let head = Item::Hart {
+        hart,
+        mode: own.mode,
+        closed: own.closed,
+    };
+    let offsets = offsets_of(found.frames.offsets.as_slice(), hart);
+    write_item(layout, head, out)?;
+    write_if(layout, said_of(hart, found.header, own.mode), out)?;
+    write_parts(layout, room, hart, offsets, own.parts.as_slice(), out)?;
+    write_counts(layout, hart, own, out)
 }
 
-/// Writes what comes after the harts: the lines of bytes that belong to no frame, and the count of strangers.
-fn write_rest<O: Write>(spans: Spans<'_>, strangers: usize, out: &mut O) -> Result<(), WriteFault>
+/// Writes the parts of a hart's log.
+fn write_parts<O: Write>(
+    layout: Layout,
+    room: &mut Vec<u8>,
+    hart: usize,
+    offsets: &[usize],
+    parts: &[Part],
+    out: &mut O,
+) -> Result<(), WriteFault>
+    requires { LOG_ROOM ≤ vec_capacity room.old }
     ensures fault { IfErr result (λ fault. fault ≡ WriteFault.Write) }
     ensures text { OnOk result
-        (Appends (O.contents out.old) (O.contents out.new) (rest_text spans.entry strangers)) }
-    ensures begun { AppendsBeginning (rest_text spans.entry strangers) (O.contents out.old) (O.contents out.new) }
+        (Appends (O.contents out.old) (O.contents out.new) (parts_text layout hart offsets.now parts.now)) }
+    ensures begun { AppendsBeginning (parts_text layout hart offsets.now parts.now) (O.contents out.old)
+        (O.contents out.new) }
+    ensures room { vec_capacity room.old ≤ vec_capacity room.new }
 {
-    write_runs(spans, out)?;
-    write_counted("strangers", strangers, out)
+    for part in parts {
+        write_item(layout, item_of(hart, offsets, part), out)?;
+        write_rows(layout, room, part, out)?;
+    }
+    Ok(())
+}
+
+/// Writes the log of a stretch, in the layout that has it; of any other part nothing.
+fn write_rows<O: Write>(
+    layout: Layout,
+    room: &mut Vec<u8>,
+    part: &Part,
+    out: &mut O,
+) -> Result<(), WriteFault>
+    requires { LOG_ROOM ≤ vec_capacity room.old }
+    ensures fault { IfErr result (λ fault. fault ≡ WriteFault.Write) }
+    ensures text { OnOk result (Appends (O.contents out.old) (O.contents out.new) (log_of layout (part_of part.now))) }
+    ensures begun { AppendsBeginning (log_of layout (part_of part.now)) (O.contents out.old) (O.contents out.new) }
+    ensures room { vec_capacity room.old ≤ vec_capacity room.new }
+{
+    match (layout, part) {
+        (Layout::Text, Part::Stretch { events, .. }) => write_log_in(room, out, events.as_slice()),
+        _ => Ok(()),
+    }
+}
+
+/// Writes the counts of a hart's copies and of its late messages, where there are any.
+fn write_counts<O: Write>(
+    layout: Layout,
+    hart: usize,
+    own: &SalvagedHart,
+    out: &mut O,
+) -> Result<(), WriteFault>
+    ensures fault { IfErr result (λ fault. fault ≡ WriteFault.Write) }
+    ensures text { OnOk result (Appends (O.contents out.old) (O.contents out.new) (counts_text layout hart own.now)) }
+    ensures begun { AppendsBeginning (counts_text layout hart own.now) (O.contents out.old) (O.contents out.new) }
+{
+    write_if(layout, counted_of(hart, Counted::Copies, own.copies), out)?;
+    write_if(layout, counted_of(hart, Counted::Late, own.late), out)
+}
+
+/// Writes what comes after the harts: each run of bytes that belong to no frame, and the count of strangers.
+fn write_rest<O: Write>(
+    layout: Layout,
+    spans: Spans<'_>,
+    strangers: usize,
+    out: &mut O,
+) -> Result<(), WriteFault>
+    ensures fault { IfErr result (λ fault. fault ≡ WriteFault.Write) }
+    ensures text { OnOk result
+        (Appends (O.contents out.old) (O.contents out.new) (rest_text layout spans.entry strangers)) }
+    ensures begun { AppendsBeginning (rest_text layout spans.entry strangers) (O.contents out.old)
+        (O.contents out.new) }
+{
+    write_runs(layout, spans, out)?;
+    write_if(layout, strangers_of(strangers), out)
+}
+
+/// Writes each run of bytes that belong to no frame.
+fn write_runs<O: Write>(layout: Layout, spans: Spans<'_>, out: &mut O) -> Result<(), WriteFault>
+    ensures fault { IfErr result (λ fault. fault ≡ WriteFault.Write) }
+    ensures text { OnOk result
+        (Appends (O.contents out.old) (O.contents out.new) (flat_map (run_text layout) spans.entry)) }
+    ensures begun { AppendsBeginning (flat_map (run_text layout) spans.entry) (O.contents out.old)
+        (O.contents out.new) }
+{
+    for span in spans {
+        write_if(layout, run_of(&span), out)?;
+    }
+    Ok(())
+}
+
+/// Writes an item, if there is one.
+fn write_if<O: Write>(layout: Layout, item: Option<Item>, out: &mut O) -> Result<(), WriteFault>
+    ensures fault { IfErr result (λ fault. fault ≡ WriteFault.Write) }
+    ensures text { OnOk result (Appends (O.contents out.old) (O.contents out.new) (text_if layout item)) }
+    ensures begun { AppendsBeginning (text_if layout item) (O.contents out.old) (O.contents out.new) }
+{
+    match item {
+        Some(item) => write_item(layout, item, out),
+        None => Ok(()),
+    }
+}
+
+/// Writes the line or the row of an item.
+fn write_item<O: Write>(layout: Layout, item: Item, out: &mut O) -> Result<(), WriteFault>
+    ensures fault { IfErr result (λ fault. fault ≡ WriteFault.Write) }
+    ensures text { OnOk result (Appends (O.contents out.old) (O.contents out.new) (item_text layout item)) }
+    ensures begun { AppendsBeginning (item_text layout item) (O.contents out.old) (O.contents out.new) }
+{
+    match layout {
+        Layout::Table => write_text(out, ItemRow(item))?,
+        Layout::Text | Layout::Summary => write_text(out, ItemLine(item))?,
+    }
+    Ok(())
 }

@@ -4,7 +4,7 @@ ghost use Rattle.std.specs.Prelude.{◌≡◌};
 ghost use Rattle.salvage_reports.specs.Offsets.{offset_at, own_offsets};
 
 /// The offsets in the list of a hart; none of a hart that has no list.
-pub fn offsets_of(offsets: &[Vec<usize>], hart: usize) -> &[usize]
+pub(crate) fn offsets_of(offsets: &[Vec<usize>], hart: usize) -> &[usize]
     ensures { result.now ≡ own_offsets offsets.now hart }
 {
     match offsets.get(hart) {
@@ -14,7 +14,7 @@ pub fn offsets_of(offsets: &[Vec<usize>], hart: usize) -> &[usize]
 }
 
 /// The offset at this place; 0 where there is none.
-pub fn offset_at(offsets: &[usize], place: usize) -> u64
+pub(crate) fn offset_at(offsets: &[usize], place: usize) -> u64
     ensures { result ≡ offset_at offsets.now place }
 {
     match offsets.get(place) {

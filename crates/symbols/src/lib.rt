@@ -12,5 +12,5 @@ mod writing;
 
 pub use fault::SymbolsFault;
 pub use named::Named;
-pub use symbols::Symbols;
+pub use symbols::{MOST_BYTES, Symbols};
 pub use writing::write_symbol;

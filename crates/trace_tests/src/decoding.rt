@@ -1,35 +1,36 @@
-//! What is decoded of packets (`decoder`): walks along leaps, and a synchronisation after a loss where an allocation
-//! fails. Traces, faults and losses are cases of `vectors`.
+//! A decoder that goes on after packets were lost (`decoder`), where an allocation fails. Traces, faults, losses and walks
+//! along leaps are cases of `vectors`.
 
-mod leaps;
-mod resumed;
-
+use crate::fixtures::{BASE, NOP, program_of};
+use crate::same::same_at;
+use decoder::{DecodeFault, Decoder};
+use linked_list_allocator::LocalHeap;
 use payload::Mode::Differential;
-use payload::{Outcomes, Packet, Report, Support};
+use payload::{Packet, Support};
 
-/// The packets that open and close a trace.
+/// The packet that opens the trace.
 const OPEN: Packet = Packet::Support(Support::Open(Differential));
-
-const ENDED_REP: Packet = Packet::Support(Support::EndedRep);
 
 /// A synchronisation at the base, at machine level.
 const START: Packet = Packet::Sync {
     taken: false,
     privilege: 3,
-    address: crate::fixtures::BASE,
+    address: BASE,
 };
 
-/// An address packet.
-fn address(taken: &[bool], delta: u64, report: Report) -> Packet {
-    let mut outcomes = Outcomes::new();
-    for outcome in taken {
-        if outcomes.len() < 31 {
-            outcomes.push(*outcome);
-        }
-    }
-    Packet::Address {
-        outcomes,
-        delta,
-        report,
+/// A synchronisation is refused where an allocation fails. The decoder then goes on passing over packets, until the
+/// synchronisation comes again.
+#[test]
+fn synchronisation_that_is_refused(rt: HostRuntime) {
+    let program = program_of(&rt, &[NOP]);
+    let mut decoder = Decoder::new();
+    decoder.resume(Differential);
+    let heap = LocalHeap::new(rt.alloc(), 0).expect(&rt, "memory");
+    let answer = decoder.feed(&program, &START, &mut Vec::new(&heap));
+    same_at(&rt, "no memory", answer, Err(DecodeFault::Memory));
+    let mut stretch = Vec::new(rt.alloc());
+    for (place, packet) in [OPEN, START].iter().enumerate() {
+        let answer = decoder.feed(&program, packet, &mut stretch);
+        same_at(&rt, place, (answer, stretch.len()), (Ok(()), place));
     }
 }

@@ -7,8 +7,7 @@ use std::process::Abort;
 /// Where programs begin.
 pub(crate) const BASE: u64 = 0x8000_0000;
 
-// Words, as the RISC-V Unprivileged ISA and the Privileged Architecture encode them. The branch is to 8 bytes on, the loops
-// are to themselves.
+// Words, as the RISC-V Unprivileged ISA and the Privileged Architecture encode them. The loops are to themselves.
 pub(crate) const NOP: u32 = 0x0000_0013;
 
 pub(crate) const JUMP_LOOP: u32 = 0x0000_006f;
@@ -19,16 +18,12 @@ pub(crate) const BACK_JUMP: u32 = 0xffdf_f06f;
 /// To 8 bytes before.
 pub(crate) const BACK_JUMP_TWICE: u32 = 0xff9f_f06f;
 
-pub(crate) const BEQ: u32 = 0x0000_0463;
-
 pub(crate) const BRANCH_LOOP: u32 = 0x0000_0063;
 
 /// A return to the address in ra.
 pub(crate) const RET: u32 = 0x0000_8067;
 
 pub(crate) const MRET: u32 = 0x3020_0073;
-
-pub(crate) const ECALL: u32 = 0x0000_0073;
 
 /// Appends the bytes.
 pub(crate) fn add<R: Abort>(rt: &R, text: &mut Vec<u8>, bytes: &[u8]) {

@@ -1,8 +1,7 @@
-//! Outcomes of branches, a reading of payloads bit by bit, and the payloads of logs for other tests. Packets, their
-//! payloads and the packets of logs are cases of `vectors`.
+//! A reading of payloads bit by bit, and the payloads of logs, for other tests. Packets, their payloads and the packets of
+//! logs are cases of `vectors`.
 
 mod faults_by_bits;
-mod outcomes;
 
 pub(crate) use self::faults_by_bits::fault_of;
 use encoder::Source;

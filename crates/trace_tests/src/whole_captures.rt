@@ -1,12 +1,10 @@
-//! Whole captures (`captures`): of worked logs with each byte changed, of long logs, to writers that fail, and as lines;
-//! the logs of their harts, written while they are decoded (`capture_index`); and the first pass over them, with the harts
-//! side by side (`parallel_decode`).
+//! Whole captures (`captures`): of worked logs with each byte changed, and to writers that fail; the logs of their harts,
+//! written while they are decoded (`capture_index`); and the first pass over them, with the harts side by side
+//! (`parallel_decode`). What captures are written, read and decoded as are cases of `vectors`.
 
 mod by_bytes;
 mod changed;
 mod failing;
-mod lines;
-mod long_logs;
 mod surveyed;
 mod written;
 

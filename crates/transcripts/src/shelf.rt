@@ -185,8 +185,12 @@ impl Files for Shelf {
 
     type Reader = Opened;
 
-    fn read(&mut self, path: &str) -> Result<Vec<u8>, FileFault> {
-        self.copy(path)
+    fn read(&mut self, path: &str, most: Option<usize>) -> Result<Vec<u8>, FileFault> {
+        let mut bytes = self.copy(path)?;
+        if let Some(most) = most {
+            bytes.truncate(most);
+        }
+        Ok(bytes)
     }
 
     fn open_file(&self, path: &str) -> Result<Opened, FileFault> {

@@ -1,7 +1,8 @@
 //! Cases of messages of which some are lost (`losses`) or damaged (`salvaging`).
 
 use crate::encoding::{legal_log, settings_of, sourced};
-use cases::{Case, add_message, messages_of, mode_of, put_rows};
+use captures::read_messages;
+use cases::{Case, add_message, cut, messages_of, mode_of, put_rows};
 use losses::{HartPieces, LossyFault, Part, collect_lossy};
 use message::{Message, Unwatched};
 use payload::{Mode, Payload};
@@ -25,7 +26,12 @@ fn position_of(log: &[Event], events: &[Event], from: usize) -> Option<usize> {
 
 /// Appends the places that events have in a log, from the first up to the one after the last; or the events where they
 /// are not there. Returns the place after them.
-fn put_places(case: &mut Case<'_>, log: &[Event], events: &[Event], from: usize) -> usize {
+pub(crate) fn put_places(
+    case: &mut Case<'_>,
+    log: &[Event],
+    events: &[Event],
+    from: usize,
+) -> usize {
     match position_of(log, events, from) {
         Some(first) => {
             let end = first.saturating_add(events.len());
@@ -41,7 +47,7 @@ fn put_places(case: &mut Case<'_>, log: &[Event], events: &[Event], from: usize)
 }
 
 /// Appends whether a hart is closed.
-fn put_end(case: &mut Case<'_>, closed: bool) {
+pub(crate) fn put_end(case: &mut Case<'_>, closed: bool) {
     case.put_word(if closed { "closed" } else { "open" });
 }
 
@@ -79,7 +85,7 @@ fn put_alike(case: &mut Case<'_>, first: usize, end: usize, text: &str) {
 }
 
 /// Appends texts of harts, a line each. Harts with the same text are named together.
-fn put_harts(case: &mut Case<'_>, texts: &Case<'_>) {
+pub(crate) fn put_harts(case: &mut Case<'_>, texts: &Case<'_>) {
     case.join(texts);
     let texts = texts.came.trim_end_matches('\n');
     let (mut first, mut count) = (0usize, 0usize);
@@ -131,7 +137,7 @@ pub(crate) fn collect_case(case: &mut Case<'_>, (program, log): (&Program, &[Eve
 }
 
 /// Whether the message with this number is lost: it is one of these digits, or for `R/M` leaves the rest R by M.
-fn is_lost(case: &mut Case<'_>, lost: &str, number: u64) -> bool {
+pub(crate) fn is_lost(case: &mut Case<'_>, lost: &str, number: u64) -> bool {
     if let Some((rest, by)) = lost.split_once('/') {
         let (rest, by) = (case.decimal(rest), case.decimal(by));
         return by > 0 && number % by == rest;
@@ -229,14 +235,83 @@ fn put_salvaged(case: &mut Case<'_>, log: &[Event], salvaged: &Salvaged) {
     }
 }
 
-/// `salvage HARTS MODE MESSAGES`: what is salvaged of messages, by places in the log.
-pub(crate) fn salvage_case(case: &mut Case<'_>, (program, log): (&Program, &[Event])) {
-    let (harts, mode) = harts_of(case);
-    let messages = messages_of(case);
-    match salvage(case.alloc, program, harts, mode, messages.as_slice()) {
+/// Appends what is salvaged of messages of so many harts, by places in the log.
+fn put_salvage(
+    case: &mut Case<'_>,
+    (program, log): (&Program, &[Event]),
+    (harts, mode): (u16, Mode),
+    messages: &[Message],
+) {
+    match salvage(case.alloc, program, harts, mode, messages) {
         Ok(salvaged) => put_salvaged(case, log, &salvaged),
         Err(_) => case.no_memory(),
     }
+}
+
+/// `salvage HARTS MODE MESSAGES`: what is salvaged of messages, by places in the log.
+pub(crate) fn salvage_case(case: &mut Case<'_>, both: (&Program, &[Event])) {
+    let settings = harts_of(case);
+    let messages = messages_of(case);
+    put_salvage(case, both, settings, messages.as_slice());
+}
+
+/// The messages of a capture, in their order or `turned`, the last one first.
+fn messages_in(case: &mut Case<'_>, bytes: &[u8]) -> Vec<Message> {
+    let mut messages = Vec::new(case.alloc);
+    let Ok(read) = read_messages(case.alloc, bytes) else {
+        case.unread();
+        return messages;
+    };
+    let is_turned = case.text == "turned";
+    let count = read.messages.len();
+    for place in 0..count {
+        let turned = count.saturating_sub(place.saturating_add(1));
+        let place = if is_turned { turned } else { place };
+        if let Some(message) = read.messages.get(place) {
+            let own = (message.hart, message.number);
+            add_message(case, &mut messages, own, message.payload.bytes());
+        }
+    }
+    messages
+}
+
+/// `collect-capture HARTS MODE`: what is left of the logs of harts by the messages of the capture.
+pub(crate) fn collect_capture_case(
+    case: &mut Case<'_>,
+    (program, log): (&Program, &[Event]),
+    bytes: &[u8],
+) {
+    let (harts, mode) = harts_of(case);
+    let messages = messages_in(case, bytes);
+    let found = collect_lossy(case.alloc, program, harts, mode, messages.as_slice());
+    put_collected(case, log, found);
+}
+
+/// `salvage-capture HARTS MODE`, or with `turned` after it: what is salvaged of the messages of the capture.
+pub(crate) fn salvage_capture_case(case: &mut Case<'_>, both: (&Program, &[Event]), bytes: &[u8]) {
+    let settings = harts_of(case);
+    let messages = messages_in(case, bytes);
+    put_salvage(case, both, settings, messages.as_slice());
+}
+
+/// `drawn PERIOD MODE MESSAGES`: what is salvaged of messages of two harts, `HART.NUMBER`, that each have the payload with
+/// their number of the log.
+pub(crate) fn drawn_case(case: &mut Case<'_>, (program, log): (&Program, &[Event])) {
+    let settings = settings_of(case);
+    let Some(legal) = legal_log(case, program, log) else {
+        return;
+    };
+    let payloads = sourced(case, &legal, settings);
+    let mut messages = Vec::new(case.alloc);
+    for word in case.text.split_whitespace() {
+        let (hart, number) = cut(word, '.');
+        let place = (case.short(hart), case.decimal(number));
+        match payloads.get(place.1 as usize) {
+            Some(payload) => add_message(case, &mut messages, place, payload.bytes()),
+            None => case.unread(),
+        }
+    }
+    put_salvage(case, (program, log), (2, settings.1), messages.as_slice());
 }
 
 /// Appends what is done with a message.

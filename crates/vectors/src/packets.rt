@@ -1,8 +1,8 @@
 //! Cases of packets and payloads (`payload`).
 
 use captures::ReadingText;
-use cases::{Case, bytes_of, packet_of};
-use payload::{MOST_BYTES, Mode, Payload, pack, unpack};
+use cases::{Case, bytes_of, outcomes_of, packet_of};
+use payload::{MOST_BYTES, Mode, Outcomes, Payload, pack, unpack};
 
 /// Appends the text of what bytes are.
 fn put_reading(case: &mut Case<'_>, bytes: &[u8]) {
@@ -64,5 +64,34 @@ pub(crate) fn payload_case(case: &mut Case<'_>) {
             }
         }
         Err(fault) => case.put_word(fault),
+    }
+}
+
+/// Appends outcomes, the oldest first: 0 where a branch was taken, and `-` after the last.
+fn put_outcomes(case: &mut Case<'_>, outcomes: &Outcomes) {
+    for place in 0..outcomes.len().saturating_add(1) {
+        case.put(match outcomes.get(place) {
+            Some(true) => "0",
+            Some(false) => "1",
+            None => "-",
+        });
+    }
+}
+
+/// `outcomes DIGITS`: how many outcomes there are, their number in a branch map, and each of them; so those of the map.
+pub(crate) fn outcomes_case(case: &mut Case<'_>) {
+    let outcomes = outcomes_of(case.text);
+    case.put_word(outcomes.len());
+    case.put_word(outcomes.map());
+    case.put_word("");
+    let mut first = case.again();
+    put_outcomes(&mut first, &outcomes);
+    case.put_first(&first);
+    let mut mapped = case.again();
+    let count = outcomes.len() as u32;
+    put_outcomes(&mut mapped, &Outcomes::of_map(count, outcomes.map()));
+    case.put_other("of its map", &mapped, first.came.as_str());
+    if outcomes.is_empty() {
+        case.put_word("empty");
     }
 }

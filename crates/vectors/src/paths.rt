@@ -3,12 +3,12 @@
 use crate::texts::put_quoted;
 use cases::{Case, events_of};
 use explaining::{explain, explain_row};
-use legalpath::{LegalLog, Next, PathCheck, PathFault, check, successor};
+use legalpath::{LegalLog, Next, PathCheck, PathFault, Why, check, successor};
 use retire::Event;
 use rvclass::Program;
 
 /// The most events of a log that is also checked in two pieces.
-const MOST_CUT: usize = 100;
+pub(crate) const MOST_CUT: usize = 100;
 
 /// Appends what a log is found to be.
 fn put_found(case: &mut Case<'_>, log: &[Event], found: Result<(), PathFault>) {
@@ -115,6 +115,17 @@ fn put_row_explained(case: &mut Case<'_>, program: &Program, log: &[Event], faul
     put_quoted(case, lines.as_slice());
 }
 
+/// Appends the lines that explain a fault of a log, and those of its row and the one before it alone where they are others.
+fn put_both_explained(case: &mut Case<'_>, program: &Program, log: &[Event], fault: PathFault) {
+    let mut whole = case.again();
+    put_explained(&mut whole, program, log, fault);
+    let mut own = case.again();
+    put_row_explained(&mut own, program, log, fault);
+    case.put_word("");
+    case.put_first(&whole);
+    case.put_other("by its row", &own, whole.came.as_str());
+}
+
 /// `explain ROWS`: why a log is not legal, and the lines that explain it.
 pub(crate) fn explain_case(case: &mut Case<'_>, program: &Program) {
     let log = events_of(case);
@@ -125,12 +136,27 @@ pub(crate) fn explain_case(case: &mut Case<'_>, program: &Program) {
     let Err(fault) = check(program, log) else {
         return case.put("legal");
     };
-    let mut whole = case.again();
-    put_explained(&mut whole, program, log, fault);
     case.put_word(fault);
-    case.put_word("");
-    case.put_first(&whole);
-    let mut own = case.again();
-    put_row_explained(&mut own, program, log, fault);
-    case.put_other("by its row", &own, whole.came.as_str());
+    put_both_explained(case, program, log, fault);
+}
+
+/// `explain-types ROWS`: the lines that explain a row as one of a wrong type. Those of the first two rows come, and those
+/// that are not as two rows before.
+pub(crate) fn explain_types_case(case: &mut Case<'_>, program: &Program) {
+    let log = events_of(case);
+    let mut texts = [case.again(), case.again()];
+    for row in 1..log.len().saturating_add(1) {
+        let fault = PathFault {
+            row: row.min(1 << 24) as u32,
+            why: Why::WrongType,
+        };
+        let mut text = case.again();
+        put_both_explained(&mut text, program, log.as_slice(), fault);
+        let before = &mut texts[row % 2];
+        if before.came.as_str() != text.came.as_str() {
+            case.put_word("");
+            case.put_first(&text);
+            *before = text;
+        }
+    }
 }

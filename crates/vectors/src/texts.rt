@@ -2,6 +2,7 @@
 
 use cases::{Case, events_of, put_rows, text_of};
 use funnel::{Turn, read_schedule};
+use output::write_text;
 use retire::{
     Event, LogFault, LogReader, MOST_ROWS, PieceBuffer, ReaderSource, read_log,
     read_log_from_slice, write_log,
@@ -198,4 +199,17 @@ pub(crate) fn schedule_case(case: &mut Case<'_>) {
         Ok(turns) => put_turns(case, turns.as_slice()),
         Err(fault) => case.put_word(fault),
     }
+}
+
+/// `line "TEXT"`: a text that is written with a line's end.
+pub(crate) fn line_case(case: &mut Case<'_>) {
+    let text = text_of(case);
+    let Ok(text) = str::from_utf8(text.as_slice()) else {
+        return case.unread();
+    };
+    let mut written = Vec::new(case.alloc);
+    if write_text(&mut written, format_args!("{text}\n")).is_err() {
+        case.no_memory();
+    }
+    put_quoted(case, written.as_slice());
 }

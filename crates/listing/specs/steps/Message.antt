@@ -2,8 +2,8 @@
 use Rattle.std.specs.Prelude.{ℕ, ◌≡◌, ◌++◌, if◌then◌else◌, Bool, true, false, List, [], ◌∷◌, Option, Some, None}
 use Rattle.std.specs.Prelude.{Result}
 use Rattle.message.specs.Range.{selects}
-use Rattle.message.specs.declared.range.HartRange.{HartRange}
 use Rattle.retire.specs.declared.event.Event.{Event}
+use Rattle.rvclass.specs.Fetch.{words_of}
 use Rattle.rvclass.specs.Words.{Words}
 use Rattle.payload.specs.declared.fault.PackFault.{PackFault}
 use Rattle.payload.specs.declared.mode.Mode.{Mode}
@@ -17,9 +17,12 @@ use Rattle.receiver.specs.Received.{Received}
 use Rattle.receiver.specs.declared.fault.ReceiveFault.{ReceiveFault}
 use Rattle.receiver.specs.declared.fault.ReceiveFault.TheVariants as fault
 use Rattle.listing.specs.Effect.{Effect, HasEffect}
-use Rattle.listing.specs.Lines.{effect_line, refused_line}
-use Rattle.listing.specs.Listing.{naming_mode}
+use Rattle.listing.specs.Entries.{effect_entry, refused_entry}
+use Rattle.listing.specs.Listing.{names_in, naming_mode}
 use Rattle.listing.specs.PacketEnding.{read_closes, read_waits}
+use Rattle.listing.specs.declared.entries.At.{At}
+use Rattle.listing.specs.declared.form.Form.{Form}
+use Rattle.listing.specs.declared.input.ListInput.{ListInput}
 
 -- The effect of a message that adds these events, whose payload unpacks to this.
 abbrev pub effect_of : List Event → Result Packet PackFault → Effect
@@ -30,9 +33,10 @@ abbrev pub denies_memory : ReceiveFault → Bool
 denies_memory (fault.Decode Memory) = true
 denies_memory other = false
 
--- The line of a message that is not received, for this reason: none where an allocation fails.
-abbrev pub fault_line : Mode → ℕ → Message → ReceiveFault → List ℕ
-fault_line mode offset message why = if denies_memory why then [] else refused_line mode offset message
+-- The entry of a message that is not received, for this reason: none where an allocation fails.
+abbrev pub fault_entry : Form → Mode → At → Message → ReceiveFault → List ℕ
+fault_entry form mode at message why =
+    if denies_memory why then [] else refused_entry form mode at.number at.offset message
 
 -- A receiver received some messages, each of so many harts by this program.
 pub record ReceivedSome (words : Words) (received : Received) : Type 0 where
@@ -40,37 +44,38 @@ pub record ReceivedSome (words : Words) (received : Received) : Type 0 where
   pub messages : List Message
   pub has : HasReceived (λ hart. words) harts messages received
 
--- A message was received after others, with this effect, and its line is this.
-pub record IsTaken (words : Words) (harts : ℕ) (announced : Option Mode) (symbols : Option (List ℕ)) (offset : ℕ)
-    (messages : List Message) (message : Message) (received : Received) (line : List ℕ) : Type 0 where
+-- A message was received after others, with this effect, and its entry is this.
+pub record IsTaken {S : Type 0} (input : ListInput S) (harts : ℕ) (announced : Option Mode) (at : At)
+    (messages : List Message) (message : Message) (received : Received) (entry : List ℕ) : Type 0 where
   pub effect : Effect
-  pub receives : HasReceived (λ hart. words) harts (messages ++ message ∷ []) received
-  pub has : HasEffect words messages message effect
+  pub receives : HasReceived (λ hart. words_of input.program.now) harts (messages ++ message ∷ []) received
+  pub has : HasEffect (words_of input.program.now) messages message effect
   pub agrees : Agrees announced message
-  pub text : line ≡ effect_line symbols (naming_mode announced) offset message effect
+  pub text : entry
+      ≡ effect_entry input.form (names_in input) (naming_mode announced) at.number at.offset message effect
 
--- A message was not received after others, for this reason, and its line is this.
-pub record IsRefused (words : Words) (harts : ℕ) (announced : Option Mode) (offset : ℕ) (messages : List Message)
-    (message : Message) (received : Received) (why : ReceiveFault) (line : List ℕ) : Type 0 where
-  pub holds : Holds (λ hart. words) harts messages received
-  pub refused : IsNotReceived words harts announced messages message why
-  pub text : line ≡ fault_line (naming_mode announced) offset message why
+-- A message was not received after others, for this reason, and its entry is this.
+pub record IsRefused {S : Type 0} (input : ListInput S) (harts : ℕ) (announced : Option Mode) (at : At)
+    (messages : List Message) (message : Message) (received : Received) (why : ReceiveFault) (entry : List ℕ) : Type 0 where
+  pub holds : Holds (λ hart. words_of input.program.now) harts messages received
+  pub refused : IsNotReceived (words_of input.program.now) harts announced messages message why
+  pub text : entry ≡ fault_entry input.form (naming_mode announced) at message why
 
--- A message was received after others, or was not for this reason, and its line is this.
-abbrev pub IsJudged : Words → ℕ → Option Mode → Option (List ℕ) → ℕ → List Message → Message → Received
+-- A message was received after others, or was not for this reason, and its entry is this.
+abbrev pub IsJudged : {S : Type 0} → ListInput S → ℕ → Option Mode → At → List Message → Message → Received
     → Option ReceiveFault → List ℕ → Type 0
-IsJudged words harts announced symbols offset messages message received None line =
-    IsTaken words harts announced symbols offset messages message received line
-IsJudged words harts announced symbols offset messages message received (Some why) line =
-    IsRefused words harts announced offset messages message received why line
+IsJudged input harts announced at messages message received None entry =
+    IsTaken input harts announced at messages message received entry
+IsJudged input harts announced at messages message received (Some why) entry =
+    IsRefused input harts announced at messages message received why entry
 
--- A message of these harts was judged after others and has its line. Any other is passed over: nothing is received, and
--- there is no line.
-pub data IsJudgedOf (words : Words) (only : HartRange) (harts : ℕ) (announced : Option Mode)
-    (symbols : Option (List ℕ)) (offset : ℕ) (messages : List Message) (message : Message) (received : Received)
-    (why : Option ReceiveFault) (line : List ℕ) : Type 0 where
-  Judged : selects only message.hart ≡ true
-      → IsJudged words harts announced symbols offset messages message received why line
-      → IsJudgedOf words only harts announced symbols offset messages message received why line
-  Passed : selects only message.hart ≡ false → HasReceived (λ hart. words) harts messages received → why ≡ None
-      → line ≡ [] → IsJudgedOf words only harts announced symbols offset messages message received why line
+-- A message of the harts that are listed was judged after others and has its entry. Any other is passed over: nothing is
+-- received, and there is no entry.
+pub data IsJudgedOf {S : Type 0} (input : ListInput S) (harts : ℕ) (announced : Option Mode) (at : At)
+    (messages : List Message) (message : Message) (received : Received) (why : Option ReceiveFault) (entry : List ℕ) : Type 0 where
+  Judged : selects input.only message.hart ≡ true
+      → IsJudged input harts announced at messages message received why entry
+      → IsJudgedOf input harts announced at messages message received why entry
+  Passed : selects input.only message.hart ≡ false
+      → HasReceived (λ hart. words_of input.program.now) harts messages received → why ≡ None → entry ≡ []
+      → IsJudgedOf input harts announced at messages message received why entry

@@ -1,10 +1,10 @@
 -- Where messages begin, whatever their payloads are.
-use Rattle.std.specs.Prelude.{ℕ, ◌≡◌, ◌≤◌, ◌++◌, List, [], ◌∷◌, Some, drop, length, slice_get}
+use Rattle.std.specs.Prelude.{ℕ, ◌≡◌, ◌≤◌, ◌++◌, List, drop, length}
 use Rattle.std.specs.declared.vec.Vec.{Vec}
 use Rattle.message.specs.Capture.{message_bytes}
 use Rattle.message.specs.Cut.{IsMessage}
-use Rattle.message.specs.OfHart.{of_hart}
 use Rattle.message.specs.declared.message.Message.{Message}
+use Rattle.capture_index.specs.Places.{AreListed, EachAt}
 
 -- The message begins at this place of the bytes.
 pub record StartsAt (bytes : List ℕ) (place : ℕ) (message : Message) : Type 0 where
@@ -15,11 +15,8 @@ pub record StartsAt (bytes : List ℕ) (place : ℕ) (message : Message) : Type 
 
 -- The messages begin at these places, one at each.
 abbrev pub StartAt : List ℕ → List ℕ → List Message → Type 0
-StartAt bytes [] [] = Unit {0}
-StartAt bytes (place ∷ places) (message ∷ messages) = StartsAt bytes place message × StartAt bytes places messages
-StartAt bytes places messages = ⊥
+StartAt bytes places messages = EachAt (StartsAt bytes) places messages
 
 -- The lists have the places of each hart's messages.
 abbrev pub AreStarts : {A : Type 0} → List ℕ → List (Vec ℕ A) → List Message → Type 0
-AreStarts {A} bytes places messages = (hart : ℕ) (own : Vec ℕ A) → slice_get places hart ≡ Some own
-    → StartAt bytes own.items (of_hart hart messages)
+AreStarts bytes places messages = AreListed (StartsAt bytes) places messages

@@ -2,12 +2,13 @@
 use Rattle.std.specs.Prelude.{ℕ, ◌≡◌, ◌≤◌, ◌-◌, ◌++◌, Bool, true, false, List, [], ◌∷◌, Some, drop, length, slice_get, take}
 use Rattle.std.specs.List.{flat_map}
 use Rattle.std.specs.declared.vec.Vec.{Vec}
-use Rattle.retire.specs.Log.{header}
-use Rattle.retire.specs.LogText.{event_line, line_of_fields}
+use Rattle.retire.specs.LogText.{event_line}
 use Rattle.retire.specs.declared.event.Event.{Event}
+use Rattle.rvclass.specs.Fetch.{words_of}
 use Rattle.rvclass.specs.Words.{Words}
-use Rattle.capture_index.specs.EachHart.{hart_line}
+use Rattle.capture_index.specs.HartsText.{head_of}
 use Rattle.capture_index.specs.Parts.{IsPart}
+use Rattle.parallel_decode.specs.declared.stretch.Plan.{Plan}
 use Rattle.parallel_decode.specs.declared.stretch.Stretch.{Stretch}
 
 -- The stretch is one of the messages at the places of its hart.
@@ -24,13 +25,14 @@ pub record IsStretch {A : Type 0} (words : Words) (bytes : List ℕ) (places : L
   pub is_part : IsPart words bytes (take (stretch.to - stretch.from) (drop stretch.from lies.own.items)) stretch.decoder
       part
 
--- There is such a part.
-abbrev pub HavePartOf : {A : Type 0} → Words → List ℕ → List (Vec ℕ A) → Stretch → Type 0
-HavePartOf words bytes places stretch = (part : List Event) × IsStretch words bytes places stretch part
+-- So the messages of a plan's stretch do.
+abbrev pub IsPartOf : Plan → Stretch → List Event → Type 0
+IsPartOf plan stretch part =
+    IsStretch (words_of plan.program.now) plan.bytes.now plan.places.now stretch part
 
--- The line of a hart and the line of its log's header.
-abbrev pub head_of : ℕ → List ℕ
-head_of hart = hart_line hart ++ line_of_fields header
+-- There is such a part.
+abbrev pub HavePart : Plan → Stretch → Type 0
+HavePart plan stretch = (part : List Event) × IsPartOf plan stretch part
 
 -- What comes before the rows of a stretch: where it is a hart's first, the lines before the hart's rows.
 abbrev pub head_if : Bool → ℕ → List ℕ
@@ -48,6 +50,11 @@ HaveText words bytes places (stretch ∷ stretches) text =
     (part : List Event) × (rest : List ℕ) × IsStretch words bytes places stretch part
     × HaveText words bytes places stretches rest × (text ≡ stretch_text stretch part ++ rest)
 
--- There is such a text.
-abbrev pub HaveTexts : {A : Type 0} → Words → List ℕ → List (Vec ℕ A) → List Stretch → Type 0
-HaveTexts words bytes places stretches = (text : List ℕ) × HaveText words bytes places stretches text
+-- The stretches of a plan from a place on add this text.
+abbrev pub HaveTextFrom : Plan → ℕ → List ℕ → Type 0
+HaveTextFrom plan from text =
+    HaveText (words_of plan.program.now) plan.bytes.now plan.places.now (drop from plan.stretches.now) text
+
+-- There is a text that they all add.
+abbrev pub HaveTexts : Plan → Type 0
+HaveTexts plan = (text : List ℕ) × HaveTextFrom plan 0 text

@@ -107,11 +107,3 @@ fn memory_for_events_is_refused(rt: HostRuntime) {
         same_at(&rt, bytes, reader.next(&mut events), Err(LogFault::Memory));
     }
 }
-
-#[test]
-fn longer_than_a_limit(rt: HostRuntime) {
-    let text = format!(in rt.alloc(); "{}", LogFault::LongerThan(4_294_967_295)).expect(
-        &rt, "memory",
-    );
-    same_at(&rt, "text", text.as_str(), "more than 4294967295 rows");
-}

@@ -1,13 +1,15 @@
-//! Captures to writers that fail.
+//! Captures and lines to writers that fail.
 
 use super::{capture_by_hand, copies_of, write_capture};
 use crate::fixtures::Step::Retires;
 use crate::fixtures::{NOP, log_of, program_of};
 use crate::same::same_at;
+use captures::hex_lines;
 use fault_injection::FailingWriter;
 use legalpath::LegalLog;
 use message::{MessageFault, Version};
-use payload::Mode;
+use payload::{Mode, Payload};
+use retire::WriteFault;
 use std::process::Abort;
 
 /// The payloads of two instructions.
@@ -63,4 +65,27 @@ fn writer_fails_at_each_byte(rt: HostRuntime) {
         are_cut(&rt, &logs, (version, Mode::Differential), &DIFFERENTIAL);
         are_cut(&rt, &logs, (version, Mode::Full), &FULL);
     }
+}
+
+/// The lines of payloads to a writer that fails after nine bytes: it holds these.
+fn are_lines_cut<R: Abort + AllocGlobal>(rt: &R, payloads: &[&[u8]], begun: &[u8]) {
+    let mut all = Vec::new(rt.alloc());
+    for payload in payloads {
+        let payload = Payload::new(payload).expect(rt, "a payload");
+        all.push(payload).ok().expect(rt, "memory");
+    }
+    let mut sink = FailingWriter {
+        held: Vec::new(rt.alloc()),
+        most: 1,
+        calls: 9,
+    };
+    let end = hex_lines(0, &all, &mut sink);
+    same_at(rt, begun, end, Err(WriteFault::Write));
+    same_at(rt, "cut", sink.held.as_slice(), begun);
+}
+
+#[test]
+fn line_writer_fails(rt: HostRuntime) {
+    are_lines_cut(&rt, &DIFFERENTIAL, b"0 0 1f\n0 ");
+    are_lines_cut(&rt, &FULL, b"0 0 1f01\n");
 }

@@ -3,12 +3,14 @@
 
 use super::written::told::Told;
 use super::{copies_of, decoded, write_capture};
-use crate::fixtures::{BRANCH_LOOP, program_of, short_log, short_words};
-use crate::large::made;
+use crate::fixtures::{BRANCH_LOOP, log_of, program_of, short_log, short_words};
+use crate::large::{WORDS, steps_of};
+use crate::packets::legal_log;
 use crate::refused_captures::{CAPTURE, FULL};
 use crate::same::same_at;
-use capture_index::{Mark, survey_messages};
-use message::{HartRange, Unwatched, Version};
+use capture_index::{Mark, Selection, survey_messages};
+use legalpath::LegalLog;
+use message::{HartRange, Version};
 use parallel_decode::{MarkedSurvey, survey_side_by_side};
 use payload::Mode;
 use rvclass::Program;
@@ -28,10 +30,20 @@ fn is_same<R: Abort + AllocGlobal + Threads + Sync, P: Debug + Copy + Drop>(
 ) -> MarkedSurvey {
     let told = Told::new();
     let alloc = rt.alloc();
-    let found = survey_side_by_side(alloc, rt, program, harts, range, announced, bytes, &told);
+    let messages = Selection {
+        program,
+        harts,
+        range,
+        bytes,
+    };
+    let found = survey_side_by_side(alloc, rt, &messages, announced, &told);
     let found = found.expect(rt, "memory");
-    let alone = survey_messages(alloc, program, harts, range, announced, bytes, &Unwatched);
+    let counted = Told::new();
+    let alone = survey_messages(alloc, &messages, announced, &counted);
     let alone = alone.expect(rt, "memory");
+    if let Some((number, _)) = alone.fault {
+        same_at(rt, place, counted.messages(), number);
+    }
     same_at(rt, place, found.fault, alone.fault);
     same_at(rt, place, found.closed.as_slice(), alone.closed.as_slice());
     same_at(rt, place, found.places.len(), alone.places.len());
@@ -221,15 +233,32 @@ fn marks_in_sections(rt: HostRuntime) {
     }
 }
 
-/// 1,024 harts, and 70,002 messages of one.
+/// Ends the test unless the capture of these logs is surveyed alike, in both modes.
+fn encoded_is_same<R: Abort + AllocGlobal + Threads + Sync>(
+    rt: &R,
+    program: &Program,
+    logs: &[LegalLog<'_>],
+    period: u16,
+) {
+    let harts = (logs.len().min(1_024) as u16, HartRange::ALL);
+    for mode in [Mode::Differential, Mode::Full] {
+        let mut bytes = Vec::new(rt.alloc());
+        write_capture(rt, logs, period, (Version::One, mode), &mut bytes).expect(rt, "a capture");
+        is_same(rt, (period, mode), program, harts, Some(mode), &bytes);
+    }
+}
+
+/// 1,024 harts, which have together each kind of packet, and 70,002 messages of one.
 #[test]
 fn harts_many_and_messages_many(rt: HostRuntime) {
-    for case in made::CASES {
-        let (shape, version, mode) = case;
-        let messages = made::messages(&rt, shape, mode);
-        let bytes = made::capture(&rt, (shape, Version::One, mode), &messages);
-        let program = made::program(&rt, shape);
-        let harts = (made::harts_of(shape), HartRange::ALL);
-        is_same(&rt, (shape, version), &program, harts, Some(mode), &bytes);
+    let program = program_of(&rt, &WORDS);
+    let mut logs = Vec::new(rt.alloc());
+    for hart in 0..1_024 {
+        let log = legal_log(&rt, &program, &log_of(&rt, steps_of(hart)));
+        logs.push(log).expect(&rt, "memory");
     }
+    encoded_is_same(&rt, &program, &logs, 1_024);
+    let program = short_words(&rt, 70_000);
+    let logs = copies_of(&rt, &program, &short_log(&rt, 70_000), 1);
+    encoded_is_same(&rt, &program, &logs, 2);
 }

@@ -1,12 +1,13 @@
 -- The prover does not part a text at the hart that is not written: the lemmas on it are handed to it.
 use Rattle.std.proofs.Common.{◌+◌, ◌++◌, List, Global, Option, subst, sym, arith, take, ℕ}
+use Rattle.std.proofs.KnownBytes.{Appends-trans}
 use Rattle.std.proofs.lemmas.Grind.{common_steps}
 use Rattle.std.specs.Io.KnownBytes.{Appends}
 use Rattle.losses.specs.PartsIn.{parts_in}
 use Rattle.losses.specs.declared.part.HartPieces.{HartPieces}
 use Rattle.output.specs.Begun.{AppendsBeginning}
 use Rattle.output.proofs.Beginnings.{begun_behind, begun_in_front}
-use Rattle.capture_index.specs.EachHart.{each_hart, hart_line, numbered_harts}
+use Rattle.capture_index.specs.EachHart.{each_hart, hart_line, numbered_hart, numbered_harts}
 use Rattle.capture_commands.specs.Pieces.{parts_of, parts_text}
 use Rattle.salvage_reports.proofs.HartLists.{each_of, from_begun, from_written}
 use Rattle.capture_commands.proofs.lossy_decoding.write_pieces.Goals as goal
@@ -35,7 +36,7 @@ module _ (g : _) (c : After-write_text g) where
   begun new own =
       subst (λ l. AppendsBeginning l (g.O.Write.contents c.args.out.now) new)
       (sym (each_of parts_text (λ (own : HartPieces Global). parts_in own.parts.items) c.args.first c.args.harts.now))
-      (from_begun own_text c.args.first c.args.harts.now c.loop-place.place c.index-harts-place.result
+      (from_begun (numbered_hart own_text) c.args.first c.args.harts.now c.loop-place.place c.index-harts-place.result
       c.loop-place-test.true c.index-harts-place.is (g.O.Write.contents c.args.out.now)
       (g.O.Write.contents c.loop-place.out) new before own)
 
@@ -76,7 +77,9 @@ loop-place-preserved g c =
     subst (Appends old new)
     (sym (each_of parts_text (λ (own : HartPieces Global). parts_in own.parts.items) c.args.first
     (take (place + 1) c.args.harts.now)))
-    (from_written own_text c.args.first c.args.harts.now place c.index-harts-place.result
-    c.loop-place-test.true c.index-harts-place.is old mid line new
+    (from_written (numbered_hart own_text) c.args.first c.args.harts.now place c.index-harts-place.result
+    c.loop-place-test.true c.index-harts-place.is old mid new
     (before g (goal.at.loop-place-preserved g c).After-write_text)
-    (subst (λ n. Appends mid line (hart_line (n + place))) c.from.ensures head) parts)
+    (Appends-trans mid line new (hart_line (c.args.first + place))
+    (own_text (c.args.first + place) c.index-harts-place.result)
+    (subst (λ n. Appends mid line (hart_line (n + place))) c.from.ensures head) parts))

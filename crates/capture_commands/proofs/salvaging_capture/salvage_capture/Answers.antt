@@ -9,12 +9,11 @@ use Rattle.command_inputs.specs.Printed.{PrintsUnlessDenied}
 use Rattle.capture_commands.proofs.WrittenOutcomes.{write_denied_once, write_memory}
 use Rattle.frames.specs.Start.{spans_of}
 use Rattle.capture_commands.specs.HartsFound.{HasHartFound}
-use Rattle.capture_commands.specs.SalvagedFormats.{salvaged_in}
+use Rattle.capture_commands.specs.SalvagedFormats.{layout_of, salvaged_in}
 use Rattle.capture_commands.specs.Salvaging.{CanSalvageOf, SalvagesOf}
 use Rattle.capture_commands.proofs.SalvageRuns.{salvaged_cut, salvaged_printed, text_same}
-use Rattle.capture_commands.specs.steps.Layouts.{layout_of}
 use Rattle.output.specs.Begun.{AppendsBeginning}
-use Rattle.salvage_reports.specs.FoundTexts.{found_as}
+use Rattle.salvage_reports.specs.Layouts.{found_as}
 use Rattle.capture_commands.proofs.salvaging_capture.salvage_capture.Goals.{After-write_found}
 use Rattle.capture_commands.proofs.salvaging_capture.salvage_capture.Goals as goal
 

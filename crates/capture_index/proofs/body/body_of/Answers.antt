@@ -1,5 +1,5 @@
 -- What a capture decodes to, with a header or without one: by lemmas on captures, which no tactic finds.
-use Rattle.std.proofs.Common.{◌≡◌, ◌++◌, ◌∙◌, Ok, Err, ap, subst, sym}
+use Rattle.std.proofs.Common.{◌≡◌, ◌++◌, ◌∙◌, Ok, Err, ap, refl, subst, sym}
 use Rattle.std.specs.Prelude.{IfSome}
 use Rattle.message.specs.Header.{HasBadHeader, IsCutHeader, IsHeader, IsMarked, header_bytes}
 use Rattle.message.specs.declared.header.Header.{Header}
@@ -32,5 +32,5 @@ returns-in-Err c = λ range words lists closed stop are.
     no_header c.args.bytes.now c.in-Err.fault ensured.fault
     (λ is. subst IsCutHeader bytes (ensured.short.0 (ap (λ f. Err f) is)))
     (λ is. subst HasBadHeader bytes (ensured.bad_header.0 (ap (λ f. Err f) is))) in
-    let nothing = nothing_decoded range words c.args.harts c.in-Err.fault lists closed stop are in
-    NoHeader c.in-Err.fault none nothing.stop_is nothing.lists_are nothing.closed_are
+    let nothing = nothing_decoded range words c.args.harts lists closed stop are in
+    NoHeader c.in-Err.fault none refl nothing.0 nothing.1

@@ -8,15 +8,15 @@ use Rattle.capture_index.proofs.capturing.survey_capture.Goals as goal
 
 pub returns : goal.returns
 returns g c =
-    let words = words_of c.args.program.now in
+    let words = words_of c.args.capture.now.program.now in
     let body = c.body_of-body.result in
     let survey = c.in_ok-survey.survey in
     let is = c.in_ok-survey.ensures in
     record {
       lists = is.lists;
-      decoded = subst (IsDecodedOf c.args.range words c.args.harts c.args.bytes.now is.lists survey.closed.items)
-          (sym c.fault_or.ensures) (c.body_of-body.ensures c.args.range words is.lists _ _ is.decoded);
-      placed = placed_logs c.args.range words body.harts body.announced body.bytes.now survey is;
+      decoded = subst (IsDecodedOf c.args.capture.now.range words c.args.capture.now.harts c.args.capture.now.bytes.now is.lists survey.closed.items)
+          (sym c.fault_or.ensures) (c.body_of-body.ensures c.args.capture.now.range words is.lists _ _ is.decoded);
+      placed = placed_logs c.args.capture.now.range words body.harts body.announced body.bytes.now survey is;
       never_memory = subst NeverMemory (sym c.fault_or.ensures)
           (never_memory_at body.fault survey.fault is.never_memory);
     }

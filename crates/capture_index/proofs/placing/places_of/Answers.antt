@@ -4,7 +4,7 @@ use Rattle.message.specs.Range.{selected, selects}
 use Rattle.message.specs.declared.message.Message.{Message}
 use Rattle.captures.proofs.FoundInFront.{in_front}
 use Rattle.capture_index.proofs.PlaceLemmas.{begins_next, next_is_at, next_is_message, next_left, next_message, place_behind}
-use Rattle.capture_index.proofs.PlaceLemmas.{places_all, places_more}
+use Rattle.capture_index.proofs.PlaceLemmas.{listed_selected, places_all, places_more}
 use Rattle.capture_index.specs.Places.{ArePlaced, IsAt}
 use Rattle.capture_index.proofs.placing.places_of.Goals as goal
 
@@ -40,8 +40,9 @@ loop-preserved g c =
           c.add_selected.new.places.items next back.1
           (subst (λ (m : Message). ArePlaced bytes c.add_selected.new.places.items
           (selected range (take c.loop.counter messages) ++ selected range (m ∷ []))) same
-          (c.in_ok-add_selected-in-Ok-Some.ensures.placed bytes (selected range (take c.loop.counter messages))
-          are.placed
+          (listed_selected (IsAt bytes) c.loop.places.items c.add_selected.new.places.items
+          (selected range (take c.loop.counter messages)) found c.loop.place are.placed range
+          c.in_ok-add_selected-in-Ok-Some.ensures.added c.add_selected.ensures.passed
           (subst (λ (m : Message). selects range m.hart ≡ true → IsAt bytes c.loop.place m) (sym same) is_at)));
     }
 

@@ -11,7 +11,7 @@ pub loop-message-init : goal.loop-message-init
 loop-message-init g c = record {
   reaches = λ harts lists has. (
     lists,
-    reaches_first c.args.range (words_of c.args.program.now) harts c.args.announced c.args.messages
+    reaches_first c.args.selection.now.range (words_of c.args.selection.now.program.now) harts c.args.announced c.args.messages
         (received_of c.args.tracker.now lists) has,
   );
   counted = omega arith;
@@ -21,7 +21,7 @@ loop-message-init g c = record {
 
 pub loop-message-preserved : goal.loop-message-preserved
 loop-message-preserved g c =
-    let words = words_of c.args.program.now in
+    let words = words_of c.args.selection.now.program.now in
     let left = c.loop-message.messages in
     let next = c.next.new.self in
     let said = c.in-Ok-Some.ensures in
@@ -31,9 +31,9 @@ loop-message-preserved g c =
     record {
       reaches = λ harts lists has.
           let r = c.loop-message.invariant.reaches harts lists has in
-          let more = c.in-Ok.ensures.received harts (selected c.args.range r.1.messages) r.0 r.1.takes in (
+          let more = c.in-Ok.ensures.received harts (selected c.args.selection.now.range r.1.messages) r.0 r.1.takes in (
             more.0,
-            reaches_next c.args.range words harts c.args.announced c.args.messages left next c.loop-message.received
+            reaches_next c.args.selection.now.range words harts c.args.announced c.args.messages left next c.loop-message.received
                 (received_of c.loop-message.tracker r.0) (received_of c.receive_selected.new.self more.0) c.in-Ok-Some.message r.1
                 front.is_message front.here c.in-Ok.ensures.agree more.1,
           );
@@ -47,25 +47,25 @@ returns-in-Err-clause-surveyed g c = λ harts lists has.
     let r = c.loop-message.invariant.reaches harts lists has in
     let said = c.in-Err.ensures in (
       r.0,
-      surveyed_before c.args.range (words_of c.args.program.now) harts c.args.announced c.args.messages c.loop-message.messages
+      surveyed_before c.args.selection.now.range (words_of c.args.selection.now.program.now) harts c.args.announced c.args.messages c.loop-message.messages
           c.loop-message.received (received_of c.loop-message.tracker r.0) c.in-Err.fault r.1 said.fault
           (λ short. said.short.0 (ap (λ f. Err f) short)) (λ bad. said.bad_length.0 (ap (λ f. Err f) bad)),
     )
 
 pub returns-in-Err-receive_selected-clause-surveyed : goal.returns-in-Err-receive_selected-clause-surveyed
 returns-in-Err-receive_selected-clause-surveyed g c = λ harts lists has.
-    let words = words_of c.args.program.now in
+    let words = words_of c.args.selection.now.program.now in
     let r = c.loop-message.invariant.reaches harts lists has in
     let said = c.in-Ok-Some.ensures in
     let front = in_front c.loop-message.messages c.next.new.self _ c.in-Ok-Some.message c.in-Ok-Some.field-0-is
     said.ranges said.message said.shorter in
     let told = c.in-Err-receive_selected.ensures in (
       r.0,
-      surveyed_at c.args.range words harts c.args.announced c.args.messages c.loop-message.messages c.next.new.self
+      surveyed_at c.args.selection.now.range words harts c.args.announced c.args.messages c.loop-message.messages c.next.new.self
           c.loop-message.received (received_of c.loop-message.tracker r.0) (received_of c.receive_selected.new.self r.0)
           c.in-Ok-Some.message c.in-Err-receive_selected.fault c.from.result r.1 front.is_message front.here told.of_range
-          (told.held harts (selected c.args.range r.1.messages) r.0 r.1.takes)
-          (told.not_received harts (selected c.args.range r.1.messages) r.0 r.1.takes)
+          (told.held harts (selected c.args.selection.now.range r.1.messages) r.0 r.1.takes)
+          (told.not_received harts (selected c.args.selection.now.range r.1.messages) r.0 r.1.takes)
           c.from.ensures (λ is. told.never_memory (ap Err is)),
     )
 
@@ -73,7 +73,7 @@ pub returns-in-Ok-None-clause-surveyed : goal.returns-in-Ok-None-clause-surveyed
 returns-in-Ok-None-clause-surveyed g c = λ harts lists has.
     let r = c.loop-message.invariant.reaches harts lists has in (
       r.0,
-      surveyed_all c.args.range (words_of c.args.program.now) harts c.args.announced c.args.messages
+      surveyed_all c.args.selection.now.range (words_of c.args.selection.now.program.now) harts c.args.announced c.args.messages
           c.loop-message.messages c.loop-message.received (received_of c.loop-message.tracker r.0) r.1
           (c.in-Ok-None.ensures.end.0 (ap (λ m. Ok m) c.in-Ok-None.field-0-is)),
     )

@@ -10,8 +10,8 @@ use Rattle.capture_index.proofs.surveying.receive_all.Given as goal
 abbrev pub invariant-loop-message : goal.invariant-loop-message
 invariant-loop-message g l = record {
   reaches : (harts : ℕ) (lists : List (List Event))
-      → HasReceived (λ hart. words_of l.program) harts [] (received_of l.fn.tracker lists)
-      → (more : List (List Event)) × ReachesOf l.range (words_of l.program) harts l.announced l.fn.messages
+      → HasReceived (λ hart. words_of l.selection.program.now) harts [] (received_of l.fn.tracker lists)
+      → (more : List (List Event)) × ReachesOf l.selection.range (words_of l.selection.program.now) harts l.announced l.fn.messages
       l.messages l.received (received_of l.tracker more);
   counted : l.received + length l.messages ≤ length l.fn.messages;
   tracker : IsTracker l.tracker;

@@ -1,15 +1,15 @@
 -- The program's grammar is too large to be searched in: what each call keeps of it is handed over.
 use Rattle.std.proofs.Common.{codes}
 use Rattle.clap.specs.Words.{new_app}
-use Rattle.cli.specs.Grammar.{HasGrammar, all_apps, bare_program}
-use Rattle.cli.proofs.GrammarLemmas.{adds_all_subcommands, with_about, with_end, with_required, with_version}
+use Rattle.cli.specs.Grammar.{HasGrammar}
+use Rattle.cli.proofs.GrammarLemmas.{with_about, with_end, with_required, with_version}
 use Rattle.cli.proofs.grammar.program.Goals as goal
 
-pub returns : goal.returns
-returns c =
+pub with_subcommands-requires : goal.with_subcommands-requires
+with_subcommands-requires c =
     let named : HasGrammar (new_app (codes "tracebench")) c.new.result = (c.new.ensures.app, c.new.ensures.local) in
-    let bare : HasGrammar bare_program c.subcommand_required.result = with_required _ _ _ c.subcommand_required.ensures
-    (with_end _ _ _ _ c.after_help.ensures (with_version _ _ _ _ c.version.ensures
-    (with_about _ _ _ _ c.about.ensures named))) in
-    adds_all_subcommands c.subcommands.result c.subcommand_required.result bare_program all_apps
-    c.in_ok-subcommands.subcommands.items bare c.in_ok-subcommands.ensures c.subcommands.ensures
+    with_required _ _ _ c.subcommand_required-bare.ensures (with_end _ _ _ _ c.after_help.ensures
+    (with_version _ _ _ _ c.version.ensures (with_about _ _ _ _ c.about.ensures named)))
+
+pub returns : goal.returns
+returns c = c.with_subcommands.ensures

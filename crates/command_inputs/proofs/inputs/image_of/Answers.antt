@@ -19,11 +19,10 @@ returns-in_err-new-clause-fault g c =
     let why = c.in_err-new.field-0.0 in
     let is : c.from_residual-in_err-new.result ≡ Err (fault.Image why) = grind (arith, common_steps) in
     subst (λ r. IfErr r (λ why. (why ≡ fault.Memory) ⊎ IsImageAt content c.args.base c.args.image (Err why))) (sym is)
-    (inr (image_refused content c.args.base c.args.image c.in_ok-bytes.bytes.items why c.in_ok-bytes.ensures.held
+    (inr (image_refused content c.args.base c.args.image c.in_ok-bytes.bytes.items c.in_ok-bytes.ensures.held why
     c.in_err-new.ensures.exact))
 
 pub returns-clause-program : goal.returns-clause-program
 returns-clause-program g c =
     image_made (g.F.Files.content c.args.files.now) c.args.base c.args.image c.in_ok-bytes.bytes.items
-    c.in_ok-new.field-0
-    c.in_ok-bytes.ensures.held c.in_ok-new.ensures.exact
+    c.in_ok-bytes.ensures.held c.in_ok-new.field-0 c.in_ok-new.ensures.exact

@@ -25,8 +25,8 @@ returns-in-Ok-clause-added g c =
     let program = c.args.program.now in
     let more = c.add.new.self in
     subst (λ given. IsWithPiece {W = g.row.W.Denot} content program given (Ok more)) c.in-Some.ensures
-    (piece_taken {W = g.row.W.Denot} content program c.in-Some.base c.in-Some.path c.in_ok-bytes.bytes.items more
-    c.in_ok-bytes.ensures.held c.in-Ok.ensures.added)
+    (piece_taken {W = g.row.W.Denot} content program c.in-Some.base c.in-Some.path c.in_ok-bytes.bytes.items
+    c.in_ok-bytes.ensures.held more c.in-Ok.ensures.added)
 
 pub returns-in-Err-clause-fault : goal.returns-in-Err-clause-fault
 returns-in-Err-clause-fault g c =
@@ -37,5 +37,5 @@ returns-in-Err-clause-fault g c =
     subst (λ why. (why ≡ fault.Memory) ⊎ IsWithPiece content program (given_piece c.args.argument.now) (Err why))
     (sym c.of_piece.ensures)
     (subst (λ given. (here ≡ fault.Memory) ⊎ IsWithPiece content program given (Err here)) c.in-Some.ensures
-    (piece_refused {W = g.row.W.Denot} content program c.in-Some.base c.in-Some.path c.in_ok-bytes.bytes.items why
-    c.in_ok-bytes.ensures.held c.in-Err.ensures.refused))
+    (piece_refused {W = g.row.W.Denot} content program c.in-Some.base c.in-Some.path c.in_ok-bytes.bytes.items
+    c.in_ok-bytes.ensures.held why c.in-Err.ensures.refused))

@@ -1,8 +1,8 @@
 -- What was treated by the program of the image and by the symbols is what is said of the bytes of both.
 use Rattle.std.proofs.Common.{◌∙◌, ap}
 use Rattle.message.specs.Range.{every_hart}
-use Rattle.ffi.specs.Treated.{treated_in}
 use Rattle.ffi.proofs.listing_salvaged.treat_as.Goals as goal
+use Rattle.salvage_reports.specs.TreatedText.{treated_text_of}
 
 pub returns-in-Ok-treat_by : goal.returns-in-Ok-treat_by
 returns-in-Ok-treat_by c =
@@ -19,7 +19,7 @@ returns-in-Ok-treat_by c =
       found = is.found;
       done = is.done;
       laid_out = is.laid_out
-          ∙ ap (λ f. treated_in c.args.format every_hart f is.header c.args.capture.now is.treated)
+          ∙ ap (λ f. treated_text_of c.args.format every_hart f is.header c.args.capture.now is.treated)
           c.as_ref.ensures.value;
       ended = is.ended;
     }

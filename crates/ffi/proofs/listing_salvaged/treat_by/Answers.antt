@@ -11,8 +11,9 @@ use Rattle.salvage_reports.proofs.OwnSpans.{messages_chosen, runs_chosen}
 use Rattle.salvage_reports.specs.Found.{IsFound}
 use Rattle.salvage_reports.specs.Frames.{messages_in}
 use Rattle.ffi.specs.Salvaged.{salvage_end}
-use Rattle.ffi.specs.Treated.{AreTreatedBehind, treated_in}
+use Rattle.ffi.specs.Treated.{AreTreatedBehind}
 use Rattle.ffi.proofs.listing_salvaged.treat_by.Goals as goal
+use Rattle.salvage_reports.specs.TreatedText.{treated_text_of}
 
 pub returns : goal.returns
 returns c =
@@ -42,11 +43,11 @@ returns c =
       treated = treated;
       found = is.salvaged;
       done = subst (λ h. AreTreatedBehind h c.args.asked program capture treated) (sym behind.header_is) done;
-      laid_out = c.in_ok-write_treated.ensures
-          ∙ ap (λ (before : List ℕ). before ++ treated_in c.args.format every_hart file start.header capture
+      laid_out = c.in_ok-append_treated.ensures
+          ∙ ap (λ (before : List ℕ). before ++ treated_text_of c.args.format every_hart file start.header capture
           c.as_slice.result.now) c.new-text.ensures.items
-          ∙ ap (treated_in c.args.format every_hart file start.header capture) c.as_slice.ensures.value
-          ∙ ap (λ h. treated_in c.args.format every_hart file h capture treated) (sym behind.header_is);
+          ∙ ap (treated_text_of c.args.format every_hart file start.header capture) c.as_slice.ensures.value
+          ∙ ap (λ h. treated_text_of c.args.format every_hart file h capture treated) (sym behind.header_is);
       ended = c.end_of_found-end.ensures
           ∙ ap (λ (r : HartRange). salvage_end r found.fault found.frames.runs found.salvaged) is.only_is
           ∙ ap (λ b. salvage_end every_hart found.fault b found.salvaged)

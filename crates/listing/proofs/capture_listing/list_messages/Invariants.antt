@@ -1,5 +1,5 @@
 -- The messages so far are received and listed.
-use Rattle.std.proofs.Common.{ℕ, ◌+◌, ◌≡◌, ◌≤◌, [], length, option_map}
+use Rattle.std.proofs.Common.{ℕ, ◌+◌, ◌≡◌, ◌≤◌, [], length}
 use Rattle.rvclass.specs.Fetch.{words_of}
 use Rattle.receiver.specs.Holds.{HasReceived}
 use Rattle.listing.proofs.Reaching.{HasListed}
@@ -7,11 +7,11 @@ use Rattle.listing.proofs.capture_listing.list_messages.Given as goal
 
 abbrev pub invariant-loop-message : goal.invariant-loop-message
 invariant-loop-message g l =
-    ((harts : ℕ) → HasReceived (λ hart. words_of l.program) harts [] l.fn.receiver
-    → HasListed (words_of l.program) l.only harts l.announced (option_map (λ file. file.now) l.symbols) l.first
-    l.fn.messages l.messages l.number l.offset l.receiver (g.W.Write.contents l.initial.sink)
+    ((harts : ℕ) → HasReceived (λ hart. words_of l.input.program.now) harts [] l.fn.receiver
+    → HasListed l.input harts l.start l.fn.messages l.messages l.number l.offset l.receiver (g.W.Write.contents
+    l.initial.sink)
     (g.W.Write.contents l.sink))
-    × ((l.offset + length l.messages ≡ l.first + length l.fn.messages)
+    × ((l.offset + length l.messages ≡ l.start.first + length l.fn.messages)
     × (l.number + length l.messages ≤ length l.fn.messages))
 
 abbrev pub decreases-loop-message : goal.decreases-loop-message

@@ -1,25 +1,21 @@
 -- What was unpacked is what the payload's reading gives: the equation goes into the row, where no tactic puts it.
-use Rattle.std.proofs.Common.{◌≡◌, ◌++◌, [], codes, cond, ap, subst, sym, ◌∙◌}
-use Rattle.std.proofs.KnownBytes.{Appends-nil}
+use Rattle.std.proofs.Common.{◌≡◌, ◌++◌, codes, ap, subst, ◌∙◌}
 use Rattle.std.specs.Io.KnownBytes.{Appends}
 use Rattle.output.specs.Begun.{AppendsBeginning}
-use Rattle.output.proofs.Beginnings.{whole_begun}
 use Rattle.payload.specs.Reading.{reading}
 use Rattle.listing.proofs.RowParts.{refused_parts}
 use Rattle.listing.specs.Rows.{refused_row}
 use Rattle.listing.specs.Cells.{message_cells}
-use Rattle.listing.specs.steps.Writing.{fault_row}
 use Rattle.listing.proofs.rows.write_refused_row.Goals.{After-unpack-unpacked}
 use Rattle.listing.proofs.rows.write_refused_row.Goals as goal
 
 module _ (g : _) (c : After-unpack-unpacked g) where
-  same : message_cells (codes "refused") c.args.mode c.args.at c.args.offset c.args.message.now c.unpack-unpacked.result
-      ++ codes ",,,,,,,,,,,,\n" ≡ fault_row c.args.mode c.args.at c.args.offset c.args.message.now c.args.why
+  same : message_cells (codes "refused") c.args.mode c.args.at.number c.args.at.offset c.args.message.now
+      c.unpack-unpacked.result ++ codes ",,,,,,,,,,,,\n"
+      ≡ refused_row c.args.mode c.args.at.number c.args.at.offset c.args.message.now
   same =
-      refused_parts c.args.mode c.args.at c.args.offset c.args.message.now c.unpack-unpacked.result
+      refused_parts c.args.mode c.args.at.number c.args.at.offset c.args.message.now c.unpack-unpacked.result
       (c.unpack-unpacked.ensures.value ∙ ap reading c.bytes.ensures.same)
-      ∙ sym (ap (λ b. cond b [] (refused_row c.args.mode c.args.at c.args.offset c.args.message.now))
-      (sym c.denies_memory.ensures ∙ c.if-denies_memory.false))
 
 pub returns-in_err-write_text-clause-begun : goal.returns-in_err-write_text-clause-begun
 returns-in_err-write_text-clause-begun g c =
@@ -41,17 +37,3 @@ returns-clause-begun g c =
     (λ l. AppendsBeginning l (g.W.Write.contents c.args.sink.now) (g.W.Write.contents c.write_text.new.out))
     (same g (goal.at.returns-clause-begun g c).After-unpack-unpacked)
     c.write_text.ensures.begun
-
-pub returns-then-denies_memory-clause-text : goal.returns-then-denies_memory-clause-text
-returns-then-denies_memory-clause-text g c =
-    let old = g.W.Write.contents c.args.sink.now in
-    let none : fault_row c.args.mode c.args.at c.args.offset c.args.message.now c.args.why ≡ [] =
-    ap (λ b. cond b [] (refused_row c.args.mode c.args.at c.args.offset c.args.message.now))
-    (sym c.denies_memory.ensures ∙ c.if-denies_memory.true) in
-    subst (Appends old old) (sym none) (Appends-nil old)
-
-pub returns-then-denies_memory-clause-begun : goal.returns-then-denies_memory-clause-begun
-returns-then-denies_memory-clause-begun g c =
-    whole_begun (fault_row c.args.mode c.args.at c.args.offset c.args.message.now c.args.why)
-    (g.W.Write.contents c.args.sink.now) (g.W.Write.contents c.args.sink.now)
-    (returns-then-denies_memory-clause-text g c)

@@ -2,7 +2,8 @@
 use Rattle.std.proofs.Common.{◌≡◌, ◌∙◌, None, Ok, ap, arith, sym}
 use Rattle.rvclass.specs.Fetch.{words_of}
 use Rattle.parallel_decode.proofs.EndLemmas.{received-end}
-use Rattle.parallel_decode.proofs.StartLemmas.{starts-length}
+use Rattle.capture_index.proofs.PlaceLemmas.{places-length}
+use Rattle.parallel_decode.specs.steps.Starts.{StartsAt}
 use Rattle.parallel_decode.proofs.hart.receive_hart.Goals as goal
 
 pub returns : goal.returns
@@ -14,7 +15,7 @@ returns c = λ all none messages are.
     let received : c.receive_to.result ≡ Ok None = c.in_ok-refused.was ∙ ap (λ place. Ok place) refused in
     let before = c.pass_sections.ensures messages are all (c.new-so_far.ensures words announced messages) passed in
     let whole = c.receive_to.ensures.all (omega arith) received in
-    let count = starts-length c.args.work.now.bytes.now c.args.places.now messages are in
+    let count = places-length (StartsAt c.args.work.now.bytes.now) c.args.places.now messages are in
     received-end words announced messages c.receive_to.new.self c.end-2.result
     (c.receive_to.ensures.received messages are before received) (omega (arith, whole, count)) c.end-2.ensures.own
     c.end-2.ensures.marks

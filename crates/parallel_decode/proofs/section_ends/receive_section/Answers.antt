@@ -4,11 +4,11 @@ use Rattle.rvclass.specs.Fetch.{words_of}
 use Rattle.capture_index.proofs.PlaceLemmas.{any_message}
 use Rattle.message.specs.declared.message.Message.{Message}
 use Rattle.parallel_decode.proofs.SectionLemmas.{added-section, on_ok-as, passed-none, said-of, section-next}
-use Rattle.parallel_decode.proofs.StartLemmas.{start-of}
+use Rattle.capture_index.proofs.PlaceLemmas.{message-at}
 use Rattle.parallel_decode.specs.declared.own.Own.{Own}
 use Rattle.parallel_decode.specs.declared.section_ends.SectionEnd.{SectionEnd}
 use Rattle.parallel_decode.specs.steps.Sections.{AreAdded, IsSectionEnd}
-use Rattle.parallel_decode.specs.steps.Starts.{StartAt}
+use Rattle.parallel_decode.specs.steps.Starts.{StartAt, StartsAt}
 use Rattle.parallel_decode.proofs.section_ends.receive_section.Goals.{else-is_cut}
 use Rattle.parallel_decode.proofs.section_ends.receive_section.Goals.{then-is_cut+in_ok-add_section}
 use Rattle.parallel_decode.proofs.section_ends.receive_section.Goals as goal
@@ -47,7 +47,7 @@ loop-number-preserved c =
     let found : (messages : List Message) → StartAt bytes places messages → message ≡ get_or messages number any_message =
     λ messages are.
     let at = c.message_at.ensures (get_or messages number any_message)
-    (start-of bytes places messages number 0 are inside) in cc in
+    (message-at (StartsAt bytes) places messages number 0 are inside) in cc in
     let stepped = section-next words announced bytes places hart c.loop-number.first number c.loop-number.from
     c.loop-number.own next c.loop-number.events c.in-Ok.more c.saturating_add-events.result message
     c.loop-number.invariant.1 inside found (λ before log is. c.in-Ok.ensures.received before log is)

@@ -5,7 +5,7 @@ use retire::{LogFault, WriteFault};
 use std::fmt::Display;
 use std::process::Abort;
 
-const LOG_FAULTS: [(LogFault, &'static str); 12] = [
+const LOG_FAULTS: [(LogFault, &'static str); 13] = [
     (LogFault::Header, "wrong header"),
     (LogFault::Fields(1), "row 1: wrong number of fields"),
     (LogFault::Number(2), "row 2: not a number"),
@@ -22,6 +22,7 @@ const LOG_FAULTS: [(LogFault, &'static str); 12] = [
         "row 16777216: an interrupt has a value",
     ),
     (LogFault::TooLong, "more than 16777216 rows"),
+    (LogFault::LongerThan(u32::MAX), "more than 4294967295 rows"),
     (LogFault::Read, "cannot be read"),
     (LogFault::Memory, "out of memory"),
 ];

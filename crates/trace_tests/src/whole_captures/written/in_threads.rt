@@ -6,10 +6,10 @@ use crate::fixtures::{BRANCH_LOOP, program_of, short_log, short_words};
 use crate::refused_captures::{CAPTURE, FULL};
 use crate::same::same_at;
 use crate::whole_captures::{capture_of, copies_of};
-use capture_index::DecodedHarts;
+use capture_index::Selection;
 use fault_injection::FailingWriter;
 use message::HartRange;
-use parallel_decode::{Sharing, write_decoded_side_by_side};
+use parallel_decode::{DecodedHarts, Sharing, write_decoded_side_by_side};
 use payload::Mode;
 use retire::WriteFault;
 use rvclass::Program;
@@ -36,7 +36,7 @@ const SHARINGS: [(usize, usize); 7] = [
 const LONG_SHARINGS: [(usize, usize); 2] = [(2, 31), (4, 1 << 20)];
 
 /// Writes the logs of a capture's harts in so many threads, which have buffers of so many bytes.
-fn write_shared<R: Threads + Sync + AllocGlobal, O: Write>(
+pub(super) fn write_shared<R: Threads + Sync + AllocGlobal, O: Write>(
     rt: &R,
     (threads, text): (usize, usize),
     program: &Program,
@@ -46,18 +46,13 @@ fn write_shared<R: Threads + Sync + AllocGlobal, O: Write>(
     out: &mut O,
 ) -> Result<DecodedHarts, WriteFault> {
     let sharing = Sharing { threads, text };
-    let range = HartRange::ALL;
-    write_decoded_side_by_side(
-        rt.alloc(),
-        rt,
-        sharing,
+    let asked = Selection {
         program,
         harts,
-        range,
-        capture,
-        told,
-        out,
-    )
+        range: HartRange::ALL,
+        bytes: capture,
+    };
+    write_decoded_side_by_side(rt.alloc(), rt, sharing, &asked, told, out)
 }
 
 /// Ends the test unless what is written of a capture is what one thread writes, however threads share it.

@@ -1,13 +1,15 @@
 //! Each request for memory is refused in turn, and the output fails at each call.
 
+use super::in_threads::write_shared;
 use super::told::Told;
 use super::written;
 use crate::fixtures::{BRANCH_LOOP, program_of, short_log, short_words};
 use crate::refused_captures::{CAPTURE, FULL};
 use crate::same::same_at;
 use crate::whole_captures::{capture_of, copies_of};
-use capture_index::write_decoded;
+use capture_index::{Selection, survey_capture};
 use fault_injection::{FailingWriter, Refusing};
+use message::{HartRange, Unwatched};
 use payload::Mode;
 use retire::WriteFault;
 use rvclass::Program;
@@ -15,24 +17,24 @@ use std::io;
 use std::io::{ErrorKind, Write};
 use std::process::Abort;
 
-/// The requests: for the numbers, the decoders, the flags and the counts of the harts; for the list of places and for
-/// the places of each of the two harts; for the text and for the piece of events.
-const REQUESTS: u64 = 9;
+/// The requests of the first pass: for the numbers, the decoders, the flags and the counts of the harts; for the list of
+/// places and for the places of each of the two harts.
+const REQUESTS: u64 = 7;
 
-/// Where a request is refused, nothing is written, and the first pass is told to have ended. Else all is written.
+/// Ends the test unless the first pass fails where a request is refused, and else makes no other.
 fn are_refused<R: Abort + AllocGlobal>(rt: &R, program: &Program, capture: &[u8]) {
-    let (whole, _) = written(rt, program, 2, capture);
+    let asked = Selection {
+        program,
+        harts: 2,
+        range: HartRange::ALL,
+        bytes: capture,
+    };
     for place in 0..REQUESTS.saturating_add(1) {
         let heap = Refusing::new(rt.alloc(), place);
-        let told = Told::new();
-        let mut text = Vec::new(rt.alloc());
-        let fault = write_decoded(&heap, program, 2, capture, &told, &mut text).err();
+        let failed = survey_capture(&heap, &asked, &Unwatched).is_err();
         let refused = place < REQUESTS;
         same_at(rt, place, heap.has_refused(), refused);
-        same_at(rt, place, fault, refused.then_some(WriteFault::Memory));
-        let wanted = if refused { 0 } else { whole.len() };
-        same_at(rt, place, Some(text.as_slice()), whole.get(..wanted));
-        same_at(rt, place, told.ends(), 1);
+        same_at(rt, place, failed, refused);
     }
 }
 
@@ -43,21 +45,14 @@ fn each_request(rt: HostRuntime) {
     are_refused(&rt, &program, &FULL);
 }
 
-/// However long the logs are, no other request is made: their text goes through one buffer, and their events through one
-/// piece. Here the next request would be refused.
+/// However long the logs are, no other request is made.
 #[test]
 fn long_logs_request_no_more(rt: HostRuntime) {
     let program = short_words(&rt, 70_000);
     let logs = copies_of(&rt, &program, &short_log(&rt, 70_000), 2);
     for period in [7, 20_000] {
         let capture = capture_of(&rt, &logs, period, Mode::Differential);
-        let (whole, _) = written(&rt, &program, 2, &capture);
-        let heap = Refusing::new(rt.alloc(), REQUESTS);
-        let mut text = Vec::new(rt.alloc());
-        let fault = write_decoded(&heap, &program, 2, &capture, &Told::new(), &mut text).err();
-        same_at(&rt, period, fault, None);
-        assert!(rt; text == whole, "at {period}: another text");
-        same_at(&rt, period, heap.requests(), REQUESTS);
+        are_refused(&rt, &program, &capture);
     }
 }
 
@@ -92,7 +87,7 @@ fn the_first_pass_ends_before_the_first_row(rt: HostRuntime) {
             told: &told,
             held: Vec::new(rt.alloc()),
         };
-        let fault = write_decoded(rt.alloc(), &program, 2, capture, &told, &mut out).err();
+        let fault = write_shared(&rt, (1, 0), &program, 2, capture, &told, &mut out).err();
         same_at(&rt, capture.len(), fault, None);
         same_at(&rt, capture.len(), out.held.as_slice(), whole.as_slice());
     }
@@ -109,7 +104,7 @@ fn output_fails_at_each_byte(rt: HostRuntime) {
             most: 1,
             calls,
         };
-        let fault = write_decoded(rt.alloc(), &program, 2, &CAPTURE, &Told::new(), &mut out).err();
+        let fault = write_shared(&rt, (1, 0), &program, 2, &CAPTURE, &Told::new(), &mut out).err();
         let fails = calls < whole.len();
         same_at(&rt, calls, fault, fails.then_some(WriteFault::Write));
         same_at(&rt, calls, Some(out.held.as_slice()), whole.get(..calls));

@@ -6,8 +6,6 @@ use Rattle.message.specs.declared.message.Message.{Message}
 use Rattle.capture_index.specs.Places.{IsAt}
 use Rattle.capture_index.proofs.LeftLemmas.{decoded_more, described, hands_more, is_found, never_none, packet, packets, words}
 use Rattle.decoder.specs.Describes.{Describes}
-use Rattle.capture_index.specs.Left.{HasLeft, left_of}
-use Rattle.capture_index.proofs.events.HartEvents.decode_next.Goals.{After-packet_at}
 use Rattle.capture_index.proofs.events.HartEvents.decode_next.Goals as goal
 
 pub returns-in_default-packet_at-clause-hands : goal.returns-in_default-packet_at-clause-hands

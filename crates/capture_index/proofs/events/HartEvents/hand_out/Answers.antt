@@ -1,5 +1,5 @@
 -- The first events that are left are handed out: by a lemma on what is left.
-use Rattle.std.proofs.Common.{◌∙◌, ◌-◌, ◌++◌, Some, ap, drop, sym, take, take-append-drop, vec_capacity, vec_len}
+use Rattle.std.proofs.Common.{◌∙◌, ◌-◌, ◌++◌, Some, ap, sym, take, take-append-drop, vec_capacity, vec_len}
 use Rattle.capture_index.proofs.LeftLemmas.{handed_out}
 use Rattle.capture_index.specs.Left.{left_of}
 use Rattle.capture_index.proofs.events.HartEvents.hand_out.Goals as goal

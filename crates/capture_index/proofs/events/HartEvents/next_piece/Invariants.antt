@@ -2,7 +2,6 @@
 use Rattle.std.proofs.Common.{◌≡◌, ◌⊎◌, [], List, vec_capacity, vec_len}
 use Rattle.retire.specs.declared.event.Event.{Event}
 use Rattle.capture_index.specs.Left.{HasLeft, left_of}
-use Rattle.capture_index.specs.steps.Handing.{Hands}
 use Rattle.capture_index.proofs.LeftLemmas.{Going}
 use Rattle.capture_index.proofs.events.HartEvents.next_piece.Given as goal
 

@@ -2,9 +2,10 @@
 use Rattle.std.proofs.Common.{◌≡◌, ◌+◌, ◌<◌, ◌++◌, ◌∙◌, [], ◌∷◌, ap, arith, length, refl, subst, sym, take}
 use Rattle.std.proofs.lemmas.List.{length-take-le, length_push}
 use Rattle.rvclass.specs.Fetch.{words_of}
-use Rattle.parallel_decode.proofs.StartLemmas.{start-at, starts-length}
+use Rattle.capture_index.proofs.PlaceLemmas.{place-at, places-length}
 use Rattle.parallel_decode.specs.steps.Ends.{IsTrail}
 use Rattle.parallel_decode.specs.steps.OwnMessages.{IsOwn}
+use Rattle.parallel_decode.specs.steps.Starts.{StartsAt}
 use Rattle.parallel_decode.proofs.hart.HartSoFar.receive_to.Goals as goal
 
 pub loop-number-preserved : goal.loop-number-preserved
@@ -19,13 +20,13 @@ loop-number-preserved c = (
       let within : i < length places = omega (arith, test, least) in
       let r = c.loop-number.invariant.0 messages are before in
       let taken = c.loop-number.invariant.1 in
-      let at = start-at c.args.work.now.bytes.now places messages i 0 are within in
-      let found = c.message_at.ensures at.message at.starts in
+      let at = place-at (StartsAt c.args.work.now.bytes.now) places messages i 0 are within in
+      let found = c.message_at.ensures at.message at.is_at in
       let some = c.in-Some.is in
       let same : c.in-Some.message ≡ at.message = cc in
       let front = take i messages in
       let counted = length-take-le i messages
-      (omega (arith, within, starts-length c.args.work.now.bytes.now places messages are)) in
+      (omega (arith, within, places-length (StartsAt c.args.work.now.bytes.now) places messages are)) in
       let own = subst (λ n. IsOwn words announced (take n messages) r.log c.loop-number.self.own) taken r.received in
       let made = subst (λ n. IsTrail words (take n messages) r.log c.loop-number.self.trail) taken r.made in
       let received = c.in-Ok.ensures.received front r.log own in

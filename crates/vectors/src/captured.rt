@@ -1,0 +1,323 @@
+//! Cases of whole captures: what is read, decoded (`captures`), received (`receiver`) and written (`parallel_decode`)
+//! of them.
+
+use crate::lossy::{put_end, put_harts, put_places};
+use crate::told::Told;
+use capture_index::Selection;
+use captures::{CaptureFault, CaptureOutcome, decode_capture, read_front, read_messages};
+use cases::{Case, bytes_of};
+use message::{HartRange, Header, Message};
+use parallel_decode::{DecodedHarts, Sharing, write_decoded_side_by_side};
+use payload::Mode;
+use receiver::Receiver;
+use retire::{Event, write_log};
+use rvclass::Program;
+use std::io::Write;
+use std::thread::Threads;
+
+/// A capture, the program of its harts, and the log by whose places events are named.
+#[derive(Clone, Copy)]
+pub(crate) struct Captured<'a> {
+    pub(crate) program: &'a Program,
+    pub(crate) log: &'a [Event],
+    pub(crate) bytes: &'a [u8],
+}
+
+/// Reads how many harts there are.
+fn count_of(case: &mut Case<'_>) -> u16 {
+    let harts = case.word();
+    case.short(harts)
+}
+
+/// Appends a header, if there is one.
+fn put_header(case: &mut Case<'_>, header: Option<Header>) {
+    if let Some(header) = header {
+        let mode = match header.mode {
+            Mode::Differential => "diff",
+            Mode::Full => "full",
+        };
+        case.put_word(mode);
+        case.put_word(header.period);
+        case.put_word(header.harts);
+    }
+}
+
+/// Appends a header and messages.
+fn put_messages(case: &mut Case<'_>, header: Option<Header>, messages: &[Message]) {
+    put_header(case, header);
+    for message in messages {
+        let (hart, number) = (message.hart, message.number);
+        case.put_word(hart);
+        case.put(".");
+        case.put_shown(number);
+        case.put(":");
+        case.put_digits(message.payload.bytes());
+    }
+}
+
+/// `read-capture`: the header and the messages of the capture, read as those of a complete one and up to the first fault.
+pub(crate) fn read_capture_case(case: &mut Case<'_>, bytes: &[u8]) {
+    let mut first = case.again();
+    match read_messages(case.alloc, bytes) {
+        Ok(read) => put_messages(&mut first, read.header, read.messages.as_slice()),
+        Err(_) => case.unread(),
+    }
+    case.put_first(&first);
+    let mut front = case.again();
+    match read_front(case.alloc, bytes) {
+        Ok(read) => {
+            put_messages(&mut front, read.header, read.messages.as_slice());
+            if read.stop.is_some() {
+                front.put_word("stops");
+            }
+        }
+        Err(_) => case.no_memory(),
+    }
+    case.put_other("up to a fault", &front, first.came.as_str());
+}
+
+/// Appends at which message decoding stopped, and why, if it did.
+fn put_fault(case: &mut Case<'_>, fault: Option<(u64, CaptureFault)>) {
+    if let Some((number, fault)) = fault {
+        let done = write!(case.came, "; message {number}: {fault}");
+        case.note(done);
+    }
+}
+
+/// Appends the events of harts, by places in the log, and which of them are closed.
+fn put_decoded(case: &mut Case<'_>, log: &[Event], harts: &[Vec<Event>], closed: &[bool]) {
+    let mut texts = case.again();
+    for (events, closed) in harts.iter().zip(closed.iter()) {
+        put_places(&mut texts, log, events.as_slice(), 0);
+        put_end(&mut texts, *closed);
+        texts.put("\n");
+    }
+    put_harts(case, &texts);
+    if harts.len() != closed.len() {
+        case.put(", flags of other harts");
+    }
+}
+
+/// The text of the logs of harts.
+fn text_of(case: &mut Case<'_>, harts: &[Vec<Event>]) -> Vec<u8> {
+    let mut text = Vec::new(case.alloc);
+    for (hart, log) in harts.iter().enumerate() {
+        if write!(&mut text, "hart {hart}\n").is_err() {
+            case.no_memory();
+        }
+        if write_log(case.alloc, &mut text, log.as_slice()).is_err() {
+            case.no_memory();
+        }
+    }
+    text
+}
+
+/// What one thread writes of a capture, and how decoding ends, if memory is there. The first pass has to tell of each
+/// message that is received, and that it ended, once.
+fn written<R: Threads + Sync>(
+    case: &mut Case<'_>,
+    rt: &R,
+    program: &Program,
+    harts: u16,
+    bytes: &[u8],
+) -> Option<(Vec<u8>, DecodedHarts)> {
+    let told = Told::new();
+    let mut text = Vec::new(case.alloc);
+    let sharing = Sharing {
+        threads: 1,
+        text: 0,
+    };
+    let asked = Selection {
+        program,
+        harts,
+        range: HartRange::ALL,
+        bytes,
+    };
+    let Ok(ended) = write_decoded_side_by_side(case.alloc, rt, sharing, &asked, &told, &mut text)
+    else {
+        case.no_memory();
+        return None;
+    };
+    if let Some((number, _)) = ended.fault {
+        if told.messages() < number {
+            case.put(", other messages are told of");
+        }
+    }
+    if told.ends() != 1 {
+        case.put(", the end is not told of once");
+    }
+    Some((text, ended))
+}
+
+/// Appends what is written of a capture that is not what it is decoded to.
+fn put_other_written<R: Threads + Sync>(
+    case: &mut Case<'_>,
+    rt: &R,
+    program: &Program,
+    harts: u16,
+    bytes: &[u8],
+    outcome: &CaptureOutcome,
+) {
+    let whole = text_of(case, outcome.harts.as_slice());
+    let Some((text, ended)) = written(case, rt, program, harts, bytes) else {
+        return;
+    };
+    let is_text = text.as_slice() == whole.as_slice();
+    let is_end = ended.closed.as_slice() == outcome.closed.as_slice();
+    if !is_text || !is_end || ended.fault != outcome.fault {
+        let count = bytes.len();
+        let done = write!(case.came, ", other logs of {count} bytes and {harts} harts");
+        case.note(done);
+    }
+}
+
+/// Receives the messages of a capture. Appends why one is not received.
+fn receive_all(case: &mut Case<'_>, program: &Program, receiver: &mut Receiver, bytes: &[u8]) {
+    let Ok(read) = read_messages(case.alloc, bytes) else {
+        return case.unread();
+    };
+    let announced = match read.header {
+        Some(header) => Some(header.mode),
+        None => None,
+    };
+    for message in &read.messages {
+        if let Err(fault) = receiver.receive(program, announced, message) {
+            case.put_word(fault);
+        }
+    }
+}
+
+/// `receive HARTS`, `receive HARTS EVENTS OWN`: the events of harts by a receiver, which first takes memory for so many
+/// events of each of its own harts.
+pub(crate) fn receive_case(case: &mut Case<'_>, captured: Captured<'_>) {
+    let harts = count_of(case);
+    let events = case.word();
+    let total = if events.is_empty() {
+        0
+    } else {
+        case.decimal(events)
+    };
+    let Ok(mut receiver) = Receiver::new(case.alloc, harts) else {
+        return case.no_memory();
+    };
+    for word in case.text.split_whitespace() {
+        let hart = case.short(word);
+        if usize::from(hart) < receiver.lists().len() {
+            let done = receiver.reserve(hart, total as usize);
+            case.note(done);
+        } else {
+            case.unread();
+        }
+    }
+    receive_all(case, captured.program, &mut receiver, captured.bytes);
+    let (lists, closed) = receiver.into_parts();
+    put_decoded(case, captured.log, lists.as_slice(), closed.as_slice());
+}
+
+/// `decode-capture HARTS`: the events of the harts of the capture, by places in the log, and where decoding stops. What is
+/// written of the same bytes has to be the same.
+pub(crate) fn decode_capture_case<R: Threads + Sync>(
+    case: &mut Case<'_>,
+    rt: &R,
+    captured: Captured<'_>,
+) {
+    let program = captured.program;
+    let bytes = captured.bytes;
+    let harts = count_of(case);
+    let Ok(outcome) = decode_capture(case.alloc, program, harts, bytes) else {
+        return case.no_memory();
+    };
+    put_decoded(
+        case,
+        captured.log,
+        outcome.harts.as_slice(),
+        outcome.closed.as_slice(),
+    );
+    put_fault(case, outcome.fault);
+    put_other_written(case, rt, program, harts, bytes, &outcome);
+}
+
+/// `write-decoded HARTS`: the text that is written of the capture, which harts are closed, and where decoding stops.
+pub(crate) fn write_decoded_case<R: Threads + Sync>(
+    case: &mut Case<'_>,
+    rt: &R,
+    captured: Captured<'_>,
+) {
+    let harts = count_of(case);
+    let Some((text, ended)) = written(case, rt, captured.program, harts, captured.bytes) else {
+        return;
+    };
+    case.put_text(text.as_slice());
+    for closed in &ended.closed {
+        put_end(case, *closed);
+    }
+    put_fault(case, ended.fault);
+}
+
+/// Appends what is written of bytes that is not what they are decoded to.
+fn compare<R: Threads + Sync>(
+    case: &mut Case<'_>,
+    rt: &R,
+    program: &Program,
+    harts: u16,
+    bytes: &[u8],
+) {
+    match decode_capture(case.alloc, program, harts, bytes) {
+        Ok(outcome) => put_other_written(case, rt, program, harts, bytes, &outcome),
+        Err(_) => case.no_memory(),
+    }
+}
+
+/// `decode-fronts HARTS`: of how many fronts of the capture the same is written as they are decoded to, each with so many
+/// harts and all counts below.
+pub(crate) fn decode_fronts_case<R: Threads + Sync>(
+    case: &mut Case<'_>,
+    rt: &R,
+    program: &Program,
+    bytes: &[u8],
+) {
+    let harts = count_of(case);
+    let mut count: u64 = 0;
+    let mut others = case.again();
+    for place in 0..bytes.len().saturating_add(1) {
+        let front = bytes.get(..place).unwrap_or(&[]);
+        for harts in 0..harts.saturating_add(1) {
+            compare(&mut others, rt, program, harts, front);
+            count = count.saturating_add(1);
+        }
+    }
+    case.put_shown(count);
+    case.put_first(&others);
+}
+
+/// Sets the byte at a place.
+fn set(bytes: &mut [u8], place: usize, value: u8) {
+    if let Some(byte) = bytes.get_mut(place) {
+        *byte = value;
+    }
+}
+
+/// `decode-changes HARTS BYTES`: of how many captures with a byte changed to one of these the same is written as they are
+/// decoded to.
+pub(crate) fn decode_changes_case<R: Threads + Sync>(
+    case: &mut Case<'_>,
+    rt: &R,
+    program: &Program,
+    bytes: &[u8],
+) {
+    let harts = count_of(case);
+    let digits = case.text;
+    let values = bytes_of(case, digits);
+    let mut count: u64 = 0;
+    let mut others = case.again();
+    for place in 0..bytes.len() {
+        for value in values.as_slice() {
+            let mut changed = case.copied(bytes);
+            set(&mut changed, place, *value);
+            compare(&mut others, rt, program, harts, changed.as_slice());
+            count = count.saturating_add(1);
+        }
+    }
+    case.put_shown(count);
+    case.put_first(&others);
+}

@@ -1,0 +1,130 @@
+//! Cases of captures as text: dumps (`captures`), listings (`listing`) and audits (`auditing`).
+
+use crate::captured::Captured;
+use crate::lossy::{is_lost, put_harts};
+use auditing::{Audit, Fate, Tally};
+use captures::{dump_capture, read_messages};
+use cases::{Case, text_of};
+use listing::{Form, ListInput, list_capture};
+use message::{HartRange, Unwatched};
+use symbols::Symbols;
+
+/// `dump-capture`: the text of the capture.
+pub(crate) fn dump_capture_case(case: &mut Case<'_>, bytes: &[u8]) {
+    let mut text = Vec::new(case.alloc);
+    match dump_capture(bytes, &mut text) {
+        Ok(dumped) => {
+            case.put_text(text.as_slice());
+            if dumped.bad {
+                case.put("bad payloads");
+            }
+            if let Some((number, fault)) = dumped.fault {
+                let done = write!(case.came, "message {number}: {fault}");
+                case.note(done);
+            }
+        }
+        Err(_) => case.no_memory(),
+    }
+}
+
+/// Appends the listing of a capture, and how many of its harts are closed.
+fn put_listing(case: &mut Case<'_>, captured: Captured<'_>, harts: u16, symbols: Option<&Symbols>) {
+    let input = ListInput {
+        program: captured.program,
+        harts,
+        only: HartRange::ALL,
+        capture: captured.bytes,
+        symbols,
+        form: Form::Lines,
+    };
+    let mut text = Vec::new(case.alloc);
+    let Ok(listed) = list_capture(case.alloc, &input, &mut text, &Unwatched) else {
+        return case.no_memory();
+    };
+    case.put_text(text.as_slice());
+    let mut closed: u64 = 0;
+    for is_closed in &listed.closed {
+        if *is_closed {
+            closed = closed.saturating_add(1);
+        }
+    }
+    let count = listed.closed.len();
+    let done = write!(case.came, "{closed} of {count} closed");
+    case.note(done);
+    if let Some((number, fault)) = listed.fault {
+        let done = write!(case.came, "; message {number}: {fault}");
+        case.note(done);
+    }
+}
+
+/// `list-capture HARTS`, `list-capture HARTS "SYMBOLS"`: the listing of the capture, with places named by symbols where
+/// there are some, and how many harts are closed.
+pub(crate) fn list_capture_case(case: &mut Case<'_>, captured: Captured<'_>) {
+    let harts = case.word();
+    let harts = case.short(harts);
+    if case.text.is_empty() {
+        return put_listing(case, captured, harts, None);
+    }
+    match Symbols::new(case.alloc, text_of(case)) {
+        Ok(symbols) => put_listing(case, captured, harts, Some(&symbols)),
+        Err(_) => case.unread(),
+    }
+}
+
+/// Appends how many messages of a hart were sent, came and are lost, and what else became of them.
+fn put_tally(case: &mut Case<'_>, tally: &Tally) {
+    let (sent, came, lost) = (tally.sent, tally.came, tally.lost);
+    let done = write!(case.came, "{sent} sent, {came} came, {lost} lost:");
+    case.note(done);
+    let others = tally.repeated.max(tally.late).max(tally.changed);
+    if others > 0 || tally.whole {
+        case.put(" and others");
+    }
+}
+
+/// Appends what an audit found of a hart, and the runs of its lost messages.
+fn put_hart(case: &mut Case<'_>, audit: &Audit<'_>, hart: usize) {
+    if hart < audit.harts() {
+        let tally = audit.tally(hart);
+        put_tally(case, &tally);
+        let mut runs = audit.lost(hart);
+        for _ in 0..tally.sent.saturating_add(1) {
+            if let Some(run) = runs.next() {
+                case.put_word(run.first);
+                if run.first != run.last {
+                    case.put("-");
+                    case.put_shown(run.last);
+                }
+            }
+        }
+    }
+    case.put("\n");
+}
+
+/// `audit-capture LOST`: what an audit finds where all messages of the capture come in order but for those that are lost,
+/// for each hart.
+pub(crate) fn audit_capture_case(case: &mut Case<'_>, bytes: &[u8]) {
+    let lost = case.text;
+    let Ok(read) = read_messages(case.alloc, bytes) else {
+        return case.unread();
+    };
+    let Ok(mut audit) = Audit::new(case.alloc, bytes) else {
+        return case.unread();
+    };
+    let mut texts = case.again();
+    for message in &read.messages {
+        if !is_lost(&mut texts, lost, message.number) {
+            let fate = audit.take(message);
+            if fate != Fate::InOrder {
+                texts.put("not in order ");
+            }
+        }
+    }
+    for hart in 0..audit.harts() {
+        put_hart(&mut texts, &audit, hart);
+    }
+    put_harts(case, &texts);
+    if audit.strangers() > 0 {
+        case.put("; strangers");
+    }
+}

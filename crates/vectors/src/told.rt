@@ -1,0 +1,45 @@
+//! What is told of a first pass over a capture.
+
+use capture_index::WatchSurvey;
+use message::Watch;
+use std::cell::Cell;
+
+/// Counts the messages that are told of, and the ends.
+#[derive(Drop)]
+pub(crate) struct Told {
+    messages: Cell<u64>,
+    ends: Cell<u64>,
+}
+
+impl Told {
+    /// Nothing is told yet.
+    pub(crate) fn new() -> Told {
+        Told {
+            messages: Cell::new(0),
+            ends: Cell::new(0),
+        }
+    }
+
+    /// How many messages were told of.
+    pub(crate) fn messages(&self) -> u64 {
+        self.messages.get()
+    }
+
+    /// How often an end was.
+    pub(crate) fn ends(&self) -> u64 {
+        self.ends.get()
+    }
+}
+
+impl Watch for Told {
+    fn note(&self, messages: usize) {
+        let told = self.messages.get().saturating_add(messages as u64);
+        self.messages.set(told);
+    }
+}
+
+impl WatchSurvey for Told {
+    fn surveyed(&self) {
+        self.ends.set(self.ends.get().saturating_add(1));
+    }
+}
