@@ -22,7 +22,7 @@ TABLE = "    write_table(measures.as_slice(), out)\n"
 PIECE = "    let buffer = match PieceBuffer::new(alloc) {\n"
 CONFIG = "    let config = Config {\n"
 CAPTURE = "    let bytes = content_of(files, asked.capture)?;\n"
-IMAGE = "    let bytes = content_of(files, image)?;\n"
+IMAGE = "    let bytes = start_of(files, image, Some(LARGEST_PIECE + 1))?;\n"
 SENT = "    let sent = content_of(files, asked.sent)?;\n"
 RECEIVED = "    let received = content_of(files, asked.received)?;\n"
 LINES = "    let text = content_of(files, asked.lines)?;\n"
@@ -158,9 +158,8 @@ BODIES = [
         "        let count = read_some(&mut self.handle, buffer)?;\n"
         "        self.seen = self.seen.saturating_add(count);\n"),
     ("a file that is read whole ends after 64 KiB", "commands", "machine.rt",
-        "        fs::read(self.terminal.rt, path).map_err(|error| file_fault(&error))\n",
-        "        let mut bytes = fs::read(self.terminal.rt, path).map_err(|error| file_fault(&error))?;\n"
-        "        bytes.truncate(65_536);\n        Ok(bytes)\n"),
+        "        left: most,\n",
+        "        left: most.min(65_536),\n"),
     ("each path is that of a regular file", "commands", "machine.rt",
         "            Ok(about) => about.is_file(),\n            Err(_) => false,\n",
         "            Ok(_) => true,\n            Err(_) => true,\n"),
