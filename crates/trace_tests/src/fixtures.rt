@@ -12,9 +12,6 @@ pub(crate) const NOP: u32 = 0x0000_0013;
 
 pub(crate) const JUMP_LOOP: u32 = 0x0000_006f;
 
-/// To 4 bytes before.
-pub(crate) const BACK_JUMP: u32 = 0xffdf_f06f;
-
 /// To 8 bytes before.
 pub(crate) const BACK_JUMP_TWICE: u32 = 0xff9f_f06f;
 

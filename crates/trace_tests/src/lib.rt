@@ -12,8 +12,6 @@ mod fixtures;
 #[cfg(test)]
 mod jobs;
 #[cfg(test)]
-mod large;
-#[cfg(test)]
 mod logs;
 #[cfg(test)]
 mod lossy;
@@ -27,5 +25,7 @@ mod refused_captures;
 mod salvaged;
 #[cfg(test)]
 mod same;
+#[cfg(test)]
+mod two_logs;
 #[cfg(test)]
 mod whole_captures;

@@ -4,7 +4,7 @@ use super::by_bytes::stop_of;
 use super::{decoded, is_whole};
 use crate::fixtures::Step::{self, Retires};
 use crate::fixtures::{JUMP_LOOP, NOP, log_of, program_of};
-use crate::large::{KINDS, WORDS};
+use crate::two_logs::{KINDS, WORDS};
 use captures::{CaptureFault, CaptureOutcome};
 use decoder::DecodeFault;
 use retire::Event;

@@ -4,10 +4,10 @@
 use super::written::told::Told;
 use super::{copies_of, decoded, write_capture};
 use crate::fixtures::{BRANCH_LOOP, log_of, program_of, short_log, short_words};
-use crate::large::{WORDS, steps_of};
 use crate::packets::legal_log;
 use crate::refused_captures::{CAPTURE, FULL};
 use crate::same::same_at;
+use crate::two_logs::{WORDS, steps_of};
 use capture_index::{Mark, Selection, survey_messages};
 use legalpath::LegalLog;
 use message::{HartRange, Version};
