@@ -188,7 +188,7 @@ BODIES = [
         *unless("matches!(by, By::Packets)", "SentFault::Memory", "        Audit::by_header(alloc, bytes, by)\n")),
     ("decode_watched that tells of no message", "captures", "capture_decoding.rt",
         "    decode_harts(alloc, program, harts, HartRange::ALL, bytes, watch)\n",
-        "    let _ = watch;\n    decode_harts(alloc, program, harts, HartRange::ALL, bytes, &Unwatched)\n"),
+        "    let _ = watch;\n    decode_harts(alloc, program, harts, HartRange::ALL, bytes, &NoProgress)\n"),
     ("decode_harts that tells of no message", "captures", "capture_decoding.rt",
         "                watch.note(1);\n", "                let _ = watch;\n"),
     ("decode_harts that tells of messages of its harts alone", "captures", "capture_decoding.rt",

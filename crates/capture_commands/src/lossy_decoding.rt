@@ -27,16 +27,16 @@ use captures::{WholeCapture, read_messages};
 use command_inputs::{Files, MessageProgress, Status};
 use frames::mode_of;
 use losses::{HartPieces, LossyFault, Part, collect_watched};
-use message::{Header, Watch};
+use message::{Header, ProgressSink};
 use output::write_text;
 use retire::{Event, write_log};
 use salvage_reports::{items_of, write_messages};
 use std::alloc::Global;
 use std::io::Write;
 
-/// Writes what is left of the log of each hart of an input. Returns that all is done where the closing packet of each came
-/// and there is no gap. Where the capture is not read to its end, a message of these harts is refused or its packet is not
-/// decoded, nothing is written. Messages of all other harts are passed over; a fault counts them.
+/// Writes what is left of the log of each hart of an input. Returns that all is done where the closing packet of each
+/// came and there is no gap. Where the capture is not read to its end, a message of these harts is refused or its
+/// packet is not decoded, nothing is written. Messages of all other harts are passed over; a fault counts them.
 pub(crate) fn decode_lossy<'a, F: Files, O: Write>(
     alloc: Global,
     progress: &MessageProgress<'_, F>,
@@ -60,8 +60,8 @@ pub(crate) fn decode_lossy<'a, F: Files, O: Write>(
     ended(only.first, own)
 }
 
-/// What the messages of an input leave of the logs of a capture's harts. How far they are worked through is shown, where
-/// that is asked for.
+/// What the messages of an input leave of the logs of a capture's harts. How far they are worked through is shown,
+/// where that is asked for.
 fn pieces_of<'a, F: Files>(
     alloc: Global,
     progress: &MessageProgress<'_, F>,

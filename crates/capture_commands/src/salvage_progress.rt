@@ -1,7 +1,7 @@
 //! Showing how far salvaging is.
 
 use command_inputs::{Files, MessageProgress};
-use message::Watch;
+use message::ProgressSink;
 use salvage_reports::WatchSalvage;
 
 /// Shows how far the messages of a capture's frames are salvaged, where that is asked for, as the first of so many
@@ -12,7 +12,7 @@ pub(crate) struct SalvageProgress<'a, 'f, F> {
     pub(crate) rounds: u64,
 }
 
-impl<F: Files> Watch for SalvageProgress<'_, '_, F> {
+impl<F: Files> ProgressSink for SalvageProgress<'_, '_, F> {
     fn note(&self, messages: usize) {
         self.progress.note(messages);
     }

@@ -2,7 +2,7 @@
 
 use capture_index::WatchSurvey;
 use command_inputs::{Files, MessageProgress};
-use message::Watch;
+use message::ProgressSink;
 
 /// Shows how far the first pass over a capture's messages is, where that is asked for, and ends that with the pass.
 #[derive(Drop)]
@@ -10,7 +10,7 @@ pub(crate) struct SurveyProgress<'a, 'f, F> {
     pub(crate) progress: &'a MessageProgress<'f, F>,
 }
 
-impl<F: Files> Watch for SurveyProgress<'_, '_, F> {
+impl<F: Files> ProgressSink for SurveyProgress<'_, '_, F> {
     fn note(&self, messages: usize) {
         self.progress.note(messages);
     }

@@ -7,7 +7,7 @@ ghost use Rattle.rvclass.specs.Fetch.{words_of};
 use crate::body::body_of;
 use crate::selecting::Selection;
 use crate::surveying::{Survey, survey_messages};
-use message::Watch;
+use message::ProgressSink;
 use std::alloc::{AllocError, Allocator};
 
 /// What the first pass over a capture finds.
@@ -22,9 +22,9 @@ pub struct CaptureSurvey<'b, A: Allocator> {
 /// Surveys the messages that a capture has of the harts in a range. `watch` is told of each message that is received or
 /// passed over.
 ///
-/// Where the header is cut short or bad, that is the fault, at message 0, and nothing is decoded of as many harts as are
-/// asked for. The error says that an allocation failed.
-pub fn survey_capture<'b, A: Allocator + Copy, V: Watch>(
+/// Where the header is cut short or bad, that is the fault, at message 0, and nothing is decoded of as many harts as
+/// are asked for. The error says that an allocation failed.
+pub fn survey_capture<'b, A: Allocator + Copy, V: ProgressSink>(
     alloc: A,
     capture: &Selection<'_, 'b>,
     watch: &V,

@@ -12,7 +12,7 @@ use crate::placing::places_of;
 use crate::selecting::Selection;
 use crate::tracking::Tracker;
 use captures::CaptureFault;
-use message::{Messages, Watch};
+use message::{Messages, ProgressSink};
 use payload::Mode;
 use retire::Event;
 use std::alloc::{AllocError, Allocator};
@@ -37,9 +37,9 @@ pub(crate) struct End {
     pub(crate) fault: Option<(u64, CaptureFault)>,
 }
 
-/// Surveys messages of the harts in a range, where the header announces this mode, if there is a header. `watch` is told of
-/// each message that is received or passed over.
-pub fn survey_messages<A: Allocator + Copy, V: Watch>(
+/// Surveys messages of the harts in a range, where the header announces this mode, if there is a header. `watch` is
+/// told of each message that is received or passed over.
+pub fn survey_messages<A: Allocator + Copy, V: ProgressSink>(
     alloc: A,
     messages: &Selection<'_, '_>,
     announced: Option<Mode>,
@@ -64,7 +64,7 @@ pub fn survey_messages<A: Allocator + Copy, V: Watch>(
 
 /// Receives messages of the harts in a range, where the header announces this mode, if there is a header. Returns where
 /// that ends.
-fn receive_all<A: Allocator + Copy, V: Watch>(
+fn receive_all<A: Allocator + Copy, V: ProgressSink>(
     tracker: &mut Tracker<A>,
     selection: &Selection<'_, '_>,
     announced: Option<Mode>,

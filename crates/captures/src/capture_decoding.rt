@@ -18,7 +18,7 @@ ghost use Rattle.captures.specs.Returned.{AreAskedFor, AreReturned, IsCaptureOf}
 ghost use Rattle.captures.specs.steps.Collecting.{HasReceivedUpTo};
 
 use crate::outcome::{CaptureFault, CaptureOutcome};
-use message::{HartRange, Message, Messages, Unwatched, Watch};
+use message::{HartRange, Message, Messages, NoProgress, ProgressSink};
 use payload::Mode;
 use receiver::{ReceiveFault, Receiver};
 use rvclass::ProgramOver;
@@ -47,11 +47,11 @@ pub fn decode_capture<A: Allocator + Copy>(
         → AreAskedFor version harts logs
         → IfOk result (λ outcome. AreReturned logs (events_in outcome.harts.items) outcome.closed.items outcome.fault) }
 {
-    decode_watched(alloc, program, harts, bytes, &Unwatched)
+    decode_watched(alloc, program, harts, bytes, &NoProgress)
 }
 
 /// Decodes a capture as [`decode_capture`] does, and tells `watch` of each message that is received.
-pub fn decode_watched<A: Allocator + Copy, V: Watch>(
+pub fn decode_watched<A: Allocator + Copy, V: ProgressSink>(
     alloc: A,
     program: &ProgramOver,
     harts: u16,
@@ -77,7 +77,7 @@ pub fn decode_watched<A: Allocator + Copy, V: Watch>(
 /// `harts` counts all harts of a capture with no header. Each has a list and a flag; of a hart that is passed over no
 /// event is decoded, and it is not closed. The place in [`CaptureOutcome::fault`] counts the messages of all harts, and
 /// `watch` is told of them all.
-pub fn decode_harts<A: Allocator + Copy, V: Watch>(
+pub fn decode_harts<A: Allocator + Copy, V: ProgressSink>(
     alloc: A,
     program: &ProgramOver,
     harts: u16,
@@ -108,7 +108,7 @@ pub fn decode_harts<A: Allocator + Copy, V: Watch>(
 }
 
 /// What the messages of some of so many harts decode to, where the header announces this mode, if there is a header.
-fn decode_messages<A: Allocator + Copy, V: Watch>(
+fn decode_messages<A: Allocator + Copy, V: ProgressSink>(
     alloc: A,
     program: &ProgramOver,
     harts: u16,
@@ -152,7 +152,7 @@ fn decode_nothing<A: Allocator + Copy>(
 
 /// Receives the messages of some harts, where the header announces this mode, if there is a header. Returns where that
 /// stops before their end, and why.
-fn collect<A: Allocator + Copy, V: Watch>(
+fn collect<A: Allocator + Copy, V: ProgressSink>(
     receiver: &mut Receiver<A>,
     program: &ProgramOver,
     range: HartRange,

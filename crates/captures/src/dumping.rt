@@ -10,7 +10,7 @@ ghost use Rattle.captures.specs.Dump.{dump_line, dump_text, has_bad_payload, mod
 ghost use Rattle.message.specs.Range.{selected};
 
 use crate::packet_text::ReadingText;
-use message::{HartRange, Header, Message, MessageFault, Messages, Unwatched, Watch};
+use message::{HartRange, Header, Message, MessageFault, Messages, NoProgress, ProgressSink};
 use output::write_text;
 use payload::{Mode, unpack};
 use retire::WriteFault;
@@ -41,11 +41,11 @@ pub fn dump_capture<W: Write>(capture: &[u8], sink: &mut W) -> Result<Dumped, Wr
     ensures begun { OnErr result (BeginsDump (IsDump capture.now) (W.contents sink.old) (W.contents sink.new)) }
     ensures fault { IfErr result (λ fault. fault ≡ WriteFault.Write) }
 {
-    dump_watched(capture, sink, &Unwatched)
+    dump_watched(capture, sink, &NoProgress)
 }
 
 /// Writes a capture as [`dump_capture`] does, and tells `watch` of each message that is worked through.
-pub fn dump_watched<W: Write, V: Watch>(
+pub fn dump_watched<W: Write, V: ProgressSink>(
     capture: &[u8],
     sink: &mut W,
     watch: &V,
@@ -59,9 +59,9 @@ pub fn dump_watched<W: Write, V: Watch>(
 }
 
 /// Writes what a capture has of these harts, as [`dump_watched`] writes a capture: the line of its header as it is, and
-/// the lines of their messages alone. Messages of other harts are passed over, whatever their payloads are. The place in
-/// [`Dumped::fault`] counts them all the same, and `watch` is told of them.
-pub fn dump_harts<W: Write, V: Watch>(
+/// the lines of their messages alone. Messages of other harts are passed over, whatever their payloads are. The place
+/// in [`Dumped::fault`] counts them all the same, and `watch` is told of them.
+pub fn dump_harts<W: Write, V: ProgressSink>(
     capture: &[u8],
     harts: HartRange,
     sink: &mut W,
@@ -118,7 +118,7 @@ fn mode_text(mode: Mode) -> &'static str
 }
 
 /// Writes a line for each message of these harts, its address field named by this mode.
-fn dump_messages<W: Write, V: Watch>(
+fn dump_messages<W: Write, V: ProgressSink>(
     all: Messages<'_>,
     harts: HartRange,
     mode: Mode,
@@ -175,8 +175,8 @@ fn write_selected_line<W: Write>(
     }
 }
 
-/// Writes the line of a message, as [`dump_capture`] writes it, its address field named by this mode. Returns whether its
-/// payload is no packet.
+/// Writes the line of a message, as [`dump_capture`] writes it, its address field named by this mode. Returns whether
+/// its payload is no packet.
 ///
 /// The only fault is [`WriteFault::Write`], where the writer failed; what was written then is a prefix of the line. No
 /// memory is taken, and the writer is not flushed.

@@ -9,7 +9,8 @@
 //! [`read_front`] those up to the first place where there is none. [`dump_capture`] writes a line of text for each
 //! message, [`write_message_line`] that line alone, and [`write_bytes_line`] the line of bytes that are of no message.
 //! [`decode_watched`] and [`dump_watched`] do the same as the calls without a watch, and tell a
-//! [`Watch`](message::Watch) of each message; [`decode_harts`] and [`dump_harts`] do so of some harts alone.
+//! [`ProgressSink`](message::ProgressSink) of each message; [`decode_harts`] and [`dump_harts`] do so of some harts
+//! alone.
 #![tactic(auto)]
 
 mod capture_decoding;

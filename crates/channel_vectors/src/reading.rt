@@ -3,7 +3,7 @@
 
 use captures::{decode_harts, decode_watched};
 use cases::{Case, bytes_of};
-use message::{Watch, range_of};
+use message::{ProgressSink, range_of};
 use retire::{LogReader, MOST_ROWS, PieceBuffer, ReaderSource};
 use rvclass::Program;
 use std::cell::Cell;
@@ -16,7 +16,7 @@ struct Noted {
     messages: Cell<usize>,
 }
 
-impl Watch for Noted {
+impl ProgressSink for Noted {
     fn note(&self, messages: usize) {
         let before = self.messages.get();
         self.messages.set(before.saturating_add(messages));

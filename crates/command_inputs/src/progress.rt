@@ -1,7 +1,7 @@
 //! How far files are read and messages are worked through, on a terminal.
 
 use log_streams::Files;
-use message::Watch;
+use message::ProgressSink;
 
 /// Begins to show how far the files at these paths are read, where that is asked for.
 pub fn begin_progress<F: Files>(files: &F, is_asked: bool, paths: &[&str]) {
@@ -43,7 +43,7 @@ impl<'a, F: Files> MessageProgress<'a, F> {
     }
 }
 
-impl<F: Files> Watch for MessageProgress<'_, F> {
+impl<F: Files> ProgressSink for MessageProgress<'_, F> {
     fn note(&self, messages: usize) {
         if self.is_asked {
             self.files.note_messages(messages as u64);

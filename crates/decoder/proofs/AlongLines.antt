@@ -1,6 +1,8 @@
 -- Straight lines, and walks along them.
-use Rattle.std.proofs.Common.{◌≡◌, ℕ, zero, suc, ◌+◌, ◌-◌, ◌*◌, ◌<◌, ◌≤◌, ◌&&◌, ◌||◌, not, nat_le, nat_lt, Bool, true, false, List}
-use Rattle.std.proofs.Common.{[], ◌∷◌, ◌++◌, ◌⊎◌, inl, inr, get_or, slice_get, length, Option, Some, None, refl, sym, ap, subst, ◌∙◌, arith, if◌then◌else◌, ◌==◌}
+use Rattle.std.proofs.Common.{◌≡◌, ℕ, zero, suc, ◌+◌, ◌-◌, ◌*◌, ◌<◌, ◌≤◌, ◌&&◌, ◌||◌, not, nat_le, nat_lt, Bool, true}
+use Rattle.std.proofs.Common.{false, List}
+use Rattle.std.proofs.Common.{[], ◌∷◌, ◌++◌, ◌⊎◌, inl, inr, get_or, slice_get, length, Option, Some, None, refl, sym}
+use Rattle.std.proofs.Common.{ap, subst, ◌∙◌, arith, if◌then◌else◌, ◌==◌}
 use Rattle.std.proofs.lemmas.Bool.Decides.{nat_tests}
 use Rattle.std.proofs.lemmas.Option.{slice_get_read}
 use Rattle.std.specs.List.{last_or}
@@ -13,13 +15,14 @@ use Rattle.legalpath.specs.Backward.{jumps_back}
 use Rattle.legalpath.specs.Successor.{leads_from}
 use Rattle.legalpath.specs.declared.next.Next.TheVariants.{One}
 use Rattle.decoder.specs.Walk.{End, AtBranch, AtAddress, AtTarget}
-use Rattle.decoder.specs.steps.Lanes.{addr_of}
+use Rattle.decoder.specs.steps.Segments.{addr_of}
 use Rattle.decoder.specs.steps.Leads.{may_stay_on}
-use Rattle.decoder.specs.steps.StraightLines.{straight_on, unless_back, then_on, line_to, IsLine, AreLeaps, passes, GoesOn, IsLonger}
+use Rattle.decoder.specs.steps.StraightLines.{straight_on, unless_back, then_on, line_to, IsLine, AreSkips, passes}
+use Rattle.decoder.specs.steps.StraightLines.{GoesOn, IsLonger}
 use Rattle.decoder.specs.steps.Walks.{event_of, Carries}
-use Rattle.decoder.specs.declared.lanes.Lane.{Lane}
-use Rattle.decoder.specs.declared.leaps.Leap.{Leap}
-use Rattle.decoder.specs.declared.leaps.Line.{Line}
+use Rattle.decoder.specs.declared.segments.CodeSegment.{CodeSegment}
+use Rattle.decoder.specs.declared.skips.Skip.{Skip}
+use Rattle.decoder.specs.declared.skips.StraightRun.{StraightRun}
 use Rattle.decoder.specs.declared.stepping.Here.{Here}
 use Rattle.decoder.specs.steps.WalkSteps.{Stop, Last, On, advance, move_to, next_move, retire_on, stops, is_empty}
 use Rattle.decoder.specs.steps.WalkSteps.{event_then, walk_within, summary, plus}
@@ -180,7 +183,8 @@ module _ (words : Words) (is_program : IsProgram words) (end : End) (left : List
       On (Retire next types.other priv) left ≡ advance words (Retire a types.other priv) left end
   unfolding advance
   goes_straight a next after h h' apart =
-      sym (ap (λ n. move_to words (Retire a types.other priv) left end n) (leads_straight a types.other next (words a) h)
+      sym (ap (λ n. move_to words (Retire a types.other priv) left end n) (leads_straight a types.other next
+      (words a) h)
       ∙ ap (λ r. next_move words end r) (retires_straight next priv after left (words next) h')
       ∙ on_move (Retire next types.other priv) left _ _ apart (not_back next after (words next) h'))
 
@@ -221,20 +225,20 @@ left_over : (limit done steps : ℕ) → steps ≤ limit - done → limit - done
 left_over limit done steps few = omega (arith, few)
 
 -- A walk of at most `limit` steps that has made `done` of them has made so many more once it went along a line.
-pub measure_leaps : (words : Words) (end : End) (from : Event) (taken : List Bool) (limit done : ℕ) (here : Event)
+pub measure_skips : (words : Words) (end : End) (from : Event) (taken : List Bool) (limit done : ℕ) (here : Event)
     (left : List Bool) → summary from (walk_within words limit from taken end) ≡ plus done
     (summary here (walk_within words (limit - done) here left end)) → (steps : ℕ) (there : Event) →
     steps ≤ limit - done → IsLonger words left end steps here there →
     summary from (walk_within words limit from taken end) ≡ plus (done + steps)
     (summary there (walk_within words (limit - (done + steps)) there left end))
-measure_leaps words end from taken limit done here left inv steps there few longer =
+measure_skips words end from taken limit done here left inv steps there few longer =
     inv
     ∙ ap (λ n. plus done (summary here (walk_within words n here left end))) (left_over limit done steps few)
     ∙ ap (plus done) (longer (limit - (done + steps)))
     ∙ plus_plus done steps _
 
 -- A retirement after which a line begins, and the one that the line leads to.
-abbrev pub line_there : Here → Line → Here
+abbrev pub line_there : Here → StraightRun → Here
 line_there here line = record {
   addr = line.to;
   itype = here.itype;
@@ -244,7 +248,8 @@ line_there here line = record {
 }
 
 -- Where a walk goes on from it is kept, and it is so many steps further.
-pub goes_on : (words : Words) → IsProgram words → (end : End) (left : List Bool) (here : Here) (most : ℕ) (line : Line) →
+pub goes_on : (words : Words) → IsProgram words → (end : End) (left : List Bool) (here : Here) (most : ℕ)
+    (line : StraightRun) →
     GoesOn words here left end most line →
     Carries words (line_there here line) ×
     IsLonger words left end line.steps (event_of here) (event_of (line_there here line))
@@ -264,19 +269,19 @@ pub one_step : (words : Words) (addr next to : ℕ) → straight_on addr (words 
     IsLine words 1 addr to
 one_step words addr next to h is = longer_line words 0 addr next to h (ap Some (sym is))
 
--- No leaps.
-pub no_leaps : (words : Words) (lanes : List Lane) → AreLeaps words lanes []
-no_leaps words lanes place leap h = cc
+-- No skips.
+pub no_skips : (words : Words) (segments : List CodeSegment) → AreSkips words segments []
+no_skips words segments place skip h = cc
 
--- A leap that was read from the list.
-pub leap_read : (words : Words) (lanes : List Lane) (leaps : List Leap) (place : ℕ) (leap : Leap) →
-    AreLeaps words lanes leaps → place < length leaps → leap ≡ get_or leaps place leap →
-    IsLine words leap.steps (addr_of lanes place) (addr_of lanes leap.to)
-leap_read words lanes leaps place leap lead within at =
-    lead place leap (slice_get_read leaps (length leaps) place leap refl within at)
+-- A skip that was read from the list.
+pub skip_read : (words : Words) (segments : List CodeSegment) (skips : List Skip) (place : ℕ) (skip : Skip) →
+    AreSkips words segments skips → place < length skips → skip ≡ get_or skips place skip →
+    IsLine words skip.steps (addr_of segments place) (addr_of segments skip.to)
+skip_read words segments skips place skip lead within at =
+    lead place skip (slice_get_read skips (length skips) place skip refl within at)
 
 -- What is read of a list with one entry more is that entry, or read of the list.
-get_pushed : (xs : List Leap) (x y : Leap) (i : ℕ) → slice_get (xs ++ x ∷ []) i ≡ Some y →
+get_pushed : (xs : List Skip) (x y : Skip) (i : ℕ) → slice_get (xs ++ x ∷ []) i ≡ Some y →
     (slice_get xs i ≡ Some y) ⊎ ((i ≡ length xs) × (x ≡ y))
 get_pushed [] x y zero h = inr (refl, cc)
 get_pushed [] x y (suc i) h = cc
@@ -288,23 +293,26 @@ get_pushed (z ∷ xs) x y (suc i) h = go (get_pushed xs x y i h)
     go (inl same) = inl same
     go (inr (last, is)) = inr (ap suc last, is)
 
-pub leaps_pushed : (words : Words) (lanes : List Lane) (place : ℕ) (leaps : List Leap) (leap : Leap) →
-    AreLeaps words lanes leaps → length leaps ≡ place →
-    IsLine words leap.steps (addr_of lanes place) (addr_of lanes leap.to) → AreLeaps words lanes (leaps ++ leap ∷ [])
-leaps_pushed words lanes place leaps leap lead count line at one h = go (get_pushed leaps leap one at h)
+pub skips_pushed : (words : Words) (segments : List CodeSegment) (place : ℕ) (skips : List Skip) (skip : Skip) →
+    AreSkips words segments skips → length skips ≡ place →
+    IsLine words skip.steps (addr_of segments place) (addr_of segments skip.to) → AreSkips words segments
+    (skips ++ skip ∷ [])
+skips_pushed words segments place skips skip lead count line at one h = go (get_pushed skips skip one at h)
   where
-    go : (slice_get leaps at ≡ Some one) ⊎ ((at ≡ length leaps) × (leap ≡ one)) →
-        IsLine words one.steps (addr_of lanes at) (addr_of lanes one.to)
+    go : (slice_get skips at ≡ Some one) ⊎ ((at ≡ length skips) × (skip ≡ one)) →
+        IsLine words one.steps (addr_of segments at) (addr_of segments one.to)
     go (inl before) = lead at one before
     go (inr (last, is)) =
-        subst (λ k. IsLine words one.steps (addr_of lanes k) (addr_of lanes one.to)) (sym (last ∙ count))
-        (subst (λ (l : Leap). IsLine words l.steps (addr_of lanes place) (addr_of lanes l.to)) is line)
+        subst (λ k. IsLine words one.steps (addr_of segments k) (addr_of segments one.to)) (sym (last ∙ count))
+        (subst (λ (l : Skip). IsLine words l.steps (addr_of segments place) (addr_of segments l.to)) is line)
 
--- The line that a leap read from the list tells of, from an address on.
-pub line_read : (words : Words) (lanes : List Lane) (leaps : List Leap) (place : ℕ) (leap : Leap) (addr to : ℕ) →
-    AreLeaps words lanes leaps → place < length leaps → leap ≡ get_or leaps place leap → addr_of lanes place ≡ addr →
-    addr_of lanes leap.to ≡ to → IsLine words leap.steps addr to
-line_read words lanes leaps place leap addr to lead within at from there =
-    subst (λ a. IsLine words leap.steps a to) from
-    (subst (λ b. IsLine words leap.steps (addr_of lanes place) b) there
-    (leap_read words lanes leaps place leap lead within at))
+-- The line that a skip read from the list tells of, from an address on.
+pub line_read : (words : Words) (segments : List CodeSegment) (skips : List Skip) (place : ℕ) (skip : Skip)
+    (addr to : ℕ) →
+    AreSkips words segments skips → place < length skips → skip ≡ get_or skips place skip
+    → addr_of segments place ≡ addr →
+    addr_of segments skip.to ≡ to → IsLine words skip.steps addr to
+line_read words segments skips place skip addr to lead within at from there =
+    subst (λ a. IsLine words skip.steps a to) from
+    (subst (λ b. IsLine words skip.steps (addr_of segments place) b) there
+    (skip_read words segments skips place skip lead within at))

@@ -17,7 +17,7 @@ use Rattle.decoder.specs.steps.Stretches.{Gives, RightBefore, stretch_count}
 use Rattle.decoder.specs.declared.decoding.Decoder.{Decoder}
 use Rattle.decoder.specs.declared.state.Phase.{Phase}
 use Rattle.decoder.specs.declared.state.Phase.TheVariants.{Running}
-use Rattle.decoder.specs.declared.stretch.Stretch.{Stretch}
+use Rattle.decoder.specs.declared.added_events.AddedEvents.{AddedEvents}
 
 -- The decoder as it is after the packet that opens a trace.
 abbrev opened : Decoder → Decoder
@@ -66,7 +66,7 @@ module _ (words : Words) (mode : Mode) (d : Decoder) (over : PassesOver mode d) 
   passing_right = stands_right words (open_packet mode ∷ []) [] (opened d) stands_opened
 
   -- After the synchronisation the decoder stands for it behind a packet that opens the trace.
-  pub begins_stretch : (p : Packet) (settled of_packet : Stretch) (piece more : List Event) → IsSync p →
+  pub begins_stretch : (p : Packet) (settled of_packet : AddedEvents) (piece more : List Event) → IsSync p →
       Gives words settled piece → Gives words of_packet more → CanFollowAt words d p piece more →
       DecoderStands words (open_packet mode ∷ p ∷ []) (piece ++ more) (decoder_after d p settled of_packet)
   begins_stretch p settled of_packet piece more sync one two can =
@@ -74,7 +74,7 @@ module _ (words : Words) (mode : Mode) (d : Decoder) (over : PassesOver mode d) 
       (after_opening p piece more sync can)
 
   -- Where there is too little room, a log is described for which there is too little behind the events before.
-  pub begins_longer : (p : Packet) (settled of_packet : Stretch) (piece more : List Event) (before room : ℕ) →
+  pub begins_longer : (p : Packet) (settled of_packet : AddedEvents) (piece more : List Event) (before room : ℕ) →
       IsSync p → Gives words settled piece → Gives words of_packet more → CanFollowAt words d p piece more →
       room < before + (stretch_count settled + stretch_count of_packet) →
       (other : List Event) × Describes words (open_packet mode ∷ p ∷ []) other × (room < before + length other)

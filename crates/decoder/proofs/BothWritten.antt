@@ -8,14 +8,14 @@ use Rattle.decoder.proofs.StretchEnds.{stretch_count-gives}
 use Rattle.decoder.specs.steps.Stretches.{AddsSoFar, AddsStretch, AddsBoth, Gives, HasRoomFor, left_of, stretch_count}
 use Rattle.decoder.specs.steps.Stretches.{if_pending, stretch_progress}
 use Rattle.decoder.specs.steps.WritingAsFound.{AddsAs}
-use Rattle.decoder.specs.declared.stretch.Stretch.{Stretch}
-use Rattle.decoder.specs.declared.stretch.Stretch.TheVariants.{Nothing, One, Two, Walk}
+use Rattle.decoder.specs.declared.added_events.AddedEvents.{AddedEvents}
+use Rattle.decoder.specs.declared.added_events.AddedEvents.TheVariants.{Nothing, One, Two, Walk}
 use Rattle.decoder.specs.declared.walking.Progress.{Progress}
 use Rattle.decoder.specs.declared.walking.Progress.TheVariants.{Written, Pending}
 
 -- The events of a stretch in two parts: those that were written, and those that are to be. Nothing was written where
 -- what stands before is pending, and nothing is left where the stretch is written.
-record Parts (words : Words) (ahead : Progress) (stretch : Stretch) (events old new : List Event) : Type 0 where
+record Parts (words : Words) (ahead : Progress) (stretch : AddedEvents) (events old new : List Event) : Type 0 where
   made : List Event
   left : List Event
   whole : events ≡ made ++ left
@@ -25,7 +25,7 @@ record Parts (words : Words) (ahead : Progress) (stretch : Stretch) (events old 
   none_left : stretch_progress stretch ≡ Written → left ≡ []
 
 module _ (words : Words) where
-  pending : (ahead : Progress) (stretch : Stretch) (events old new : List Event) → left_of stretch ≡ stretch →
+  pending : (ahead : Progress) (stretch : AddedEvents) (events old new : List Event) → left_of stretch ≡ stretch →
       Gives words stretch events → new ≡ old → (stretch_progress stretch ≡ Written → events ≡ []) →
       Parts words ahead stretch events old new
   pending ahead stretch events old new same gives is none = record {
@@ -38,7 +38,7 @@ module _ (words : Words) where
     none_left = none;
   }
 
-  parts : (ahead : Progress) (stretch : Stretch) (events old new : List Event) → Gives words stretch events →
+  parts : (ahead : Progress) (stretch : AddedEvents) (events old new : List Event) → Gives words stretch events →
       AddsSoFar words ahead stretch old new → Parts words ahead stretch events old new
   parts ahead Nothing events old new gives adds = pending ahead Nothing events old new refl gives adds (λ h. gives)
   parts ahead (One event) events old new gives adds =
@@ -69,7 +69,7 @@ module _ (words : Words) where
           let same : left_of (Walk walk) ≡ Walk walk = ap (λ p. if_pending p (Walk walk)) is in
           pending ahead (Walk walk) events old new same gives adds (λ h. let no : Pending ≡ Written = sym is ∙ h in cc)
 
-  module _ (first second : Stretch) (settled of_packet : List Event) (gives : Gives words first settled)
+  module _ (first second : AddedEvents) (settled of_packet : List Event) (gives : Gives words first settled)
       (gives' : Gives words second of_packet) (old new : List Event) (adds : AddsBoth words first second old new) where
     one : Parts words Written first settled old adds.0
     one = parts Written first settled old adds.0 gives adds.1

@@ -17,8 +17,8 @@ use Rattle.decoder.specs.steps.WalkSteps.{Move, Stop, Last, On, advance, follow,
 use Rattle.decoder.specs.steps.Walks.{event_of, goal_end, Carries}
 use Rattle.decoder.specs.declared.rest.Rest.{Rest}
 use Rattle.decoder.specs.declared.stepping.Here.{Here}
-use Rattle.decoder.specs.declared.stretch.Stretch.{Stretch}
-use Rattle.decoder.specs.declared.stretch.Stretch.TheVariants.{Nothing, One, Two, Walk}
+use Rattle.decoder.specs.declared.added_events.AddedEvents.{AddedEvents}
+use Rattle.decoder.specs.declared.added_events.AddedEvents.TheVariants.{Nothing, One, Two, Walk}
 
 -- Where nothing is left behind, nothing is taken of it, and all of it is left.
 none_taken : (k : ℕ) (l : List Event) → (0 < k → length l ≡ 0) → take k l ≡ []
@@ -126,7 +126,8 @@ module _ (words : Words) (end : End) where
         Retraces words outcomes there used false (advance words (event_of here) left end) → ⊥
     not_lost here left more goes lost = by_move (advance words (event_of here) left end) refl lost
       where
-        by_move : (mv : Move) → advance words (event_of here) left end ≡ mv → Retraces words outcomes there used false mv
+        by_move : (mv : Move) → advance words (event_of here) left end ≡ mv
+            → Retraces words outcomes there used false mv
             → ⊥
         by_move Stop is lost =
             let none = sym (ap length (one_step more (event_of here) left Stop is)) ∙ goes.counted in
@@ -135,7 +136,8 @@ module _ (words : Words) (end : End) where
         by_move (On f rest) is lost = lost
 
   -- Nothing is handed out yet.
-  pub hand_starts : (here : Here) (left : List Bool) (count : ℕ) (old : List Event) → GoesOnFor words count here left end
+  pub hand_starts : (here : Here) (left : List Bool) (count : ℕ) (old : List Event)
+      → GoesOnFor words count here left end
       → Handing words end old (first_steps words count (event_of here) left end) count 0 here left old
   hand_starts here left count old goes =
       let all : count ≡ count - 0 = omega arith in
@@ -200,7 +202,7 @@ module _ (words : Words) (end : End) where
         }
 
 -- All events of a stretch are left of it.
-pub rest_gives : (words : Words) → IsProgram words → (stretch : Stretch) (events : List Event) →
+pub rest_gives : (words : Words) → IsProgram words → (stretch : AddedEvents) (events : List Event) →
     Gives words stretch events → HasCourse (rest_of stretch) →
     (rest_events words (rest_of stretch) ≡ events) × IsRest words (rest_of stretch)
 rest_gives words good Nothing events gives course = (sym gives, tt)
@@ -216,13 +218,14 @@ rest_gives words good (Walk walk) events gives course =
     (same, (course, record { counted = ap length same ∙ sym gives.2; carries = λ some. gives.0.0 }))
 
 module _ (words : Words) (good : IsProgram words) where
-  of_stretch : (stretch : Stretch) (events : List Event) (rest : Rest) → Gives words stretch events →
+  of_stretch : (stretch : AddedEvents) (events : List Event) (rest : Rest) → Gives words stretch events →
       rest ≡ rest_of stretch → HasCourse rest → (rest_events words rest ≡ events) × IsRest words rest
   of_stretch stretch events rest gives is course =
       subst (λ r. (rest_events words r ≡ events) × IsRest words r) (sym is)
       (rest_gives words good stretch events gives (subst HasCourse is course))
 
-  module _ (first second : Stretch) (settled of_packet : List Event) (one two : Rest) (gives : Gives words first settled)
+  module _ (first second : AddedEvents) (settled of_packet : List Event) (one two : Rest)
+      (gives : Gives words first settled)
       (gives' : Gives words second of_packet) (is : one ≡ rest_of first) (is' : two ≡ rest_of second)
       (course : HasCourse one) (course' : HasCourse two) where
     -- All events of both stretches are left of them.

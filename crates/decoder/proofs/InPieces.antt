@@ -20,7 +20,7 @@ use Rattle.decoder.specs.DecoderStands.{DecoderStands}
 use Rattle.decoder.specs.steps.Planning.{Plans, announced_past, decoder_after}
 use Rattle.decoder.specs.steps.Stretches.{AddsBoth, left_of, stretch_count}
 use Rattle.decoder.specs.declared.decoding.Decoder.{Decoder}
-use Rattle.decoder.specs.declared.stretch.Stretch.{Stretch}
+use Rattle.decoder.specs.declared.added_events.AddedEvents.{AddedEvents}
 
 -- A packet that opens no trace leaves what was announced.
 pub announced_kept : (p : Packet) (before mode : Option Mode) → before ≡ mode → (IsOpen p → ⊥) →
@@ -33,7 +33,8 @@ announced_kept (packet.Support support.EndedNtr) before mode is opens = is
 announced_kept (packet.Address taken delta report) before mode is opens = is
 announced_kept (packet.Map taken) before mode is opens = is
 
-module _ (words : Words) (d : Decoder) (p : Packet) (first second : Stretch) (found : Plans words d p first second) where
+module _ (words : Words) (d : Decoder) (p : Packet) (first second : AddedEvents)
+    (found : Plans words d p first second) where
   -- How many events the packet adds.
   plan_counted : stretch_count first + stretch_count second ≡ length (found.settled ++ found.of_packet)
   plan_counted =

@@ -22,6 +22,6 @@ pub mod NextPacket
 pub mod StandsForOneMore
 pub mod NotOpenedReturned
 pub mod BeginsAnew
-pub mod NumberedLanes
+pub mod NumberedSegments
 pub mod HandsOut
 pub mod InPieces

@@ -17,7 +17,7 @@ use Rattle.decoder.specs.steps.Planning.{MayCome, FitsWaiting, Plans, PlansNone,
 use Rattle.decoder.specs.Settling.{settled_by}
 use Rattle.decoder.specs.declared.decoding.Decoder.{Decoder}
 use Rattle.decoder.specs.declared.fault.DecodeFault.{DecodeFault}
-use Rattle.decoder.specs.declared.stretch.Stretch.{Stretch}
+use Rattle.decoder.specs.declared.added_events.AddedEvents.{AddedEvents}
 use Rattle.decoder.specs.declared.settling.Waiting.{Waiting}
 
 -- What waits has one piece at most.
@@ -31,7 +31,7 @@ waiting_same words program mode before reported (Some waiting) p piece other fit
     other fits fits' follows follows'
 
 module _ (words : Words) (d : Decoder) (p : Packet) where
-  pub plans : (settled of_packet : Stretch) (r : Result Unit DecodeFault) → admitted d.phase p ≡ Ok tt →
+  pub plans : (settled of_packet : AddedEvents) (r : Result Unit DecodeFault) → admitted d.phase p ≡ Ok tt →
       MayCome d.phase d.waiting p → Suits words d.last (FitsWaiting words d.mode d.last d.reported d.waiting p) settled
       → OnOk r (Suits words (stretch_last d.last settled)
       (Fits words d.mode (stretch_last d.last settled) (stretch_place d.reported settled) p None) of_packet) →
@@ -61,7 +61,8 @@ module _ (words : Words) (d : Decoder) (p : Packet) where
             };
       }
 
-  pub plans_none : IsProgram words → (settled : Stretch) (r : Result Unit DecodeFault) → admitted d.phase p ≡ Ok tt →
+  pub plans_none : IsProgram words → (settled : AddedEvents) (r : Result Unit DecodeFault) → admitted d.phase p ≡ Ok tt
+      →
       Suits words d.last (FitsWaiting words d.mode d.last d.reported d.waiting p) settled →
       IfErr r (SuitsNone words (stretch_last d.last settled)
       (Fits words d.mode (stretch_last d.last settled) (stretch_place d.reported settled) p None)) →

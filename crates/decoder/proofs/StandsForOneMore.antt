@@ -32,7 +32,7 @@ use Rattle.decoder.specs.steps.Planning.{decoder_after, mode_past, reported_past
 use Rattle.decoder.specs.Settling.{settled_by}
 use Rattle.decoder.specs.DecoderStands.{DecoderStands, phase_after, waiting_after}
 use Rattle.decoder.specs.declared.decoding.Decoder.{Decoder}
-use Rattle.decoder.specs.declared.stretch.Stretch.{Stretch}
+use Rattle.decoder.specs.declared.added_events.AddedEvents.{AddedEvents}
 use Rattle.decoder.specs.declared.settling.Waiting.{Waiting}
 use Rattle.decoder.proofs.NextPacket.{Ending, ending, opens, opens_only, waits_for, waits_plain, precedes, admits_after}
 use Rattle.decoder.proofs.NextPacket.{reported_past-after}
@@ -73,7 +73,8 @@ module _ (words : Words) where
       subst (λ x. CanFollow words d.mode d.phase d.waiting d.last x p piece more) (sym s.reported) three
 
   -- What the decoder remembers after one packet more is what is to be remembered of it.
-  remembered : (packets after : List Packet) (log : List Event) (d : Decoder) (p : Packet) (settled of_packet : Stretch)
+  remembered : (packets after : List Packet) (log : List Event) (d : Decoder) (p : Packet)
+      (settled of_packet : AddedEvents)
       (piece more : List Event) → DecoderStands words packets log d → Gives words settled piece →
       Gives words of_packet more → last_or None after ≡ Some p → mode_past p d.mode ≡ mode_of after →
       (new : Describes words after (log ++ (piece ++ more))) →
@@ -119,7 +120,7 @@ module _ (words : Words) where
       behind_last r [] takes = mode_past-later r p (mode_announced_by q) takes.1.1
       behind_last r (next ∷ rest) takes = behind_last next rest takes
 
-  more_settled : (packets : List Packet) (log : List Event) (d : Decoder) (p : Packet) (settled of_packet : Stretch)
+  more_settled : (packets : List Packet) (log : List Event) (d : Decoder) (p : Packet) (settled of_packet : AddedEvents)
       (more : List Event) → DecoderStands words packets log d → waiting_after (last_or None packets) ≡ None →
       Gives words settled [] → Gives words of_packet more → CanFollowAt words d p [] more →
       DecoderStands words (packets ++ p ∷ []) (log ++ more) (decoder_after d p settled of_packet)
@@ -216,7 +217,7 @@ module _ (words : Words) where
       (sym (s.waiting ∙ ap waiting_after last)) one
 
   more_waiting : (front : List Packet) (waiting : Waiting) (log : List Event) (d : Decoder) (p : Packet)
-      (settled of_packet : Stretch) (piece more : List Event) →
+      (settled of_packet : AddedEvents) (piece more : List Event) →
       DecoderStands words (front ++ plain waiting ∷ []) log d → Gives words settled piece →
       Gives words of_packet more → CanFollowAt words d p piece more →
       DecoderStands words ((front ++ plain waiting ∷ []) ++ p ∷ []) (log ++ (piece ++ more))
@@ -253,7 +254,8 @@ module _ (words : Words) where
       stands
 
   -- A decoder stands for one packet more with the events that can follow.
-  pub stands_more : (packets : List Packet) (log : List Event) (d : Decoder) (p : Packet) (settled of_packet : Stretch)
+  pub stands_more : (packets : List Packet) (log : List Event) (d : Decoder) (p : Packet)
+      (settled of_packet : AddedEvents)
       (piece more : List Event) → DecoderStands words packets log d → Gives words settled piece →
       Gives words of_packet more → CanFollowAt words d p piece more →
       DecoderStands words (packets ++ p ∷ []) (log ++ (piece ++ more)) (decoder_after d p settled of_packet)
@@ -280,7 +282,7 @@ module _ (words : Words) where
 
   -- Where they do not fit behind the log, a log is described that is longer than what there is room for.
   pub stands_longer : (packets : List Packet) (log : List Event) (d : Decoder) (p : Packet)
-      (settled of_packet : Stretch) (piece more : List Event) (room : ℕ) →
+      (settled of_packet : AddedEvents) (piece more : List Event) (room : ℕ) →
       DecoderStands words packets log d → Gives words settled piece → Gives words of_packet more →
       CanFollowAt words d p piece more → room < length log + (stretch_count settled + stretch_count of_packet) →
       (other : List Event) × Describes words (packets ++ p ∷ []) other × (room < length other)

@@ -8,8 +8,8 @@ use Rattle.legalpath.specs.LastPlace.{last_place}
 use Rattle.legalpath.specs.Legal.{FollowOn}
 use Rattle.decoder.specs.steps.Stretches.{stretch_count, stretch_last, stretch_place, Gives, RightBefore}
 use Rattle.decoder.specs.steps.Walks.{event_of}
-use Rattle.decoder.specs.declared.stretch.Stretch.{Stretch}
-use Rattle.decoder.specs.declared.stretch.Stretch.TheVariants.{Nothing, One, Two, Walk}
+use Rattle.decoder.specs.declared.added_events.AddedEvents.{AddedEvents}
+use Rattle.decoder.specs.declared.added_events.AddedEvents.TheVariants.{Nothing, One, Two, Walk}
 
 pub last_or-last : {A : Type 0} (before : Option A) (front : List A) (last : A) →
     last_or before (front ++ last ∷ []) ≡ Some last
@@ -27,14 +27,14 @@ walk_last from last end front events whole is =
     let one : Some last ≡ Some end = sym (ap (last_or (Some from)) whole ∙ last_or-last (Some from) front last) ∙ is in
     cc
 
-pub stretch_count-gives : (words : Words) (stretch : Stretch) (events : List Event) → Gives words stretch events →
+pub stretch_count-gives : (words : Words) (stretch : AddedEvents) (events : List Event) → Gives words stretch events →
     stretch_count stretch ≡ length events
 stretch_count-gives words Nothing events gives = ap length (sym gives)
 stretch_count-gives words (One event) events gives = ap length (sym gives)
 stretch_count-gives words (Two trap event) events gives = ap length (sym gives)
 stretch_count-gives words (Walk walk) events gives = gives.2
 
-pub stretch_last-gives : (words : Words) (before : Option Event) (stretch : Stretch) (events : List Event) →
+pub stretch_last-gives : (words : Words) (before : Option Event) (stretch : AddedEvents) (events : List Event) →
     Gives words stretch events → stretch_last before stretch ≡ last_or before events
 stretch_last-gives words before Nothing events gives = ap (last_or before) (sym gives)
 stretch_last-gives words before (One event) events gives = ap (last_or before) (sym gives)
@@ -44,7 +44,7 @@ stretch_last-gives words before (Walk walk) events gives =
     let same = walk_last (event_of walk.from) fits.last walk.walked.last fits.front events fits.whole gives.3 in
     ap Some (sym same) ∙ sym (ap (last_or before) fits.whole ∙ last_or-last before fits.front fits.last)
 
-pub stretch_place-gives : (words : Words) (at : ℕ) (stretch : Stretch) (events : List Event) →
+pub stretch_place-gives : (words : Words) (at : ℕ) (stretch : AddedEvents) (events : List Event) →
     Gives words stretch events → stretch_place at stretch ≡ last_place at events
 stretch_place-gives words at Nothing events gives = ap (last_place at) (sym gives)
 stretch_place-gives words at (One event) events gives = ap (last_place at) (sym gives)

@@ -48,7 +48,8 @@ module _ (words : Words) (good : IsProgram words) (spot : ℕ → ℕ) (half : �
       (lies.rising (place e) (place l) w.0 v.0 w.1 v.1) (lies.rising (place l) (place e) v.0 w.0 v.1 w.1)
     where
       go : (x : Bool) → nat_lt (place e) (place l) ≡ x → (y : Bool) → nat_lt (place l) (place e) ≡ y
-          → (place e < place l → spot (place e) < spot (place l)) → (place l < place e → spot (place l) < spot (place e))
+          → (place e < place l → spot (place e) < spot (place l)) → (place l < place e → spot (place l) < spot
+          (place e))
           → ⊥
       go true is y also up down = let less = up (grind (arith, nat_tests)) in omega (arith, less, same)
       go false is true also up down = let less = down (grind (arith, nat_tests)) in omega (arith, less, same)
@@ -159,7 +160,8 @@ module _ (words : Words) (good : IsProgram words) (spot : ℕ → ℕ) (half : �
       go (Some (NotRetirable, n)) m k br = cc
 
   -- One less where it ends at a discontinuity and has a branch.
-  shorter : (b : Option Event) (front : List Event) (l : Event) (i : ℕ) → Stretch b front l → At (head_of front l) i →
+  shorter : (b : Option Event) (front : List Event) (l : Event) (i : ℕ) → Stretch b front l → At (head_of front l) i
+      →
       is_discontinuity words l ≡ true → 1 ≤ branches front → length front + 2 + i ≤ branches front * half + half
   shorter b [] l i s h d one = absurd (omega arith)
   shorter b (e ∷ front) l i s h d one =
@@ -229,7 +231,8 @@ module _ (words : Words) (good : IsProgram words) (spot : ℕ → ℕ) (half : �
       let t = times (branches front) half h in
       omega (arith, length-append front (l ∷ []))
 
-  target_bound : (b : Option Event) (g : List Event) (d l : Event) → Stretch b g d → is_discontinuity words d ≡ true →
+  target_bound : (b : Option Event) (g : List Event) (d l : Event) → Stretch b g d → is_discontinuity words d ≡ true
+      →
       branches g ≤ 31 → length ((g ++ d ∷ []) ++ l ∷ []) ≤ 32 * half
   target_bound b g d l s disc h =
       let r = head_right b g d s in

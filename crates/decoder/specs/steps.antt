@@ -4,7 +4,7 @@ pub mod Leads
 pub mod Longest
 pub mod Walks
 pub mod WalkSteps
-pub mod Lanes
+pub mod Segments
 pub mod StraightLines
 pub mod Retracing
 pub mod WritingAsFound

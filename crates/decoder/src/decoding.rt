@@ -213,8 +213,8 @@ impl Decoder {
         let paths = Paths {
             program,
             longest: longest(program),
-            lanes: &[],
-            leaps: &[],
+            segments: &[],
+            skips: &[],
         };
         self.feed_by(paths, packet, log)
     }

@@ -19,6 +19,7 @@ ghost use Rattle.decoder.specs.steps.Planning.{passed_over};
 ghost use Rattle.decoder.specs.DecoderStands.{DecoderStands};
 ghost use Rattle.decoder.specs.declared.fault.DecodeFault.TheVariants.{NotOpened, AfterClose, Memory};
 
+use crate::added_events::AddedEvents;
 use crate::decoding::Decoder;
 use crate::fault::DecodeFault;
 use crate::kinds::{is_open, is_sync};
@@ -26,14 +27,13 @@ use crate::paths::Paths;
 use crate::remembering::{announced_past, mode_past, phase_after, reported_past, waiting_after};
 use crate::settling::{events_of_packet, settle};
 use crate::state::Phase;
-use crate::stretch::Stretch;
 use crate::walking::Progress;
 use payload::{Packet, Support};
 use retire::Event;
 use std::alloc::Allocator;
 
 impl Decoder {
-    /// Takes the next packet as [`feed`](Decoder::feed) does, in the program of these walks. Where leaps were found, a
+    /// Takes the next packet as [`feed`](Decoder::feed) does, in the program of these walks. Where skips were found, a
     /// walk of which nothing comes takes few steps.
     pub fn feed_by<A: Allocator>(
         &mut self,
@@ -41,23 +41,31 @@ impl Decoder {
         packet: &Packet,
         log: &mut Vec<Event, A>,
     ) -> Result<(), DecodeFault>
-        ensures stands { (packets : List Packet) → DecoderStands (words_of paths.entry.program.now) packets log.old.items self.old
-            → OnOk result (DecoderStands (words_of paths.entry.program.now) (packets ++ packet.now ∷ []) log.new.items self.new) }
+        ensures stands { (packets : List Packet) → DecoderStands
+            (words_of paths.entry.program.now) packets log.old.items self.old
+            → OnOk result (DecoderStands (words_of paths.entry.program.now)
+            (packets ++ packet.now ∷ []) log.new.items self.new) }
         ensures goes_on { (rest : List Event) × (log.new.items ≡ log.old.items ++ rest) }
-        ensures only { (packets : List Packet) → DecoderStands (words_of paths.entry.program.now) packets log.old.items self.old
-            → OnOk result ((other : List Event) → Describes (words_of paths.entry.program.now) (packets ++ packet.now ∷ []) other
+        ensures only { (packets : List Packet) → DecoderStands
+            (words_of paths.entry.program.now) packets log.old.items self.old
+            → OnOk result ((other : List Event) → Describes (words_of paths.entry.program.now)
+            (packets ++ packet.now ∷ []) other
             → other ≡ log.new.items) }
-        ensures none { (packets : List Packet) → DecoderStands (words_of paths.entry.program.now) packets log.old.items self.old
+        ensures none { (packets : List Packet) → DecoderStands
+            (words_of paths.entry.program.now) packets log.old.items self.old
             → IfErr result (λ fault. (fault ≡ Memory)
-            ⊎ ((other : List Event) → ¬ Describes (words_of paths.entry.program.now) (packets ++ packet.now ∷ []) other)) }
+            ⊎ ((other : List Event) → ¬ Describes (words_of paths.entry.program.now)
+            (packets ++ packet.now ∷ []) other)) }
         ensures kept { IfErr result (λ fault. self.new ≡ self.old) }
         ensures list_kept { IfErr result (λ fault. log.new.items ≡ log.old.items) }
-        ensures closed { (packets : List Packet) → DecoderStands (words_of paths.entry.program.now) packets log.old.items self.old
+        ensures closed { (packets : List Packet) → DecoderStands
+            (words_of paths.entry.program.now) packets log.old.items self.old
             → (result ≡ Err AfterClose) ↔ (last_is_closing packets ≡ true) }
         ensures not_opened { (packets : List Packet)
             → DecoderStands (words_of paths.entry.program.now) packets log.old.items self.old
             → (result ≡ Err NotOpened) ↔ ((packets ≡ []) × ¬ IsOpen packet.now) }
-        ensures memory { (packets : List Packet) → DecoderStands (words_of paths.entry.program.now) packets log.old.items self.old
+        ensures memory { (packets : List Packet) → DecoderStands
+            (words_of paths.entry.program.now) packets log.old.items self.old
             → result ≡ Err Memory
             → (other : List Event) × Describes (words_of paths.entry.program.now) (packets ++ packet.now ∷ []) other
             × (vec_capacity log.old < length other) }
@@ -66,19 +74,23 @@ impl Decoder {
         // A closed decoder, and the mode that the packet announces which opens the trace.
         ensures after_close { (result ≡ Err AfterClose) ↔ IsClosed self.old }
         ensures announced { (mode : AnyMode) → packet.now ≡ open_packet mode
-            → DecoderStands (words_of paths.entry.program.now) [] [] self.old → OnOk result (HasMode (Some mode) self.new) }
+            → DecoderStands (words_of paths.entry.program.now) [] [] self.old → OnOk result (HasMode
+            (Some mode) self.new) }
         ensures mode_kept { (mode : Option AnyMode) → HasMode mode self.old → ¬ IsOpen packet.now
             → HasMode mode self.new }
 
         // Any list: the events are appended to those that it has.
         ensures adds { (packets : List Packet) (before added : List Event)
-            → DecoderStands (words_of paths.entry.program.now) packets before self.old → log.new.items ≡ log.old.items ++ added
-            → OnOk result (DecoderStands (words_of paths.entry.program.now) (packets ++ packet.now ∷ []) (before ++ added)
+            → DecoderStands (words_of paths.entry.program.now) packets before self.old
+            → log.new.items ≡ log.old.items ++ added
+            → OnOk result (DecoderStands (words_of paths.entry.program.now) (packets ++ packet.now ∷ [])
+            (before ++ added)
             self.new) }
         ensures adds_none { (packets : List Packet) (before : List Event)
             → DecoderStands (words_of paths.entry.program.now) packets before self.old
             → IfErr result (λ fault. (fault ≡ Memory)
-            ⊎ ((other : List Event) → ¬ Describes (words_of paths.entry.program.now) (packets ++ packet.now ∷ []) other)) }
+            ⊎ ((other : List Event) → ¬ Describes (words_of paths.entry.program.now)
+            (packets ++ packet.now ∷ []) other)) }
         ensures adds_closed { (packets : List Packet) (before : List Event)
             → DecoderStands (words_of paths.entry.program.now) packets before self.old
             → (result ≡ Err AfterClose) ↔ (last_is_closing packets ≡ true) }
@@ -111,8 +123,8 @@ impl Decoder {
             return Ok(());
         }
         let count = log.len();
-        let mut settled = Stretch::Nothing;
-        let mut of_packet = Stretch::Nothing;
+        let mut settled = AddedEvents::Nothing;
+        let mut of_packet = AddedEvents::Nothing;
         if let Err(fault) = self.plan(paths, packet, &mut settled, &mut of_packet, log) {
             log.truncate(count);
             return Err(fault);
@@ -144,11 +156,12 @@ impl Decoder {
         &self,
         paths: Paths,
         packet: &Packet,
-        first: &mut Stretch,
-        second: &mut Stretch,
+        first: &mut AddedEvents,
+        second: &mut AddedEvents,
         log: &mut Vec<Event, A>,
     ) -> Result<(), DecodeFault>
-        ensures found { OnOk result (Plans (words_of paths.entry.program.now) self.now packet.now first.new second.new) }
+        ensures found { OnOk result (Plans
+            (words_of paths.entry.program.now) self.now packet.now first.new second.new) }
         ensures none { IfErr result (λ fault. PlansNone (words_of paths.entry.program.now) self.now packet.now fault) }
         ensures admitted { OnOk result (admitted self.now.phase packet.now ≡ Ok tt) }
         ensures short { OnOk result (stretch_count first.new + stretch_count second.new
@@ -216,7 +229,7 @@ impl Decoder {
         &self,
         paths: Paths,
         packet: &Packet,
-        stretch: &mut Stretch,
+        stretch: &mut AddedEvents,
         log: &mut Vec<Event, A>,
     ) -> Result<(), DecodeFault>
         ensures found { OnOk result (Suits (words_of paths.entry.program.now) self.now.last
@@ -247,7 +260,7 @@ impl Decoder {
                 )
             }
             None => {
-                *stretch = Stretch::Nothing;
+                *stretch = AddedEvents::Nothing;
                 Ok(())
             }
         }
@@ -255,7 +268,12 @@ impl Decoder {
 
     /// The decoder after the packet, where it adds these events.
     #[inline]
-    pub(crate) fn after(&self, packet: &Packet, settled: &Stretch, of_packet: &Stretch) -> Decoder
+    pub(crate) fn after(
+        &self,
+        packet: &Packet,
+        settled: &AddedEvents,
+        of_packet: &AddedEvents,
+    ) -> Decoder
         ensures { result ≡ decoder_after self.now packet.now settled.now of_packet.now }
     {
         let reported = settled.place(self.reported);

@@ -2,14 +2,13 @@
 //! as the decoder algorithm of the E-Trace specification says, with the choices of this project's profile.
 #![tactic(auto)]
 
+mod added_events;
 mod decoding;
 mod fault;
 mod feeding;
 mod finding;
 mod kinds;
-mod lanes;
 mod laws;
-mod leaps;
 mod lines;
 mod paths;
 mod piecewise;
@@ -17,16 +16,17 @@ mod remembering;
 mod reporting;
 mod rest;
 mod retracing;
+mod segments;
 mod settling;
+mod skips;
 mod state;
 mod stepping;
-mod stretch;
 mod unwritten;
 mod walking;
 
 pub use decoding::Decoder;
 pub use fault::DecodeFault;
-pub use finding::Lines;
+pub use finding::StraightRuns;
 pub use laws::{
     closed_where_last_closes, first_packets_describe_a_beginning,
     more_packets_describe_a_longer_log, one_decoder_stands, one_log_is_described,

@@ -6,13 +6,13 @@ ghost use Rattle.decoder.specs.steps.StraightLines.{GoesOn, passes};
 ghost use Rattle.decoder.specs.steps.WalkSteps as steps;
 ghost use Rattle.decoder.specs.steps.Walks.{goal_end};
 
-use crate::lanes::{addr_at, place_at};
-use crate::leaps::{Line, straight_on};
 use crate::paths::Paths;
+use crate::segments::{addr_at, place_at};
+use crate::skips::{StraightRun, straight_on};
 use crate::stepping::{Course, Goal, Here, are_used};
 use retire::ITYPE_OTHER;
 
-/// How many steps a walk has made before it looks for leaps. So short walks take no longer than without them.
+/// How many steps a walk has made before it looks for skips. So short walks take no longer than without them.
 const SHORT: usize = 64;
 
 /// Whether a walk does not end on the way from one address to a greater one, where `used` outcomes are used.
@@ -35,7 +35,7 @@ pub fn line_ahead(
     used: usize,
     course: &Course,
     done: usize,
-) -> Option<Line>
+) -> Option<StraightRun>
     requires { steps.IsCourse course.now }
     ensures { IfSome result (GoesOn (words_of paths.entry.program.now) here.now (drop used course.now.outcomes)
         (goal_end course.now.goal) (paths.entry.longest - done)) }
@@ -43,16 +43,16 @@ pub fn line_ahead(
     if done < SHORT || here.itype != ITYPE_OTHER {
         return None;
     }
-    let place = place_at(paths.lanes, 0, here.addr)?;
-    let leap = paths.leaps.get(place as usize)?;
-    let steps = leap.steps as usize;
+    let place = place_at(paths.segments, 0, here.addr)?;
+    let skip = paths.skips.get(place as usize)?;
+    let steps = skip.steps as usize;
     if steps == 0 || steps > paths.longest.saturating_sub(done) {
         return None;
     }
-    let to = addr_at(paths.lanes, 0, leap.to)?;
+    let to = addr_at(paths.segments, 0, skip.to)?;
     if !passes(here.addr, to, used, course) {
         return None;
     }
     let next = straight_on(paths.program, to)?;
-    Some(Line { steps, to, next })
+    Some(StraightRun { steps, to, next })
 }

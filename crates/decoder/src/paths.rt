@@ -2,15 +2,15 @@
 
 ghost use Rattle.std.specs.Prelude.{◌≡◌};
 ghost use Rattle.rvclass.specs.Fetch.{words_of};
-ghost use Rattle.decoder.specs.steps.Lanes.{AreLanes};
+ghost use Rattle.decoder.specs.steps.Segments.{AreSegments};
 ghost use Rattle.decoder.specs.steps.Longest.{IsLongest};
-ghost use Rattle.decoder.specs.steps.StraightLines.{AreLeaps};
+ghost use Rattle.decoder.specs.steps.StraightLines.{AreSkips};
 
-use crate::lanes::Lane;
-use crate::leaps::Leap;
+use crate::segments::CodeSegment;
+use crate::skips::Skip;
 use rvclass::ProgramOver;
 
-/// A program, how many retirements a walk in it has at most, and the leaps along its straight lines, where these were
+/// A program, how many retirements a walk in it has at most, and the skips along its straight lines, where these were
 /// found.
 #[derive(Clone, Copy)]
 pub struct Paths<'p> {
@@ -18,13 +18,13 @@ pub struct Paths<'p> {
     pub(crate) program: &'p ProgramOver<'p>,
     /// How many retirements a walk has at most.
     pub(crate) longest: usize,
-    /// The lanes of the places that leaps are from; none where these were not found.
-    pub(crate) lanes: &'p [Lane],
-    /// The leaps from all places; none where they were not found.
-    pub(crate) leaps: &'p [Leap],
+    /// The segments of the places that skips are from; none where these were not found.
+    pub(crate) segments: &'p [CodeSegment],
+    /// The skips from all places; none where they were not found.
+    pub(crate) skips: &'p [Skip],
     ghost bound: { IsLongest program.now longest },
-    ghost numbered: { AreLanes 0 lanes.now },
-    ghost lead: { AreLeaps (words_of program.now) lanes.now leaps.now },
+    ghost numbered: { AreSegments 0 segments.now },
+    ghost lead: { AreSkips (words_of program.now) segments.now skips.now },
 }
 
 /// How many retirements a walk in this program has at most.
@@ -36,7 +36,7 @@ pub fn longest(program: &ProgramOver) -> usize
 }
 
 impl<'p> Paths<'p> {
-    /// The walks of this program, with no leaps. Takes no memory.
+    /// The walks of this program, with no skips. Takes no memory.
     #[inline]
     pub fn of(program: &'p ProgramOver<'p>) -> Paths<'p>
         ensures { result.program.now ≡ program.now }
@@ -44,8 +44,8 @@ impl<'p> Paths<'p> {
         Paths {
             program,
             longest: longest(program),
-            lanes: &[],
-            leaps: &[],
+            segments: &[],
+            skips: &[],
         }
     }
 }

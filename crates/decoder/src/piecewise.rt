@@ -15,12 +15,12 @@ ghost use Rattle.decoder.specs.Resuming.{IsSync, PassesOver, IsClosed, HasMode};
 ghost use Rattle.decoder.specs.DecoderStands.{DecoderStands};
 ghost use Rattle.decoder.specs.declared.fault.DecodeFault.TheVariants.{NotOpened, AfterClose, Memory};
 
+use crate::added_events::AddedEvents;
 use crate::decoding::Decoder;
 use crate::fault::DecodeFault;
 use crate::kinds::is_sync;
 use crate::paths::Paths;
 use crate::state::Phase;
-use crate::stretch::Stretch;
 use crate::unwritten::Unwritten;
 use payload::Packet;
 use retire::Event;
@@ -32,7 +32,8 @@ impl Decoder {
     /// Else none is, and the result has them.
     ///
     /// A packet of a few bytes may settle 32 events for each halfword of the image, and one that waited as many before
-    /// it. No memory is taken, so the fault `Memory` never comes. A fault leaves the decoder and the piece as they were.
+    /// it. No memory is taken, so the fault `Memory` never comes. A fault leaves the decoder and the piece as they
+    /// were.
     pub fn feed_in_pieces<'p, A: Allocator>(
         &mut self,
         paths: Paths<'p>,
@@ -49,7 +50,8 @@ impl Decoder {
         ensures adds { (packets : List Packet) (before added : List Event)
             → DecoderStands (words_of paths.entry.program.now) packets before self.old
             → IfOk result (λ left. piece.new.items ++ left ≡ piece.old.items ++ added
-            → DecoderStands (words_of paths.entry.program.now) (packets ++ packet.now ∷ []) (before ++ added) self.new) }
+            → DecoderStands (words_of paths.entry.program.now) (packets ++ packet.now ∷ [])
+            (before ++ added) self.new) }
         ensures only { (packets : List Packet) (before added : List Event)
             → DecoderStands (words_of paths.entry.program.now) packets before self.old
             → IfOk result (λ left. piece.new.items ++ left ≡ piece.old.items ++ added
@@ -98,8 +100,8 @@ impl Decoder {
             return Ok(Unwritten::none(paths.program));
         }
         let count = piece.len();
-        let mut settled = Stretch::Nothing;
-        let mut of_packet = Stretch::Nothing;
+        let mut settled = AddedEvents::Nothing;
+        let mut of_packet = AddedEvents::Nothing;
         if let Err(fault) = self.plan(paths, packet, &mut settled, &mut of_packet, piece) {
             piece.truncate(count);
             return Err(fault);

@@ -12,9 +12,9 @@ ghost use Rattle.decoder.specs.steps.Stretches.{stretch_count, stretch_progress}
 ghost use Rattle.decoder.specs.steps.Reporting as reporting;
 ghost use Rattle.decoder.specs.steps.Walks.{event_of, IsHere};
 
+use crate::added_events::AddedEvents;
 use crate::fault::DecodeFault;
 use crate::stepping::{Course, Goal, Here, may_stay, type_of};
-use crate::stretch::Stretch;
 use crate::walking::Progress;
 use isa::is_privilege;
 use legalpath::{Next, Why, check, leads, may_stand_at, successor};
@@ -202,7 +202,7 @@ fn trap_alone(
     before: Option<Event>,
     reported: Reported,
     cause: Cause,
-) -> Result<Stretch, DecodeFault>
+) -> Result<AddedEvents, DecodeFault>
     ensures found { IfOk result (λ stretch. Suits (words_of program.now) before
         (reporting.FitsReported (words_of program.now) before reported cause false) stretch) }
     ensures none { IfErr result (λ fault. SuitsNone (words_of program.now) before
@@ -218,7 +218,7 @@ fn trap_alone(
     }
     let trap = cause.trap(reported.addr, reported.privilege);
     follows(program, before, trap)?;
-    Ok(Stretch::One(trap))
+    Ok(AddedEvents::One(trap))
 }
 
 /// The trap of a packet that reports its handler, after the event before: it was taken where that event leads.
@@ -252,7 +252,7 @@ fn trap_and_handler(
     before: Option<Event>,
     reported: Reported,
     cause: Cause,
-) -> Result<Stretch, DecodeFault>
+) -> Result<AddedEvents, DecodeFault>
     ensures found { IfOk result (λ stretch. Suits (words_of program.now) before
         (reporting.FitsReported (words_of program.now) before reported cause true) stretch) }
     ensures none { IfErr result (λ fault. SuitsNone (words_of program.now) before
@@ -262,7 +262,7 @@ fn trap_and_handler(
 {
     let trap = trap_handled(program, before, cause)?;
     let event = reported_retirement(program, Some(trap), reported)?;
-    Ok(Stretch::Two(trap, event))
+    Ok(AddedEvents::Two(trap, event))
 }
 
 /// The events of a trap that a packet reports with its handler's address, or without, after the event before.
@@ -272,7 +272,7 @@ pub fn trap(
     reported: Reported,
     cause: Cause,
     handler: bool,
-    stretch: &mut Stretch,
+    stretch: &mut AddedEvents,
 ) -> Result<(), DecodeFault>
     ensures found { OnOk result (Suits (words_of program.now) before.now
         (reporting.FitsReported (words_of program.now) before.now reported cause handler) stretch.new) }

@@ -5,9 +5,9 @@ ghost use Rattle.rvclass.specs.Fetch.{words_of};
 ghost use Rattle.rvclass.specs.Words.{Words};
 ghost use Rattle.decoder.specs.steps.Rests.{HasCourse, IsRest, IsWalkRest, rest_events, rest_of, walk_events};
 
+use crate::added_events::AddedEvents;
 use crate::retracing::retrace;
 use crate::stepping::{Course, Here};
-use crate::stretch::Stretch;
 use crate::walking::event;
 use retire::Event;
 use rvclass::ProgramOver;
@@ -41,15 +41,15 @@ pub enum Rest {
 
 impl Rest {
     /// All events of a stretch, also where they are in a list already.
-    pub fn of(stretch: &Stretch) -> Rest
+    pub fn of(stretch: &AddedEvents) -> Rest
         ensures rest { result ≡ rest_of stretch.now }
         ensures course { HasCourse result }
     {
         match stretch {
-            Stretch::Nothing => Rest::Nothing,
-            Stretch::One(event) => Rest::One(*event),
-            Stretch::Two(trap, event) => Rest::Two(*trap, *event),
-            Stretch::Walk(walk) => Rest::Walk(WalkRest {
+            AddedEvents::Nothing => Rest::Nothing,
+            AddedEvents::One(event) => Rest::One(*event),
+            AddedEvents::Two(trap, event) => Rest::Two(*trap, *event),
+            AddedEvents::Walk(walk) => Rest::Walk(WalkRest {
                 here: walk.from,
                 course: Course::new(&walk.outcomes, walk.goal),
                 used: 0,

@@ -10,11 +10,11 @@ ghost use Rattle.decoder.specs.Settling.{makes_explicit, settled, settled_by};
 ghost use Rattle.decoder.specs.Walk.{IsWalkFrom};
 ghost use Rattle.decoder.specs.steps.Walks.{goal_end};
 
+use crate::added_events::AddedEvents;
 use crate::fault::DecodeFault;
 use crate::paths::Paths;
 use crate::reporting::{Cause, Reported, reported_retirement, start, trap};
 use crate::stepping::Goal;
-use crate::stretch::Stretch;
 use crate::walking::{Progress, measure, write_found};
 use payload::{Mode, Outcomes, Packet, Report, Support};
 use retire::Event;
@@ -38,7 +38,7 @@ fn walk<A: Allocator>(
     outcomes: &Outcomes,
     goal: Goal,
     ahead: Progress,
-    stretch: &mut Stretch,
+    stretch: &mut AddedEvents,
     log: &mut Vec<Event, A>,
 ) -> Result<(), DecodeFault>
     ensures found { OnOk result (Suits (words_of paths.entry.program.now) before.now
@@ -55,14 +55,14 @@ fn walk<A: Allocator>(
     match ahead {
         Progress::Written => {
             if let Some(walked) = write_found(paths, from, outcomes, goal, log)? {
-                *stretch = Stretch::walk(from, outcomes, goal, walked);
+                *stretch = AddedEvents::walk(from, outcomes, goal, walked);
                 return Ok(());
             }
         }
         Progress::Pending => {}
     }
     let walked = measure(paths, from, outcomes, goal)?;
-    *stretch = Stretch::walk(from, outcomes, goal, walked);
+    *stretch = AddedEvents::walk(from, outcomes, goal, walked);
     Ok(())
 }
 
@@ -84,7 +84,7 @@ pub fn settle<A: Allocator>(
     outcomes: &Outcomes,
     addr: u64,
     packet: &Packet,
-    stretch: &mut Stretch,
+    stretch: &mut AddedEvents,
     log: &mut Vec<Event, A>,
 ) -> Result<(), DecodeFault>
     ensures found { OnOk result (Suits (words_of paths.entry.program.now) before.now
@@ -124,7 +124,7 @@ fn address<A: Allocator>(
     addr: u64,
     report: Report,
     ahead: Progress,
-    stretch: &mut Stretch,
+    stretch: &mut AddedEvents,
     log: &mut Vec<Event, A>,
 ) -> Result<(), DecodeFault>
     ensures found { OnOk result (Suits (words_of paths.entry.program.now) before.now
@@ -141,7 +141,7 @@ fn address<A: Allocator>(
     match report {
         Report::Plain => match before {
             Some(Event::Retire { .. }) => {
-                *stretch = Stretch::Nothing;
+                *stretch = AddedEvents::Nothing;
                 Ok(())
             }
             _ => Err(DecodeFault::WrongPlace),
@@ -172,7 +172,7 @@ fn sync(
     program: &ProgramOver,
     before: &Option<Event>,
     reported: Reported,
-    stretch: &mut Stretch,
+    stretch: &mut AddedEvents,
 ) -> Result<(), DecodeFault>
     ensures found { OnOk result (Suits (words_of program.now) before.now
         (FitsSync reported.taken reported.privilege reported.addr) stretch.new) }
@@ -181,7 +181,7 @@ fn sync(
     ensures short { OnOk result (stretch_count stretch.new ≤ 2) }
     ensures pending { OnOk result (stretch_progress stretch.new ≡ Progress.Pending) }
 {
-    *stretch = Stretch::One(reported_retirement(program, *before, reported)?);
+    *stretch = AddedEvents::One(reported_retirement(program, *before, reported)?);
     Ok(())
 }
 
@@ -194,7 +194,7 @@ pub fn events_of_packet<A: Allocator>(
     last_reported: u64,
     packet: &Packet,
     ahead: Progress,
-    stretch: &mut Stretch,
+    stretch: &mut AddedEvents,
     log: &mut Vec<Event, A>,
 ) -> Result<(), DecodeFault>
     ensures found { OnOk result (Suits (words_of paths.entry.program.now) before.now
@@ -232,7 +232,7 @@ pub fn events_of_packet<A: Allocator>(
             trap(paths.program, before, reported, cause, *handler, stretch)
         }
         Packet::Support(_) => {
-            *stretch = Stretch::Nothing;
+            *stretch = AddedEvents::Nothing;
             Ok(())
         }
         Packet::Address {

@@ -8,8 +8,8 @@ ghost use Rattle.rvclass.specs.Words.{IsProgram};
 ghost use Rattle.decoder.specs.steps.Rests.{AreRests, rest_events};
 ghost use Rattle.decoder.specs.steps.Stretches.{Gives, stretch_count};
 
+use crate::added_events::AddedEvents;
 use crate::rest::Rest;
-use crate::stretch::Stretch;
 use retire::Event;
 use rvclass::ProgramOver;
 use std::alloc::Allocator;
@@ -51,8 +51,8 @@ impl<'p> Unwritten<'p> {
     /// All events of two stretches, one after the other.
     pub(crate) fn of(
         program: &'p ProgramOver<'p>,
-        first: &Stretch,
-        second: &Stretch,
+        first: &AddedEvents,
+        second: &AddedEvents,
     ) -> Unwritten<'p>
         requires program { IsProgram (words_of program.now) }
         requires few { stretch_count first.now + stretch_count second.now ≤ 2 ^ 32 }

@@ -46,7 +46,7 @@ pub struct Walked {
 }
 
 /// Writes the walk from a retirement as it is found. Where there is no such walk, the fault is the first on the way,
-/// and the events that were written before it remain. Where the capacity is too small, or leaps were found along which
+/// and the events that were written before it remain. Where the capacity is too small, or skips were found along which
 /// to measure the walk first, the call returns no walk, and the list is as it was.
 #[inline(always)]
 pub fn write_found<A: Allocator>(
@@ -67,7 +67,7 @@ pub fn write_found<A: Allocator>(
     ensures behind { (rest : List AnyEvent) × (log.new.items ≡ log.old.items ++ rest) }
     ensures room { vec_capacity log.new ≡ vec_capacity log.old }
 {
-    if !paths.leaps.is_empty() {
+    if !paths.skips.is_empty() {
         return Ok(None);
     }
     let course = Course::new(outcomes, goal);
@@ -117,7 +117,7 @@ pub fn write<A: Allocator>(
     write_within(program, count, from, &Course::new(outcomes, goal), log);
 }
 
-/// Measures a walk. Once it is long, it goes along straight lines by leaps, where these were found.
+/// Measures a walk. Once it is long, it goes along straight lines by skips, where these were found.
 #[inline]
 fn measure_within(paths: Paths, from: Here, course: &Course) -> Result<Walked, DecodeFault>
     requires from { Carries (words_of paths.program.now) from }

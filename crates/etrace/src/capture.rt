@@ -15,8 +15,8 @@ pub use captures::{
 };
 pub use listing::{Form as ListingForm, ListInput, Listed, list_capture};
 pub use message::{
-    Demux, DemuxFault, HartRange, Header, MOST_HARTS, Message, MessageFault, Messages, Start,
-    Unwatched, Version, Watch, range_of, read_message, read_start, write_header, write_message,
+    Demux, DemuxFault, HartRange, Header, MOST_HARTS, Message, MessageFault, Messages, NoProgress,
+    ProgressSink, Start, Version, range_of, read_message, read_start, write_header, write_message,
 };
 pub use parallel_decode::{
     DecodedHarts, MARK_EVENTS, MarkedCaptureSurvey, MarkedSurvey, Sharing,

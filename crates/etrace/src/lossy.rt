@@ -3,7 +3,7 @@
 pub use auditing::{
     Audit, Fate, Finding, HartRow, Lost, LostRuns, RunLengths, SentFault, Tally, run_lengths,
 };
-pub use frames::{BorrowedMessage, Passage, Resuming, Sent, Sight};
+pub use frames::{BorrowedMessage, BorrowedSpan, GuidedScan, Sent, Sight};
 pub use losses::{HartPieces, LossyFault, Part, collect_lossy, collect_watched};
 pub use path_match::{
     AlignedTotal, Alignment, HartCounts, Line, SentPayloads, aligned, aligned_harts, arrival_lines,

@@ -14,7 +14,7 @@ use crate::fault::Fault;
 use crate::images::{ImagePiece, Judged, judge_image, judge_pieces};
 use crate::texts::{TextEnd, TextFault, Written, first_unclosed, report_text};
 use listing::{Form, ListInput, Listed, list_capture};
-use message::{HartRange, Unwatched};
+use message::{HartRange, NoProgress};
 use retire::WriteFault;
 use std::alloc::Global;
 use symbols::{Symbols, SymbolsFault};
@@ -26,8 +26,8 @@ pub const CSV: u32 = 1;
 
 /// Writes the listing of a capture to a buffer, as `tracebench list` prints it: a line for each message, with its
 /// packet and the events that it settles. Places are named by the symbols, which are lines as `nm` prints them; where
-/// there is no byte of symbols, they have no names. The harts are those that the header counts, or without a header those
-/// below `harts`. The format is [`TEXT`] or [`CSV`].
+/// there is no byte of symbols, they have no names. The harts are those that the header counts, or without a header
+/// those below `harts`. The format is [`TEXT`] or [`CSV`].
 ///
 /// The status is [`DONE`](crate::status::DONE), [`TOO_SMALL`](crate::status::TOO_SMALL),
 /// [`OUT_OF_RANGE`](crate::status::OUT_OF_RANGE) where the format is none, [`MEMORY`](crate::status::MEMORY), or says
@@ -161,7 +161,7 @@ fn list_in(alloc: Global, input: &ListInput<'_>, text: &mut Vec<u8>) -> Result<L
         (IsListing (words_of input.now.program.now) input.now.form input.now.only input.now.harts (names_in input.now)
         input.now.capture.now) listed.closed.items listed.fault (Some text.old.items) (Some text.new.items)) }
 {
-    list_capture(alloc, input, text, &Unwatched)
+    list_capture(alloc, input, text, &NoProgress)
 }
 
 /// How a listing ends, in numbers.

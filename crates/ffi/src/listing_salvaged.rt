@@ -15,7 +15,7 @@ use crate::salvaged::{end_of_found, harts_asked};
 use crate::texts::{TextEnd, TextFault, Written, report_text};
 use frames::{harts_counted, mode_of, start_of};
 use listing::Form;
-use message::{HartRange, Header, Unwatched};
+use message::{HartRange, Header, NoProgress};
 use retire::WriteFault;
 use rvclass::ProgramOver;
 use salvage_reports::{TreatedCapture, find_salvaged, write_treated};
@@ -135,10 +135,10 @@ fn treat_by(
         harts,
         HartRange::ALL,
         capture,
-        &Unwatched,
+        &NoProgress,
     )?;
     let messages = found.frames.messages.as_slice();
-    let treated = treat_watched(alloc, program, harts, mode, messages, &Unwatched)?;
+    let treated = treat_watched(alloc, program, harts, mode, messages, &NoProgress)?;
     let mut text = Vec::new(alloc);
     append_treated(
         format,
@@ -162,7 +162,8 @@ fn append_treated(
     text: &mut Vec<u8>,
 ) -> Result<(), WriteFault>
     ensures { OnOk result (Appends (Some text.old.items) (Some text.new.items)
-        (treated_text_of format every_hart (option_map (λ file. file.now) symbols.entry) header capture.now treated.now)) }
+        (treated_text_of format every_hart (option_map
+        (λ file. file.now) symbols.entry) header capture.now treated.now)) }
 {
     let all = TreatedCapture {
         header,

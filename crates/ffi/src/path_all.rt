@@ -17,7 +17,7 @@ use crate::path_numbers::{
 };
 use crate::status::{DONE, OUT_OF_RANGE, TOO_SMALL};
 use auditing::{Audit, SentFault};
-use frames::{CaptureStart, Resuming, first_place, start_of};
+use frames::{CaptureStart, GuidedScan, first_place, start_of};
 use payload::By;
 use std::alloc::{AllocError, Global};
 
@@ -38,16 +38,16 @@ struct PathFound {
 
 /// Audits RECEIVED against SENT, captures in either version, and reports what became of the messages of all harts of
 /// SENT: what `tracebench audit` reports. SENT is checked to its end first. In RECEIVED the messages are found among
-/// damaged bytes, as the program finds them. Payloads are compared by their bytes, or with the flag [`BY_PACKETS`] by the
-/// packets that they unpack to.
+/// damaged bytes, as the program finds them. Payloads are compared by their bytes, or with the flag [`BY_PACKETS`] by
+/// the packets that they unpack to.
 ///
 /// `rows` is for what is found of each hart, `arrivals` for the messages of RECEIVED that are taken, in their order,
 /// `lost` for the longest runs of numbers that were lost, hart by hart, and `runs` for the longest runs of bytes of no
 /// message. `ended` is then how many there are of each, and what else is found. Each array that is large enough is
 /// written from its start on; the others are not written.
 ///
-/// The status is [`DONE`], or [`TOO_SMALL`] where an array is too small. Else it is [`OUT_OF_RANGE`] where a flag is not
-/// known, [`MEMORY`](crate::status::MEMORY), or says why SENT is refused: [`SHORT`](crate::status::SHORT),
+/// The status is [`DONE`], or [`TOO_SMALL`] where an array is too small. Else it is [`OUT_OF_RANGE`] where a flag is
+/// not known, [`MEMORY`](crate::status::MEMORY), or says why SENT is refused: [`SHORT`](crate::status::SHORT),
 /// [`BAD_LENGTH`](crate::status::BAD_LENGTH), [`BAD_HEADER`](crate::status::BAD_HEADER),
 /// [`STRANGER`](crate::status::STRANGER), [`REPEAT`](crate::status::REPEAT) or [`GAP`](crate::status::GAP). Then
 /// `refused` names the message of SENT, and nothing else is written.
@@ -193,7 +193,7 @@ fn take_received(alloc: Global, path: &mut Audit<'_>, received: &[u8]) -> Result
     let from = first_place(start.header);
     let mut arrivals = Vec::new(alloc);
     let mut runs = Vec::new(alloc);
-    let spans = Resuming::new(received, from);
+    let spans = GuidedScan::new(received, from);
     let bytes = take_spans(path, spans, &mut arrivals, &mut runs)?;
     Ok(CameIn {
         start,

@@ -11,14 +11,14 @@ ghost use Rattle.ffi.specs.AuditedAll.{arrivals_after, byte_runs};
 
 use crate::path_numbers::{Arrival, ByteRun, arrival_of};
 use auditing::Audit;
-use frames::{Passage, Resuming};
+use frames::{BorrowedSpan, GuidedScan};
 use std::alloc::AllocError;
 
 /// Takes the messages of RECEIVED that are left. Adds each with what is found of it, and each run of bytes of no
 /// message. Returns how many bytes these have.
 pub(crate) fn take_spans(
     path: &mut Audit<'_>,
-    spans: Resuming<'_>,
+    spans: GuidedScan<'_>,
     arrivals: &mut Vec<Arrival>,
     runs: &mut Vec<ByteRun>,
 ) -> Result<u64, AllocError>
@@ -46,7 +46,7 @@ pub(crate) fn take_spans(
 /// bytes of no message it has.
 fn take_passage(
     path: &mut Audit<'_>,
-    passage: Passage<'_>,
+    passage: BorrowedSpan<'_>,
     arrivals: &mut Vec<Arrival>,
     runs: &mut Vec<ByteRun>,
 ) -> Result<u64, AllocError>
@@ -62,13 +62,13 @@ fn take_passage(
     ensures bytes { IfOk result (λ bytes. bytes ≡ bytes_in (span_of passage.entry ∷ [])) }
 {
     match passage {
-        Passage::Message { offset, message } => {
+        BorrowedSpan::Message { offset, message } => {
             let finding = path.examine_borrowed(message);
             let arrival = arrival_of(offset as u64, message, finding);
             arrivals.push(arrival)?;
             Ok(0)
         }
-        Passage::Bytes { offset, count } => {
+        BorrowedSpan::Bytes { offset, count } => {
             let run = ByteRun {
                 offset: offset as u64,
                 count: count as u64,

@@ -8,7 +8,7 @@ use crate::fault::Fault;
 use crate::images::{ImagePiece, Judged, judge_image, judge_pieces};
 use crate::salvaged::{end_of_found, harts_asked, layout_of};
 use crate::texts::{TextEnd, TextFault, Written, report_text};
-use message::{HartRange, Unwatched};
+use message::{HartRange, NoProgress};
 use salvage_reports::{Layout, write_salvaged};
 use std::alloc::Global;
 
@@ -102,7 +102,7 @@ fn salvage_as(
         HartRange::ALL,
         layout,
         capture,
-        &Unwatched,
+        &NoProgress,
         &mut text,
     );
     match written {

@@ -4,9 +4,9 @@
 //! over bytes from a place on and gives each frame that it takes, and each longest run of bytes between them.
 //! [`message_in`] is the complete message at a place, whatever its hart and its number.
 //!
-//! [`Resuming`] does so where it is known what was sent: it gives each message that it takes and each longest run of
-//! bytes between them, as a span or, with nothing copied, as a [`Passage`]. At damage it goes on at the next place where
-//! a message is that was sent. What was sent is a [`Sent`].
+//! [`GuidedScan`] does so where it is known what was sent: it gives each message that it takes and each longest run of
+//! bytes between them, as a span or, with nothing copied, as a [`BorrowedSpan`]. At damage it goes on at the next place
+//! where a message is that was sent. What was sent is a [`Sent`].
 //!
 //! [`start_of`] returns how a capture begins, [`spans_of`] its frames and the bytes between them, and [`harts_counted`]
 //! how many harts it has. [`search_capture`] writes a line of text for each frame and for each run of bytes between,
@@ -14,11 +14,11 @@
 //! lines. Nothing here takes memory.
 #![tactic(auto)]
 
+mod borrowed_span;
 mod counting;
 mod frame;
 mod guided_taking;
 mod laws;
-mod passage;
 mod reading;
 mod searched;
 mod sent;
@@ -27,11 +27,11 @@ mod spans;
 mod start;
 mod taking;
 
+pub use borrowed_span::{BorrowedMessage, BorrowedSpan};
 pub use counting::harts_counted;
 pub use frame::{END_OF_FRAMES, begins_frame, message_in, message_size};
 pub use laws::all_harts_choose_every_span;
-pub use passage::{BorrowedMessage, Passage};
-pub use reading::Resuming;
+pub use reading::GuidedScan;
 pub use searched::{mode_of, search_capture, search_harts, write_start};
 pub use sent::{Sent, Sight};
 pub use span::Span;

@@ -14,8 +14,8 @@ ghost use Rattle.frames.specs.Borrowed.{HasPayload, span_of};
 ghost use Rattle.frames.specs.Amid.{IsSentMessage, NoneBegins};
 ghost use Rattle.frames.specs.Passages.{Left, Sees, spans_from, spans_left};
 
+use crate::borrowed_span::{BorrowedMessage, BorrowedSpan};
 use crate::guided_taking::{bytes_to_next, is_taken};
-use crate::passage::{BorrowedMessage, Passage};
 use crate::sent::Sent;
 use crate::{Span, message_size};
 use byteorder::{ByteOrder, LittleEndian};
@@ -36,12 +36,12 @@ use std::marker::Model;
 /// a run of bytes, and inside one. Whether a message is complete is asked three times more. So time is linear in the
 /// bytes, whatever they are. Takes no memory.
 #[derive(Debug, Drop)]
-pub struct Resuming<'a> {
+pub struct GuidedScan<'a> {
     bytes: &'a [u8],
     at: usize,
 }
 
-impl<'a> Model for Resuming<'a> {
+impl<'a> Model for GuidedScan<'a> {
     ghost Value = { Left };
 
     ghost view = { λ reading. record { offset = reading.at; bytes = drop reading.at reading.bytes.now } };
@@ -49,10 +49,10 @@ impl<'a> Model for Resuming<'a> {
     ghost invariant = { λ reading. reading.at ≤ length reading.bytes.now };
 }
 
-impl<'a> Resuming<'a> {
+impl<'a> GuidedScan<'a> {
     /// The messages of bytes from the place `from` on. Their offsets count from the first of all bytes. From a place
     /// after the last byte there is none.
-    pub fn new(bytes: &'a [u8], from: usize) -> Resuming<'a>
+    pub fn new(bytes: &'a [u8], from: usize) -> GuidedScan<'a>
         ensures spans { (sees : Sees) → spans_left sees result ≡ spans_from sees from (drop from bytes.now) }
         ensures few { length result.bytes ≤ length bytes.now }
 
@@ -67,14 +67,14 @@ impl<'a> Resuming<'a> {
             → drop from bytes.now ≡ scattered_bytes messages last
             → spans_left sees result ≡ scattered_from from messages last }
     {
-        Resuming {
+        GuidedScan {
             bytes,
             at: from.min(bytes.len()),
         }
     }
 
-    /// The next message that is taken, or the next run of bytes; `None` at the end. What was sent may be told by anything
-    /// that sees each message in the same way.
+    /// The next message that is taken, or the next run of bytes; `None` at the end. What was sent may be told by
+    /// anything that sees each message in the same way.
     pub fn next<S: Sent>(&mut self, sent: &S) -> Option<Span>
         ensures spans { (sees : Sees) → ((message : AnyMessage) → S.sees sent.now message ≡ sees message)
             → spans_left sees self.old ≡ option_to_list result ++ spans_left sees self.new }
@@ -88,9 +88,9 @@ impl<'a> Resuming<'a> {
         }
     }
 
-    /// As [`Resuming::next`], where it is in the bytes: nothing is copied.
+    /// As [`GuidedScan::next`], where it is in the bytes: nothing is copied.
     #[inline(always)]
-    pub fn next_passage<S: Sent>(&mut self, sent: &S) -> Option<Passage<'a>>
+    pub fn next_passage<S: Sent>(&mut self, sent: &S) -> Option<BorrowedSpan<'a>>
         ensures spans { (sees : Sees) → ((message : AnyMessage) → S.sees sent.now message ≡ sees message)
             → spans_left sees self.old ≡ option_to_list (option_map span_of result) ++ spans_left sees self.new }
         ensures end { result ≡ None → self.old.bytes ≡ [] }
@@ -103,7 +103,7 @@ impl<'a> Resuming<'a> {
 
     /// The same, by what is seen of each message.
     #[inline(always)]
-    fn pass<S: Sent>(&mut self, sent: &S) -> Option<Passage<'a>>
+    fn pass<S: Sent>(&mut self, sent: &S) -> Option<BorrowedSpan<'a>>
         ensures spans { spans_left (S.sees sent.now) self.old
             ≡ option_to_list (option_map span_of result) ++ spans_left (S.sees sent.now) self.new }
         ensures end { result ≡ None → self.old.bytes ≡ [] }
@@ -120,7 +120,7 @@ impl<'a> Resuming<'a> {
             }
             let count = bytes_to_next(rest, sent);
             self.at = offset + count;
-            return Some(Passage::Bytes { offset, count });
+            return Some(BorrowedSpan::Bytes { offset, count });
         }
         match message_size(rest) {
             Some(size) => {
@@ -134,7 +134,7 @@ impl<'a> Resuming<'a> {
 
 /// The complete message that bytes begin with, at this offset.
 #[inline(always)]
-fn message_at(offset: usize, bytes: &[u8]) -> Passage<'_>
+fn message_at(offset: usize, bytes: &[u8]) -> BorrowedSpan<'_>
     requires enough { frame_size bytes.now ≤ length bytes.now }
     requires some { 1 ≤ length_in bytes.now }
     requires few { length_in bytes.now ≤ most_bytes }
@@ -142,7 +142,7 @@ fn message_at(offset: usize, bytes: &[u8]) -> Passage<'_>
     ensures payload { HasPayload result }
 {
     let size = HEAD + usize::from(bytes[10]);
-    Passage::Message {
+    BorrowedSpan::Message {
         offset,
         message: BorrowedMessage {
             hart: LittleEndian::read_u16(bytes),
@@ -153,12 +153,12 @@ fn message_at(offset: usize, bytes: &[u8]) -> Passage<'_>
 }
 
 /// The span of a passage.
-fn span_of(passage: Passage<'_>) -> Span
+fn span_of(passage: BorrowedSpan<'_>) -> Span
     requires payload { HasPayload passage }
     ensures { result ≡ span_of passage.entry }
 {
     match passage {
-        Passage::Message { offset, message } => match Payload::new(message.payload) {
+        BorrowedSpan::Message { offset, message } => match Payload::new(message.payload) {
             Ok(payload) => Span::Frame {
                 offset,
                 message: Message {
@@ -169,6 +169,6 @@ fn span_of(passage: Passage<'_>) -> Span
             },
             Err(_) => unreachable!(),
         },
-        Passage::Bytes { offset, count } => Span::Bytes { offset, count },
+        BorrowedSpan::Bytes { offset, count } => Span::Bytes { offset, count },
     }
 }

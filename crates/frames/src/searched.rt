@@ -12,7 +12,7 @@ ghost use Rattle.frames.specs.Start.{spans_of};
 use crate::start::{spans_of, start_of};
 use crate::{Span, Spans};
 use captures::{Dumped, write_bytes_line, write_header_line, write_message_line};
-use message::{HartRange, Header, MessageFault, Watch};
+use message::{HartRange, Header, MessageFault, ProgressSink};
 use payload::Mode;
 use retire::WriteFault;
 use std::io::Write;
@@ -29,8 +29,8 @@ use std::io::Write;
 ///
 /// The only fault is [`WriteFault::Write`], where the writer failed; what was written then is a prefix of the text. The
 /// time is linear in the capture, whatever it holds. No memory is taken, and the writer is not flushed. `watch` is told
-/// of each message that is found; [`Unwatched`](message::Unwatched) is for whoever does not want to know.
-pub fn search_capture<W: Write, V: Watch>(
+/// of each message that is found; [`NoProgress`](message::NoProgress) is for whoever does not want to know.
+pub fn search_capture<W: Write, V: ProgressSink>(
     capture: &[u8],
     sink: &mut W,
     watch: &V,
@@ -46,7 +46,7 @@ pub fn search_capture<W: Write, V: Watch>(
 /// Writes what is found of these harts in a capture that may be damaged, as [`search_capture`] writes what is found of
 /// all: the line of the header as it is, the lines of these harts' frames alone, and those of the bytes between frames.
 /// Frames of other harts are passed over, whatever their payloads are; `watch` is told of them all the same.
-pub fn search_harts<W: Write, V: Watch>(
+pub fn search_harts<W: Write, V: ProgressSink>(
     capture: &[u8],
     harts: HartRange,
     sink: &mut W,
@@ -78,7 +78,7 @@ fn stop_of(fault: Option<MessageFault>) -> Option<(u64, MessageFault)>
 
 /// Writes the line of the header, if there is one, and those of bytes and of these harts' frames after it. Returns
 /// whether one of these is damaged.
-fn write_found<W: Write, V: Watch>(
+fn write_found<W: Write, V: ProgressSink>(
     capture: &[u8],
     harts: HartRange,
     header: Option<Header>,
@@ -103,8 +103,8 @@ fn write_found<W: Write, V: Watch>(
     )
 }
 
-/// Writes the line of the header, if there is one. The only fault is [`WriteFault::Write`], where the writer failed: what
-/// was written then is a prefix of the line. No memory is taken.
+/// Writes the line of the header, if there is one. The only fault is [`WriteFault::Write`], where the writer failed:
+/// what was written then is a prefix of the line. No memory is taken.
 pub fn write_start<W: Write>(header: Option<Header>, sink: &mut W) -> Result<(), WriteFault>
     ensures text { OnOk result (Appends (W.contents sink.old) (W.contents sink.new) (start_line header)) }
     ensures begun { AppendsBeginning (start_line header) (W.contents sink.old) (W.contents sink.new) }
@@ -127,7 +127,7 @@ pub fn mode_of(header: Option<Header>) -> Mode
 }
 
 /// Writes the lines of bytes and of these harts' frames, and returns whether one of them is damaged.
-fn write_spans<W: Write, V: Watch>(
+fn write_spans<W: Write, V: ProgressSink>(
     mode: Mode,
     harts: HartRange,
     spans: Spans<'_>,
@@ -150,7 +150,7 @@ fn write_spans<W: Write, V: Watch>(
 }
 
 /// Tells of the message of a span, if there is one.
-fn note<V: Watch>(watch: &V, span: &Span) {
+fn note<V: ProgressSink>(watch: &V, span: &Span) {
     if matches!(span, Span::Frame { .. }) {
         watch.note(1);
     }

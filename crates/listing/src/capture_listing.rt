@@ -17,7 +17,7 @@ use crate::input::ListInput;
 use crate::message_listing::list_message;
 use crate::outcome::Listed;
 use captures::CaptureFault;
-use message::{HEADER_SIZE, Header, MessageFault, Messages, Watch};
+use message::{HEADER_SIZE, Header, MessageFault, Messages, ProgressSink};
 use payload::Mode;
 use receiver::Receiver;
 use retire::WriteFault;
@@ -39,22 +39,22 @@ use std::io::Write;
 /// closes its hart, `, closed` follows.
 ///
 /// The harts are those below the count in the header of a capture of version 2, and else those below
-/// [`harts`](ListInput::harts). The listing ends where [`decode_harts`](captures::decode_harts) stops. A message that is
-/// refused there has its line or row too, without an effect. Where there is no complete message, there is a line or row
-/// of the offset. Where an allocation failed for the events of a packet, its message has none. Where the header is cut
-/// short or bad, there is no line, and of a table there are the names of the columns alone.
+/// [`harts`](ListInput::harts). The listing ends where [`decode_harts`](captures::decode_harts) stops. A message that
+/// is refused there has its line or row too, without an effect. Where there is no complete message, there is a line or
+/// row of the offset. Where an allocation failed for the events of a packet, its message has none. Where the header is
+/// cut short or bad, there is no line, and of a table there are the names of the columns alone.
 ///
 /// Messages of harts that are not among [`only`](ListInput::only) are passed over unjudged: they are not received, have
-/// no line, and cause no fault, whatever they are, also those of harts that the capture does not have. Offsets and places
-/// count them all the same, also that in [`Listed::fault`], `watch` is told of them, and the line of a header is as it
-/// is. In [`Listed::closed`] such a hart is not closed.
+/// no line, and cause no fault, whatever they are, also those of harts that the capture does not have. Offsets and
+/// places count them all the same, also that in [`Listed::fault`], `watch` is told of them, and the line of a header is
+/// as it is. In [`Listed::closed`] such a hart is not closed.
 ///
 /// `watch` is told of each message that is received and has its line, or is passed over.
 ///
 /// [`WriteFault::Memory`] comes where an allocation failed before anything was written, and [`WriteFault::Write`] where
 /// the writer failed: what was written then is a prefix of the text. The writer is not flushed. Memory is taken for the
 /// events of all harts.
-pub fn list_capture<A: Allocator + Copy, S: Allocator, W: Write, V: Watch>(
+pub fn list_capture<A: Allocator + Copy, S: Allocator, W: Write, V: ProgressSink>(
     alloc: A,
     input: &ListInput<'_, S>,
     sink: &mut W,
@@ -97,7 +97,7 @@ fn list_nothing<A: Allocator, S: Allocator, W: Write>(
 }
 
 /// Lists the messages after a header, or those of a capture that has none.
-fn list_behind<A: Allocator + Copy, S: Allocator, W: Write, V: Watch>(
+fn list_behind<A: Allocator + Copy, S: Allocator, W: Write, V: ProgressSink>(
     alloc: A,
     input: &ListInput<'_, S>,
     header: Option<Header>,
@@ -155,7 +155,7 @@ fn start_of(header: Option<Header>) -> Start
 }
 
 /// Lists the messages after a header with a receiver that received none.
-fn list_started<A: Allocator + Copy, S: Allocator, W: Write, V: Watch>(
+fn list_started<A: Allocator + Copy, S: Allocator, W: Write, V: ProgressSink>(
     receiver: &mut Receiver<A>,
     input: &ListInput<'_, S>,
     header: Option<Header>,
@@ -181,7 +181,7 @@ fn list_started<A: Allocator + Copy, S: Allocator, W: Write, V: Watch>(
 
 /// Lists messages that begin there with a receiver that received none. Returns where that stops before their end, and
 /// why.
-fn list_messages<A: Allocator + Copy, S: Allocator, W: Write, V: Watch>(
+fn list_messages<A: Allocator + Copy, S: Allocator, W: Write, V: ProgressSink>(
     receiver: &mut Receiver<A>,
     input: &ListInput<'_, S>,
     start: Start,

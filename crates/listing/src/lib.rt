@@ -2,13 +2,13 @@
 //!
 //! [`list_capture`] writes a line for each message: its offset in the file, its packet, and the events that it adds to
 //! its hart's list. Places are named by symbols where there are some. In the [`Form`] of a table it writes the names of
-//! the columns and a row for each of these messages. [`ListInput`] has the form, the harts whose messages are listed, and
-//! what else goes in; a [`Watch`](message::Watch) is told of each message. [`rows_are_read_back`] says that `csv` reads
-//! back each row.
+//! the columns and a row for each of these messages. [`ListInput`] has the form, the harts whose messages are listed,
+//! and what else goes in; a [`ProgressSink`](message::ProgressSink) is told of each message. [`rows_are_read_back`]
+//! says that `csv` reads back each row.
 //!
 //! [`MessageText`], [`write_places`] and [`PacketEnding`] are the parts of such a line, for other lists of messages.
-//! [`Columns`], [`MessageCells`], [`read_waits`], [`read_closes`], [`flag_field`], [`Place`] and [`write_names`] are the
-//! parts of such a table.
+//! [`Columns`], [`MessageCells`], [`read_waits`], [`read_closes`], [`flag_field`], [`Place`] and [`write_names`] are
+//! the parts of such a table.
 #![tactic(auto)]
 
 mod capture_listing;

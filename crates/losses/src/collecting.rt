@@ -19,7 +19,7 @@ use crate::fault::LossyFault;
 use crate::hart_trace::HartTrace;
 use crate::part::HartPieces;
 use decoder::DecodeFault;
-use message::{Demux, Message, Unwatched, Watch};
+use message::{Demux, Message, NoProgress, ProgressSink};
 use payload::{Mode, Packet};
 use rvclass::ProgramOver;
 use std::alloc::{AllocError, Allocator};
@@ -149,7 +149,7 @@ impl<A: Allocator + Copy> Collection<A> {
 
 /// Collects the messages of the harts below `harts` one after the other, up to the first fault. The stretches under way
 /// are not ended.
-fn take_all<A: Allocator + Copy, V: Watch>(
+fn take_all<A: Allocator + Copy, V: ProgressSink>(
     alloc: A,
     program: &ProgramOver,
     harts: u16,
@@ -222,11 +222,11 @@ pub fn collect_lossy<A: Allocator + Copy>(
     ensures described { IfOk result (λ pieces. AreDescribed (words_of program.now) mode messages.now pieces.items) }
     ensures stops { IfErr result (λ fault. CollectingStopsBy (words_of program.now) mode harts messages.now fault) }
 {
-    collect_watched(alloc, program, harts, mode, messages, &Unwatched)
+    collect_watched(alloc, program, harts, mode, messages, &NoProgress)
 }
 
 /// Collects what is left of logs as [`collect_lossy`] does, and tells `watch` of each message that is taken.
-pub fn collect_watched<A: Allocator + Copy, V: Watch>(
+pub fn collect_watched<A: Allocator + Copy, V: ProgressSink>(
     alloc: A,
     program: &ProgramOver,
     harts: u16,

@@ -2,7 +2,7 @@
 //!
 //! [`collect_lossy`] takes the messages of several harts, some of which may be lost. For each hart it returns
 //! [`HartPieces`]: the parts of its log that the messages still settle, and whether the hart is closed.
-//! [`collect_watched`] does the same, and tells a [`Watch`](message::Watch) of each message.
+//! [`collect_watched`] does the same, and tells a [`ProgressSink`](message::ProgressSink) of each message.
 //!
 //! A part is a stretch or a gap. A stretch is events that follow one another in the log. It begins at the packet that
 //! opens the trace or at a synchronisation packet, and has all events from there on that the packets up to the next

@@ -10,8 +10,8 @@
 //! [`HartRange::ALL`] is every hart. Messages of other harts are passed over: what is printed, counted and checked is
 //! what the messages of the harts in the range give, in their order.
 //!
-//! A call that goes over the messages of a capture takes a [`Watch`], and tells it after each message. [`Unwatched`] is
-//! for callers who do not want to know how far the messages are worked through.
+//! A call that goes over the messages of a capture takes a [`ProgressSink`], and tells it after each message.
+//! [`NoProgress`] is for callers who do not want to know how far the messages are worked through.
 #![tactic(auto)]
 
 mod capacity;
@@ -23,10 +23,10 @@ mod header;
 mod in_memory;
 mod laws;
 mod message;
+mod progress;
 mod range;
 mod range_reading;
 mod reading;
-mod watch;
 mod writing;
 
 pub use capacity::MOST_CAPACITY;
@@ -38,8 +38,8 @@ pub use header::{HEADER_SIZE, Header, MOST_HARTS, Start, Version};
 pub use in_memory::Messages;
 pub use laws::all_harts_select_every_message;
 pub use message::Message;
+pub use progress::{NoProgress, ProgressSink};
 pub use range::HartRange;
 pub use range_reading::range_of;
 pub use reading::{read_message, read_start};
-pub use watch::{Unwatched, Watch};
 pub use writing::{write_header, write_message};

@@ -12,7 +12,7 @@ use crate::parts::receive_harts;
 use crate::walking::walk_over;
 use capture_index::{Mark, Selection, survey_messages};
 use captures::CaptureFault;
-use message::{HartRange, Unwatched, Watch};
+use message::{HartRange, NoProgress, ProgressSink};
 use payload::Mode;
 use std::alloc::{AllocError, Global};
 use std::thread::Threads;
@@ -43,12 +43,12 @@ pub(crate) enum Attempt {
 }
 
 /// Surveys messages of the harts in a range, where the header announces this mode, if there is a header: as
-/// [`survey_messages`] does, with several harts side by side, and with marks. A hart has a mark each time 65,536 events or
-/// more were decoded since the last one, unless all harts together have too many.
+/// [`survey_messages`] does, with several harts side by side, and with marks. A hart has a mark each time 65,536 events
+/// or more were decoded since the last one, unless all harts together have too many.
 ///
 /// `watch` is told of each message while their places are looked for, before one is decoded: at most once of each, also
 /// of those after the fault.
-pub fn survey_side_by_side<R: Threads + Sync, V: Watch>(
+pub fn survey_side_by_side<R: Threads + Sync, V: ProgressSink>(
     alloc: Global,
     rt: &R,
     messages: &Selection<'_, '_>,
@@ -71,14 +71,14 @@ pub fn survey_side_by_side<R: Threads + Sync, V: Watch>(
         Attempt::Surveyed(survey) => return Ok(survey),
         Attempt::RefusedAt(place) => place,
     };
-    match survey_before(rt, &work, harts, range, refused, &Unwatched)? {
+    match survey_before(rt, &work, harts, range, refused, &NoProgress)? {
         Attempt::Surveyed(survey) => Ok(survey),
         Attempt::RefusedAt(_) => survey_in_turn(&work, harts, range),
     }
 }
 
 /// Surveys the messages that begin before this limit, or finds that one of them is refused.
-fn survey_before<R: Threads + Sync, V: Watch>(
+fn survey_before<R: Threads + Sync, V: ProgressSink>(
     rt: &R,
     work: &Work<'_>,
     harts: u16,
@@ -166,7 +166,7 @@ fn survey_in_turn(work: &Work<'_>, harts: u16, range: HartRange) -> Result<Marke
         range,
         bytes: work.bytes,
     };
-    let survey = survey_messages(work.alloc, &messages, work.announced, &Unwatched)?;
+    let survey = survey_messages(work.alloc, &messages, work.announced, &NoProgress)?;
     let marks = empty_lists(work.alloc, usize::from(harts))?;
     Ok(MarkedSurvey {
         places: survey.places,

@@ -12,7 +12,7 @@ use crate::lists::empty_lists;
 use byteorder::{ByteOrder, LittleEndian};
 use capture_index::add_selected;
 use frames::message_size;
-use message::{HartRange, Watch};
+use message::{HartRange, ProgressSink};
 use std::alloc::{AllocError, Global};
 
 /// Where the messages of each hart begin, and how far they were walked.
@@ -27,7 +27,7 @@ pub(crate) struct Walk {
 
 /// Walks over the messages that begin before this limit, up to the first of the harts in a range that is of none of so
 /// many harts, and up to the first place where there is no complete message. `watch` is told of each.
-pub(crate) fn walk_over<V: Watch>(
+pub(crate) fn walk_over<V: ProgressSink>(
     alloc: Global,
     harts: u16,
     range: HartRange,

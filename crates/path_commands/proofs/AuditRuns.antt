@@ -14,14 +14,14 @@ use Rattle.command_inputs.specs.declared.words.Audit.{Audit}
 use Rattle.path_commands.specs.Faults.{Fault, Printed}
 use Rattle.command_inputs.specs.declared.status.Status.{Status}
 use Rattle.path_commands.specs.Audited.{WritesNumbered}
-use Rattle.path_commands.specs.Came.{Came, IsCame, is_whole_result}
+use Rattle.path_commands.specs.ReceivedCapture.{ReceivedCapture, IsReceivedCapture, is_whole_result}
 use Rattle.path_commands.specs.Rows.{audit_rows, front_rows, rows_behind}
 use Rattle.path_commands.specs.Sides.{Sent, by_packets, end_of_audit}
 use Rattle.path_commands.specs.declared.report.Report.{Report}
 use Rattle.path_commands.specs.steps.Ending.{EndsRest}
 
-module _ (asked : Audit) (harts : HartRange) (sent : Sent) (bytes : List ℕ) (came : Came)
-    (is : IsCame (by_packets asked.packets) sent.messages bytes came) where
+module _ (asked : Audit) (harts : HartRange) (sent : Sent) (bytes : List ℕ) (came : ReceivedCapture)
+    (is : IsReceivedCapture (by_packets asked.packets) sent.messages bytes came) where
   abbrev how : By
   how = by_packets asked.packets
 

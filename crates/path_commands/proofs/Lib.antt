@@ -1,7 +1,7 @@
 pub mod AuditRuns
 pub mod AuditSteps
 pub mod ByHartLemmas
-pub mod Came
+pub mod ReceivedCapture
 pub mod Formats
 pub mod HartLines
 pub mod MatchedLines

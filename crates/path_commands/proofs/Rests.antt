@@ -10,18 +10,18 @@ use Rattle.frames.specs.Counted.{messages_in}
 use Rattle.auditing.specs.Known.{known_all}
 use Rattle.auditing.specs.Ledger.{Ledger}
 use Rattle.path_commands.specs.AuditText.{total_of, unless_summary}
-use Rattle.path_commands.specs.Came.{Came, is_undamaged, is_whole_result}
+use Rattle.path_commands.specs.ReceivedCapture.{ReceivedCapture, is_undamaged, is_whole_result}
 use Rattle.path_commands.specs.OnlyHarts.{harts_among}
 use Rattle.path_commands.specs.Rows.{all_run_rows, ending_of, ending_row, hart_rows, rows_behind}
 use Rattle.path_commands.specs.Sides.{Sent, heads_differ}
 use Rattle.path_commands.specs.declared.ending.Ending.{Ending}
-use Rattle.path_commands.specs.declared.received.Arrived.{Arrived}
+use Rattle.path_commands.specs.declared.received.ReceivedSummary.{ReceivedSummary}
 use Rattle.path_commands.specs.declared.report.Report.{Report}
 use Rattle.path_commands.specs.declared.total.Total.{Total}
-use Rattle.path_commands.specs.steps.Ending.{HasArrived}
+use Rattle.path_commands.specs.steps.Ending.{HasReceived}
 
 -- What is counted, by how RECEIVED was read.
-abbrev pub counted : Arrived → ℕ → Total → Bool → Bool → Ending
+abbrev pub counted : ReceivedSummary → ℕ → Total → Bool → Bool → Ending
 counted arrived harts total unlike whole = record {
   harts = harts;
   total = total;
@@ -34,8 +34,8 @@ counted arrived harts total unlike whole = record {
   whole = whole;
 }
 
-module _ (path : Ledger) (report : Report) (sent : List Message) (arrived : Arrived) (came : Came)
-    (has : HasArrived report.harts sent path arrived came) where
+module _ (path : Ledger) (report : Report) (sent : List Message) (arrived : ReceivedSummary) (came : ReceivedCapture)
+    (has : HasReceived report.harts sent path arrived came) where
   abbrev both : Sent
   both = record { header = path.header; messages = sent }
 

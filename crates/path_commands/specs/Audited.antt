@@ -9,7 +9,7 @@ use Rattle.command_inputs.specs.Meaning.{writing_at_once}
 use Rattle.command_inputs.specs.OnlyHarts.{IsOnly, asked_harts}
 use Rattle.command_inputs.specs.Order.{format_or_only_fault}
 use Rattle.command_inputs.specs.Printed.{First}
-use Rattle.path_commands.specs.Came.{Came, IsCame, is_whole_result}
+use Rattle.path_commands.specs.ReceivedCapture.{ReceivedCapture, IsReceivedCapture, is_whole_result}
 use Rattle.path_commands.specs.Faults.{Meaning, Once, Printed}
 use Rattle.path_commands.specs.OnlyHarts.{HasHart}
 use Rattle.path_commands.specs.Rows.{audit_rows, report_of}
@@ -20,8 +20,8 @@ use Rattle.path_commands.specs.Unnumbered.{WritesAligned}
 -- numbers.
 pub record WritesNumbered (format : Format) (asked : Audit) (harts : HartRange) (sent : Sent) (bytes : List ℕ)
     (printed : Printed) : Type 0 where
-  pub came : Came
-  pub is_came : IsCame (by_packets asked.packets) sent.messages bytes came
+  pub came : ReceivedCapture
+  pub is_came : IsReceivedCapture (by_packets asked.packets) sent.messages bytes came
   pub text : printed.text ≡ audit_rows (by_packets asked.packets) (report_of format asked harts) sent came
   pub ended : printed.ended
       ≡ end_of_audit asked.received came.fault (is_whole_result (by_packets asked.packets) harts sent came)

@@ -3,7 +3,7 @@ pub mod FaultText
 pub mod AuditText
 pub mod Sides
 pub mod OnlyHarts
-pub mod Came
+pub mod ReceivedCapture
 pub mod AuditRows
 pub mod Rows
 pub mod UnnumberedText

@@ -23,7 +23,7 @@ use Rattle.auditing.specs.declared.row.HartRow.{HartRow}
 use Rattle.output.specs.Fields.{fields_line}
 use Rattle.path_commands.specs.AuditRows.{bytes_fields, columns, finding_fields, hart_fields, last_rows, run_fields}
 use Rattle.path_commands.specs.AuditText.{ending_text, finding_line, lost_line, row_text, total_of, unless_summary}
-use Rattle.path_commands.specs.Came.{Came, is_whole_result}
+use Rattle.path_commands.specs.ReceivedCapture.{ReceivedCapture, is_whole_result}
 use Rattle.path_commands.specs.OnlyHarts.{first_of, harts_among, strangers_of}
 use Rattle.path_commands.specs.Sides.{Sent, heads_differ}
 use Rattle.path_commands.specs.declared.ending.Ending.{Ending}
@@ -111,7 +111,7 @@ hart_rows format sent received harts = flat_map (λ hart. hart_row format hart (
 
 -- What is found of all messages together. Messages are compared by what their payloads are known by. Those of the harts
 -- that are asked for count alone, but RECEIVED has the messages of all.
-abbrev pub ending_of : By → HartRange → Sent → Came → Ending
+abbrev pub ending_of : By → HartRange → Sent → ReceivedCapture → Ending
 ending_of how harts sent came =
     let known = known_all how sent.messages in
     let received = known_all how (messages_in came.spans) in
@@ -132,7 +132,7 @@ abbrev pub ending_row : Format → Ending → List ℕ
 ending_row format ending = row_in format (ending_text ending) (last_rows ending)
 
 -- The rows after those of the messages.
-abbrev pub rows_behind : By → Report → Sent → Came → List ℕ
+abbrev pub rows_behind : By → Report → Sent → ReceivedCapture → List ℕ
 rows_behind how report sent came =
     let known = known_all how sent.messages in
     let received = known_all how (messages_in came.spans) in
@@ -146,5 +146,5 @@ rows_behind how report sent came =
 -- how many strangers came, how many bytes of no message, whether headers differ, which message is the first that is not
 -- in order or skips a number, and the result. A table begins with the names of its columns. A summary has no rows of
 -- messages and of runs. The harts are those that are asked for.
-abbrev pub audit_rows : By → Report → Sent → Came → List ℕ
+abbrev pub audit_rows : By → Report → Sent → ReceivedCapture → List ℕ
 audit_rows how report sent came = front_rows how report sent.messages came.spans ++ rows_behind how report sent came

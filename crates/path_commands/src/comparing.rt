@@ -11,11 +11,11 @@ ghost use Rattle.command_inputs.specs.Printed.{PrintsUnlessDenied};
 ghost use Rattle.path_commands.specs.Faults.{final_status};
 ghost use Rattle.path_commands.specs.AuditText.{total_of, unless_summary};
 ghost use Rattle.path_commands.specs.Audited.{AuditsBy, CanAuditHarts, WritesNumbered};
-ghost use Rattle.path_commands.specs.Came.{Came};
+ghost use Rattle.path_commands.specs.ReceivedCapture.{ReceivedCapture};
 ghost use Rattle.path_commands.specs.OnlyHarts.{harts_among};
 ghost use Rattle.path_commands.specs.Rows.{all_run_rows, hart_rows, rows_behind};
 ghost use Rattle.path_commands.specs.Sides.{by_packets};
-ghost use Rattle.path_commands.specs.steps.Ending.{EndsRest, HasArrived};
+ghost use Rattle.path_commands.specs.steps.Ending.{EndsRest, HasReceived};
 ghost use Rattle.command_inputs.specs.declared.fault.Fault.TheVariants as Fault;
 
 use crate::ending::Ending;
@@ -23,14 +23,14 @@ use crate::hart_check::{check_hart, count_among, past_among};
 use crate::lost_rows::write_lost;
 use crate::noting::Noted;
 use crate::reason::{Fault, sent_fault};
-use crate::received::{Arrived, begin_spans, write_spans};
+use crate::received::{ReceivedSummary, begin_spans, write_spans};
 use crate::report::Report;
 use crate::rows::{CountsRow, EndingRow};
 use crate::sides::{are_unlike, by_packets, ended, is_whole};
 use crate::total::Total;
 use auditing::Audit;
 use command_inputs::{Audit as Asked, Files, MessageProgress, Status, content_of};
-use frames::{Resuming, first_place, start_of};
+use frames::{GuidedScan, first_place, start_of};
 use message::HartRange;
 use output::write_text;
 use std::alloc::Global;
@@ -95,9 +95,9 @@ fn write_audit<'a, F: Files, O: Write>(
     let from = first_place(start.header);
     begin_spans(progress, path, bytes, from);
     let mut noted = Noted::NONE;
-    let spans = Resuming::new(bytes, from);
+    let spans = GuidedScan::new(bytes, from);
     let read = write_spans(progress, path, &mut noted, spans, report, out)?;
-    let arrived = Arrived {
+    let arrived = ReceivedSummary {
         header: start.header,
         fault: start.fault,
         read,
@@ -110,16 +110,18 @@ fn write_audit<'a, F: Files, O: Write>(
 fn write_rest<'a, O: Write>(
     path: &Audit<'_>,
     received: &'a str,
-    arrived: Arrived,
+    arrived: ReceivedSummary,
     report: Report,
     out: &mut O,
 ) -> Result<Status, Fault<'a>>
     ensures ended { final_status result ≢ Status.Refused }
     ensures memory { result ≢ Err Fault.Memory }
-    ensures written { (sent : List AnyMessage) (came : Came) → HasArrived report.harts sent path.now arrived came
+    ensures written { (sent : List AnyMessage) (came : ReceivedCapture)
+        → HasReceived report.harts sent path.now arrived came
         → EndsRest path.now.by report received.entry (record { header = path.now.header; messages = sent }) came result
         (O.contents out.old) (O.contents out.new) }
-    ensures begun { (sent : List AnyMessage) (came : Came) → HasArrived report.harts sent path.now arrived came
+    ensures begun { (sent : List AnyMessage) (came : ReceivedCapture)
+        → HasReceived report.harts sent path.now arrived came
         → AppendsBeginning (rows_behind path.now.by report (record { header = path.now.header; messages = sent }) came)
         (O.contents out.old) (O.contents out.new) }
 {

@@ -29,7 +29,7 @@ use crate::reason::{Fault, unread_fault};
 use crate::report::Report;
 use crate::sides::{are_unlike, by_packets, ended, is_whole};
 use command_inputs::{Audit as Asked, Files, MessageProgress, Status, content_of};
-use message::{HartRange, Header, MessageFault, Watch};
+use message::{HartRange, Header, MessageFault, ProgressSink};
 use path_match::{Alignment, Line, lines_by_hart, total_of};
 use std::alloc::{AllocError, Global};
 use std::io::Write;

@@ -1,6 +1,7 @@
 //! The messages of RECEIVED and the bytes between them, written row by row.
 
-ghost use Rattle.std.specs.Prelude.{◌≡◌, ◌<◌, ◌≤◌, ◌^◌, ◌∷◌, ◌++◌, ◌==◌, ◌&&◌, IfErr, IfOk, List, [], OnOk, is_none, length};
+ghost use Rattle.std.specs.Prelude.{◌≡◌, ◌<◌, ◌≤◌, ◌^◌, ◌∷◌, ◌++◌, ◌==◌, ◌&&◌, IfErr, IfOk, List, [], OnOk, is_none};
+ghost use Rattle.std.specs.Prelude.{length};
 ghost use Rattle.std.specs.Io.KnownBytes.{Appends};
 ghost use Rattle.output.specs.Begun.{AppendsBeginning};
 ghost use Rattle.message.specs.declared.message.Message.{Message as AnyMessage};
@@ -22,9 +23,9 @@ use crate::table_rows::BytesRow;
 use auditing::{Audit, Finding};
 use captures::write_bytes_line;
 use command_inputs::{Format, MessageProgress};
-use frames::{BorrowedMessage, Passage, Resuming};
+use frames::{BorrowedMessage, BorrowedSpan, GuidedScan};
 use log_streams::Files;
-use message::{Header, MessageFault, Watch};
+use message::{Header, MessageFault, ProgressSink};
 use output::write_text;
 use retire::WriteFault;
 use std::io::Write;
@@ -50,16 +51,16 @@ impl Progress {
 
     /// After one span more.
     #[inline(always)]
-    pub(crate) fn after(self, passage: Passage<'_>) -> Progress
+    pub(crate) fn after(self, passage: BorrowedSpan<'_>) -> Progress
         ensures { result ≡ progress_after self (span_of passage.entry) }
     {
         match passage {
-            Passage::Message { .. } => Progress {
+            BorrowedSpan::Message { .. } => Progress {
                 messages: self.messages.saturating_add(1),
                 bytes: self.bytes,
                 runs: self.runs,
             },
-            Passage::Bytes { count, .. } => Progress {
+            BorrowedSpan::Bytes { count, .. } => Progress {
                 messages: self.messages,
                 bytes: self.bytes.saturating_add(count as u64),
                 runs: self.runs.saturating_add(1),
@@ -70,7 +71,7 @@ impl Progress {
 
 /// How RECEIVED was read.
 #[derive(Clone, Copy)]
-pub(crate) struct Arrived {
+pub(crate) struct ReceivedSummary {
     /// Its header, if it has a valid one.
     pub(crate) header: Option<Header>,
     /// Why it has none, where it begins as a capture of version 2 does.
@@ -81,7 +82,7 @@ pub(crate) struct Arrived {
     pub(crate) noted: Noted,
 }
 
-impl Arrived {
+impl ReceivedSummary {
     /// Whether it is read without damage.
     pub(crate) fn is_undamaged(self) -> bool
         ensures { result ≡ (is_none self.fault && (self.read.bytes == 0)) }
@@ -105,7 +106,7 @@ pub(crate) fn begin_spans<F: Files>(
 
 /// How many messages there are in these bytes of RECEIVED from this offset on.
 fn messages_in(path: &Audit<'_>, bytes: &[u8], from: usize) -> u64 {
-    let mut left = Resuming::new(bytes, from);
+    let mut left = GuidedScan::new(bytes, from);
     let mut read = Progress::START;
     // A span has a byte at least.
     for _ in 0..bytes.len() {
@@ -123,13 +124,14 @@ pub(crate) fn write_spans<F: Files, O: Write>(
     progress: &MessageProgress<'_, F>,
     path: &mut Audit<'_>,
     noted: &mut Noted,
-    spans: Resuming<'_>,
+    spans: GuidedScan<'_>,
     report: Report,
     out: &mut O,
 ) -> Result<Progress, WriteFault>
     requires fresh { noted.old ≡ none_noted }
     ensures audits { (sent : List AnyMessage) → IsAudit sent [] path.old → length spans.entry.bytes < 2 ^ 64
-        → IfOk result (λ progress. IsAudit sent (messages_in (spans_left (sight_of path.old.by sent) spans.entry)) path.new
+        → IfOk result (λ progress. IsAudit sent (messages_in (spans_left
+        (sight_of path.old.by sent) spans.entry)) path.new
         × (progress.bytes ≡ bytes_in (spans_left (sight_of path.old.by sent) spans.entry))
         × (progress.runs ≡ runs_in (spans_left (sight_of path.old.by sent) spans.entry))
         × (length (messages_in (spans_left (sight_of path.old.by sent) spans.entry)) ≤ length spans.entry.bytes)
@@ -155,17 +157,18 @@ pub(crate) fn write_spans<F: Files, O: Write>(
 /// Writes the names of the columns in a table. Then it takes the messages of RECEIVED that are left, and writes a row
 /// for each that is not in order or skips a number, and for each run of bytes between them, but none in a summary.
 /// Returns how far it was read then.
-fn take_spans<V: Watch, O: Write>(
+fn take_spans<V: ProgressSink, O: Write>(
     watch: &V,
     path: &mut Audit<'_>,
     noted: &mut Noted,
-    spans: Resuming<'_>,
+    spans: GuidedScan<'_>,
     report: Report,
     out: &mut O,
 ) -> Result<Progress, WriteFault>
     requires fresh { noted.old ≡ none_noted }
     ensures audits { (sent : List AnyMessage) → IsAudit sent [] path.old → length spans.entry.bytes < 2 ^ 64
-        → IfOk result (λ progress. IsAudit sent (messages_in (spans_left (sight_of path.old.by sent) spans.entry)) path.new
+        → IfOk result (λ progress. IsAudit sent (messages_in (spans_left
+        (sight_of path.old.by sent) spans.entry)) path.new
         × (progress.bytes ≡ bytes_in (spans_left (sight_of path.old.by sent) spans.entry))
         × (progress.runs ≡ runs_in (spans_left (sight_of path.old.by sent) spans.entry))
         × (length (messages_in (spans_left (sight_of path.old.by sent) spans.entry)) ≤ length spans.entry.bytes)
@@ -196,8 +199,8 @@ fn take_spans<V: Watch, O: Write>(
 }
 
 /// Tells of the message of a passage, if there is one.
-fn note<V: Watch>(watch: &V, passage: Passage<'_>) {
-    if matches!(passage, Passage::Message { .. }) {
+fn note<V: ProgressSink>(watch: &V, passage: BorrowedSpan<'_>) {
+    if matches!(passage, BorrowedSpan::Message { .. }) {
         watch.note(1);
     }
 }
@@ -208,7 +211,7 @@ fn note<V: Watch>(watch: &V, passage: Passage<'_>) {
 fn write_passage<O: Write>(
     path: &mut Audit<'_>,
     noted: &mut Noted,
-    passage: Passage<'_>,
+    passage: BorrowedSpan<'_>,
     place: u64,
     report: Report,
     out: &mut O,
@@ -229,7 +232,7 @@ fn write_passage<O: Write>(
     ensures fault { IfErr result (λ fault. fault ≡ WriteFault.Write) }
 {
     match passage {
-        Passage::Message { message, .. } => {
+        BorrowedSpan::Message { message, .. } => {
             let finding = path.examine_borrowed(message);
             if !report.harts.selects(message.hart) {
                 return Ok(());
@@ -240,7 +243,12 @@ fn write_passage<O: Write>(
             }
             write_finding(path, place, message, finding, report.format, out)
         }
-        Passage::Bytes { offset, count } => write_run(offset as u64, count as u64, report, out),
+        BorrowedSpan::Bytes { offset, count } => write_run(
+            offset as u64,
+            count as u64,
+            report,
+            out,
+        ),
     }
 }
 

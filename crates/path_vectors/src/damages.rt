@@ -5,7 +5,7 @@ use crate::audits::capture_of;
 use crate::lists::Random;
 use auditing::Audit;
 use cases::{Case, add_message};
-use frames::{Resuming, Span};
+use frames::{GuidedScan, Span};
 use message::Message;
 
 /// A message that begins at a place, and the place after it.
@@ -126,12 +126,12 @@ fn is_passage(span: &Span, at: usize, wanted: Passage) -> bool {
 }
 
 /// Whether a passage is the one that a span is of.
-fn is_borrowed(span: &Span, passage: Option<frames::Passage<'_>>) -> bool {
+fn is_borrowed(span: &Span, passage: Option<frames::BorrowedSpan<'_>>) -> bool {
     match (span, passage) {
         (
             Span::Frame { offset, message },
             Some(
-                frames::Passage::Message {
+                frames::BorrowedSpan::Message {
                     offset: at,
                     message: own,
                 },
@@ -145,7 +145,7 @@ fn is_borrowed(span: &Span, passage: Option<frames::Passage<'_>>) -> bool {
         (
             Span::Bytes { offset, count },
             Some(
-                frames::Passage::Bytes {
+                frames::BorrowedSpan::Bytes {
                     offset: at,
                     count: own,
                 },
@@ -198,8 +198,8 @@ fn damaged_thrice(case: &mut Case<'_>, random: &mut Random, bytes: &[u8]) -> Vec
 
 /// The first place at which the spans of what came are not the passages.
 fn difference(audit: &Audit<'_>, sent: &[Message], came: &[u8]) -> Option<usize> {
-    let mut left = Resuming::new(came, 0);
-    let mut again = Resuming::new(came, 0);
+    let mut left = GuidedScan::new(came, 0);
+    let mut again = GuidedScan::new(came, 0);
     let mut at = 0;
     for _ in 0..came.len() {
         if at >= came.len() {

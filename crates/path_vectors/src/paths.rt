@@ -1,7 +1,7 @@
 //! What is said of messages that carry no numbers (`path_match`).
 
 use cases::{Case, add_message, bytes_of};
-use message::{Message, Unwatched};
+use message::{Message, NoProgress};
 use path_match::{
     Alignment, Line, SentPayloads, aligned_harts, arrival_lines, counts_of, lines_by_hart, total_of,
 };
@@ -33,7 +33,7 @@ fn lines_split(alloc: Global, path: Path<'_>, harts: &[u16]) -> Result<Vec<Line>
     if came.harts() != own.harts() {
         return Ok(Vec::new(alloc));
     }
-    let all = own.align_lists(alloc, &Unwatched, &came)?;
+    let all = own.align_lists(alloc, &NoProgress, &came)?;
     lines_by_hart(alloc, all.as_slice(), harts)
 }
 
@@ -162,8 +162,8 @@ fn add_hart(case: &mut Case<'_>, sent: &mut Vec<Message>, came: &mut Vec<Message
     add_message(case, came, (hart, 9), &[low, high, 1]);
 }
 
-/// What is said where each of 1,024 harts sends two messages. The first of the last hart is lost, and two harts that sent
-/// nothing send one.
+/// What is said where each of 1,024 harts sends two messages. The first of the last hart is lost, and two harts that
+/// sent nothing send one.
 pub(crate) fn many_harts(case: &mut Case<'_>) {
     let mut left = Vec::new(case.alloc);
     let mut right = Vec::new(case.alloc);

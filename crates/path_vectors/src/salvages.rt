@@ -4,7 +4,7 @@ use crate::spans::bytes_in;
 use cases::{Case, bytes_of};
 use frames::{CaptureStart, Span, spans_of};
 use listing::Form;
-use message::{HartRange, Message, Unwatched};
+use message::{HartRange, Message, NoProgress};
 use payload::Mode;
 use rvclass::Program;
 use salvage_reports::{Found, Layout, TreatedCapture, find_salvaged, write_found, write_treated};
@@ -67,7 +67,7 @@ pub(crate) fn treat(case: &mut Case<'_>) {
         harts,
         mode,
         messages.as_slice(),
-        &Unwatched,
+        &NoProgress,
     ) {
         Ok(treated) => put_treated(case, capture.as_slice(), treated.as_slice()),
         Err(_) => case.no_memory(),
@@ -95,7 +95,7 @@ pub(crate) fn salvage(case: &mut Case<'_>) {
     };
     let only = HartRange::ALL;
     let bytes = capture.as_slice();
-    match find_salvaged(case.alloc, &program, start, 1, only, bytes, &Unwatched) {
+    match find_salvaged(case.alloc, &program, start, 1, only, bytes, &NoProgress) {
         Ok(found) => put_salvaged(case, bytes, &found),
         Err(_) => case.no_memory(),
     }

@@ -2,7 +2,7 @@
 
 use cases::{Case, bytes_of};
 use frames::{Span, Spans, begins_frame, search_capture};
-use message::Unwatched;
+use message::NoProgress;
 
 /// The bytes of all arguments without a name.
 pub(crate) fn bytes_in(case: &mut Case<'_>) -> Vec<u8> {
@@ -55,7 +55,7 @@ pub(crate) fn begins(case: &mut Case<'_>) {
 pub(crate) fn search(case: &mut Case<'_>) {
     let bytes = bytes_in(case);
     let mut text = Vec::new(case.alloc);
-    let found = search_capture(bytes.as_slice(), &mut text, &Unwatched);
+    let found = search_capture(bytes.as_slice(), &mut text, &NoProgress);
     case.put_text(text.as_slice());
     case.put(match found {
         Ok(found) if found.fault.is_none() && found.bad => "bad",

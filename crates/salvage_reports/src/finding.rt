@@ -6,7 +6,7 @@ ghost use Rattle.salvage_reports.specs.Found.{IsFoundBehind};
 
 use crate::found::Found;
 use crate::frame_reading::frames_of;
-use crate::watch::WatchSalvage;
+use crate::progress::WatchSalvage;
 use frames::{CaptureStart, mode_of, spans_of};
 use message::{HartRange, Message};
 use payload::Mode;

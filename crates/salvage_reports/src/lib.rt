@@ -24,11 +24,11 @@ mod hart_items;
 mod laws;
 mod messages_line;
 mod offsets;
+mod progress;
 mod salvaged_items;
 mod salvaged_writing;
 mod treated_messages;
 mod treated_writing;
-mod watch;
 mod words;
 
 pub use finding::find_salvaged;
@@ -43,6 +43,6 @@ pub use laws::{
     undamaged_captures_are_listed_alike,
 };
 pub use messages_line::write_messages;
+pub use progress::WatchSalvage;
 pub use salvaged_writing::write_salvaged;
 pub use treated_writing::{TreatedCapture, write_treated};
-pub use watch::WatchSalvage;

@@ -10,7 +10,7 @@ ghost use Rattle.salvage_reports.specs.Salvaged.{BeginsSalvaged};
 use crate::finding::find_salvaged;
 use crate::found::Found;
 use crate::found_writing::{Layout, write_found};
-use crate::watch::WatchSalvage;
+use crate::progress::WatchSalvage;
 use frames::{harts_counted, start_of};
 use message::HartRange;
 use retire::WriteFault;

@@ -8,7 +8,7 @@ use Rattle.salvaging.specs.Ends.{AllLeaveBeyond, LeavesBeyond, none_good}
 use Rattle.salvaging.specs.Entries.{Entry, next_used}
 use Rattle.salvaging.specs.LeftParts.{LeftPart}
 use Rattle.salvaging.specs.PartsIn.{part_of, parts_in}
-use Rattle.salvaging.specs.declared.came.Came.{Came}
+use Rattle.salvaging.specs.declared.received.ReceivedMessage.{ReceivedMessage}
 use Rattle.salvaging.specs.declared.part.Part.{Part}
 use Rattle.salvaging.specs.declared.trail.Trail.{Trail}
 use Rattle.salvaging.specs.steps.Arrivals.{arrivals_in}
@@ -17,11 +17,11 @@ use Rattle.salvaging.specs.steps.Grouping.{entries_by}
 use Rattle.salvaging.specs.steps.UnderWay.{AddsParts}
 use Rattle.salvaging.proofs.TakenSoFar.{behind, behind-is}
 
-abbrev entries_in : List Came → List Entry
+abbrev entries_in : List ReceivedMessage → List Entry
 entries_in came = entries_by (arrivals_in came)
 
 -- The messages before these are taken.
-pub record BeyondSo {A : Type 0} (words : Words) (mode : Mode) (came rest : List Came) (old new : Trail A)
+pub record BeyondSo {A : Type 0} (words : Words) (mode : Mode) (came rest : List ReceivedMessage) (old new : Trail A)
     : Type 0 where
   pub shorter : length rest ≤ length came
   pub done : List LeftPart
@@ -30,7 +30,7 @@ pub record BeyondSo {A : Type 0} (words : Words) (mode : Mode) (came rest : List
       → AllLeaveBeyond words mode (entries_in came) (done ++ more)
   pub goods : new.goods.items ++ none_good (entries_in rest) ≡ old.goods.items ++ none_good (entries_in came)
 
-module _ {A : Type 0} (words : Words) (mode : Mode) (came : List Came) (first : Trail A) where
+module _ {A : Type 0} (words : Words) (mode : Mode) (came : List ReceivedMessage) (first : Trail A) where
   pub beyond_start : BeyondSo words mode came came first first
   beyond_start = record {
     shorter = omega arith;
@@ -40,7 +40,8 @@ module _ {A : Type 0} (words : Words) (mode : Mode) (came : List Came) (first : 
     goods = refl;
   }
 
-  pub beyond_next : (rest : List Came) (old new : Trail A) → BeyondSo words mode came rest first old → (entry : Entry)
+  pub beyond_next : (rest : List ReceivedMessage) (old new : Trail A) → BeyondSo words mode came rest first old →
+      (entry : Entry)
       (count : ℕ) → entries_in rest ≡ entry ∷ entries_in (drop count rest) → (part : Part A)
       → LeavesBeyond words mode entry (next_used (entries_in (behind rest count))) (part_of part)
       → AddsParts (part_of part ∷ []) old.parts.items new.parts.items
@@ -64,7 +65,7 @@ module _ {A : Type 0} (words : Words) (mode : Mode) (came : List Came) (first : 
             ∙ ap (λ es. old.goods.items ++ none_good es) (sym parted) ∙ b.goods;
       }
 
-  pub beyond_end : (rest : List Came) (new : Trail A) → BeyondSo words mode came rest first new
+  pub beyond_end : (rest : List ReceivedMessage) (new : Trail A) → BeyondSo words mode came rest first new
       → entries_in rest ≡ [] → TakesBeyond words mode (entries_in came) first new
   beyond_end rest new b none = record {
     after = b.done ++ [];

@@ -2,24 +2,24 @@
 use Rattle.std.proofs.Common.{◌≡◌, ℕ, zero, suc, ◌+◌, ◌-◌, ◌≤◌, ◌<◌, Bool, true, false, List, [], ◌∷◌, drop, get_or}
 use Rattle.std.proofs.Common.{length, refl, sym, ap, subst, ◌∙◌, arith}
 use Rattle.std.proofs.lemmas.List.{length-drop, length-map}
-use Rattle.salvaging.specs.declared.came.Came.{Came}
+use Rattle.salvaging.specs.declared.received.ReceivedMessage.{ReceivedMessage}
 use Rattle.salvaging.specs.steps.Arrivals.{Arrival, arrival_of, arrivals_in}
 use Rattle.salvaging.specs.steps.Grouping.{are_alike, copies_by, one_more}
 
 -- The messages before this place are looked at.
-pub record CopiesSo (came : List Came) (count at : ℕ) : Type 0 where
+pub record CopiesSo (came : List ReceivedMessage) (count at : ℕ) : Type 0 where
   pub some : 1 ≤ at
   pub counted : count + copies_by (drop (at - 1) (arrivals_in came)) ≡ copies_by (arrivals_in came)
   pub few : count < at
 
 -- What stands at a place, and what is behind it.
-drop_at-suc : (came : List Came) (at : ℕ) (d : Came) → at < length came
+drop_at-suc : (came : List ReceivedMessage) (at : ℕ) (d : ReceivedMessage) → at < length came
     → drop at (arrivals_in came) ≡ arrival_of (get_or came at d) ∷ drop (suc at) (arrivals_in came)
 drop_at-suc [] at d within = absurd (omega (arith, within))
 drop_at-suc (first ∷ came) zero d within = refl
 drop_at-suc (first ∷ came) (suc at) d within = drop_at-suc came at d (omega (arith, within))
 
-drop_at : (came : List Came) (at : ℕ) (one : Came) → at < length came → one ≡ get_or came at one
+drop_at : (came : List ReceivedMessage) (at : ℕ) (one : ReceivedMessage) → at < length came → one ≡ get_or came at one
     → drop at (arrivals_in came) ≡ arrival_of one ∷ drop (at + 1) (arrivals_in came)
 drop_at came at one within is =
     let next : suc at ≡ at + 1 = omega arith in
@@ -36,8 +36,8 @@ more_counted : (alike : Bool) (count rest from all : ℕ) → from ≡ one_more 
 more_counted true count rest from all step counted = omega (arith, step, counted)
 more_counted false count rest from all step counted = omega (arith, step, counted)
 
-pub copies_more : (came : List Came) (count at : ℕ) → CopiesSo came count at → at < length came
-    → (before more : Came) → before ≡ get_or came (at - 1) before → more ≡ get_or came at more
+pub copies_more : (came : List ReceivedMessage) (count at : ℕ) → CopiesSo came count at → at < length came
+    → (before more : ReceivedMessage) → before ≡ get_or came (at - 1) before → more ≡ get_or came at more
     → (alike : Bool) → alike ≡ are_alike (arrival_of before) (arrival_of more) → (new : ℕ)
     → new ≡ one_more alike count → CopiesSo came new (at + 1)
 copies_more came count at c within before more is_before is_more alike is new new_is =
@@ -69,7 +69,7 @@ none_more_if true count more is same = cc
 none_more_if false count more is same = same
 
 -- All are looked at.
-pub copies_end : (came : List Came) (count at : ℕ) → CopiesSo came count at → length came ≤ at
+pub copies_end : (came : List ReceivedMessage) (count at : ℕ) → CopiesSo came count at → length came ≤ at
     → count ≡ copies_by (arrivals_in came)
 copies_end came count at c over =
     let counted = c.counted in

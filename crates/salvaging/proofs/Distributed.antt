@@ -14,7 +14,7 @@ use Rattle.message.specs.OfHart.{of_hart}
 use Rattle.message.specs.declared.message.Message.{Message}
 use Rattle.message.proofs.AcceptedLemmas.{slice_get-set}
 use Rattle.salvaging.specs.Strangers.{has_number, own_messages}
-use Rattle.salvaging.specs.declared.came.Came.{Came}
+use Rattle.salvaging.specs.declared.received.ReceivedMessage.{ReceivedMessage}
 use Rattle.salvaging.specs.steps.Arrivals.{arrival_of, arrivals_in, placed_from}
 use Rattle.salvaging.specs.steps.Distributing.{AddsArrival, Distributes}
 
@@ -49,7 +49,7 @@ length-placed : (from : ℕ) (xs : List Message) → length (placed_from from xs
 length-placed from [] = refl
 length-placed from (x ∷ xs) = ap suc (length-placed (from + 1) xs)
 
-length-arrivals : (xs : List Came) → length (arrivals_in xs) ≡ length xs
+length-arrivals : (xs : List ReceivedMessage) → length (arrivals_in xs) ≡ length xs
 length-arrivals xs = length-map xs arrival_of
 
 -- An item within a list is there.
@@ -65,33 +65,34 @@ own-append hart xs ys =
     ∙ filter-append has_number (of_hart hart xs) (of_hart hart ys)
 
 module _ {A : Type 0} where
-  same_list : (list other : Vec Came A) → Some list ≡ Some other → list ≡ other
+  same_list : (list other : Vec ReceivedMessage A) → Some list ≡ Some other → list ≡ other
   same_list list other is = cc
 
   -- A message of no hart changes no list.
-  adds_nothing : (message : Message) (lists : List (Vec Came A))
-      → ((hart : ℕ) (list : Vec Came A) → slice_get lists hart ≡ Some list → own_messages hart (message ∷ []) ≡ [])
+  adds_nothing : (message : Message) (lists : List (Vec ReceivedMessage A))
+      → ((hart : ℕ) (list : Vec ReceivedMessage A) → slice_get lists hart ≡ Some list → own_messages hart
+      (message ∷ []) ≡ [])
       → AddsArrival message lists lists
   adds_nothing message lists none = record {
     count = refl;
     each = λ hart before after at_before at_after.
         let same : after ≡ before = same_list after before (sym at_after ∙ at_before) in
-        ap (λ (l : Vec Came A). arrivals_in l.items) same ∙ sym (append-nil (arrivals_in before.items))
+        ap (λ (l : Vec ReceivedMessage A). arrivals_in l.items) same ∙ sym (append-nil (arrivals_in before.items))
         ∙ ap (λ l. arrivals_in before.items ++ placed_from (length before.items) l) (sym (none hart before at_before));
   }
 
-  pub adds_unnumbered : (message : Message) (lists : List (Vec Came A)) → has_number message ≡ false
+  pub adds_unnumbered : (message : Message) (lists : List (Vec ReceivedMessage A)) → has_number message ≡ false
       → AddsArrival message lists lists
   adds_unnumbered message lists none = adds_nothing message lists (λ hart list at. own_none hart message none)
 
-  pub adds_unknown : (message : Message) (lists : List (Vec Came A)) → length lists ≤ message.hart
+  pub adds_unknown : (message : Message) (lists : List (Vec ReceivedMessage A)) → length lists ≤ message.hart
       → AddsArrival message lists lists
   adds_unknown message lists over = adds_nothing message lists
       (λ hart list at. let within = slice_get_within lists hart list at in
       own_other hart message (λ is. omega (arith, within, over, is)))
 
   -- A message is added to the list of its hart.
-  pub adds_own : (message : Message) (lists : List (Vec Came A)) (list new : Vec Came A)
+  pub adds_own : (message : Message) (lists : List (Vec ReceivedMessage A)) (list new : Vec ReceivedMessage A)
       → has_number message ≡ true → slice_get lists message.hart ≡ Some list
       → arrivals_in new.items
       ≡ arrivals_in list.items ++ record { place = length list.items; message = message } ∷ []
@@ -103,20 +104,21 @@ module _ {A : Type 0} where
         (λ (is : (message.hart ≡ hart) × (after ≡ new)).
         let same : before ≡ list = same_list before list (sym at_before ∙ subst (λ h. slice_get lists h ≡ Some list)
         is.0 here) in
-        ap (λ (l : Vec Came A). arrivals_in l.items) is.1 ∙ added
-        ∙ ap (λ (l : Vec Came A). arrivals_in l.items ++ placed_from (length l.items) (message ∷ [])) (sym same)
+        ap (λ (l : Vec ReceivedMessage A). arrivals_in l.items) is.1 ∙ added
+        ∙ ap (λ (l : Vec ReceivedMessage A). arrivals_in l.items ++ placed_from (length l.items) (message ∷ []))
+        (sym same)
         ∙ ap (λ ms. arrivals_in before.items ++ placed_from (length before.items) ms)
         (sym (own_one hart message is.0 has)))
         (λ (is : (message.hart ≢ hart) × (slice_get lists hart ≡ Some after)).
         let same : after ≡ before = same_list after before (sym is.1 ∙ at_before) in
-        ap (λ (l : Vec Came A). arrivals_in l.items) same ∙ sym (append-nil (arrivals_in before.items))
+        ap (λ (l : Vec ReceivedMessage A). arrivals_in l.items) same ∙ sym (append-nil (arrivals_in before.items))
         ∙ ap (λ l. arrivals_in before.items ++ placed_from (length before.items) l)
         (sym (own_other hart message is.0)))
         (slice_get-set lists message.hart new hart after at_after);
   }
 
   -- One message more is distributed.
-  pub distributes_more : (messages : List Message) (i : ℕ) (message : Message) (old new : List (Vec Came A))
+  pub distributes_more : (messages : List Message) (i : ℕ) (message : Message) (old new : List (Vec ReceivedMessage A))
       → i < length messages → message ≡ slice_index_or messages i message
       → Distributes (take i messages) old → AddsArrival message old new → Distributes (take (i + 1) messages) new
   distributes_more messages i message old new within is before adds = record {
@@ -129,7 +131,7 @@ module _ {A : Type 0} where
       whole : take (i + 1) messages ≡ take i messages ++ message ∷ []
       whole = take_more messages i message within ∙ ap (λ m. take i messages ++ m ∷ []) (sym is)
 
-      by_old : (hart : ℕ) (list : Vec Came A) → slice_get new hart ≡ Some list → (found : _)
+      by_old : (hart : ℕ) (list : Vec ReceivedMessage A) → slice_get new hart ≡ Some list → (found : _)
           → slice_get old hart ≡ found → hart < length old
           → arrivals_in list.items ≡ placed_from 0 (own_messages hart (take (i + 1) messages))
       by_old hart list at (Some was) found known =

@@ -16,7 +16,7 @@ use Rattle.message.specs.OfHart.{of_hart}
 use Rattle.message.specs.declared.message.Message.{Message}
 use Rattle.salvaging.specs.Salvaged.{IsSalvaged}
 use Rattle.salvaging.specs.Strangers.{has_number, is_stranger, own_messages}
-use Rattle.salvaging.specs.declared.came.Came.{Came}
+use Rattle.salvaging.specs.declared.received.ReceivedMessage.{ReceivedMessage}
 use Rattle.salvaging.specs.declared.salvaged.Salvaged.{Salvaged}
 use Rattle.salvaging.specs.steps.Arrivals.{Arrival, HaveNumbers, arrivals_in, placed_from}
 use Rattle.salvaging.specs.steps.Distributing.{AreSalvagedOf, Distributes}
@@ -47,14 +47,15 @@ some_within (x ∷ xs) zero within = (x, refl)
 some_within (x ∷ xs) (suc i) within = some_within xs i (omega (arith, within))
 
 module _ {A : Type 0} where
-  pub distributed_small : (messages : List Message) (lists : List (Vec Came A)) → Distributes messages lists
-      → All (λ (list : Vec Came A). HaveNumbers (arrivals_in list.items)) lists
+  pub distributed_small : (messages : List Message) (lists : List (Vec ReceivedMessage A)) → Distributes messages lists
+      → All (λ (list : Vec ReceivedMessage A). HaveNumbers (arrivals_in list.items)) lists
   distributed_small messages lists d k default within =
       let list = slice_index_or lists k default in
       let at = slice_get_read lists (length lists) k list refl within (get_or_default lists k default list within) in
       subst HaveNumbers (sym (d.each k list at)) (have_numbers 0 (of_hart k messages))
 
-  pub all_salvaged : (words : Words) (mode : Mode) (harts : ℕ) (messages : List Message) (lists : List (Vec Came A))
+  pub all_salvaged : (words : Words) (mode : Mode) (harts : ℕ) (messages : List Message) (lists : List
+      (Vec ReceivedMessage A))
       (salvaged : Salvaged A) → length lists ≡ harts → Distributes messages lists
       → AreSalvagedOf words mode lists salvaged.harts.items
       → salvaged.strangers ≡ count_by (is_stranger harts) messages → IsSalvaged words mode harts messages salvaged

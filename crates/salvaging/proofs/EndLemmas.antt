@@ -1,6 +1,7 @@
 -- The end of a hart is looked for from its last entry to the first.
 use Rattle.std.proofs.Common.{◌≡◌, ◌≢◌, ℕ, ◌+◌, ◌≤◌, ◌++◌, ◌&&◌, ◌||◌, Bool, true, false, List, [], ◌∷◌, Option}
-use Rattle.std.proofs.Common.{Some, None, drop, length, map, take, if◌then◌else◌, refl, sym, ap, subst, ◌∙◌, arith, append_assoc}
+use Rattle.std.proofs.Common.{Some, None, drop, length, map, take, if◌then◌else◌, refl, sym, ap, subst, ◌∙◌, arith}
+use Rattle.std.proofs.Common.{append_assoc}
 use Rattle.std.proofs.Math.Seq.{drop-append_seam, drop-length, take-append_seam, take-length}
 use Rattle.std.proofs.lemmas.List.{append-nil, length-append, map-append, take-append-drop}
 use Rattle.std.specs.Prelude.{Ok}
@@ -14,13 +15,13 @@ use Rattle.decoder.specs.Resuming.{IsSync}
 use Rattle.losses.specs.Apart.{AreRising}
 use Rattle.salvaging.specs.Ends.{AreCutAtEnd, BeginsStretch, EndsAtLast, IsEnd, NoneBegins, NoneEnds}
 use Rattle.salvaging.specs.Entries.{Entry, Used, Doubtful, entry_number, next_used}
-use Rattle.salvaging.specs.declared.came.Came.{Came}
+use Rattle.salvaging.specs.declared.received.ReceivedMessage.{ReceivedMessage}
 use Rattle.salvaging.specs.steps.Arrivals.{Arrival, arrival_of, arrivals_in}
 use Rattle.salvaging.specs.steps.Ending.{closes, is_used}
 use Rattle.salvaging.specs.steps.Grouping.{AreOfOne, entries_by}
 use Rattle.salvaging.proofs.GroupParted.{begins_with_first, group_parted}
 
-abbrev entries_in : List Came → List Entry
+abbrev entries_in : List ReceivedMessage → List Entry
 entries_in came = entries_by (arrivals_in came)
 
 -- Whether there is a number.
@@ -106,8 +107,8 @@ apart_in_order from (entry ∷ front) one other later rising is =
 
 -- The entries after these messages were looked at. Among them no stretch begins, and this is the count of messages up
 -- to the lowest end.
-pub record EndSo (words : Words) (mode : Mode) (came rest : List Came) (end : ℕ) (used : Bool) : Type 0 where
-  pub tail : List Came
+pub record EndSo (words : Words) (mode : Mode) (came rest : List ReceivedMessage) (end : ℕ) (used : Bool) : Type 0 where
+  pub tail : List ReceivedMessage
   pub whole : came ≡ rest ++ tail
   pub parted : entries_in came ≡ entries_in rest ++ entries_in tail
   pub none : NoneBegins words mode (entries_in tail)
@@ -118,7 +119,7 @@ pub record EndSo (words : Words) (mode : Mode) (came rest : List Came) (end : �
   pub ends : EndsAtLast words mode between (entries_in (drop end came))
   pub within : end ≤ length came
 
-module _ (words : Words) (mode : Mode) (came : List Came) where
+module _ (words : Words) (mode : Mode) (came : List ReceivedMessage) where
   pub end_start : (end : ℕ) → end ≡ length came → EndSo words mode came came end false
   end_start end is = record {
     tail = [];
@@ -137,7 +138,7 @@ module _ (words : Words) (mode : Mode) (came : List Came) where
       none_left = ap (λ n. drop n came) is ∙ drop-length came
 
   -- The entries are those up to the end and those after it.
-  whole_at_end : (rest : List Came) (end : ℕ) (used : Bool) → (e : EndSo words mode came rest end used)
+  whole_at_end : (rest : List ReceivedMessage) (end : ℕ) (used : Bool) → (e : EndSo words mode came rest end used)
       → entries_in came ≡ entries_in (take end came) ++ entries_in (drop end came)
   whole_at_end rest end used e =
       e.parted ∙ ap (λ l. entries_in rest ++ l) e.later
@@ -145,7 +146,7 @@ module _ (words : Words) (mode : Mode) (came : List Came) where
       ∙ ap (λ l. l ++ entries_in (drop end came)) (sym e.front)
 
   -- All entries were looked at.
-  pub end_none : (rest : List Came) (end : ℕ) (used : Bool) → EndSo words mode came rest end used
+  pub end_none : (rest : List ReceivedMessage) (end : ℕ) (used : Bool) → EndSo words mode came rest end used
       → entries_in rest ≡ []
       → AreCutAtEnd words mode (entries_in came) (entries_in (take end came)) (entries_in (drop end came))
   end_none rest end used e none = record {
@@ -154,7 +155,8 @@ module _ (words : Words) (mode : Mode) (came : List Came) where
         (sym (e.front ∙ ap (λ l. l ++ e.between) none)) e.ends;
   }
 
-  module _ (rest : List Came) (end : ℕ) (used : Bool) (e : EndSo words mode came rest end used) (entry : Entry)
+  module _ (rest : List ReceivedMessage) (end : ℕ) (used : Bool) (e : EndSo words mode came rest end used)
+      (entry : Entry)
       (count : ℕ) (last : entries_in rest ≡ entries_in (take count rest) ++ entry ∷ []) where
     -- A stretch begins at the entry before them.
     pub end_begins : BeginsStretch words mode entry
@@ -170,7 +172,7 @@ module _ (words : Words) (mode : Mode) (came : List Came) where
 
     module _ (group : AreOfOne (arrivals_in (drop count rest)) entry)
         (rising : AreRising 0 (map entry_number (entries_in came))) where
-      abbrev more : List Came
+      abbrev more : List ReceivedMessage
       more = drop count rest ++ e.tail
 
       apart : (next : Arrival) (arrivals : List Arrival) → arrivals_in e.tail ≡ next ∷ arrivals
@@ -239,7 +241,7 @@ module _ (words : Words) (mode : Mode) (came : List Came) where
             (subst (λ l. EndsAtLast words mode (entry ∷ []) (entries_in l)) (sym behind) ends)
             (omega (arith, long))
 
-  pub end_next : (rest : List Came) (end : ℕ) (used : Bool) → (e : EndSo words mode came rest end used)
+  pub end_next : (rest : List ReceivedMessage) (end : ℕ) (used : Bool) → (e : EndSo words mode came rest end used)
       → (entry : Entry) (count : ℕ) → entries_in rest ≡ entries_in (take count rest) ++ entry ∷ []
       → AreOfOne (arrivals_in (drop count rest)) entry
       → AreRising 0 (map entry_number (entries_in came)) → ¬ BeginsStretch words mode entry

@@ -9,7 +9,7 @@ use Rattle.std.specs.declared.cmp.Ordering.TheVariants.{Less, Equal, Greater}
 use Rattle.std.proofs.lemmas.Bool.{cases_lt}
 use Rattle.std.proofs.lemmas.Cmp.{nat_list_cmp_total}
 use Rattle.message.specs.declared.message.Message.{Message}
-use Rattle.salvaging.specs.declared.came.Came.{Came}
+use Rattle.salvaging.specs.declared.received.ReceivedMessage.{ReceivedMessage}
 use Rattle.salvaging.specs.steps.Arrivals.{Arrival, AreOrdered, IsUpTo, arrival_of, arrivals_in}
 use Rattle.salvaging.specs.steps.Looking.{IsFirstLike, below_by, is_below}
 use Rattle.salvaging.proofs.Members.{IsIn, contains_of_in, in_of_contains}
@@ -104,13 +104,14 @@ not_below_like message own number payload (inr (is, less)) =
     cc
 
 -- By the places in the list.
-each_at : (P : Arrival → Type 0) (came : List Came) (k : ℕ) (d : Came) → Each P (arrivals_in came)
+each_at : (P : Arrival → Type 0) (came : List ReceivedMessage) (k : ℕ) (d : ReceivedMessage) → Each P (arrivals_in came)
     → k < length came → P (arrival_of (get_or came k d))
 each_at P [] k d each within = absurd (omega (arith, within))
 each_at P (one ∷ came) zero d each within = each.0
 each_at P (one ∷ came) (suc k) d each within = each_at P came k d each.1 (omega (arith, within))
 
-ordered_at : (came : List Came) (i j : ℕ) (d : Came) → AreOrdered (arrivals_in came) → i < j → j < length came
+ordered_at : (came : List ReceivedMessage) (i j : ℕ) (d : ReceivedMessage) → AreOrdered (arrivals_in came) → i < j
+    → j < length came
     → IsUpTo (arrival_of (get_or came i d)) (arrival_of (get_or came j d))
 ordered_at [] i j d ordered before within = absurd (omega (arith, within))
 ordered_at (one ∷ came) i zero d ordered before within = absurd (omega (arith, before))
@@ -121,12 +122,12 @@ ordered_at (one ∷ came) (suc i) (suc j) d ordered before within =
     ordered_at came i j d ordered.1 (omega (arith, before)) (omega (arith, within))
 
 -- Where one of them stands.
-pub record StandsAt (came : List Came) (own : Arrival) : Type 0 where
+pub record StandsAt (came : List ReceivedMessage) (own : Arrival) : Type 0 where
   pub at : ℕ
   pub within : at < length came
-  pub here : (d : Came) → arrival_of (get_or came at d) ≡ own
+  pub here : (d : ReceivedMessage) → arrival_of (get_or came at d) ≡ own
 
-stands_at : (came : List Came) (own : Arrival) → IsIn own (arrivals_in came) → StandsAt came own
+stands_at : (came : List ReceivedMessage) (own : Arrival) → IsIn own (arrivals_in came) → StandsAt came own
 stands_at [] own there = absurd there
 stands_at (one ∷ came) own (inl is) =
     record { at = 0; within = omega arith; here = λ d. sym is }
@@ -135,13 +136,15 @@ stands_at (one ∷ came) own (inr there) =
     let within = later.within in
     record { at = suc later.at; within = omega (arith, within); here = later.here }
 
-in_at : (came : List Came) (k : ℕ) (d : Came) → k < length came → IsIn (arrival_of (get_or came k d)) (arrivals_in came)
+in_at : (came : List ReceivedMessage) (k : ℕ) (d : ReceivedMessage) → k < length came → IsIn (arrival_of
+    (get_or came k d)) (arrivals_in came)
 in_at [] k d within = absurd (omega (arith, within))
 in_at (one ∷ came) zero d within = inl refl
 in_at (one ∷ came) (suc k) d within = inr (in_at came k d (omega (arith, within)))
 
 -- Those before one that comes before do so.
-pub parted : (message : Message) (came : List Came) → AreOrdered (arrivals_in came) → (i j : ℕ) (d : Came) → i ≤ j
+pub parted : (message : Message) (came : List ReceivedMessage) → AreOrdered (arrivals_in came) → (i j : ℕ)
+    (d : ReceivedMessage) → i ≤ j
     → j < length came → is_below message (arrival_of (get_or came j d)) ≡ true
     → is_below message (arrival_of (get_or came i d)) ≡ true
 parted message came ordered i j d upto within test = by_place (cases_lt i j)
@@ -155,12 +158,13 @@ parted message came ordered i j d upto within test = by_place (cases_lt i j)
         let same : j ≡ i = omega (arith, upto, over) in
         subst (λ k. is_below message (arrival_of (get_or came k d)) ≡ true) same test
 
-module _ (message : Message) (came : List Came) (ordered : AreOrdered (arrivals_in came)) (i : ℕ)
-    (before : (k : ℕ) (d : Came) → k < i → is_below message (arrival_of (get_or came k d)) ≡ true)
-    (behind : (k : ℕ) (d : Came) → i ≤ k → k < length came → is_below message (arrival_of (get_or came k d)) ≡ false) where
+module _ (message : Message) (came : List ReceivedMessage) (ordered : AreOrdered (arrivals_in came)) (i : ℕ)
+    (before : (k : ℕ) (d : ReceivedMessage) → k < i → is_below message (arrival_of (get_or came k d)) ≡ true)
+    (behind : (k : ℕ) (d : ReceivedMessage) → i ≤ k → k < length came → is_below message (arrival_of
+    (get_or came k d)) ≡ false) where
   -- One like the message does not stand before.
   no_sooner : (own : Arrival) → own.message.number ≡ message.number → own.message.payload ≡ message.payload
-      → (s : StandsAt came own) → (d : Came) → i ≤ s.at
+      → (s : StandsAt came own) → (d : ReceivedMessage) → i ≤ s.at
   no_sooner own number payload s d = by_place (cases_lt s.at i)
     where
       by_place : (s.at < i) ⊎ (i ≤ s.at) → i ≤ s.at
@@ -169,14 +173,16 @@ module _ (message : Message) (came : List Came) (ordered : AreOrdered (arrivals_
           let below = below_at message own (subst (λ a. is_below message a ≡ true) (s.here d) (before s.at d sooner)) in
           absurd (not_below_like message own number payload below)
 
-  up_to : (own : Arrival) (s : StandsAt came own) (d : Came) → i ≤ s.at → IsUpTo (arrival_of (get_or came i d)) own
+  up_to : (own : Arrival) (s : StandsAt came own) (d : ReceivedMessage) → i ≤ s.at → IsUpTo (arrival_of
+      (get_or came i d)) own
       ⊎ (arrival_of (get_or came i d) ≡ own)
   up_to own s d over = by_place (cases_lt i s.at)
     where
       by_place : (i < s.at) ⊎ (s.at ≤ i) → IsUpTo (arrival_of (get_or came i d)) own
           ⊎ (arrival_of (get_or came i d) ≡ own)
       by_place (inl sooner) =
-          inl (subst (IsUpTo (arrival_of (get_or came i d))) (s.here d) (ordered_at came i s.at d ordered sooner s.within))
+          inl (subst (IsUpTo (arrival_of (get_or came i d))) (s.here d)
+          (ordered_at came i s.at d ordered sooner s.within))
       by_place (inr under) =
           let same : s.at ≡ i = omega (arith, over, under) in
           inr (sym (ap (λ k. arrival_of (get_or came k d)) same) ∙ s.here d)
@@ -189,12 +195,12 @@ module _ (message : Message) (came : List Came) (ordered : AreOrdered (arrivals_
       by_came came s.at s.within
       (λ d. no_sooner own number payload s d)
     where
-      by_came : (cs : List Came) (at : ℕ) → at < length cs → ((d : Came) → i ≤ at) → i < length cs
+      by_came : (cs : List ReceivedMessage) (at : ℕ) → at < length cs → ((d : ReceivedMessage) → i ≤ at) → i < length cs
       by_came [] at within over = absurd (omega (arith, within))
       by_came (one ∷ cs) at within over = let sooner = over one in omega (arith, within, sooner)
 
   pub first_found : (own : Arrival) → Contains (arrivals_in came) own → own.message.number ≡ message.number
-      → own.message.payload ≡ message.payload → (d : Came)
+      → own.message.payload ≡ message.payload → (d : ReceivedMessage)
       → IsFirstLike (arrivals_in came) message (Some (arrival_of (get_or came i d)).place)
   first_found own there number payload d =
       let s = stands_at came own (in_of_contains (arrivals_in came) own there) in

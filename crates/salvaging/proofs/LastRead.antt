@@ -3,24 +3,25 @@ use Rattle.std.proofs.Common.{◌≡◌, ◌≢◌, ℕ, ◌+◌, ◌-◌, ◌�
 use Rattle.std.proofs.Common.{refl, sym, ap, subst, ◌∙◌, arith, append_assoc}
 use Rattle.std.proofs.lemmas.List.{append-nil, length-drop, map-append, take-append-drop, take_all, take_more}
 use Rattle.salvaging.specs.Entries.{Entry}
-use Rattle.salvaging.specs.declared.came.Came.{Came}
+use Rattle.salvaging.specs.declared.received.ReceivedMessage.{ReceivedMessage}
 use Rattle.salvaging.specs.steps.Arrivals.{Arrival, arrival_of, arrivals_in}
 use Rattle.salvaging.specs.steps.Grouping.{AreOfOne, HaveOne, IsLastGroup, entries_by}
 use Rattle.salvaging.proofs.EntriesParted.{one_entry, parted}
 use Rattle.salvaging.proofs.GroupParted.{number_of_first}
 
 -- The messages up to a place.
-up_to_place : (came : List Came) (at : ℕ) (one : Came) → at < length came → one ≡ get_or came at one
+up_to_place : (came : List ReceivedMessage) (at : ℕ) (one : ReceivedMessage) → at < length came
+    → one ≡ get_or came at one
     → take (at + 1) came ≡ take at came ++ one ∷ []
 up_to_place came at one within is = take_more came at one within ∙ ap (λ o. take at came ++ o ∷ []) (sym is)
 
 -- The messages from this place on are read, which have the last number.
-pub record ReadsLast (came : List Came) (number at : ℕ) : Type 0 where
+pub record ReadsLast (came : List ReceivedMessage) (number at : ℕ) : Type 0 where
   pub group : List Arrival
   pub whole : arrivals_in came ≡ arrivals_in (take at came) ++ group
   pub numbers : HaveOne number group
 
-pub reads_last : (came : List Came) (last : Came) → 0 < length came
+pub reads_last : (came : List ReceivedMessage) (last : ReceivedMessage) → 0 < length came
     → last ≡ get_or came (length came - 1) last → ReadsLast came last.message.now.number (length came - 1)
 reads_last came last some is =
     let back : length came ≡ length came - 1 + 1 = omega (arith, some) in
@@ -42,7 +43,7 @@ rest_same : {X : Type 0} (xs ys zs : List X) → xs ++ ys ≡ xs ++ zs → ys �
 rest_same [] ys zs is = is
 rest_same (x ∷ xs) ys zs is = let rest : xs ++ ys ≡ xs ++ zs = cc in rest_same xs ys zs rest
 
-module _ (came : List Came) (number at : ℕ) (r : ReadsLast came number at) where
+module _ (came : List ReceivedMessage) (number at : ℕ) (r : ReadsLast came number at) where
   -- The messages that are read are those from the place on.
   group_is : arrivals_in (drop at came) ≡ r.group
   group_is =
@@ -62,7 +63,8 @@ module _ (came : List Came) (number at : ℕ) (r : ReadsLast came number at) whe
     parted = refl;
   }
 
-  module _ (before : Came) (some : 0 < at) (within : at ≤ length came) (is : before ≡ get_or came (at - 1) before) where
+  module _ (before : ReceivedMessage) (some : 0 < at) (within : at ≤ length came) (is : before ≡ get_or came
+      (at - 1) before) where
     split : arrivals_in (take at came) ≡ arrivals_in (take (at - 1) came) ++ arrival_of before ∷ []
     split =
         let back : at ≡ at - 1 + 1 = omega (arith, some) in
@@ -107,11 +109,11 @@ the_only_one number (first ∷ group) entry later have is =
     one.1 ∙ ap (λ e. e ∷ []) (sym same)
 
 -- Without an entry of the last number there is none at all.
-pub last_none : (came : List Came) (front : ℕ) → IsLastGroup came front
+pub last_none : (came : List ReceivedMessage) (front : ℕ) → IsLastGroup came front
     → entries_by (arrivals_in (drop front came)) ≡ [] → entries_by (arrivals_in came) ≡ []
 last_none came front g none = by_group (drop front came) refl
   where
-    by_group : (group : List Came) → drop front came ≡ group → entries_by (arrivals_in came) ≡ []
+    by_group : (group : List ReceivedMessage) → drop front came ≡ group → entries_by (arrivals_in came) ≡ []
     by_group [] is =
         let long = sym (length-drop front came) ∙ ap length is in
         let within = g.within in
@@ -123,7 +125,7 @@ last_none came front g none = by_group (drop front came) refl
         cc
 
 -- The messages of the last number, and their entry.
-module _ (came : List Came) (front : ℕ) (g : IsLastGroup came front) (entry : Entry) (later : List Entry)
+module _ (came : List ReceivedMessage) (front : ℕ) (g : IsLastGroup came front) (entry : Entry) (later : List Entry)
     (is : entries_by (arrivals_in (drop front came)) ≡ entry ∷ later) where
   only : entries_by (arrivals_in (drop front came)) ≡ entry ∷ []
   only = the_only_one g.number (arrivals_in (drop front came)) entry later g.have is

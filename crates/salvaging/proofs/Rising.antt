@@ -2,15 +2,15 @@
 use Rattle.std.proofs.Common.{◌≡◌, ℕ, zero, suc, ◌+◌, ◌<◌, List, [], ◌∷◌, length, get_or, subst, arith}
 use Rattle.std.specs.List.{AllAdjacentBelow}
 use Rattle.std.proofs.lemmas.List.Elements.{All-map}
-use Rattle.salvaging.specs.declared.came.Came.{Came}
+use Rattle.salvaging.specs.declared.received.ReceivedMessage.{ReceivedMessage}
 use Rattle.salvaging.specs.steps.Arrivals.{Arrival, Rise, arrivals_in, arrival_of}
 
 -- The number of the first is below that of the other.
-abbrev pub IsBelow : Came → Came → Type 0
+abbrev pub IsBelow : ReceivedMessage → ReceivedMessage → Type 0
 IsBelow one other = one.message.now.number < other.message.now.number
 
 -- The later ones rise too.
-later_adjacent : (first : Came) (came : List Came)
+later_adjacent : (first : ReceivedMessage) (came : List ReceivedMessage)
     → AllAdjacentBelow IsBelow (first ∷ came) (length (first ∷ came)) → AllAdjacentBelow IsBelow came (length came)
 later_adjacent first came adjacent k d within =
     let on : suc k + 1 ≡ suc (k + 1) = omega arith in
@@ -18,8 +18,9 @@ later_adjacent first came adjacent k d within =
     (adjacent (suc k) d (omega (arith, within)))
 
 -- The number of a message is below those behind it.
-below_all : (first : Came) (came : List Came) → AllAdjacentBelow IsBelow (first ∷ came) (length (first ∷ came))
-    → (k : ℕ) (d : Came) → k < length came → IsBelow first (get_or came k d)
+below_all : (first : ReceivedMessage) (came : List ReceivedMessage) → AllAdjacentBelow IsBelow (first ∷ came) (length
+    (first ∷ came))
+    → (k : ℕ) (d : ReceivedMessage) → k < length came → IsBelow first (get_or came k d)
 below_all first came adjacent zero d within = adjacent 0 d (omega (arith, within))
 below_all first came adjacent (suc k) d within =
     let before = below_all first came adjacent k d (omega (arith, within)) in
@@ -28,7 +29,7 @@ below_all first came adjacent (suc k) d within =
     (later_adjacent first came adjacent k d (omega (arith, within))) in
     omega (arith, before, next)
 
-pub rises : (came : List Came) → AllAdjacentBelow IsBelow came (length came) → Rise (arrivals_in came)
+pub rises : (came : List ReceivedMessage) → AllAdjacentBelow IsBelow came (length came) → Rise (arrivals_in came)
 rises [] adjacent = tt
 rises (first ∷ came) adjacent = (
   All-map (λ (other : Arrival). first.message.now.number < other.message.number) arrival_of came

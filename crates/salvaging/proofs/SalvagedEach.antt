@@ -8,7 +8,7 @@ use Rattle.rvclass.specs.Words.{Words}
 use Rattle.payload.specs.declared.mode.Mode.{Mode}
 use Rattle.message.specs.declared.message.Message.{Message}
 use Rattle.salvaging.specs.Salvaged.{IsSalvagedHart}
-use Rattle.salvaging.specs.declared.came.Came.{Came}
+use Rattle.salvaging.specs.declared.received.ReceivedMessage.{ReceivedMessage}
 use Rattle.salvaging.specs.declared.salvaged.SalvagedHart.{SalvagedHart}
 use Rattle.salvaging.specs.steps.Arrivals.{arrivals_in, placed_from}
 
@@ -22,15 +22,17 @@ slice_get-push (z ∷ xs) y (suc k) x is =
     ⊎_elim (λ here. inl here) (λ last. inr (ap suc last.0, last.1)) (slice_get-push xs y k x is)
 
 -- One hart more is salvaged.
-pub salvaged_more : {A : Type 0} (words : Words) (mode : Mode) (lists : List (Vec Came A))
-    (harts new : List (SalvagedHart A)) (i : ℕ) (list : Vec Came A) (own : SalvagedHart A) → length harts ≡ i
+pub salvaged_more : {A : Type 0} (words : Words) (mode : Mode) (lists : List (Vec ReceivedMessage A))
+    (harts new : List (SalvagedHart A)) (i : ℕ) (list : Vec ReceivedMessage A) (own : SalvagedHart A) → length harts ≡ i
     → slice_get lists i ≡ Some list → new ≡ harts ++ own ∷ []
     → ((messages : List Message) → arrivals_in list.items ≡ placed_from 0 messages
     → IsSalvagedHart words mode messages own)
-    → ((k : ℕ) (one : Vec Came A) (other : SalvagedHart A) (messages : List Message) → slice_get lists k ≡ Some one
+    → ((k : ℕ) (one : Vec ReceivedMessage A) (other : SalvagedHart A) (messages : List Message)
+    → slice_get lists k ≡ Some one
     → slice_get harts k ≡ Some other → arrivals_in one.items ≡ placed_from 0 messages
     → IsSalvagedHart words mode messages other)
-    → (k : ℕ) (one : Vec Came A) (other : SalvagedHart A) (messages : List Message) → slice_get lists k ≡ Some one
+    → (k : ℕ) (one : Vec ReceivedMessage A) (other : SalvagedHart A) (messages : List Message)
+    → slice_get lists k ≡ Some one
     → slice_get new k ≡ Some other → arrivals_in one.items ≡ placed_from 0 messages
     → IsSalvagedHart words mode messages other
 salvaged_more words mode lists harts new i list own count at is salvaged before k one other messages at_one at_other
@@ -41,5 +43,5 @@ salvaged_more words mode lists harts new i list own count at is salvaged before 
     let here : slice_get lists i ≡ Some one = subst (λ n. slice_get lists n ≡ Some one) (last.0 ∙ count) at_one in
     let same : one ≡ list = same_Some one list (sym here ∙ at) in
     subst (IsSalvagedHart words mode messages) (sym last.1)
-    (salvaged messages (ap (λ (v : Vec Came _). arrivals_in v.items) (sym same) ∙ placed)))
+    (salvaged messages (ap (λ (v : Vec ReceivedMessage _). arrivals_in v.items) (sym same) ∙ placed)))
     (slice_get-push harts own k other (subst (λ l. slice_get l k ≡ Some other) is at_other))

@@ -10,14 +10,14 @@ use Rattle.salvaging.specs.Entries.{Entry, Used, Doubtful, next_used}
 use Rattle.salvaging.specs.LeftParts.{LeftPart, Missing, Events, BadNumber, DoubtfulNumber, AloneNumber}
 use Rattle.salvaging.specs.Shares.{Share, AllShareBeyond, SharesBeyond}
 use Rattle.salvaging.specs.Treatments.{treatment_of}
-use Rattle.salvaging.specs.declared.came.Came.{Came}
+use Rattle.salvaging.specs.declared.received.ReceivedMessage.{ReceivedMessage}
 use Rattle.salvaging.specs.declared.treatment.Treatment.{Treatment}
 use Rattle.salvaging.specs.steps.Arrivals.{arrivals_in}
 use Rattle.salvaging.specs.steps.Grouping.{entries_by}
 use Rattle.salvaging.specs.steps.Sharing.{share_of_part}
 use Rattle.salvaging.proofs.TakenSoFar.{behind, behind-is}
 
-abbrev entries_in : List Came → List Entry
+abbrev entries_in : List ReceivedMessage → List Entry
 entries_in came = entries_by (arrivals_in came)
 
 -- What an entry does is what its part says.
@@ -37,7 +37,7 @@ shares_by_part words mode (Doubtful number first second) following (BadNumber ba
 shares_by_part words mode (Doubtful number first second) following (AloneNumber alone at) leaves = absurd leaves
 
 -- The messages before these are taken.
-pub record SharedBeyond (words : Words) (mode : Mode) (came rest : List Came) (old new : List Treatment)
+pub record SharedBeyond (words : Words) (mode : Mode) (came rest : List ReceivedMessage) (old new : List Treatment)
     : Type 0 where
   pub shorter : length rest ≤ length came
   pub shares : List Share
@@ -45,7 +45,7 @@ pub record SharedBeyond (words : Words) (mode : Mode) (came rest : List Came) (o
   pub share : (more : List Share) → AllShareBeyond words mode (entries_in rest) more
       → AllShareBeyond words mode (entries_in came) (shares ++ more)
 
-module _ (words : Words) (mode : Mode) (came : List Came) (first : List Treatment) where
+module _ (words : Words) (mode : Mode) (came : List ReceivedMessage) (first : List Treatment) where
   pub beyond_start : SharedBeyond words mode came came first first
   beyond_start = record {
     shorter = omega arith;
@@ -54,7 +54,8 @@ module _ (words : Words) (mode : Mode) (came : List Came) (first : List Treatmen
     share = λ more further. further;
   }
 
-  pub beyond_next : (rest : List Came) (old new : List Treatment) → SharedBeyond words mode came rest first old
+  pub beyond_next : (rest : List ReceivedMessage) (old new : List Treatment)
+      → SharedBeyond words mode came rest first old
       → (entry : Entry) (count : ℕ) → entries_in rest ≡ entry ∷ entries_in (drop count rest) → (part : LeftPart)
       → LeavesBeyond words mode entry (next_used (entries_in (behind rest count))) part
       → new ≡ old ++ treatment_of (share_of_part part) ∷ [] → SharedBeyond words mode came (behind rest count) first new
@@ -77,7 +78,7 @@ module _ (words : Words) (mode : Mode) (came : List Came) (first : List Treatmen
             (shares_by_part words mode entry (next_used later) part leaves, further)));
       }
 
-  pub beyond_end : (rest : List Came) (new : List Treatment) → SharedBeyond words mode came rest first new
+  pub beyond_end : (rest : List ReceivedMessage) (new : List Treatment) → SharedBeyond words mode came rest first new
       → entries_in rest ≡ []
       → (shares : List Share) × (new ≡ first ++ map treatment_of shares)
       × AllShareBeyond words mode (entries_in came) shares

@@ -11,7 +11,7 @@ use Rattle.message.specs.Harts.{end_of_numbers}
 use Rattle.salvaging.specs.Entries.{Entry, entry_number}
 use Rattle.salvaging.specs.Shares.{Share, EntriesShare}
 use Rattle.salvaging.specs.Treatments.{treatment_of}
-use Rattle.salvaging.specs.declared.came.Came.{Came}
+use Rattle.salvaging.specs.declared.received.ReceivedMessage.{ReceivedMessage}
 use Rattle.salvaging.specs.declared.trail.Trail.{Trail}
 use Rattle.salvaging.specs.declared.treatment.Treatment.{Treatment}
 use Rattle.salvaging.specs.steps.Arrivals.{arrivals_in}
@@ -20,11 +20,12 @@ use Rattle.salvaging.specs.steps.Sharing.{SharesEntries}
 use Rattle.salvaging.specs.steps.UnderWay.{IsUnderWay}
 use Rattle.salvaging.proofs.TakenSoFar.{behind, behind-is}
 
-abbrev entries_in : List Came → List Entry
+abbrev entries_in : List ReceivedMessage → List Entry
 entries_in came = entries_by (arrivals_in came)
 
 -- Of a hart's messages those before these are taken, and this is what they do.
-pub record SharedSo {A : Type 0} (words : Words) (mode : Mode) (came rest : List Came) (treatments : List Treatment)
+pub record SharedSo {A : Type 0} (words : Words) (mode : Mode) (came rest : List ReceivedMessage)
+    (treatments : List Treatment)
     (trail : Trail A) : Type 0 where
   pub shorter : length rest ≤ length came
   pub small : AreSmall (entries_in rest)
@@ -33,7 +34,7 @@ pub record SharedSo {A : Type 0} (words : Words) (mode : Mode) (came rest : List
   pub treated : treatments ≡ map treatment_of shares
   pub shared : SharesEntries words mode (entries_in came) done shares (entries_in rest) trail
 
-module _ {A : Type 0} (words : Words) (mode : Mode) (came : List Came) where
+module _ {A : Type 0} (words : Words) (mode : Mode) (came : List ReceivedMessage) where
   pub shared_start : (trail : Trail A) (treatments : List Treatment) → treatments ≡ []
       → IsUnderWay words mode mode first_run 0 false trail → trail.next ≡ 0
       → AreRising 0 (map entry_number (entries_in came)) → AreSmall (entries_in came)
@@ -56,7 +57,8 @@ module _ {A : Type 0} (words : Words) (mode : Mode) (came : List Came) where
     };
   }
 
-  pub shared_next : (rest : List Came) (old new : Trail A) (treatments more : List Treatment) (one : Treatment)
+  pub shared_next : (rest : List ReceivedMessage) (old new : Trail A) (treatments more : List Treatment)
+      (one : Treatment)
       → SharedSo words mode came rest treatments old → (entry : Entry) (count : ℕ)
       → entries_in rest ≡ entry ∷ entries_in (drop count rest)
       → ((all done : List Entry) (shares : List Share)
@@ -84,13 +86,13 @@ module _ {A : Type 0} (words : Words) (mode : Mode) (came : List Came) where
       }
 
   -- The first entry's number is not below the next one.
-  pub next_above : (rest : List Came) (trail : Trail A) (treatments : List Treatment)
+  pub next_above : (rest : List ReceivedMessage) (trail : Trail A) (treatments : List Treatment)
       → SharedSo words mode came rest treatments trail → (entry : Entry) (later : List Entry)
       → entries_in rest ≡ entry ∷ later → trail.next ≤ entry_number entry
   next_above rest trail treatments t entry later first =
       (subst (λ es. AreRising trail.next (map entry_number es)) first t.shared.rising).0
 
-  pub shared_end : (rest : List Came) (trail : Trail A) (treatments : List Treatment)
+  pub shared_end : (rest : List ReceivedMessage) (trail : Trail A) (treatments : List Treatment)
       → SharedSo words mode came rest treatments trail → entries_in rest ≡ []
       → (shares : List Share) × (treatments ≡ map treatment_of shares)
       × EntriesShare words mode first_run 0 (entries_in came) shares

@@ -17,7 +17,7 @@ use Rattle.std.proofs.lemmas.Cmp.{nat_cmp_total, nat_list_cmp_total, on_total, t
 use Rattle.std.proofs.lemmas.List.Elements.{All-map, All-weaker}
 use Rattle.std.proofs.lemmas.List.Sorted.{ranks_by, sorted_far}
 use Rattle.std.specs.FinMap.{nat_cmp-IsAntisymmetric, slice_cmp-IsAntisymmetric}
-use Rattle.salvaging.specs.declared.came.Came.{Came}
+use Rattle.salvaging.specs.declared.received.ReceivedMessage.{ReceivedMessage}
 use Rattle.salvaging.specs.steps.Arrivals.{Arrival, AreOrdered, IsUpTo, Rise, arrival_cmp, arrival_of, arrivals_in}
 
 pub arrivals_total : IsTotalOrder arrival_cmp
@@ -85,8 +85,8 @@ up_to one other is = by_place (cases_lt one.message.number other.message.number)
             (sym (ap (λ o. is_lt (ordering_then o (by_payload_cmp other one))) equal) ∙ is)
 
 -- Each of sorted messages stands before those behind it.
-ordered_by : (came : List Came)
-    → ((i j : ℕ) (d : Came) → i < j → j < length came
+ordered_by : (came : List ReceivedMessage)
+    → ((i j : ℕ) (d : ReceivedMessage) → i < j → j < length came
     → is_lt (arrival_cmp (arrival_of (get_or came j d)) (arrival_of (get_or came i d))) ≡ false)
     → AreOrdered (arrivals_in came)
 ordered_by [] far = tt
@@ -97,10 +97,10 @@ ordered_by (first ∷ came) far = (
   ordered_by came (λ i j d below within. far (suc i) (suc j) d (omega (arith, below)) (omega (arith, within))),
 )
 
-abbrev pub is_before : Came → Came → Bool
+abbrev pub is_before : ReceivedMessage → ReceivedMessage → Bool
 is_before one other = is_lt (arrival_cmp (arrival_of one) (arrival_of other))
 
-pub ordered_of_sorted : (came : List Came) → IsSortedBy is_before came → AreOrdered (arrivals_in came)
+pub ordered_of_sorted : (came : List ReceivedMessage) → IsSortedBy is_before came → AreOrdered (arrivals_in came)
 ordered_of_sorted came sorted =
     ordered_by came (λ i j d below within.
     sorted_far is_before (ranks_by arrivals_total arrival_of) came sorted i j d (omega (arith, below)) within)
@@ -115,10 +115,11 @@ ordered_of_rising (first ∷ arrivals) (below, rise) = (
 )
 
 -- What a sort by the order of messages leaves is in order.
-pub ordered_from_sort : {F : Type 0} {g : Mut F (Bor Came × (Bor Came × Unit {0})) Ordering} {f : F}
-    (came : List Came)
-    → ((lt : Came → Came → Bool) → IsStrictWeakOrder lt → ComparesAs g lt f → IsSortedBy lt came)
-    → ((a : Bor Came × (Bor Came × Unit {0})) (r : Ordering) (after : F) → Called g f a r after
+pub ordered_from_sort : {F : Type 0} {g : Mut F (Bor ReceivedMessage × (Bor ReceivedMessage
+    × Unit {0})) Ordering} {f : F}
+    (came : List ReceivedMessage)
+    → ((lt : ReceivedMessage → ReceivedMessage → Bool) → IsStrictWeakOrder lt → ComparesAs g lt f → IsSortedBy lt came)
+    → ((a : Bor ReceivedMessage × (Bor ReceivedMessage × Unit {0})) (r : Ordering) (after : F) → Called g f a r after
     → (r ≡ arrival_cmp (arrival_of a.0.now) (arrival_of a.1.0.now)) × (after ≡ f))
     → AreOrdered (arrivals_in came)
 ordered_from_sort {g = g} {f = f} came sorted calls =

@@ -8,21 +8,23 @@ use Rattle.rvclass.specs.Words.{Words}
 use Rattle.payload.specs.declared.mode.Mode.{Mode}
 use Rattle.message.specs.declared.message.Message.{Message}
 use Rattle.salvaging.specs.steps.SortedOut.{IsSortedOut}
-use Rattle.salvaging.specs.declared.came.Came.{Came}
+use Rattle.salvaging.specs.declared.received.ReceivedMessage.{ReceivedMessage}
 use Rattle.salvaging.specs.declared.sorting_out.HartRows.{HartRows}
 use Rattle.salvaging.proofs.SalvagedEach.{slice_get-push}
 use Rattle.salvaging.specs.steps.Arrivals.{arrivals_in, placed_from}
 
 -- One hart more is sorted out.
-pub sorted_more : {A : Type 0} (words : Words) (mode : Mode) (lists : List (Vec Came A))
-    (harts new : List (HartRows A)) (i : ℕ) (list : Vec Came A) (own : HartRows A) → length harts ≡ i
+pub sorted_more : {A : Type 0} (words : Words) (mode : Mode) (lists : List (Vec ReceivedMessage A))
+    (harts new : List (HartRows A)) (i : ℕ) (list : Vec ReceivedMessage A) (own : HartRows A) → length harts ≡ i
     → slice_get lists i ≡ Some list → new ≡ harts ++ own ∷ []
     → ((messages : List Message) → arrivals_in list.items ≡ placed_from 0 messages
     → IsSortedOut words mode messages own)
-    → ((k : ℕ) (one : Vec Came A) (other : HartRows A) (messages : List Message) → slice_get lists k ≡ Some one
+    → ((k : ℕ) (one : Vec ReceivedMessage A) (other : HartRows A) (messages : List Message)
+    → slice_get lists k ≡ Some one
     → slice_get harts k ≡ Some other → arrivals_in one.items ≡ placed_from 0 messages
     → IsSortedOut words mode messages other)
-    → (k : ℕ) (one : Vec Came A) (other : HartRows A) (messages : List Message) → slice_get lists k ≡ Some one
+    → (k : ℕ) (one : Vec ReceivedMessage A) (other : HartRows A) (messages : List Message)
+    → slice_get lists k ≡ Some one
     → slice_get new k ≡ Some other → arrivals_in one.items ≡ placed_from 0 messages
     → IsSortedOut words mode messages other
 sorted_more words mode lists harts new i list own count at is salvaged before k one other messages at_one at_other
@@ -33,5 +35,5 @@ sorted_more words mode lists harts new i list own count at is salvaged before k 
     let here : slice_get lists i ≡ Some one = subst (λ n. slice_get lists n ≡ Some one) (last.0 ∙ count) at_one in
     let same : one ≡ list = same_Some one list (sym here ∙ at) in
     subst (IsSortedOut words mode messages) (sym last.1)
-    (salvaged messages (ap (λ (v : Vec Came _). arrivals_in v.items) (sym same) ∙ placed)))
+    (salvaged messages (ap (λ (v : Vec ReceivedMessage _). arrivals_in v.items) (sym same) ∙ placed)))
     (slice_get-push harts own k other (subst (λ l. slice_get l k ≡ Some other) is at_other))

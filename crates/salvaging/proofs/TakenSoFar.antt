@@ -9,7 +9,7 @@ use Rattle.losses.specs.Apart.{AreRising}
 use Rattle.losses.specs.Runs.{first_run}
 use Rattle.message.specs.Harts.{end_of_numbers}
 use Rattle.salvaging.specs.Entries.{Entry, entry_number}
-use Rattle.salvaging.specs.declared.came.Came.{Came}
+use Rattle.salvaging.specs.declared.received.ReceivedMessage.{ReceivedMessage}
 use Rattle.salvaging.specs.declared.trail.Trail.{Trail}
 use Rattle.salvaging.specs.steps.Arrivals.{arrivals_in}
 use Rattle.salvaging.specs.steps.Grouping.{AreSmall, entries_by}
@@ -17,31 +17,32 @@ use Rattle.salvaging.specs.steps.Trails.{TakesEntries}
 use Rattle.salvaging.specs.steps.UnderWay.{IsUnderWay}
 use Rattle.salvaging.proofs.EntriesTaken.{none_taken}
 
-abbrev entries_in : List Came → List Entry
+abbrev entries_in : List ReceivedMessage → List Entry
 entries_in came = entries_by (arrivals_in came)
 
 -- The messages behind so many.
-abbrev pub behind : List Came → ℕ → List Came
+abbrev pub behind : List ReceivedMessage → ℕ → List ReceivedMessage
 behind rest count = take (length rest - count) (drop count rest)
 
-pub behind-is : (rest : List Came) (count : ℕ) → behind rest count ≡ drop count rest
+pub behind-is : (rest : List ReceivedMessage) (count : ℕ) → behind rest count ≡ drop count rest
 behind-is rest count =
     let long = length-drop count rest in take_all (length rest - count) (drop count rest) (omega (arith, long))
 
 -- The number of the first entry is one that a hart may have.
-pub small_next : (rest : List Came) (entry : Entry) (later : List Entry) → entries_in rest ≡ entry ∷ later
+pub small_next : (rest : List ReceivedMessage) (entry : Entry) (later : List Entry) → entries_in rest ≡ entry ∷ later
     → AreSmall (entries_in rest) → entry_number entry < end_of_numbers
 small_next rest entry later first small =
     All-head (λ (one : Entry). entry_number one < end_of_numbers) entry later (subst AreSmall first small)
 
 -- Of a hart's messages those before these are taken.
-pub record TakenSo {A : Type 0} (words : Words) (mode : Mode) (came rest : List Came) (trail : Trail A) : Type 0 where
+pub record TakenSo {A : Type 0} (words : Words) (mode : Mode) (came rest : List ReceivedMessage)
+    (trail : Trail A) : Type 0 where
   pub shorter : length rest ≤ length came
   pub small : AreSmall (entries_in rest)
   pub done : List Entry
   pub taken : TakesEntries words mode (entries_in came) done (entries_in rest) trail
 
-module _ {A : Type 0} (words : Words) (mode : Mode) (came : List Came) where
+module _ {A : Type 0} (words : Words) (mode : Mode) (came : List ReceivedMessage) where
   pub taken_start : (trail : Trail A) → IsUnderWay words mode mode first_run 0 false trail → trail.next ≡ 0
       → trail.parts.items ≡ [] → trail.goods.items ≡ [] → AreRising 0 (map entry_number (entries_in came))
       → AreSmall (entries_in came) → TakenSo words mode came came trail
@@ -52,7 +53,8 @@ module _ {A : Type 0} (words : Words) (mode : Mode) (came : List Came) where
     taken = none_taken words mode (entries_in came) trail u at parts goods rising;
   }
 
-  pub taken_next : (rest : List Came) (old new : Trail A) → TakenSo words mode came rest old → (entry : Entry)
+  pub taken_next : (rest : List ReceivedMessage) (old new : Trail A) → TakenSo words mode came rest old →
+      (entry : Entry)
       (count : ℕ) → entries_in rest ≡ entry ∷ entries_in (drop count rest)
       → ((all done : List Entry) → TakesEntries words mode all done (entry ∷ entries_in (behind rest count)) old
       → TakesEntries words mode all (done ++ entry ∷ []) (entries_in (behind rest count)) new)

@@ -1,6 +1,8 @@
 -- The messages of a capture are treated one after the other.
-use Rattle.std.proofs.Common.{◌≡◌, ◌<◌, ◌≤◌, inl, inr, ℕ, zero, suc, ◌+◌, ◌++◌, ◌&&◌, ◌==◌, All, Bool, true, false, cond, List}
-use Rattle.std.proofs.Common.{[], ◌∷◌, ◌^◌, Contains, Some, drop, length, slice_get, refl, sym, ap, subst, ◌∙◌, arith, take}
+use Rattle.std.proofs.Common.{◌≡◌, ◌<◌, ◌≤◌, inl, inr, ℕ, zero, suc, ◌+◌, ◌++◌, ◌&&◌, ◌==◌, All, Bool, true, false}
+use Rattle.std.proofs.Common.{cond, List}
+use Rattle.std.proofs.Common.{[], ◌∷◌, ◌^◌, Contains, Some, drop, length, slice_get, refl, sym, ap, subst, ◌∙◌, arith}
+use Rattle.std.proofs.Common.{take}
 use Rattle.std.proofs.Common.{slice_index_or, ⊎_elim}
 use Rattle.std.specs.Prelude.{◌≢◌, nat_lt, not}
 use Rattle.std.specs.List.{filter}
@@ -16,7 +18,7 @@ use Rattle.message.specs.declared.message.Message.{Message}
 use Rattle.message.proofs.AcceptedLemmas.{slice_get-set}
 use Rattle.salvaging.specs.Strangers.{has_number, is_stranger, own_messages}
 use Rattle.salvaging.specs.Treatments.{AreTreated, hart_rows, own_place, stranger}
-use Rattle.salvaging.specs.declared.came.Came.{Came}
+use Rattle.salvaging.specs.declared.received.ReceivedMessage.{ReceivedMessage}
 use Rattle.salvaging.specs.declared.sorting_out.HartRows.{HartRows}
 use Rattle.salvaging.specs.declared.treatment.Treated.{Treated}
 use Rattle.salvaging.specs.steps.Distributing.{Distributes}
@@ -196,7 +198,8 @@ module _ {A : Type 0} (harts : ℕ) (messages : List Message) (sorted : List (Ha
               (own_one message.hart message refl own.1)) ∙ length_push (own_messages message.hart (take at messages))
               message in
               let last = same.1 in
-              subst (λ h. n ≡ length (own_messages h (take (at + 1) messages))) same.0 (omega (arith, so_far, parts, last)))
+              subst (λ h. n ≡ length (own_messages h (take (at + 1) messages))) same.0 (omega
+              (arith, so_far, parts, last)))
               (λ (other : (message.hart ≢ hart) × (slice_get counts hart ≡ Some n)).
               t.counted hart n other.1
               ∙ sym (ap length (own_more hart ∙ ap (λ l. own_messages hart (take at messages) ++ l)
@@ -264,7 +267,8 @@ module _ {A : Type 0} (harts : ℕ) (messages : List Message) (sorted : List (Ha
         let here = own_at k message at_message (others_own harts message test) in
         t.others k message one own.0 at_message at_one test own.1 (own_messages message.hart messages)
         (hart_rows is.treats) is.permuted is.ordered is.back is.rising
-        (is.among message (contains_at (own_messages message.hart messages) (own_place messages k message) message here))
+        (is.among message (contains_at (own_messages message.hart messages)
+        (own_place messages k message) message here))
         here;
   }
     where
@@ -291,7 +295,8 @@ module _ {A : Type 0} (harts : ℕ) (messages : List Message) (sorted : List (Ha
               (own_one message.hart message refl own.1))
 
 -- Each hart is sorted out by its own messages.
-pub all_sorted : {A : Type 0} (words : Words) (mode : Mode) (messages : List Message) (lists : List (Vec Came A))
+pub all_sorted : {A : Type 0} (words : Words) (mode : Mode) (messages : List Message) (lists : List
+    (Vec ReceivedMessage A))
     (sorted : List (HartRows A)) → Distributes messages lists → AreSortedOf words mode lists sorted → (hart : ℕ)
     (own : HartRows A) → slice_get sorted hart ≡ Some own → IsSortedOut words mode (own_messages hart messages) own
 all_sorted words mode messages lists sorted d each hart own at =

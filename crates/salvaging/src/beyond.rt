@@ -9,11 +9,11 @@ ghost use Rattle.salvaging.specs.steps.Arrivals.{arrivals_in};
 ghost use Rattle.salvaging.specs.steps.Ending.{TakesBeyond};
 ghost use Rattle.salvaging.specs.steps.Grouping.{entries_by, entry_of};
 
-use crate::came::Came;
 use crate::ending::reason_alone;
 use crate::entry::Entry;
 use crate::grouping::first_entry;
 use crate::part::{Part, push_part};
+use crate::received::ReceivedMessage;
 use crate::trail::Trail;
 use payload::Mode;
 use rvclass::ProgramOver;
@@ -25,7 +25,7 @@ pub(crate) fn part_beyond<A: Allocator + Copy>(
     program: &ProgramOver,
     mode: Mode,
     entry: Entry<'_>,
-    behind: &[Came<'_>],
+    behind: &[ReceivedMessage<'_>],
 ) -> Result<Part<A>, AllocError>
     ensures { IfOk result (λ part. LeavesBeyond (words_of program.now) mode (entry_of entry.entry)
         (next_used (entries_by (arrivals_in behind.now))) (part_of part)) }
@@ -50,12 +50,13 @@ pub(crate) fn part_beyond<A: Allocator + Copy>(
     }
 }
 
-/// Takes the messages beyond the end of their hart, which are in the order of their numbers. The mode is the hart's own.
+/// Takes the messages beyond the end of their hart, which are in the order of their numbers. The mode is the hart's
+/// own.
 pub(crate) fn take_beyond<A: Allocator + Copy>(
     alloc: A,
     program: &ProgramOver,
     mode: Mode,
-    came: &[Came<'_>],
+    came: &[ReceivedMessage<'_>],
     trail: &mut Trail<A>,
 ) -> Result<(), AllocError>
     ensures { OnOk result (TakesBeyond (words_of program.now) mode (entries_by (arrivals_in came.now)) trail.old

@@ -4,10 +4,10 @@ ghost use Rattle.std.specs.Prelude.{◌≡◌};
 ghost use Rattle.salvaging.specs.steps.Arrivals.{arrival_of, arrivals_in};
 ghost use Rattle.salvaging.specs.steps.Grouping.{are_alike, copies_by};
 
-use crate::came::Came;
+use crate::received::ReceivedMessage;
 
 /// Whether two messages of a hart have the same number and the same payload.
-fn are_alike(one: &Came<'_>, other: &Came<'_>) -> bool
+fn are_alike(one: &ReceivedMessage<'_>, other: &ReceivedMessage<'_>) -> bool
     ensures { result ≡ are_alike (arrival_of one.now) (arrival_of other.now) }
 {
     one.message.number == other.message.number
@@ -15,7 +15,7 @@ fn are_alike(one: &Came<'_>, other: &Came<'_>) -> bool
 }
 
 /// How many of a hart's messages, which are in the order of their numbers, are alike with the one right before.
-pub(crate) fn copies(came: &[Came<'_>]) -> usize
+pub(crate) fn copies(came: &[ReceivedMessage<'_>]) -> usize
     ensures { result ≡ copies_by (arrivals_in came.now) }
 {
     let mut count = 0;

@@ -5,7 +5,7 @@ ghost use Rattle.salvaging.specs.Strangers.{has_number, is_stranger};
 ghost use Rattle.salvaging.specs.steps.Arrivals.{arrivals_in};
 ghost use Rattle.salvaging.specs.steps.Distributing.{AddsArrival, Distributes};
 
-use crate::came::Came;
+use crate::received::ReceivedMessage;
 use message::Message;
 use std::alloc::{AllocError, Allocator};
 
@@ -43,7 +43,7 @@ pub(crate) fn strangers(harts: u16, messages: &[Message]) -> usize
 fn empty_lists<'a, A: Allocator + Copy>(
     alloc: A,
     count: usize,
-) -> Result<Vec<Vec<Came<'a>, A>, A>, AllocError>
+) -> Result<Vec<Vec<ReceivedMessage<'a>, A>, A>, AllocError>
     ensures count { IfOk result (λ lists. length lists.items ≡ count) }
     ensures empty { IfOk result (λ lists. All (λ list. arrivals_in list.items ≡ []) lists.items) }
 {
@@ -56,7 +56,7 @@ fn empty_lists<'a, A: Allocator + Copy>(
 
 /// Adds a message to the list of its hart, if it is known and may have the message's number.
 fn add<'a, A: Allocator>(
-    lists: &mut Vec<Vec<Came<'a>, A>, A>,
+    lists: &mut Vec<Vec<ReceivedMessage<'a>, A>, A>,
     message: &'a Message,
 ) -> Result<(), AllocError>
     ensures { OnOk result (AddsArrival message.now lists.old.items lists.new.items) }
@@ -68,7 +68,7 @@ fn add<'a, A: Allocator>(
         Some(list) => {
             list.reserve(1)?;
             let place = list.len();
-            list.push_reserved(Came { place, message });
+            list.push_reserved(ReceivedMessage { place, message });
             Ok(())
         }
         None => Ok(()),
@@ -80,7 +80,7 @@ pub(crate) fn distribute<'a, A: Allocator + Copy>(
     alloc: A,
     harts: u16,
     messages: &'a [Message],
-) -> Result<Vec<Vec<Came<'a>, A>, A>, AllocError>
+) -> Result<Vec<Vec<ReceivedMessage<'a>, A>, A>, AllocError>
     ensures count { IfOk result (λ lists. length lists.items ≡ harts) }
     ensures each { IfOk result (λ lists. Distributes messages.now lists.items) }
 {

@@ -9,10 +9,10 @@ ghost use Rattle.salvaging.specs.steps.Arrivals.{arrivals_in};
 ghost use Rattle.salvaging.specs.steps.Ending.{BeginsBy, JudgedAlone, closes, is_used};
 ghost use Rattle.salvaging.specs.steps.Grouping.{entries_by, entry_of};
 
-use crate::came::Came;
 use crate::entry::Entry;
 use crate::grouping::last_entry;
 use crate::reason::Reason;
+use crate::received::ReceivedMessage;
 use crate::trail::{Trail, is_sync};
 use decoder::Paths;
 use payload::{Mode, Payload, unpack};
@@ -26,7 +26,7 @@ pub(crate) fn reason_alone<A: Allocator + Copy>(
     program: &ProgramOver,
     mode: Mode,
     payload: &Payload,
-    behind: &[Came<'_>],
+    behind: &[ReceivedMessage<'_>],
 ) -> Result<Option<Reason>, AllocError>
     ensures { IfOk result (JudgedAlone (words_of program.now) mode payload.now
         (next_used (entries_by (arrivals_in behind.now)))) }
@@ -100,7 +100,7 @@ fn closes(entry: Entry<'_>) -> bool
 
 /// How many messages come up to the end, where these come up to an entry, and `end` says it without that entry. No
 /// stretch begins at a greater one, and `used` says whether a greater one is used.
-fn end_with(entry: Entry<'_>, used: bool, upto: &[Came<'_>], end: usize) -> usize
+fn end_with(entry: Entry<'_>, used: bool, upto: &[ReceivedMessage<'_>], end: usize) -> usize
     ensures { result ≡ if used && closes (entry_of entry.entry) then length upto.now else end }
 {
     if !used {
@@ -109,15 +109,15 @@ fn end_with(entry: Entry<'_>, used: bool, upto: &[Came<'_>], end: usize) -> usiz
     if closes(entry) { upto.len() } else { end }
 }
 
-/// How many of a hart's messages have a number up to that of its end; all, where it has none before its last number. The
-/// messages are in the order of their numbers, and this mode is the hart's own.
+/// How many of a hart's messages have a number up to that of its end; all, where it has none before its last number.
+/// The messages are in the order of their numbers, and this mode is the hart's own.
 ///
 /// It goes back from the last number, and no further than to the last one at which a stretch begins.
 pub(crate) fn count_to_end<A: Allocator + Copy>(
     alloc: A,
     program: &ProgramOver,
     mode: Mode,
-    came: &[Came<'_>],
+    came: &[ReceivedMessage<'_>],
 ) -> Result<usize, AllocError>
     requires { AreRising 0 (map entry_number (entries_by (arrivals_in came.now))) }
     ensures within { IfOk result (λ count. count ≤ length came.now) }

@@ -4,7 +4,7 @@ ghost use Rattle.std.specs.Prelude.{◌≡◌, nat_lt};
 ghost use Rattle.salvaging.specs.steps.Arrivals.{arrival_of};
 ghost use Rattle.salvaging.specs.steps.Grouping.{doubtful_at, doubtful_with, entry_by, entry_of, entry_with};
 
-use crate::came::Came;
+use crate::received::ReceivedMessage;
 use message::Message;
 
 /// What came with a number.
@@ -24,7 +24,7 @@ pub(crate) enum Entry<'a> {
 }
 
 /// The entry of one message with a number.
-pub(crate) fn entry_by<'a>(one: &Came<'a>) -> Entry<'a>
+pub(crate) fn entry_by<'a>(one: &ReceivedMessage<'a>) -> Entry<'a>
     ensures { entry_of result ≡ entry_by (arrival_of one.now) }
 {
     Entry::Used {
@@ -80,7 +80,11 @@ fn doubtful_with<'a>(number: u64, first: usize, second: usize, place: usize) -> 
 
 /// The entry of a number with one more message, right after this one in their order. If its payload differs, it is the
 /// first one with that payload, and the number is doubtful.
-pub(crate) fn entry_with<'a>(entry: Entry<'a>, before: &Came<'a>, more: &Came<'a>) -> Entry<'a>
+pub(crate) fn entry_with<'a>(
+    entry: Entry<'a>,
+    before: &ReceivedMessage<'a>,
+    more: &ReceivedMessage<'a>,
+) -> Entry<'a>
     ensures { entry_of result ≡ entry_with (entry_of entry.entry) (arrival_of before.now) (arrival_of more.now) }
 {
     if before.message.payload.bytes() == more.message.payload.bytes() {

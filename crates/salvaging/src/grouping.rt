@@ -4,12 +4,12 @@ ghost use Rattle.std.specs.Prelude.{◌≡◌, ◌<◌, ◌≤◌, ◌++◌, [],
 ghost use Rattle.salvaging.specs.steps.Arrivals.{arrivals_in};
 ghost use Rattle.salvaging.specs.steps.Grouping.{AreOfOne, IsLastGroup, entries_by, entry_of};
 
-use crate::came::Came;
 use crate::entry::{Entry, entry_by, entry_with};
+use crate::received::ReceivedMessage;
 
 /// The entry of the first of these messages' numbers, and how many messages have the number; `None` where there is no
 /// message.
-pub(crate) fn first_entry<'a>(came: &[Came<'a>]) -> Option<(Entry<'a>, usize)>
+pub(crate) fn first_entry<'a>(came: &[ReceivedMessage<'a>]) -> Option<(Entry<'a>, usize)>
     ensures first { IfSome result (λ found. entries_by (arrivals_in came.now)
         ≡ entry_of found.0 ∷ entries_by (arrivals_in (drop found.1 came.now))) }
     ensures some { IfSome result (λ found. 0 < found.1) }
@@ -34,7 +34,7 @@ pub(crate) fn first_entry<'a>(came: &[Came<'a>]) -> Option<(Entry<'a>, usize)>
 }
 
 /// How many of these messages come before those that have the last one's number. There is one at least.
-fn before_last(came: &[Came<'_>]) -> usize
+fn before_last(came: &[ReceivedMessage<'_>]) -> usize
     requires { 0 < length came.now }
     ensures { IsLastGroup came.now result }
 {
@@ -49,7 +49,7 @@ fn before_last(came: &[Came<'_>]) -> usize
 
 /// The entry of the last of these messages' numbers, and how many messages come before those with the number; `None`
 /// where there is no message.
-pub(crate) fn last_entry<'a>(came: &[Came<'a>]) -> Option<(Entry<'a>, usize)>
+pub(crate) fn last_entry<'a>(came: &[ReceivedMessage<'a>]) -> Option<(Entry<'a>, usize)>
     ensures last { IfSome result (λ found. entries_by (arrivals_in came.now)
         ≡ entries_by (arrivals_in (take found.1 came.now)) ++ entry_of found.0 ∷ []) }
     ensures shorter { IfSome result (λ found. found.1 < length came.now) }

@@ -7,28 +7,28 @@ ghost use Rattle.salvaging.specs.Salvaged.{IsSalvagedHart};
 ghost use Rattle.salvaging.specs.steps.Arrivals.{HaveNumbers, arrivals_in, placed_from};
 
 use crate::beyond::take_beyond;
-use crate::came::{Came, put_in_order};
 use crate::copies::copies;
 use crate::ending::count_to_end;
 use crate::late::late;
 use crate::own_mode::own_mode;
+use crate::received::{ReceivedMessage, put_in_order};
 use crate::salvaged::SalvagedHart;
 use crate::trail::take_all;
 use crate::used::is_closed;
-use decoder::Lines;
-use message::Watch;
+use decoder::StraightRuns;
+use message::ProgressSink;
 use payload::Mode;
 use rvclass::ProgramOver;
 use std::alloc::{AllocError, Allocator};
 
 /// Salvages what is left of a hart, whose messages these are in the order in which they came. They are put in the order
 /// of their numbers, and what came with each number is read from their list as it is needed. Each message is told of.
-pub(crate) fn salvage_hart<A: Allocator + Copy, V: Watch>(
+pub(crate) fn salvage_hart<A: Allocator + Copy, V: ProgressSink>(
     alloc: A,
     program: &ProgramOver,
-    lines: &mut Lines<'_, A>,
+    lines: &mut StraightRuns<'_, A>,
     mode: Mode,
-    mut came: Vec<Came<'_>, A>,
+    mut came: Vec<ReceivedMessage<'_>, A>,
     watch: &V,
 ) -> Result<SalvagedHart<A>, AllocError>
     requires lines { lines.old.program.now ≡ program.now }

@@ -6,9 +6,9 @@ ghost use Rattle.salvaging.specs.steps.Arrivals.{arrivals_in};
 ghost use Rattle.salvaging.specs.steps.Grouping.{entries_by, entry_of};
 ghost use Rattle.salvaging.specs.steps.Lateness.{comes_before, earliest_with, is_late_behind};
 
-use crate::came::Came;
 use crate::entry::Entry;
 use crate::grouping::last_entry;
+use crate::received::ReceivedMessage;
 
 /// Whether there is a place, and it comes before this one.
 fn comes_before(first: Option<usize>, place: usize) -> bool
@@ -48,7 +48,7 @@ pub(crate) fn earliest_with(entry: Entry<'_>, good: bool, first: Option<usize>) 
 
 /// How many used messages came after a good one with a greater number. `goods` says which of the entries are good. The
 /// messages are in the order of their numbers.
-pub(crate) fn late(came: &[Came<'_>], goods: &[bool]) -> usize
+pub(crate) fn late(came: &[ReceivedMessage<'_>], goods: &[bool]) -> usize
     requires { length goods.now ≡ length (entries_by (arrivals_in came.now)) }
     ensures { result ≡ late (entries_by (arrivals_in came.now)) goods.now }
 {

@@ -5,14 +5,13 @@
 //! doubtful or alone, how many messages are copies or late, and whether the hart is closed. Numbers give the order of a
 //! hart's messages, so each message may have come at any place and any number of times.
 //!
-//! [`salvage_watched`] does the same, and tells a [`Watch`](message::Watch) of each message.
+//! [`salvage_watched`] does the same, and tells a [`ProgressSink`](message::ProgressSink) of each message.
 //!
 //! Of messages of legal logs the parts are those of the logs by the numbers that came ([`logs_are_salvaged`]). Where
 //! messages are collected without a fault, the same is salvaged of them ([`what_is_collected_is_salvaged`]).
 #![tactic(auto)]
 
 mod beyond;
-mod came;
 mod copies;
 mod distributing;
 mod ending;
@@ -25,6 +24,7 @@ mod lookup;
 mod own_mode;
 mod part;
 mod reason;
+mod received;
 mod rows;
 mod salvaged;
 mod salvaging;

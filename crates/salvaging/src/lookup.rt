@@ -10,14 +10,14 @@ ghost use Rattle.salvaging.specs.steps.Arrivals.{Arrival, AreOrdered, arrival_of
 ghost use Rattle.salvaging.specs.steps.Looking.{IsFirstLike, is_below, is_place};
 ghost use Rattle.salvaging.specs.steps.Rows.{AreRowsBack, numbers_in};
 
-use crate::came::Came;
+use crate::received::ReceivedMessage;
 use crate::rows::NumberRow;
 use crate::treatment::{Treated, Treatment};
 use message::Message;
 use std::cmp::Ordering;
 
 /// Whether a message comes before those with the number and the payload of this one, in the order of a hart's messages.
-fn is_below(one: &Came<'_>, message: &Message) -> bool
+fn is_below(one: &ReceivedMessage<'_>, message: &Message) -> bool
     ensures { result ≡ is_below message.now (arrival_of one.now) }
 {
     match one.message.number.cmp(&message.number) {
@@ -31,7 +31,7 @@ fn is_below(one: &Came<'_>, message: &Message) -> bool
 }
 
 /// The place of the first of a hart's messages that are like this one, which are in their order.
-fn first_like(came: &[Came<'_>], message: &Message) -> Option<usize>
+fn first_like(came: &[ReceivedMessage<'_>], message: &Message) -> Option<usize>
     ensures { (own : Arrival) → AreOrdered (arrivals_in came.now) → Contains (arrivals_in came.now) own
         → own.message.number ≡ message.now.number → own.message.payload ≡ message.now.payload
         → IsFirstLike (arrivals_in came.now) message.now result }
@@ -81,12 +81,13 @@ fn copy() -> Treated
 /// What is done with the message at this place among a hart's messages, which are in the order of their numbers: a copy
 /// is passed over, and the first of those alike has what the row of its number says.
 pub(crate) fn treated_at(
-    came: &[Came<'_>],
+    came: &[ReceivedMessage<'_>],
     rows: &[NumberRow],
     place: usize,
     message: &Message,
 ) -> Treated
-    ensures { (messages : List AnyMessage) (all : List Row) → IsPermutation (placed_from 0 messages) (arrivals_in came.now)
+    ensures { (messages : List AnyMessage) (all : List Row) → IsPermutation (placed_from 0 messages)
+        (arrivals_in came.now)
         → AreOrdered (arrivals_in came.now) → AreRowsBack all rows.now → AreRising 0 (numbers_in all)
         → Contains (numbers_in all) message.now.number → slice_get messages place ≡ Some message.now
         → IsTreated messages all place message.now result }

@@ -6,9 +6,9 @@ ghost use Rattle.salvaging.specs.Leaving.{mode_by, own_mode};
 ghost use Rattle.salvaging.specs.steps.Arrivals.{arrivals_in};
 ghost use Rattle.salvaging.specs.steps.Grouping.{entries_by};
 
-use crate::came::Came;
 use crate::entry::Entry;
 use crate::grouping::first_entry;
+use crate::received::ReceivedMessage;
 use message::Message;
 use payload::{Mode, Packet, Support, unpack};
 
@@ -27,7 +27,7 @@ fn mode_by(mode: Mode, message: &Message) -> Mode
 
 /// The mode in which a hart's trace is read, where this one is handed in. Its messages are in the order of their
 /// numbers.
-pub(crate) fn own_mode(mode: Mode, came: &[Came<'_>]) -> Mode
+pub(crate) fn own_mode(mode: Mode, came: &[ReceivedMessage<'_>]) -> Mode
     ensures { result ≡ own_mode mode (entries_by (arrivals_in came.now)) }
 {
     match first_entry(came) {

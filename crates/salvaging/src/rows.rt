@@ -7,10 +7,10 @@ ghost use Rattle.salvaging.specs.steps.Arrivals.{arrivals_in};
 ghost use Rattle.salvaging.specs.steps.Grouping.{entries_by, entry_of};
 ghost use Rattle.salvaging.specs.steps.Rows.{AreRowsBack, row_by};
 
-use crate::came::Came;
 use crate::entry::Entry;
 use crate::grouping::last_entry;
 use crate::late::{earliest_with, is_late_behind};
+use crate::received::ReceivedMessage;
 use crate::treatment::{Treated, Treatment};
 use std::alloc::{AllocError, Allocator};
 
@@ -52,7 +52,7 @@ fn is_good(treatment: Treatment) -> bool
 /// numbers.
 pub(crate) fn rows_back<A: Allocator + Copy>(
     alloc: A,
-    came: &[Came<'_>],
+    came: &[ReceivedMessage<'_>],
     treatments: &[Treatment],
 ) -> Result<Vec<NumberRow, A>, AllocError>
     requires { length treatments.now ≡ length (entries_by (arrivals_in came.now)) }

@@ -13,12 +13,12 @@ ghost use Rattle.salvaging.specs.Salvaged.{IsSalvaged};
 ghost use Rattle.salvaging.specs.steps.Arrivals.{HaveNumbers, arrivals_in};
 ghost use Rattle.salvaging.specs.steps.Distributing.{AreSalvagedOf};
 
-use crate::came::Came;
 use crate::distributing::{distribute, strangers};
 use crate::hart::salvage_hart;
+use crate::received::ReceivedMessage;
 use crate::salvaged::{Salvaged, SalvagedHart};
-use decoder::Lines;
-use message::{Message, Unwatched, Watch};
+use decoder::StraightRuns;
+use message::{Message, NoProgress, ProgressSink};
 use payload::Mode;
 use rvclass::ProgramOver;
 use std::alloc::{AllocError, Allocator};
@@ -26,17 +26,17 @@ use std::mem;
 
 /// Salvages what is left of each hart, whose messages these are. Each list is taken out, so that it is dropped before
 /// the next hart's packets are decoded.
-fn salvage_each<A: Allocator + Copy, V: Watch>(
+fn salvage_each<A: Allocator + Copy, V: ProgressSink>(
     alloc: A,
     program: &ProgramOver,
     mode: Mode,
-    lists: &mut Vec<Vec<Came<'_>, A>, A>,
+    lists: &mut Vec<Vec<ReceivedMessage<'_>, A>, A>,
     watch: &V,
 ) -> Result<Vec<SalvagedHart<A>, A>, AllocError>
     requires { All (λ list. HaveNumbers (arrivals_in list.items)) lists.old.items }
     ensures { IfOk result (λ harts. AreSalvagedOf (words_of program.now) mode lists.old.items harts.items) }
 {
-    let mut lines = Lines::new(alloc, program);
+    let mut lines = StraightRuns::new(alloc, program);
     let mut harts = Vec::with_capacity(alloc, lists.len())?;
     for hart in 0..lists.len() {
         let came = mem::replace(&mut lists[hart], Vec::new(alloc));
@@ -59,8 +59,8 @@ fn salvage_each<A: Allocator + Copy, V: Watch>(
 /// An error is returned only where an allocation fails, and then nothing is kept. The time grows with the messages and
 /// their events. Once the decoder refuses a packet, it also grows with the image, by a table of 4 bytes for each of its
 /// bytes, which lets a walk of which nothing comes take few steps: before that one may take as many as 32 times half of
-/// the image's bytes. Where messages did not come in the order of their numbers, it also grows with the logarithm of how
-/// many a hart has.
+/// the image's bytes. Where messages did not come in the order of their numbers, it also grows with the logarithm of
+/// how many a hart has.
 pub fn salvage<A: Allocator + Copy>(
     alloc: A,
     program: &ProgramOver,
@@ -73,20 +73,20 @@ pub fn salvage<A: Allocator + Copy>(
         → AreFromLogs program.now period mode own logs messages.now → length logs ≡ harts
         → IfOk result (λ salvaged. AreLogsSalvaged program.now period own logs messages.now salvaged) }
 
-    // Of messages of which `losses::collect_lossy` returns pieces, with as many harts and the same mode: the same parts,
-    // none of them bad or doubtful, and the same flags. No message is a copy, late or a stranger.
+    // Of messages of which `losses::collect_lossy` returns pieces, with as many harts and the same mode: the same
+    // parts, none of them bad or doubtful, and the same flags. No message is a copy, late or a stranger.
     ensures collected { (pieces : List (AnyPieces A)) → GivesPieces program.now harts mode messages.now pieces
         → IfOk result (AreCollectedToo pieces) }
 
     // Of any messages.
     ensures salvaged { IfOk result (IsSalvaged (words_of program.now) mode harts messages.now) }
 {
-    salvage_watched(alloc, program, harts, mode, messages, &Unwatched)
+    salvage_watched(alloc, program, harts, mode, messages, &NoProgress)
 }
 
 /// Salvages what any messages leave of logs as [`salvage`] does, and tells `watch` of each message once it is decoded:
 /// hart after hart, and of the strangers at last.
-pub fn salvage_watched<A: Allocator + Copy, V: Watch>(
+pub fn salvage_watched<A: Allocator + Copy, V: ProgressSink>(
     alloc: A,
     program: &ProgramOver,
     harts: u16,
@@ -99,8 +99,8 @@ pub fn salvage_watched<A: Allocator + Copy, V: Watch>(
         → AreFromLogs program.now period mode own logs messages.now → length logs ≡ harts
         → IfOk result (λ salvaged. AreLogsSalvaged program.now period own logs messages.now salvaged) }
 
-    // Of messages of which `losses::collect_lossy` returns pieces, with as many harts and the same mode: the same parts,
-    // none of them bad or doubtful, and the same flags. No message is a copy, late or a stranger.
+    // Of messages of which `losses::collect_lossy` returns pieces, with as many harts and the same mode: the same
+    // parts, none of them bad or doubtful, and the same flags. No message is a copy, late or a stranger.
     ensures collected { (pieces : List (AnyPieces A)) → GivesPieces program.now harts mode messages.now pieces
         → IfOk result (AreCollectedToo pieces) }
 

@@ -15,9 +15,9 @@ ghost use Rattle.salvaging.specs.steps.Grouping.{AreSmall, entries_by, entry_of}
 ghost use Rattle.salvaging.specs.steps.Sharing.{Shared, SharesEntries, StaysRead, share_by};
 ghost use Rattle.salvaging.specs.steps.UnderWay.{IsUnderWay};
 
-use crate::came::Came;
 use crate::entry::Entry;
 use crate::grouping::first_entry;
+use crate::received::ReceivedMessage;
 use crate::trail::Trail;
 use crate::treatment::{Added, Treatment};
 use decoder::Paths;
@@ -61,7 +61,7 @@ fn share_used<A: Allocator + Copy>(
     program: &ProgramOver,
     mode: Mode,
     message: &Message,
-    behind: &[Came<'_>],
+    behind: &[ReceivedMessage<'_>],
     trail: &mut Trail<A>,
 ) -> Result<Treatment, AllocError>
     requires next { trail.old.next ≤ message.now.number }
@@ -106,7 +106,7 @@ fn share_entry<A: Allocator + Copy>(
     program: &ProgramOver,
     mode: Mode,
     entry: Entry<'_>,
-    behind: &[Came<'_>],
+    behind: &[ReceivedMessage<'_>],
     trail: &mut Trail<A>,
 ) -> Result<Treatment, AllocError>
     requires next { trail.old.next ≤ entry_number (entry_of entry) }
@@ -133,7 +133,7 @@ pub(crate) fn share_all<A: Allocator + Copy>(
     alloc: A,
     program: &ProgramOver,
     mode: Mode,
-    came: &[Came<'_>],
+    came: &[ReceivedMessage<'_>],
 ) -> Result<Vec<Treatment, A>, AllocError>
     requires rising { AreRising 0 (map entry_number (entries_by (arrivals_in came.now))) }
     requires small { AreSmall (entries_by (arrivals_in came.now)) }

@@ -10,9 +10,9 @@ ghost use Rattle.salvaging.specs.steps.Grouping.{entries_by};
 ghost use Rattle.salvaging.specs.steps.Sharing.{share_of_part};
 
 use crate::beyond::part_beyond;
-use crate::came::Came;
 use crate::grouping::first_entry;
 use crate::part::Part;
+use crate::received::ReceivedMessage;
 use crate::treatment::Treatment;
 use payload::Mode;
 use rvclass::ProgramOver;
@@ -35,7 +35,7 @@ pub(crate) fn share_beyond<A: Allocator + Copy>(
     alloc: A,
     program: &ProgramOver,
     mode: Mode,
-    came: &[Came<'_>],
+    came: &[ReceivedMessage<'_>],
     treatments: &mut Vec<Treatment, A>,
 ) -> Result<(), AllocError>
     ensures { OnOk result ((shares : List Share)

@@ -6,9 +6,9 @@ ghost use Rattle.message.specs.declared.message.Message.{Message as AnyMessage};
 ghost use Rattle.salvaging.specs.steps.Arrivals.{HaveNumbers, arrivals_in, placed_from};
 ghost use Rattle.salvaging.specs.steps.SortedOut.{IsSortedOut};
 
-use crate::came::{Came, put_in_order};
 use crate::ending::count_to_end;
 use crate::own_mode::own_mode;
+use crate::received::{ReceivedMessage, put_in_order};
 use crate::rows::{NumberRow, rows_back};
 use crate::sharing::share_all;
 use crate::sharing_beyond::share_beyond;
@@ -19,7 +19,7 @@ use std::alloc::{AllocError, Allocator};
 /// The messages of a hart in the order of their numbers, and the rows of its numbers, from the greatest on.
 #[derive(Drop)]
 pub(crate) struct HartRows<'a, A: Allocator> {
-    pub(crate) came: Vec<Came<'a>, A>,
+    pub(crate) came: Vec<ReceivedMessage<'a>, A>,
     pub(crate) rows: Vec<NumberRow, A>,
 }
 
@@ -28,7 +28,7 @@ pub(crate) fn sort_out<'a, A: Allocator + Copy>(
     alloc: A,
     program: &ProgramOver,
     mode: Mode,
-    mut came: Vec<Came<'a>, A>,
+    mut came: Vec<ReceivedMessage<'a>, A>,
 ) -> Result<HartRows<'a, A>, AllocError>
     requires { HaveNumbers (arrivals_in came.items) }
     ensures { (messages : List AnyMessage) → arrivals_in came.entry.items ≡ placed_from 0 messages

@@ -19,14 +19,14 @@ ghost use Rattle.salvaging.specs.steps.Trails.{TakesEntries};
 ghost use Rattle.salvaging.specs.steps.UnderWay.{BeginsWith, EndsRun, EndsStretch, GoesOn, IsUnderWay, Judged};
 ghost use Rattle.salvaging.specs.steps.UnderWay.{TakesBad, TakesDoubtful, TakesUsed, begun_by, early, is_sync};
 
-use crate::came::Came;
 use crate::entry::Entry;
 use crate::grouping::first_entry;
 use crate::part::{Part, push_gap, push_part};
 use crate::reason::Reason;
+use crate::received::ReceivedMessage;
 use crate::used::next_used;
-use decoder::{DecodeFault, Decoder, Lines, Paths};
-use message::{Message, Watch};
+use decoder::{DecodeFault, Decoder, Paths, StraightRuns};
+use message::{Message, ProgressSink};
 use payload::{Mode, Packet, Payload, unpack};
 use retire::Event;
 use rvclass::ProgramOver;
@@ -70,7 +70,7 @@ fn reason_of(fault: DecodeFault) -> Result<Option<Reason>, AllocError>
 
 /// The next number that is used after a packet that closes the trace; `behind` are the messages after it. `None` where
 /// none is used, and for any other packet.
-fn early(packet: &Packet, behind: &[Came<'_>]) -> Option<u64>
+fn early(packet: &Packet, behind: &[ReceivedMessage<'_>]) -> Option<u64>
     ensures { result ≡ early (is_closing_packet packet.now) (next_used (entries_by (arrivals_in behind.now))) }
 {
     if packet.is_closing() {
@@ -181,7 +181,7 @@ impl<A: Allocator + Copy> Trail<A> {
         &mut self,
         paths: Paths<'_>,
         payload: &Payload,
-        behind: &[Came<'_>],
+        behind: &[ReceivedMessage<'_>],
     ) -> Result<Option<Reason>, AllocError>
         requires { self.old.next < end_of_numbers }
         ensures judged { (mode reads : AnyMode) (run : Run) (next : ℕ)
@@ -217,7 +217,7 @@ impl<A: Allocator + Copy> Trail<A> {
         mode: Mode,
         place: usize,
         message: &Message,
-        behind: &[Came<'_>],
+        behind: &[ReceivedMessage<'_>],
     ) -> Result<(), AllocError>
         requires next { self.old.next ≤ message.now.number }
         requires small { message.now.number < end_of_numbers }
@@ -296,7 +296,7 @@ impl<A: Allocator + Copy> Trail<A> {
         paths: Paths<'_>,
         mode: Mode,
         entry: Entry<'_>,
-        behind: &[Came<'_>],
+        behind: &[ReceivedMessage<'_>],
     ) -> Result<(), AllocError>
         requires next { self.old.next ≤ entry_number (entry_of entry) }
         requires small { entry_number (entry_of entry) < end_of_numbers }
@@ -332,11 +332,11 @@ fn walked_in_vain<A: Allocator>(parts: &[Part<A>]) -> bool {
     }
 }
 
-/// Finds the program's leaps where the last of these parts is such a message.
+/// Finds the program's skips where the last of these parts is such a message.
 fn find_after<A: Allocator + Copy>(
     alloc: A,
     parts: &[Part<A>],
-    lines: &mut Lines<'_, A>,
+    lines: &mut StraightRuns<'_, A>,
 ) -> Result<(), AllocError>
     ensures { lines.new.program ≡ lines.old.program }
 {
@@ -347,13 +347,13 @@ fn find_after<A: Allocator + Copy>(
 }
 
 /// Takes the entries of a hart one after the other, and tells of the messages of each. The hart's messages are in the
-/// order of their numbers. The last run is not ended. The program's leaps are found once a packet was refused.
-pub(crate) fn take_all<A: Allocator + Copy, V: Watch>(
+/// order of their numbers. The last run is not ended. the program's skips are found once a packet was refused.
+pub(crate) fn take_all<A: Allocator + Copy, V: ProgressSink>(
     alloc: A,
     program: &ProgramOver,
-    lines: &mut Lines<'_, A>,
+    lines: &mut StraightRuns<'_, A>,
     mode: Mode,
-    came: &[Came<'_>],
+    came: &[ReceivedMessage<'_>],
     watch: &V,
 ) -> Result<Trail<A>, AllocError>
     requires lines { lines.old.program.now ≡ program.now }

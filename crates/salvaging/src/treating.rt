@@ -10,23 +10,23 @@ ghost use Rattle.salvaging.specs.declared.sorting_out.HartRows.{HartRows as AnyR
 ghost use Rattle.salvaging.specs.steps.Arrivals.{HaveNumbers, arrivals_in};
 ghost use Rattle.salvaging.specs.steps.SortedOut.{AreSortedOf, IsSortedOut, TakesPlace, TreatsNext};
 
-use crate::came::Came;
 use crate::distributing::{distribute, is_stranger, strangers};
 use crate::lookup::treated_at;
+use crate::received::ReceivedMessage;
 use crate::sorting_out::{HartRows, sort_out};
 use crate::treatment::{Treated, Treatment};
-use message::{Message, Watch};
+use message::{Message, ProgressSink};
 use payload::Mode;
 use rvclass::ProgramOver;
 use std::alloc::{AllocError, Allocator};
 use std::mem;
 
 /// Sorts out the messages of each hart. Each list is taken out. Tells of the messages of each hart.
-fn sort_each<'a, A: Allocator + Copy, V: Watch>(
+fn sort_each<'a, A: Allocator + Copy, V: ProgressSink>(
     alloc: A,
     program: &ProgramOver,
     mode: Mode,
-    lists: &mut Vec<Vec<Came<'a>, A>, A>,
+    lists: &mut Vec<Vec<ReceivedMessage<'a>, A>, A>,
     watch: &V,
 ) -> Result<Vec<HartRows<'a, A>, A>, AllocError>
     requires { All (λ list. HaveNumbers (arrivals_in list.items)) lists.old.items }
@@ -121,13 +121,14 @@ fn treat_each<A: Allocator + Copy>(
 }
 
 /// What is done with each of these messages, in their order, as [`salvage`](crate::salvage) takes them: a stranger, a
-/// copy or a doubtful number is passed over; every other message is bad, alone, or passed over while a synchronisation is
-/// looked for, or adds events to its hart's log, where the numbers of each hart are taken in order. `harts`, `mode` and
+/// copy or a doubtful number is passed over; every other message is bad, alone, or passed over while a synchronisation
+/// is looked for, or adds events to its hart's log, where the numbers of each hart are taken in order. `harts`, `mode`
+/// and
 /// `program` are those of `salvage`.
 ///
 /// `watch` is told of each message once: hart after hart, and of the strangers at last. An error is returned only where
 /// an allocation fails.
-pub fn treat_watched<A: Allocator + Copy, V: Watch>(
+pub fn treat_watched<A: Allocator + Copy, V: ProgressSink>(
     alloc: A,
     program: &ProgramOver,
     harts: u16,

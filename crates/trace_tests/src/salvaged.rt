@@ -1,11 +1,11 @@
-//! What is done with each message of a capture (`salvaging`) where an allocation fails. What is salvaged, in all orders and
-//! drawn at random, and what is done with other messages are cases of `vectors`.
+//! What is done with each message of a capture (`salvaging`) where an allocation fails. What is salvaged, in all orders
+//! and drawn at random, and what is done with other messages are cases of `vectors`.
 
 use crate::fixtures::{BASE, NOP, program_of};
 use crate::lossy::add;
 use crate::same::same_at;
 use fault_injection::Refusing;
-use message::{Message, Unwatched};
+use message::{Message, NoProgress};
 use payload::Mode;
 use salvaging::{Added, Treated, Treatment, treat_watched};
 use std::process::Abort;
@@ -102,7 +102,7 @@ fn each_request_is_refused(rt: HostRuntime) {
             2,
             Mode::Differential,
             &messages,
-            &Unwatched,
+            &NoProgress,
         );
         same_at(&rt, place, treated.is_err(), heap.has_refused());
         match treated {

@@ -1,7 +1,7 @@
 //! Cases of decoders (`decoder`), each in all ways of feeding.
 
 use cases::{Case, bytes_of, mode_of, outcomes_of, put_rows};
-use decoder::{DecodeFault, Decoder, Lines};
+use decoder::{DecodeFault, Decoder, StraightRuns};
 use payload::{Packet, unpack};
 use retire::Event;
 use rvclass::Program;
@@ -14,12 +14,12 @@ enum Way {
     Full,
     /// Into a list with capacity: a walk is written as it is found.
     Ample,
-    /// Along leaps.
-    Leaps,
+    /// Along skips.
+    Skips,
     /// Into pieces with capacity for so many events.
     Pieces(usize),
-    /// Into such pieces, along leaps.
-    LeapsInPieces(usize),
+    /// Into such pieces, along skips.
+    SkipsInPieces(usize),
 }
 
 /// For how many events pieces have capacity.
@@ -32,12 +32,12 @@ const OLD: Event = Event::Retire {
     privilege: 0,
 };
 
-/// How a program is walked: by itself, and along its lines without leaps and with them.
+/// How a program is walked: by itself, and along its lines without skips and with them.
 #[derive(Clone, Copy)]
 struct Walks<'p> {
     program: &'p Program,
-    plain: &'p Lines<'p, Global>,
-    leaps: &'p Lines<'p, Global>,
+    plain: &'p StraightRuns<'p, Global>,
+    skips: &'p StraightRuns<'p, Global>,
 }
 
 /// A list with capacity for so many events after an old one.
@@ -71,7 +71,7 @@ fn is_first_piece(count: usize, piece: usize, room: usize) -> bool {
 /// `None` is where a piece does not have as many events as it has to.
 fn feed_in_pieces(
     case: &mut Case<'_>,
-    lines: &Lines<'_, Global>,
+    lines: &StraightRuns<'_, Global>,
     decoder: &mut Decoder,
     packet: &Packet,
     log: &mut Vec<Event>,
@@ -118,9 +118,9 @@ fn feed(
             case.note(done);
             Some(decoder.feed(walks.program, packet, log))
         }
-        Way::Leaps => Some(decoder.feed_by(walks.leaps.paths(), packet, log)),
+        Way::Skips => Some(decoder.feed_by(walks.skips.paths(), packet, log)),
         Way::Pieces(room) => feed_in_pieces(case, walks.plain, decoder, packet, log, room),
-        Way::LeapsInPieces(room) => feed_in_pieces(case, walks.leaps, decoder, packet, log, room),
+        Way::SkipsInPieces(room) => feed_in_pieces(case, walks.skips, decoder, packet, log, room),
     }
 }
 
@@ -131,8 +131,8 @@ struct Given<'a> {
     rows: Case<'a>,
 }
 
-/// Appends how many events the list has after a packet, or its fault. A fault leaves all as it was. A packet that closes
-/// the trace closes the decoder, and no other packet does.
+/// Appends how many events the list has after a packet, or its fault. A fault leaves all as it was. A packet that
+/// closes the trace closes the decoder, and no other packet does.
 fn put_answer(
     answers: &mut Case<'_>,
     packet: &Packet,
@@ -229,9 +229,9 @@ fn put_other(case: &mut Case<'_>, walks: Walks<'_>, first: &Given<'_>, way: Way)
     let name = match way {
         Way::Full => "full",
         Way::Ample => "ample",
-        Way::Leaps => "leaps",
+        Way::Skips => "skips",
         Way::Pieces(_) => "pieces",
-        Way::LeapsInPieces(_) => "leaps in pieces",
+        Way::SkipsInPieces(_) => "skips in pieces",
     };
     case.put_other(name, &other.answers, first.answers.came.as_str());
     case.put_other(name, &other.rows, first.rows.came.as_str());
@@ -240,10 +240,10 @@ fn put_other(case: &mut Case<'_>, walks: Walks<'_>, first: &Given<'_>, way: Way)
 /// Appends what is given in other ways, if it is something else.
 fn put_others(case: &mut Case<'_>, walks: Walks<'_>, first: &Given<'_>) {
     put_other(case, walks, first, Way::Ample);
-    put_other(case, walks, first, Way::Leaps);
+    put_other(case, walks, first, Way::Skips);
     for room in ROOMS {
         put_other(case, walks, first, Way::Pieces(room));
-        put_other(case, walks, first, Way::LeapsInPieces(room));
+        put_other(case, walks, first, Way::SkipsInPieces(room));
     }
 }
 
@@ -256,14 +256,14 @@ enum Asked {
 
 /// Appends what is given, and in which other ways something else is.
 fn put_given(case: &mut Case<'_>, program: &Program, asked: Asked) {
-    let plain = Lines::new(case.alloc, &*program);
-    let mut leaps = Lines::new(case.alloc, &*program);
-    let done = leaps.find(case.alloc);
+    let plain = StraightRuns::new(case.alloc, &*program);
+    let mut skips = StraightRuns::new(case.alloc, &*program);
+    let done = skips.find(case.alloc);
     case.note(done);
     let walks = Walks {
         program,
         plain: &plain,
-        leaps: &leaps,
+        skips: &skips,
     };
     let first = fed(case, walks, Way::Full);
     case.join(&first.answers);

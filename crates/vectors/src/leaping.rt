@@ -1,7 +1,7 @@
-//! Cases of walks along leaps (`decoder`): with them a packet gives what it gives without.
+//! Cases of walks along skips (`decoder`): with them a packet gives what it gives without.
 
 use cases::{Case, cut, outcomes_of};
-use decoder::{Decoder, Lines};
+use decoder::{Decoder, StraightRuns};
 use payload::{Mode, Packet, Report, Support};
 use rvclass::Program;
 use std::alloc::Global;
@@ -25,12 +25,12 @@ fn address_of(case: &mut Case<'_>, word: &str, delta: u64) -> Packet {
     }
 }
 
-/// Two decoders take an address packet after a synchronisation at the base, one of them along leaps. Whether all that
+/// Two decoders take an address packet after a synchronisation at the base, one of them along skips. Whether all that
 /// they return and add is the same.
 fn are_alike(
     case: &mut Case<'_>,
     program: &Program,
-    lines: &Lines<'_, Global>,
+    lines: &StraightRuns<'_, Global>,
     sent: Packet,
 ) -> bool {
     let start = Packet::Sync {
@@ -51,12 +51,12 @@ fn are_alike(
     alike && copy.as_slice() == log.as_slice()
 }
 
-/// `leap PLACES PACKETS`: how many walks give the same along leaps: with each of these address packets, `MAP/REPORT`, to
-/// each of so many places, two bytes apart.
+/// `leap PLACES PACKETS`: how many walks give the same along skips: with each of these address packets, `MAP/REPORT`,
+/// to each of so many places, two bytes apart.
 pub(crate) fn leap_case(case: &mut Case<'_>, program: &Program) {
     let places = case.word();
     let places = case.decimal(places).min(1 << 32);
-    let mut lines = Lines::new(case.alloc, &*program);
+    let mut lines = StraightRuns::new(case.alloc, &*program);
     let done = lines.find(case.alloc);
     case.note(done);
     let mut count: u64 = 0;

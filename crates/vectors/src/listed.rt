@@ -6,7 +6,7 @@ use auditing::{Audit, Fate, Tally};
 use captures::{dump_capture, read_messages};
 use cases::{Case, text_of};
 use listing::{Form, ListInput, list_capture};
-use message::{HartRange, Unwatched};
+use message::{HartRange, NoProgress};
 use symbols::Symbols;
 
 /// `dump-capture`: the text of the capture.
@@ -38,7 +38,7 @@ fn put_listing(case: &mut Case<'_>, captured: Captured<'_>, harts: u16, symbols:
         form: Form::Lines,
     };
     let mut text = Vec::new(case.alloc);
-    let Ok(listed) = list_capture(case.alloc, &input, &mut text, &Unwatched) else {
+    let Ok(listed) = list_capture(case.alloc, &input, &mut text, &NoProgress) else {
         return case.no_memory();
     };
     case.put_text(text.as_slice());
@@ -101,8 +101,8 @@ fn put_hart(case: &mut Case<'_>, audit: &Audit<'_>, hart: usize) {
     case.put("\n");
 }
 
-/// `audit-capture LOST`: what an audit finds where all messages of the capture come in order but for those that are lost,
-/// for each hart.
+/// `audit-capture LOST`: what an audit finds where all messages of the capture come in order but for those that are
+/// lost, for each hart.
 pub(crate) fn audit_capture_case(case: &mut Case<'_>, bytes: &[u8]) {
     let lost = case.text;
     let Ok(read) = read_messages(case.alloc, bytes) else {

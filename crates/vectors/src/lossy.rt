@@ -4,7 +4,7 @@ use crate::encoding::{legal_log, settings_of, sourced};
 use captures::read_messages;
 use cases::{Case, add_message, cut, messages_of, mode_of, put_rows};
 use losses::{HartPieces, LossyFault, Part, collect_lossy};
-use message::{Message, Unwatched};
+use message::{Message, NoProgress};
 use payload::{Mode, Payload};
 use retire::Event;
 use rvclass::Program;
@@ -207,8 +207,8 @@ fn put_count(case: &mut Case<'_>, kind: &str, count: u64) {
     }
 }
 
-/// Appends what is salvaged of a hart: the numbers of each stretch with its places in the log, what else is left, how many
-/// messages are copies and late, and whether the hart is closed.
+/// Appends what is salvaged of a hart: the numbers of each stretch with its places in the log, what else is left, how
+/// many messages are copies and late, and whether the hart is closed.
 fn put_hart(case: &mut Case<'_>, log: &[Event], hart: &SalvagedHart) {
     let mut from = 0;
     for part in hart.parts.as_slice() {
@@ -294,8 +294,8 @@ pub(crate) fn salvage_capture_case(case: &mut Case<'_>, both: (&Program, &[Event
     put_salvage(case, both, settings, messages.as_slice());
 }
 
-/// `drawn PERIOD MODE MESSAGES`: what is salvaged of messages of two harts, `HART.NUMBER`, that each have the payload with
-/// their number of the log.
+/// `drawn PERIOD MODE MESSAGES`: what is salvaged of messages of two harts, `HART.NUMBER`, that each have the payload
+/// with their number of the log.
 pub(crate) fn drawn_case(case: &mut Case<'_>, (program, log): (&Program, &[Event])) {
     let settings = settings_of(case);
     let Some(legal) = legal_log(case, program, log) else {
@@ -352,7 +352,7 @@ pub(crate) fn treat_case(case: &mut Case<'_>, program: &Program) {
         harts,
         mode,
         messages.as_slice(),
-        &Unwatched,
+        &NoProgress,
     ) {
         Ok(all) => {
             for treated in all.as_slice() {

@@ -1,7 +1,7 @@
 //! What is told of a first pass over a capture.
 
 use capture_index::WatchSurvey;
-use message::Watch;
+use message::ProgressSink;
 use std::cell::Cell;
 
 /// Counts the messages that are told of, and the ends.
@@ -31,7 +31,7 @@ impl Told {
     }
 }
 
-impl Watch for Told {
+impl ProgressSink for Told {
     fn note(&self, messages: usize) {
         let told = self.messages.get().saturating_add(messages as u64);
         self.messages.set(told);

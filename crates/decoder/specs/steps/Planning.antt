@@ -21,7 +21,7 @@ use Rattle.decoder.specs.declared.state.Phase.{Phase}
 use Rattle.decoder.specs.declared.state.Phase.TheVariants.{Unopened, Running, PassingOver, Closed}
 use Rattle.decoder.specs.declared.fault.DecodeFault.{DecodeFault}
 use Rattle.decoder.specs.declared.fault.DecodeFault.TheVariants.{NotOpened, AfterClose}
-use Rattle.decoder.specs.declared.stretch.Stretch.{Stretch}
+use Rattle.decoder.specs.declared.added_events.AddedEvents.{AddedEvents}
 use Rattle.decoder.specs.declared.settling.Waiting.{Waiting}
 
 -- The packet may come in this phase of a trace, by its kind. One that opens a trace comes where none was opened,
@@ -93,7 +93,7 @@ abbrev pub passed_over : Decoder → Packet → Decoder
 passed_over decoder packet = record decoder { phase = passing_or_closed (is_closing_packet packet) decoder.phase }
 
 -- The decoder after the packet, where it adds these stretches.
-abbrev pub decoder_after : Decoder → Packet → Stretch → Stretch → Decoder
+abbrev pub decoder_after : Decoder → Packet → AddedEvents → AddedEvents → Decoder
 decoder_after decoder packet settled of_packet = record {
   phase = phase_after (Some packet);
   waiting = waiting_after (Some packet);
@@ -107,7 +107,7 @@ decoder_after decoder packet settled of_packet = record {
 
 -- The stretches have events that can follow, where the last event before them is right: first those of the packet that
 -- waits, then those of the packet itself.
-pub record Plans (words : Words) (decoder : Decoder) (packet : Packet) (first second : Stretch) : Type 0 where
+pub record Plans (words : Words) (decoder : Decoder) (packet : Packet) (first second : AddedEvents) : Type 0 where
   pub settled : List Event
   pub of_packet : List Event
   pub gives_settled : Gives words first settled

@@ -9,8 +9,8 @@ use Rattle.decoder.specs.declared.rest.Rest.{Rest}
 use Rattle.decoder.specs.declared.rest.Rest.TheVariants as rest
 use Rattle.decoder.specs.declared.rest.WalkRest.{WalkRest}
 use Rattle.decoder.specs.declared.stepping.Here.{Here}
-use Rattle.decoder.specs.declared.stretch.Stretch.{Stretch}
-use Rattle.decoder.specs.declared.stretch.Stretch.TheVariants as stretch
+use Rattle.decoder.specs.declared.added_events.AddedEvents.{AddedEvents}
+use Rattle.decoder.specs.declared.added_events.AddedEvents.TheVariants as stretch
 
 -- The retirements from a step on, where those after it go on so.
 abbrev pub step_then : Move → (Event → List Bool → List Event) → List Event
@@ -60,7 +60,7 @@ pub record AreRests (words : Words) (first second : Rest) : Type 0 where
   pub few : length (rest_events words first) + length (rest_events words second) ≤ 2 ^ 32
 
 -- All of a stretch is left.
-abbrev pub rest_of : Stretch → Rest
+abbrev pub rest_of : AddedEvents → Rest
 rest_of stretch.Nothing = rest.Nothing
 rest_of (stretch.One event) = rest.One event
 rest_of (stretch.Two trap event) = rest.Two trap event

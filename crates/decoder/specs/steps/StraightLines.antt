@@ -9,10 +9,10 @@ use Rattle.rvclass.specs.declared.class.Class.{Class}
 use Rattle.rvclass.specs.declared.class.Class.TheVariants.{Plain, Jump, Branch, Uninferable, TrapReturn, NotRetirable}
 use Rattle.decoder.specs.Walk.{End, AtBranch, AtAddress, AtTarget}
 use Rattle.decoder.specs.steps.WalkSteps.{is_empty, walk_within, summary, plus}
-use Rattle.decoder.specs.steps.Lanes.{addr_of}
-use Rattle.decoder.specs.declared.lanes.Lane.{Lane}
-use Rattle.decoder.specs.declared.leaps.Leap.{Leap}
-use Rattle.decoder.specs.declared.leaps.Line.{Line}
+use Rattle.decoder.specs.steps.Segments.{addr_of}
+use Rattle.decoder.specs.declared.segments.CodeSegment.{CodeSegment}
+use Rattle.decoder.specs.declared.skips.Skip.{Skip}
+use Rattle.decoder.specs.declared.skips.StraightRun.{StraightRun}
 use Rattle.decoder.specs.declared.stepping.Here.{Here}
 
 -- Where a jump to this address leads, unless it is backward.
@@ -50,10 +50,10 @@ IsLine words steps from to = line_to words steps from ≡ Some to
 
 -- Each entry is of the halfword at a place, and tells of a straight line from there: how many steps it has, and the
 -- place that it leads to.
-abbrev pub AreLeaps : Words → List Lane → List Leap → Type 0
-AreLeaps words lanes leaps =
-    (place : ℕ) (leap : Leap) → slice_get leaps place ≡ Some leap
-    → IsLine words leap.steps (addr_of lanes place) (addr_of lanes leap.to)
+abbrev pub AreSkips : Words → List CodeSegment → List Skip → Type 0
+AreSkips words segments skips =
+    (place : ℕ) (skip : Skip) → slice_get skips place ≡ Some skip
+    → IsLine words skip.steps (addr_of segments place) (addr_of segments skip.to)
 
 -- A walk to this end, with these outcomes left, does not end on the way from one address to a greater one.
 abbrev pub passes : End → List Bool → ℕ → ℕ → Bool
@@ -63,7 +63,8 @@ passes (AtTarget addr) left from to = true
 
 -- A straight line of at most so many steps goes on from this retirement to an instruction that is plain or jumps
 -- forward, and a walk to this end, with these outcomes left, does not end on the way.
-pub record GoesOn (words : Words) (here : Here) (left : List Bool) (end : End) (most : ℕ) (line : Line) : Type 0 where
+pub record GoesOn (words : Words) (here : Here) (left : List Bool) (end : End) (most : ℕ)
+    (line : StraightRun) : Type 0 where
   pub other : here.itype ≡ types.other
   pub straight : IsLine words line.steps here.addr line.to
   pub beyond : straight_on line.to (words line.to) ≡ Some line.next

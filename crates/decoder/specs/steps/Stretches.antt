@@ -9,51 +9,51 @@ use Rattle.legalpath.specs.Right.{Right}
 use Rattle.decoder.specs.steps.Faults.{IsOnTheWay}
 use Rattle.decoder.specs.steps.Walks.{event_of, goal_end, IsHere, WalksOn}
 use Rattle.decoder.specs.declared.fault.DecodeFault.{DecodeFault}
-use Rattle.decoder.specs.declared.stretch.Stretch.{Stretch}
-use Rattle.decoder.specs.declared.stretch.Stretch.TheVariants.{Nothing, One, Two, Walk}
+use Rattle.decoder.specs.declared.added_events.AddedEvents.{AddedEvents}
+use Rattle.decoder.specs.declared.added_events.AddedEvents.TheVariants.{Nothing, One, Two, Walk}
 use Rattle.decoder.specs.declared.walking.Progress.{Progress}
 use Rattle.decoder.specs.declared.walking.Progress.TheVariants.{Written, Pending}
 use Rattle.decoder.specs.steps.WritingAsFound.{AddsAs}
 
 -- How many events the stretch has.
-abbrev pub stretch_count : Stretch → ℕ
+abbrev pub stretch_count : AddedEvents → ℕ
 stretch_count Nothing = 0
 stretch_count (One event) = 1
 stretch_count (Two trap event) = 2
 stretch_count (Walk walk) = walk.walked.count
 
 -- The last event after the stretch, where this was the last before it.
-abbrev pub stretch_last : Option Event → Stretch → Option Event
+abbrev pub stretch_last : Option Event → AddedEvents → Option Event
 stretch_last before Nothing = before
 stretch_last before (One event) = Some event
 stretch_last before (Two trap event) = Some event
 stretch_last before (Walk walk) = Some walk.walked.last
 
 -- The place of the last event of the stretch, or this one where it has none.
-abbrev pub stretch_place : ℕ → Stretch → ℕ
+abbrev pub stretch_place : ℕ → AddedEvents → ℕ
 stretch_place at Nothing = at
 stretch_place at (One event) = place event
 stretch_place at (Two trap event) = place event
 stretch_place at (Walk walk) = place walk.walked.last
 
 -- Whether the events of the stretch are in the list.
-abbrev pub stretch_progress : Stretch → Progress
+abbrev pub stretch_progress : AddedEvents → Progress
 stretch_progress Nothing = Written
 stretch_progress (One event) = Pending
 stretch_progress (Two trap event) = Pending
 stretch_progress (Walk walk) = walk.walked.progress
 
 -- The stretch where it is to be written, or else nothing.
-abbrev pub if_pending : Progress → Stretch → Stretch
+abbrev pub if_pending : Progress → AddedEvents → AddedEvents
 if_pending Written stretch = Nothing
 if_pending Pending stretch = stretch
 
 -- What of the stretch is to be written.
-abbrev pub left_of : Stretch → Stretch
+abbrev pub left_of : AddedEvents → AddedEvents
 left_of stretch = if_pending (stretch_progress stretch) stretch
 
 -- These are the events of the stretch.
-abbrev pub Gives : Words → Stretch → List Event → Type 0
+abbrev pub Gives : Words → AddedEvents → List Event → Type 0
 Gives words Nothing events = events ≡ []
 Gives words (One event) events = events ≡ event ∷ []
 Gives words (Two trap event) events = events ≡ trap ∷ event ∷ []
@@ -68,7 +68,8 @@ RightBefore words None = Unit {0}
 RightBefore words (Some before) = Right words before
 
 -- The stretch has events that fit and may follow the event before, where that is right.
-pub record Suits (words : Words) (before : Option Event) (Fit : List Event → Type 0) (stretch : Stretch) : Type 0 where
+pub record Suits (words : Words) (before : Option Event) (Fit : List Event → Type 0)
+    (stretch : AddedEvents) : Type 0 where
   pub events : List Event
   pub gives : Gives words stretch events
   pub fits : RightBefore words before → Fit events × FollowOn words before events
@@ -84,23 +85,23 @@ pub record SuitsNone (words : Words) (before : Option Event) (Fit : List Event �
   pub none : RightBefore words before → (events : List Event) → Fit events → FollowOn words before events → ⊥
 
 -- The capacity is enough for the events of the stretch after `len` events.
-abbrev pub HasRoomFor : Words → Stretch → ℕ → ℕ → Type 0
+abbrev pub HasRoomFor : Words → AddedEvents → ℕ → ℕ → Type 0
 HasRoomFor words stretch len capacity =
     (events : List Event) × Gives words stretch events × (len + length events ≤ capacity)
 
 -- The events of the stretch were added.
-abbrev pub AddsStretch : Words → Stretch → List Event → List Event → Type 0
+abbrev pub AddsStretch : Words → AddedEvents → List Event → List Event → Type 0
 AddsStretch words stretch old new = (events : List Event) → Gives words stretch events → new ≡ old ++ events
 
 -- A walk that is written was added, and then what comes before it is written too. Of any other stretch nothing was
 -- added.
-abbrev pub AddsSoFar : Words → Progress → Stretch → List Event → List Event → Type 0
+abbrev pub AddsSoFar : Words → Progress → AddedEvents → List Event → List Event → Type 0
 AddsSoFar words ahead (Walk walk) old new =
     AddsAs ahead walk.walked.progress (AddsStretch words (Walk walk) old new) (new ≡ old)
 AddsSoFar words ahead other old new = new ≡ old
 
 -- Of two stretches, one after the other, what is written was added.
-abbrev pub AddsBoth : Words → Stretch → Stretch → List Event → List Event → Type 0
+abbrev pub AddsBoth : Words → AddedEvents → AddedEvents → List Event → List Event → Type 0
 AddsBoth words first second old new =
     (between : List Event) × AddsSoFar words Written first old between ×
     AddsSoFar words (stretch_progress first) second between new

@@ -12,16 +12,17 @@ use Rattle.command_inputs.specs.Faults.{Path}
 use Rattle.path_commands.specs.Faults.{Fault}
 use Rattle.command_inputs.specs.declared.fault.Fault.TheVariants as fault
 use Rattle.command_inputs.specs.declared.status.Status.{Status}
-use Rattle.path_commands.specs.Came.{Came, is_whole_result}
+use Rattle.path_commands.specs.ReceivedCapture.{ReceivedCapture, is_whole_result}
 use Rattle.path_commands.specs.Rows.{rows_behind}
 use Rattle.path_commands.specs.Sides.{Sent, end_of_audit}
-use Rattle.path_commands.specs.declared.received.Arrived.{Arrived}
+use Rattle.path_commands.specs.declared.received.ReceivedSummary.{ReceivedSummary}
 use Rattle.path_commands.specs.declared.report.Report.{Report}
 use Rattle.path_commands.specs.steps.Noting.{noted_of}
 
 -- RECEIVED was read, against these messages of SENT: its header, why it has none that is valid, how many messages and
 -- bytes of no message it has, and what is found of the messages of these harts.
-pub record HasArrived (harts : HartRange) (sent : List Message) (path : Ledger) (arrived : Arrived) (came : Came)
+pub record HasReceived (harts : HartRange) (sent : List Message) (path : Ledger) (arrived : ReceivedSummary)
+    (came : ReceivedCapture)
     : Type 0 where
   pub audits : Audits sent (messages_in came.spans) path
   pub few : length (messages_in came.spans) < 2 ^ 64
@@ -33,7 +34,8 @@ pub record HasArrived (harts : HartRange) (sent : List Message) (path : Ledger) 
   pub noted : arrived.noted ≡ noted_of harts (known_all path.by sent) (known_all path.by (messages_in came.spans))
 
 -- The rows after those of the messages are written, and the run ends as it should; or the output failed.
-abbrev pub EndsRest : By → Report → Path → Sent → Came → Result Status Fault → Option (List ℕ) → Option (List ℕ)
+abbrev pub EndsRest : By → Report → Path → Sent → ReceivedCapture → Result Status Fault → Option (List ℕ) → Option
+    (List ℕ)
     → Type 0
 EndsRest how report received sent came ended old new =
     (ended ≡ Err fault.Output)

@@ -6,7 +6,7 @@ use Rattle.std.specs.declared.cmp.Ordering.{Ordering}
 use Rattle.std.specs.declared.cmp.Ordering.TheVariants.{Less}
 use Rattle.message.specs.Harts.{end_of_numbers}
 use Rattle.message.specs.declared.message.Message.{Message}
-use Rattle.salvaging.specs.declared.came.Came.{Came}
+use Rattle.salvaging.specs.declared.received.ReceivedMessage.{ReceivedMessage}
 
 -- A message, and its place among its hart's messages.
 pub record Arrival : Type 0 where
@@ -14,10 +14,10 @@ pub record Arrival : Type 0 where
   pub message : Message
 
 -- The arrival that the code's value represents.
-abbrev pub arrival_of : Came → Arrival
+abbrev pub arrival_of : ReceivedMessage → Arrival
 arrival_of came = record { place = came.place; message = came.message.now }
 
-abbrev pub arrivals_in : List Came → List Arrival
+abbrev pub arrivals_in : List ReceivedMessage → List Arrival
 arrivals_in came = map arrival_of came
 
 -- Messages with their places, the first of which is this.

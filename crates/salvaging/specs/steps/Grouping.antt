@@ -6,7 +6,7 @@ use Rattle.message.specs.Harts.{end_of_numbers}
 use Rattle.salvaging.specs.Entries.{Entry, Used, Doubtful, entry_number}
 use Rattle.salvaging.specs.declared.entry.Entry.{Entry as Held}
 use Rattle.salvaging.specs.declared.entry.Entry.TheVariants as held
-use Rattle.salvaging.specs.declared.came.Came.{Came}
+use Rattle.salvaging.specs.declared.received.ReceivedMessage.{ReceivedMessage}
 use Rattle.salvaging.specs.steps.Arrivals.{Arrival, arrivals_in}
 
 -- The entry that an entry of the code represents.
@@ -100,7 +100,7 @@ pub record AreOfOne (group : List Arrival) (entry : Entry) : Type 0 where
 
 -- So many messages come before those that have the last one's number: the others have one number, and the entries part
 -- there.
-pub record IsLastGroup (came : List Came) (front : ℕ) : Type 0 where
+pub record IsLastGroup (came : List ReceivedMessage) (front : ℕ) : Type 0 where
   pub number : ℕ
   pub within : front < length came
   pub have : HaveOne number (arrivals_in (drop front came))

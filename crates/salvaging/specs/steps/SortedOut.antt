@@ -8,7 +8,7 @@ use Rattle.payload.specs.declared.mode.Mode.{Mode}
 use Rattle.message.specs.declared.message.Message.{Message}
 use Rattle.salvaging.specs.Strangers.{is_stranger}
 use Rattle.salvaging.specs.Treatments.{HartTreats, IsTreated, Row, hart_rows, stranger}
-use Rattle.salvaging.specs.declared.came.Came.{Came}
+use Rattle.salvaging.specs.declared.received.ReceivedMessage.{ReceivedMessage}
 use Rattle.salvaging.specs.declared.sorting_out.HartRows.{HartRows}
 use Rattle.salvaging.specs.declared.treatment.Treated.{Treated}
 use Rattle.salvaging.specs.steps.Arrivals.{AreOrdered, arrivals_in, placed_from}
@@ -25,10 +25,10 @@ pub record IsSortedOut {A : Type 0} (words : Words) (mode : Mode) (messages : Li
   pub among : (message : Message) → Contains messages message → Contains (numbers_in (hart_rows treats)) message.number
 
 -- The harts of these lists of messages are sorted out.
-pub record AreSortedOf {A : Type 0} (words : Words) (mode : Mode) (lists : List (Vec Came A))
+pub record AreSortedOf {A : Type 0} (words : Words) (mode : Mode) (lists : List (Vec ReceivedMessage A))
     (harts : List (HartRows A)) : Type 0 where
   pub count : length harts ≡ length lists
-  pub each : (hart : ℕ) (list : Vec Came A) (own : HartRows A) (messages : List Message)
+  pub each : (hart : ℕ) (list : Vec ReceivedMessage A) (own : HartRows A) (messages : List Message)
       → slice_get lists hart ≡ Some list → slice_get harts hart ≡ Some own
       → arrivals_in list.items ≡ placed_from 0 messages → IsSortedOut words mode messages own
 

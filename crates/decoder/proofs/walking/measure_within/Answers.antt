@@ -1,7 +1,7 @@
 -- Each step of the loop is a lemma about the walk that is left, which no search names.
 use Rattle.std.proofs.Common.{arith, drop}
 use Rattle.rvclass.specs.Fetch.{words_of}
-use Rattle.decoder.proofs.AlongLines.{goes_on, line_there, measure_leaps}
+use Rattle.decoder.proofs.AlongLines.{goes_on, line_there, measure_skips}
 use Rattle.decoder.proofs.PassesByStep.{measure_stops, measure_ends, measure_goes, measure_over}
 use Rattle.decoder.specs.steps.Walks.{event_of, goal_end}
 use Rattle.decoder.proofs.walking.measure_within.Goals as goal
@@ -40,7 +40,7 @@ loop-preserved-in-Some c =
     let next = goes_on words c.args.paths.bound.words end left c.loop.here _ line on in (
       next.0,
       omega (arith, some, counted),
-      measure_leaps words end (event_of c.args.from) c.args.course.now.outcomes c.args.paths.longest c.loop.done
+      measure_skips words end (event_of c.args.from) c.args.course.now.outcomes c.args.paths.longest c.loop.done
           (event_of c.loop.here) left c.loop.invariant.2 line.steps (event_of (line_there c.loop.here line)) on.few
           next.1,
     )

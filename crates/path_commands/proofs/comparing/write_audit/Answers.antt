@@ -8,14 +8,14 @@ use Rattle.frames.specs.Passages.{spans_left}
 use Rattle.auditing.specs.Audits.{Audits}
 use Rattle.auditing.specs.Known.{known_all}
 use Rattle.auditing.specs.Seen.{sight_of}
-use Rattle.path_commands.specs.Came.{Came}
+use Rattle.path_commands.specs.ReceivedCapture.{ReceivedCapture}
 use Rattle.path_commands.specs.Rows.{front_rows, rows_behind}
 use Rattle.path_commands.specs.Sides.{by_packets}
 use Rattle.path_commands.specs.declared.report.Report.{Report}
-use Rattle.path_commands.specs.steps.Ending.{EndsRest, HasArrived}
+use Rattle.path_commands.specs.steps.Ending.{EndsRest, HasReceived}
 use Rattle.path_commands.specs.steps.Noting.{noted_of}
 use Rattle.path_commands.proofs.AuditRuns.{audit_printed, cut_in_front, cut_in_rest}
-use Rattle.path_commands.proofs.Came.{came_of, is_came_of, notes_are, rows_are, spans_are}
+use Rattle.path_commands.proofs.ReceivedCapture.{came_of, is_came_of, notes_are, rows_are, spans_are}
 use Rattle.path_commands.proofs.comparing.write_audit.Goals.{After-write_rest}
 use Rattle.path_commands.proofs.comparing.write_audit.Goals as goal
 
@@ -28,7 +28,7 @@ module _ (g : _) (c : After-write_rest g) (sent : List Message) (audits : Audits
     summary = c.args.asked.now.summary;
   }
 
-  abbrev its : Came
+  abbrev its : ReceivedCapture
   its =
       came_of (by_packets c.args.asked.now.packets) sent c.args.bytes.now c.start_of-start.result.header
       c.start_of-start.result.fault
@@ -75,7 +75,7 @@ module _ (g : _) (c : After-write_rest g) (sent : List Message) (audits : Audits
       c.first_place-from.ensures (c.new-spans.ensures.spans (sight_of c.args.path.now.by sent)) c.args.harts
       ∙ (λ i. noted_of c.args.harts (known_all (sym how_is i) sent) (known_all (sym how_is i) (messages_in its.spans)))
 
-  has : HasArrived c.args.harts sent c.write_spans.new.path (record {
+  has : HasReceived c.args.harts sent c.write_spans.new.path (record {
     header = c.start_of-start.result.header;
     fault = c.start_of-start.result.fault;
     read = c.in_ok-read.read;

@@ -7,12 +7,12 @@ use Rattle.output.proofs.Beginnings.{begun_kept}
 use Rattle.message.specs.declared.message.Message.{Message}
 use Rattle.frames.specs.Counted.{messages_in}
 use Rattle.command_inputs.proofs.Runs.{appends-keeps}
-use Rattle.path_commands.specs.Came.{Came, is_whole_result}
+use Rattle.path_commands.specs.ReceivedCapture.{ReceivedCapture, is_whole_result}
 use Rattle.path_commands.specs.OnlyHarts.{harts_among}
 use Rattle.path_commands.specs.Rows.{ending_of, ending_row, rows_behind}
 use Rattle.path_commands.specs.Sides.{Sent, end_of_audit, heads_differ}
 use Rattle.path_commands.specs.declared.ending.Ending.{Ending}
-use Rattle.path_commands.specs.steps.Ending.{HasArrived}
+use Rattle.path_commands.specs.steps.Ending.{HasReceived}
 use Rattle.path_commands.proofs.Rests.{all_written, begun_ending, begun_lost, begun_rows, counted, ending_is, whole_is}
 use Rattle.path_commands.proofs.comparing.write_rest.Goals.{After-write_text}
 use Rattle.path_commands.proofs.comparing.write_rest.Goals as goal
@@ -29,8 +29,8 @@ returns-in_err-total-clause-begun g c = λ sent came has.
     (c.in_ok-write_runs.ensures.text sent (messages_in came.spans) has.audits)
     (c.write_rows.ensures.begun sent (messages_in came.spans) has.audits has.few)
 
-module _ (g : _) (c : After-write_text g) (sent : List Message) (came : Came)
-    (has : HasArrived c.args.report.harts sent c.args.path.now c.args.arrived came) where
+module _ (g : _) (c : After-write_text g) (sent : List Message) (came : ReceivedCapture)
+    (has : HasReceived c.args.report.harts sent c.args.path.now c.args.arrived came) where
   abbrev both : Sent
   both = record { header = c.args.path.now.header; messages = sent }
 
@@ -53,7 +53,8 @@ module _ (g : _) (c : After-write_text g) (sent : List Message) (came : Came)
   harts_is : c.count_among.result ≡ length (harts_among c.args.report.harts (length c.args.path.now.harts))
   harts_is = c.count_among.ensures ∙ ap (λ n. length (harts_among c.args.report.harts n)) c.harts.ensures
 
-  unlike_is : c.are_unlike-unlike.result ≡ heads_differ c.args.path.now.header c.args.arrived.header c.args.arrived.fault
+  unlike_is : c.are_unlike-unlike.result ≡ heads_differ c.args.path.now.header c.args.arrived.header
+      c.args.arrived.fault
   unlike_is =
       c.are_unlike-unlike.ensures
       ∙ ap (λ own. heads_differ own c.args.arrived.header c.args.arrived.fault) c.header.ensures

@@ -6,7 +6,7 @@ use Rattle.std.specs.Vec.{vec_len}
 use Rattle.std.proofs.lemmas.List.{map-append}
 use Rattle.std.proofs.lemmas.Option.{slice_get_read}
 use Rattle.salvaging.specs.Strangers.{has_number}
-use Rattle.salvaging.specs.declared.came.Came.{Came}
+use Rattle.salvaging.specs.declared.received.ReceivedMessage.{ReceivedMessage}
 use Rattle.salvaging.specs.steps.Arrivals.{arrival_of, arrivals_in}
 use Rattle.salvaging.specs.steps.Distributing.{AddsArrival}
 use Rattle.salvaging.proofs.Distributed.{adds_own, adds_unknown}
@@ -18,7 +18,7 @@ returns-in_ok-reserve-in-Some g c =
     let message = c.args.message.now in
     let list = c.in-Some.list.now in
     let new = c.push_reserved.new.self in
-    let came : Came = record { place = c.len-place.result; message = c.args.message } in
+    let came : ReceivedMessage = record { place = c.len-place.result; message = c.args.message } in
     let counted : vec_len c.args.lists.now ≡ length lists = c.args.lists.now.ok.0 in
     let within : c.from.result < length lists = subst (λ n. c.from.result < n) counted
     (c.in-Some.ensures.variant.0 refl) in

@@ -1,6 +1,6 @@
 -- Which messages come before those of the last number is found by lemmas on lists.
 use Rattle.std.proofs.Common.{◌≡◌, ◌<◌, ◌+◌, ◌-◌, ap, arith, length, subst, sym, ◌∙◌}
-use Rattle.salvaging.specs.declared.came.Came.{Came}
+use Rattle.salvaging.specs.declared.received.ReceivedMessage.{ReceivedMessage}
 use Rattle.salvaging.specs.steps.Grouping.{IsLastGroup}
 use Rattle.salvaging.proofs.LastRead.{all_read, last_read, reads_last}
 use Rattle.salvaging.proofs.grouping.before_last.Goals as goal
@@ -18,7 +18,8 @@ returns-then-came-at c =
     subst (λ n. IsLastGroup c.args.came.now n) here
     (last_read c.args.came.now c.index-came-came.result.message.now.number at c.loop-at.invariant
     c.index-came-at.result some (omega (arith, within)) c.index-came-at.is (omega (arith, within, any))
-    (λ same. c.if-came-at.true (ap (λ (one : Came). one.message.now.number) (sym c.index-came-at.is) ∙ same)))
+    (λ same. c.if-came-at.true (ap (λ (one : ReceivedMessage). one.message.now.number)
+    (sym c.index-came-at.is) ∙ same)))
 
 pub returns : goal.returns
 returns c =

@@ -1,7 +1,7 @@
 -- The first one is found by a lemma on ordered lists.
 use Rattle.std.proofs.Common.{rules, ◌≤◌, length, arith}
 use Rattle.std.proofs.lemmas.List.Sorted.{IsPartitionPoint-from_clause}
-use Rattle.salvaging.specs.declared.came.Came.{Came}
+use Rattle.salvaging.specs.declared.received.ReceivedMessage.{ReceivedMessage}
 use Rattle.salvaging.specs.steps.Arrivals.{arrival_of}
 use Rattle.salvaging.specs.steps.Looking.{is_below}
 use Rattle.salvaging.proofs.FirstLike.{first_found, parted, some_like}
@@ -11,7 +11,7 @@ pub returns-then-at-came : goal.returns-then-at-came
 returns-then-at-came c = λ own ordered there number payload.
     let message = c.args.message.now in
     let came = c.args.came.now in
-    let point = IsPartitionPoint-from_clause (λ (one : Came). is_below message (arrival_of one)) came
+    let point = IsPartitionPoint-from_clause (λ (one : ReceivedMessage). is_below message (arrival_of one)) came
     c.partition_point-at.result c.partition_point-at.ensures.partitioned (parted message came ordered)
     (λ a r f k. search rules) in
     first_found message came ordered c.partition_point-at.result (λ k d before. point.0 k d (omega arith) before)
@@ -21,7 +21,7 @@ pub returns-else-at-came : goal.returns-else-at-came
 returns-else-at-came c = λ own ordered there number payload.
     let message = c.args.message.now in
     let came = c.args.came.now in
-    let point = IsPartitionPoint-from_clause (λ (one : Came). is_below message (arrival_of one)) came
+    let point = IsPartitionPoint-from_clause (λ (one : ReceivedMessage). is_below message (arrival_of one)) came
     c.partition_point-at.result c.partition_point-at.ensures.partitioned (parted message came ordered)
     (λ a r f k. search rules) in
     let over : length came ≤ c.partition_point-at.result = search rules in

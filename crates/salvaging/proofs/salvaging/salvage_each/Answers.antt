@@ -6,7 +6,7 @@ use Rattle.std.specs.declared.vec.Vec.{Vec}
 use Rattle.rvclass.specs.Fetch.{words_of}
 use Rattle.losses.proofs.Ending.{left_behind}
 use Rattle.salvaging.specs.steps.Arrivals.{HaveNumbers, arrivals_in}
-use Rattle.salvaging.specs.declared.came.Came.{Came}
+use Rattle.salvaging.specs.declared.received.ReceivedMessage.{ReceivedMessage}
 use Rattle.salvaging.proofs.SalvagedEach.{salvaged_more}
 use Rattle.salvaging.proofs.salvaging.salvage_each.Goals as goal
 
@@ -39,7 +39,7 @@ loop-hart-preserved g c =
       left = left_behind first lists i _ inv.left;
       done = salvaged_more (words_of c.args.program.now) c.args.mode first harts new i list own inv.count at pushed
           (λ messages placed. c.in_ok-salvage_hart.ensures.salvaged messages
-          (ap (λ (v : Vec Came _). arrivals_in v.items) c.replace-came.ensures.value ∙ placed)) inv.done;
+          (ap (λ (v : Vec ReceivedMessage _). arrivals_in v.items) c.replace-came.ensures.value ∙ placed)) inv.done;
     }
 
 pub salvage_hart-requires-clause-numbers : goal.salvage_hart-requires-clause-numbers
@@ -57,6 +57,7 @@ salvage_hart-requires-clause-numbers g c =
     let at : slice_get first i ≡ Some list = inv.left i list (omega arith)
     (slice_get_read lists (length lists) i list refl within c.index_mut.ensures.value) in
     let before : HaveNumbers (arrivals_in list.items) =
-    subst (λ (v : Vec Came _). HaveNumbers (arrivals_in v.items)) (get_or_from_slice_get first i list list at)
+    subst (λ (v : Vec ReceivedMessage _). HaveNumbers (arrivals_in v.items))
+    (get_or_from_slice_get first i list list at)
     (c.requires i list (slice_get_within first i list at)) in
-    subst (λ (v : Vec Came _). HaveNumbers (arrivals_in v.items)) (sym c.replace-came.ensures.value) before
+    subst (λ (v : Vec ReceivedMessage _). HaveNumbers (arrivals_in v.items)) (sym c.replace-came.ensures.value) before

@@ -6,7 +6,7 @@ use Rattle.rvclass.specs.Fetch.{words_of}
 use Rattle.message.specs.declared.message.Message.{Message}
 use Rattle.salvaging.specs.Salvaged.{IsSalvagedHart}
 use Rattle.salvaging.specs.steps.Arrivals.{arrivals_in, placed_from}
-use Rattle.salvaging.specs.declared.came.Came.{Came}
+use Rattle.salvaging.specs.declared.received.ReceivedMessage.{ReceivedMessage}
 use Rattle.salvaging.specs.declared.salvaged.SalvagedHart.{SalvagedHart}
 use Rattle.salvaging.proofs.salvaging.salvage_each.Given as goal
 
@@ -16,9 +16,9 @@ invariant-loop-hart g l = record {
   lists_count : length l.lists.items ≡ length l.fn.lists.items;
   count : length l.harts.items ≡ l.hart;
   room : length l.fn.lists.items ≤ vec_capacity l.harts;
-  left : (k : ℕ) (list : Vec Came _) → l.hart ≤ k → slice_get l.lists.items k ≡ Some list
+  left : (k : ℕ) (list : Vec ReceivedMessage _) → l.hart ≤ k → slice_get l.lists.items k ≡ Some list
       → slice_get l.fn.lists.items k ≡ Some list;
-  done : (k : ℕ) (list : Vec Came _) (own : SalvagedHart _) (messages : List Message)
+  done : (k : ℕ) (list : Vec ReceivedMessage _) (own : SalvagedHart _) (messages : List Message)
       → slice_get l.fn.lists.items k ≡ Some list → slice_get l.harts.items k ≡ Some own
       → arrivals_in list.items ≡ placed_from 0 messages
       → IsSalvagedHart (words_of l.program) l.mode messages own;

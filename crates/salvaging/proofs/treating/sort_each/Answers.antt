@@ -6,7 +6,7 @@ use Rattle.std.specs.declared.vec.Vec.{Vec}
 use Rattle.rvclass.specs.Fetch.{words_of}
 use Rattle.losses.proofs.Ending.{left_behind}
 use Rattle.salvaging.specs.steps.Arrivals.{arrivals_in}
-use Rattle.salvaging.specs.declared.came.Came.{Came}
+use Rattle.salvaging.specs.declared.received.ReceivedMessage.{ReceivedMessage}
 use Rattle.salvaging.proofs.SortedEach.{sorted_more}
 use Rattle.salvaging.proofs.treating.sort_each.Goals as goal
 
@@ -38,5 +38,5 @@ loop-hart-preserved g c =
       left = left_behind first lists i _ inv.left;
       done = sorted_more (words_of c.args.program.now) c.args.mode first harts new i list own inv.count at pushed
           (λ messages placed. c.in_ok-sort_out.ensures messages
-          (ap (λ (v : Vec Came _). arrivals_in v.items) c.replace-came.ensures.value ∙ placed)) inv.done;
+          (ap (λ (v : Vec ReceivedMessage _). arrivals_in v.items) c.replace-came.ensures.value ∙ placed)) inv.done;
     }

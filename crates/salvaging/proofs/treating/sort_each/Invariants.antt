@@ -6,7 +6,7 @@ use Rattle.rvclass.specs.Fetch.{words_of}
 use Rattle.message.specs.declared.message.Message.{Message}
 use Rattle.salvaging.specs.steps.SortedOut.{IsSortedOut}
 use Rattle.salvaging.specs.steps.Arrivals.{arrivals_in, placed_from}
-use Rattle.salvaging.specs.declared.came.Came.{Came}
+use Rattle.salvaging.specs.declared.received.ReceivedMessage.{ReceivedMessage}
 use Rattle.salvaging.specs.declared.sorting_out.HartRows.{HartRows}
 use Rattle.salvaging.proofs.treating.sort_each.Given as goal
 
@@ -15,9 +15,9 @@ invariant-loop-hart g l = record {
   lists_count : length l.lists.items ≡ length l.fn.lists.items;
   count : length l.harts.items ≡ l.hart;
   room : length l.fn.lists.items ≤ vec_capacity l.harts;
-  left : (k : ℕ) (list : Vec Came _) → l.hart ≤ k → slice_get l.lists.items k ≡ Some list
+  left : (k : ℕ) (list : Vec ReceivedMessage _) → l.hart ≤ k → slice_get l.lists.items k ≡ Some list
       → slice_get l.fn.lists.items k ≡ Some list;
-  done : (k : ℕ) (list : Vec Came _) (own : HartRows _) (messages : List Message)
+  done : (k : ℕ) (list : Vec ReceivedMessage _) (own : HartRows _) (messages : List Message)
       → slice_get l.fn.lists.items k ≡ Some list → slice_get l.harts.items k ≡ Some own
       → arrivals_in list.items ≡ placed_from 0 messages
       → IsSortedOut (words_of l.program) l.mode messages own;

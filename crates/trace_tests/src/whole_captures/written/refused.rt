@@ -9,7 +9,7 @@ use crate::same::same_at;
 use crate::whole_captures::{capture_of, copies_of};
 use capture_index::{Selection, survey_capture};
 use fault_injection::{FailingWriter, Refusing};
-use message::{HartRange, Unwatched};
+use message::{HartRange, NoProgress};
 use payload::Mode;
 use retire::WriteFault;
 use rvclass::Program;
@@ -17,8 +17,8 @@ use std::io;
 use std::io::{ErrorKind, Write};
 use std::process::Abort;
 
-/// The requests of the first pass: for the numbers, the decoders, the flags and the counts of the harts; for the list of
-/// places and for the places of each of the two harts.
+/// The requests of the first pass: for the numbers, the decoders, the flags and the counts of the harts; for the list
+/// of places and for the places of each of the two harts.
 const REQUESTS: u64 = 7;
 
 /// Ends the test unless the first pass fails where a request is refused, and else makes no other.
@@ -31,7 +31,7 @@ fn are_refused<R: Abort + AllocGlobal>(rt: &R, program: &Program, capture: &[u8]
     };
     for place in 0..REQUESTS.saturating_add(1) {
         let heap = Refusing::new(rt.alloc(), place);
-        let failed = survey_capture(&heap, &asked, &Unwatched).is_err();
+        let failed = survey_capture(&heap, &asked, &NoProgress).is_err();
         let refused = place < REQUESTS;
         same_at(rt, place, heap.has_refused(), refused);
         same_at(rt, place, failed, refused);

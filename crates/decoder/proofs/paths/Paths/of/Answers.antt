@@ -1,12 +1,12 @@
--- That no leaps lead nowhere else is a lemma about lists.
+-- That no skips lead nowhere else is a lemma about lists.
 use Rattle.std.proofs.Common.{[], refl}
 use Rattle.rvclass.specs.Fetch.{words_of}
-use Rattle.decoder.proofs.AlongLines.{no_leaps}
+use Rattle.decoder.proofs.AlongLines.{no_skips}
 use Rattle.decoder.proofs.paths.Paths.of.Goals as goal
 
 pub invariant_of-result : goal.invariant_of-result
 invariant_of-result c = record {
   bound = c.longest.ensures;
   numbered = refl;
-  lead = no_leaps (words_of c.args.program.now) [];
+  lead = no_skips (words_of c.args.program.now) [];
 }

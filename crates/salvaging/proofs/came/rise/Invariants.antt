@@ -1,7 +1,0 @@
-use Rattle.std.specs.List.{AllAdjacentBelow}
-use Rattle.salvaging.proofs.Rising.{IsBelow}
-use Rattle.salvaging.proofs.came.rise.Given as goal
-
--- Each number so far is below the next one.
-abbrev pub invariant-loop-at : goal.invariant-loop-at
-invariant-loop-at l = AllAdjacentBelow IsBelow l.came l.at
