@@ -9,8 +9,9 @@ from paging import tables
 MAKER = "audit --format csv"
 WORDS = "kind", "fate", "verdict"
 COUNTS = "sent", "came", "lost", "repeated", "late", "changed", "strange", "runs", "longest_run", "most_late"
-NUMBERS = "place", "hart", "number", "last", "by", *COUNTS
-KINDS = "message", "bytes", "run", "hart", "all", "result"
+NUMBERS = "place", "hart", "number", "last", "by"
+MISSING = "missing"  # of the lost ones those in whose place no changed one came, where the table has it
+KINDS = "message", "bytes", "run", "exchanged", "hart", "all", "result"
 FATES = "skips", "late", "repeat", "changed", "stranger", "extra"
 DIFFER = "headers differ"
 VERDICTS = "whole", "not whole"
@@ -50,6 +51,8 @@ class Audited:
     byte_runs: int = 0
     strange_bytes: int = 0
     strangers: int = 0  # of whatever hart
+    counts: tuple = COUNTS
+    exchanged: list = field(default_factory=list)  # the harts of which messages of another came
 
     @property
     def is_summary(self):
@@ -58,16 +61,16 @@ class Audited:
         return not has_rows and any(self.all[name] for name in SUMMED[2:])
 
 
-def read(path, show=None):
+def read(source, show=None):
     """The audit in a table."""
-    found = Audited()
-    for block in tables.blocks(path, MAKER, WORDS, NUMBERS, show):
+    found = Audited(counts=COUNTS + (MISSING,) * (MISSING in source.columns()))
+    for block in tables.blocks(source, MAKER, WORDS, (*NUMBERS, *found.counts), show):
         take(found, block)
     if not found.verdict:
-        raise Unusable(f"{path}: no row of the result: the table is cut short")
+        raise Unusable(f"{source}: no row of the result: the table is cut short")
     past = max(int(found.places.whole(fate).max(initial=-1)) for fate in FATES)
     if past >= found.total:
-        raise Unusable(f"{path}: place {past} is past the {found.total} messages of the result")
+        raise Unusable(f"{source}: place {past} is past the {found.total} messages of the result")
     sums = {name: sum(row[name] or 0 for row in found.harts) for name in SUMMED}
     found.all = sums | {"strange": max(sums["strange"], found.strangers)}
     return found
@@ -77,7 +80,7 @@ def take(found, block):
     """Takes the rows of a block."""
     kinds = block.words("kind", KINDS)
     block.refuse(kinds < 0, "the kind is none that an audit has")
-    numbers = {name: block.numbers(name) for name in NUMBERS}
+    numbers = {name: block.numbers(name) for name in (*NUMBERS, *found.counts)}
     ended = numpy.flatnonzero(kinds == KINDS.index("result"))
     after = numpy.arange(len(kinds)) > (ended[0] if len(ended) else len(kinds))
     block.refuse(after | bool(found.verdict), "a row after the result")
@@ -111,6 +114,7 @@ def take_runs(found, block, is_run, numbers):
 def take_sums(found, block, kinds, numbers):
     """Takes the rows of harts, of all and of the result."""
     verdicts = block.words("verdict", VERDICTS)
+    found.exchanged += numbers["hart"][kinds == KINDS.index("exchanged")].tolist()
     is_sum = kinds >= KINDS.index("hart")
     block.refuse(is_sum & (verdicts < 0), "the verdict is neither `whole` nor `not whole`")
     block.refuse((kinds == KINDS.index("hart")) & (numbers["hart"] < 0), "no hart")
@@ -118,7 +122,9 @@ def take_sums(found, block, kinds, numbers):
     block.refuse(is_counted & ((numbers["sent"] < 0) | (numbers["came"] < 0) | (numbers["lost"] < 0)), "a count is lacking")
     block.refuse((kinds == KINDS.index("result")) & (numbers["place"] < 0), "no count of messages")
     for place in numpy.flatnonzero(kinds == KINDS.index("hart")):
-        row = {name: int(numbers[name][place]) if numbers[name][place] >= 0 else None for name in ("hart", *COUNTS)}
+        row = {
+            name: int(numbers[name][place]) if numbers[name][place] >= 0 else None for name in ("hart", *found.counts)
+        }
         found.harts.append(row | strange(row) | {"verdict": VERDICTS[verdicts[place]]})
     differ = block.words("fate", (DIFFER,)) == 0
     for place in numpy.flatnonzero(kinds == KINDS.index("result")):

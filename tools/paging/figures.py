@@ -15,6 +15,8 @@ COLOURS = {"lost": VERMILION, "repeated": BLUE, "late": ORANGE, "changed": GREEN
 OF_LINES = BLUE, VERMILION, GREEN, PURPLE, ORANGE, SKY
 OF_FUNCTIONS = BLUE, SKY, GREEN, ORANGE, PURPLE, "#f0e442", "#999933", "#332288"  # none is that of losses
 OTHER = "#bbbbbb"
+OF_SALVAGE = {"gap": VERMILION, "bad": PURPLE, "doubtful": ORANGE, "alone": BLUE, "far": GREEN, "no message": BLACK,
+              "passed": "#f0e442", "copy": OTHER, "stretch": SKY}
 MARKS = "o", "s", "^", "D", "v", "P"
 DASHES = "-", "--", ":", "-."
 MOST_NAMED = 12  # harts with a line and a name of their own
@@ -78,20 +80,42 @@ def height_of(harts):
     return min(0.16 * harts, 11.0) + 1.1
 
 
-def by_hart(names, kinds, grid, width_of_bin, total):
+def by_hart(names, kinds, grid, width_of_bin, total, unit="place in RECEIVED (messages)", colours_of=COLOURS):
     """A strip of places for each hart, by the number of its kind: -1 where nothing befell."""
     def draw(width):
         figure = Figure(figsize=(width, height_of(len(names))), layout="constrained")
         axes = figure.subplots()
-        colours = matplotlib.colors.ListedColormap([COLOURS[kind] for kind in kinds])
+        colours = matplotlib.colors.ListedColormap([colours_of[kind] for kind in kinds])
         shown = numpy.ma.masked_less(grid, 0)
         edges = numpy.minimum(numpy.arange(grid.shape[1] + 1) * width_of_bin, max(total, 1))
         axes.pcolormesh(edges, numpy.arange(len(names) + 1) - 0.5, shown, cmap=colours, vmin=-0.5, vmax=len(kinds) - 0.5, rasterized=True)
         strips(axes, names)
         axes.set_xlim(0, max(total, 1))
         counted(axes.xaxis, 8 if width == WIDE else 4)
-        axes.set_xlabel("place in RECEIVED (messages)")
-        legend(axes, {kind: COLOURS[kind] for kind in kinds}, 6 if width == WIDE else 3)
+        axes.set_xlabel(unit)
+        legend(axes, {kind: colours_of[kind] for kind in kinds}, 6 if width == WIDE else 3)
+        return figure
+    return draw
+
+
+def over_time(names, rates, edges, silences):
+    """The messages a second of all harts over time, and below that a strip of them for each hart with its longest
+    silence. `silences` are (from, how long) in seconds."""
+    def draw(width):
+        figure = Figure(figsize=(width, 1.6 + height_of(len(names))), layout="constrained")
+        above, below = figure.subplots(2, 1, sharex=True, height_ratios=[1.6, height_of(len(names))])
+        above.stairs(rates.sum(axis=0), edges, fill=True, color=BLUE)
+        above.set_title("messages a second, of all harts")
+        above.set_ylim(0, None)
+        shown = numpy.ma.masked_equal(rates, 0)
+        mesh = below.pcolormesh(edges, numpy.arange(len(names) + 1) - 0.5, shown, cmap="viridis_r", rasterized=True)
+        below.set_title("of each hart, and its longest silence in red")
+        for at, (start, length) in enumerate(silences):
+            below.broken_barh([(start, length)], (at - 0.12, 0.24), facecolors=VERMILION)
+        strips(below, names)
+        below.set_xlim(0, edges[-1])
+        below.set_xlabel("seconds from the first message")
+        figure.colorbar(mesh, ax=[above, below], fraction=0.04)
         return figure
     return draw
 

@@ -8,7 +8,8 @@ from recording.unusable import Unusable
 
 MAKER = "list --format csv"
 WORDS, NUMBERS = ("kind", "packet"), ("hart", "number", "added")
-KINDS, PACKETS = ("message",), ("sync",)
+KINDS, PACKETS = ("message", "refused", "incomplete"), ("sync",)
+WANTED = f"give it what `{MAKER}` writes of SENT"
 
 
 @dataclass
@@ -35,10 +36,16 @@ class Listed:
 
 def read(path, show=None):
     """The rows that each message of a list takes away where it alone is lost."""
+    source = tables.Source(path)
+    treatment = ("treatment",) if "treatment" in source.columns() else ()
     harts, added, syncs = [], [], []
-    for block in tables.blocks(path, MAKER, WORDS, NUMBERS, show, may_quote=True):
+    for block in tables.blocks(source, MAKER, (*WORDS, *treatment), NUMBERS, show, may_quote=True):
+        if treatment and block.texts("treatment"):
+            raise Unusable(f"{path}: a table of `list --salvage`: {WANTED}")
         columns = {name: block.numbers(name) for name in NUMBERS}
-        is_message = block.words("kind", KINDS) == 0
+        kinds = block.words("kind", KINDS)
+        block.refuse(kinds > 0, f"the list stops here, at a message that is refused: {WANTED}")
+        is_message = kinds == 0
         block.refuse(is_message & ((columns["hart"] < 0) | (columns["number"] < 0)), "no hart or no number")
         harts.append(columns["hart"][is_message].astype(numpy.int32))
         added.append(numpy.maximum(columns["added"][is_message], 0))
@@ -48,6 +55,17 @@ def read(path, show=None):
     if not any(sync.any() for sync in syncs) and any(part.any() for part in added):
         raise Unusable(f"{path}: no message is a sync")
     return rows_taken(numpy.concatenate(harts), numpy.concatenate(added), numpy.concatenate(syncs))
+
+
+def test(path, listed, found):
+    """Refuses a list of another capture than the one that was sent."""
+    counts = dict(zip(*(part.tolist() for part in numpy.unique(listed.harts, return_counts=True))))
+    for row in found.harts:
+        count = counts.get(row["hart"], 0)
+        if count != row["sent"]:
+            raise Unusable(
+                f"{path}: hart {row['hart']} has {count:,} messages, and {row['sent']:,} were sent: {WANTED}"
+            )
 
 
 def rows_taken(harts, added, syncs):

@@ -3,25 +3,44 @@ import os
 
 import jinja2
 
-from paging import figures, told
+from paging import figures, left, told
 
 HERE = os.path.dirname(os.path.abspath(__file__))
 MOST_WHOLE = 64  # rows of the table of harts that are shown without a scroll bar
-COUNTS = {"sent": "sent", "came": "came", "lost": "lost", "repeated": "repeated", "late": "late", "changed": "changed",
-          "strange": "strange", "extra": "extra", "runs": "runs of losses", "longest_run": "longest run", "most_late": "late by"}
+NOTE = "“strange” messages are none of SENT, “late by” is the most that a message of the hart is late."
+COUNTS = {"sent": "sent", "came": "came", "lost": "lost", "missing": "missing", "repeated": "repeated", "late": "late",
+          "changed": "changed", "strange": "strange", "extra": "extra", "runs": "runs of losses",
+          "longest_run": "longest run", "most_late": "late by"}
 
 
-def page(found, listed, measured, compared, followed, title):
-    """The text of the page."""
-    shown = [figure for figure in (told.places(found), told.by_hart(found), told.functions(found, listed, followed), told.lateness(found),
-                                   told.runs(found), told.taken(listed), told.bits(measured)) if figure]
+def page(found, listed, measured, compared, followed, timed, title):
+    """The text of the page of an audit."""
+    shown = [told.places(found), told.by_hart(found), told.functions(found, listed, followed), told.rates(timed),
+             told.lateness(found), told.runs(found), told.taken(listed), told.bits(measured)]
+    harts = hart_table(found, listed, compared)
+    is_whole = found.verdict == "whole"
+    return rendered(title, found.verdict, is_whole, summary(found, compared), harts, NOTE, ("whole",), shown)
+
+
+def page_without_sent(found, timed, title):
+    """The text of the page of what is left of a capture."""
+    shown = [*left.shown_figures(found), told.rates(timed)]
+    verdict, lines, harts = left.verdict(found), left.summary(found), left.hart_table(found)
+    return rendered(title, verdict, found.is_whole, lines, harts, left.NOTE, left.GOOD, shown)
+
+
+def rendered(title, verdict, is_good, lines, harts, note, good, shown):
+    """The page of a verdict, of the lines below it, of the table of harts with its note and the words in it that are
+    good, and of figures."""
+    shown = [figure for figure in shown if figure]
     for figure in shown:
         figure["pictures"] = figures.drawn(figure["draw"])
     loader = jinja2.FileSystemLoader(HERE)
     template = jinja2.Environment(loader=loader, autoescape=True, trim_blocks=True, lstrip_blocks=True)
-    heads, rows = hart_table(found, listed, compared)
+    heads, rows = harts
     return template.get_template("page.html").render(
-        title=title, verdict=found.verdict, summary=summary(found, compared), heads=heads, rows=rows, is_long=len(rows) > MOST_WHOLE, figures=shown)
+        title=title, verdict=verdict, is_good=is_good, summary=lines, heads=heads, rows=rows, note=note, good=good,
+        is_long=len(rows) > MOST_WHOLE, figures=shown)
 
 
 def summary(found, compared):
@@ -38,6 +57,9 @@ def summary(found, compared):
             f"; hart {worst['hart']} lost the largest share, {told.share(worst['lost'], worst['sent'])}." if worst["lost"] else "."))
     if found.strange_bytes:
         lines.append(f"{told.count_of(found.strange_bytes, 'byte')} in {told.count_of(found.byte_runs, 'run')} are of no message.")
+    if found.exchanged:
+        harts = ", ".join(map(str, found.exchanged))
+        lines.append(f"As those of hart {harts} came messages of another hart: look at the wiring of the sources.")
     if found.headers_differ:
         lines.append("The headers of SENT and RECEIVED differ.")
     if found.is_summary:
@@ -52,7 +74,7 @@ def summary(found, compared):
 
 def hart_table(found, listed, compared):
     """The heads of the table of harts and its rows, each cell with its text and what it is sorted by."""
-    names = [name for name in COUNTS if any(row[name] is not None for row in found.harts)]
+    names = [name for name in COUNTS if any(row.get(name) is not None for row in found.harts)]
     heads = ["hart", "verdict", *(COUNTS[name] for name in names), "lost %"]
     heads += ["rows a loss costs"] if listed else []
     heads += ["rows", "rows decoded", "log"] if compared else []

@@ -1,6 +1,7 @@
 """Tables of CSV, read in blocks of lines, so that one of any length takes the memory of a block."""
 import csv
 import io
+import re
 
 import numpy
 import pandas
@@ -10,6 +11,15 @@ from recording.unusable import Unusable
 BLOCK = 1 << 24  # bytes read at once
 NONE = -1  # a number where nothing is
 MOST = (1 << 63) - 2  # the last number of a message in order; greater numbers count as this
+MARKS = {  # the columns that only a table of this kind has
+    "audit --format csv": {"fate", "verdict"},
+    "salvage --format csv": {"kind", "second", "closed", "reason"},
+    "list --format csv": {"packet", "added", "waits"},
+    "measure": {"retirements", "payload_bytes"},
+    "decode": {"addr", "itype", "priv"},
+    "tools/timeline --strip": {"first", "last", "function", "rows"},
+    "tools/timeline --coverage": {"entered", "taken", "not_taken"},
+}
 
 
 class Block:
@@ -25,6 +35,14 @@ class Block:
             is_wrong = numpy.array([not is_number(text) for text in texts] + [False])
             self.refuse(is_wrong[codes], f"{name} is not a number")
         return numpy.array([*map(number_of, texts), NONE], numpy.int64)[codes]
+
+    def places(self, name):
+        """A column of offsets, which are hexadecimal, NONE where nothing is."""
+        texts, codes = self.texts(name), self.codes(name)
+        if not all(map(is_offset, texts)):
+            is_wrong = numpy.array([not is_offset(text) for text in texts] + [False])
+            self.refuse(is_wrong[codes], f"{name} is no offset")
+        return numpy.array([*(int(text, 16) for text in texts), NONE], numpy.int64)[codes]
 
     def words(self, name, known):
         """A column of words, each as its place in those that are known, NONE where it is none of them."""
@@ -45,13 +63,28 @@ class Block:
             raise Unusable(f"{self.path}: line {self.first + int(is_wrong.argmax())}: {why}")
 
 
-def blocks(path, maker, words, numbers, show=None, may_quote=False):
-    """The blocks of a table that `maker` writes, which has to have these columns of words and of numbers. `show` is told of
-    each block how many bytes and rows were read."""
-    with open(path, "rb") as file:
-        header = header_of(path, file.readline(), maker, (*words, *numbers))
+class Source:
+    """A file that is read once, and its first line."""
+
+    def __init__(self, path):
+        self.path, self.file = path, open(path, "rb")
+        self.line = self.file.readline()
+
+    def __str__(self):
+        return self.path
+
+    def columns(self):
+        """The columns that the first line has."""
+        return self.line.decode("utf-8", "replace").rstrip("\r\n").split(",")
+
+
+def blocks(source, maker, words, numbers, show=None, may_quote=False):
+    """The blocks of a table that `maker` writes, which has to have these columns of words and of numbers. `show` is
+    told of each block how many bytes and rows were read."""
+    with source.file as file:
+        path, columns = source.path, [*words, *numbers]
+        header = header_of(path, source.line, maker, columns)
         told = show(file) if show else None
-        columns = [*words, *numbers]
         first = 2
         while text := file.read(BLOCK):
             text += file.readline()
@@ -73,11 +106,19 @@ def header_of(path, line, maker, wanted):
     except UnicodeDecodeError:
         raise Unusable(f"{path}: no text: give it what `{maker}` writes") from None
     lacking = [name for name in wanted if name not in header]
+    kind = kind_of(header)
+    if lacking and kind not in (None, maker):
+        raise Unusable(f"{path}: a table of `{kind}`: give it what `{maker}` writes")
     if len(lacking) == len(wanted):
         raise Unusable(f"{path}: line 1: no table of `{maker}`: it has none of its columns")
     if lacking:
         raise Unusable(f"{path}: line 1: the column {lacking[0]} is lacking: give it what `{maker}` writes")
     return header
+
+
+def kind_of(header):
+    """Which command writes a table of these columns, None where that is not known."""
+    return next((kind for kind, marks in MARKS.items() if marks <= set(header)), None)
 
 
 def frame(path, first, text, header, columns, may_quote):
@@ -109,6 +150,10 @@ def first_fault(first, text, header, may_quote):
 
 def is_number(field):
     return field.isascii() and field.isdigit()
+
+
+def is_offset(field):
+    return len(field) <= 15 and bool(re.fullmatch("[0-9a-f]+", field))
 
 
 def number_of(digits):

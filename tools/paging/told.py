@@ -212,3 +212,30 @@ def taken(listed):
     draw = figures.bars(names, [("messages by the rows they take away", "messages", counts, figures.BLUE)],
                         "rows lost with it")
     return figure("taken", "Rows that one lost message takes away", sentences, ["rows lost with it", "messages"], rows, draw)
+
+
+def rates(timed):
+    """Messages a second, and the longest silence of each hart."""
+    if timed is None:
+        return None
+    names, span = list(timed.harts), timed.end
+    edges = numpy.linspace(0, span, spread.MOST_BINS + 1) if span else numpy.array([0.0, 1.0])
+    width = float(edges[1])
+    counts = numpy.array([numpy.histogram(times, edges)[0] for times in timed.harts.values()])
+    silences = [timed.silence(hart) for hart in names]
+    total, worst = int(counts.sum()), max(range(len(names)), key=lambda at: silences[at][1])
+    start, length = silences[worst]
+    rate = f", {total / span:,.1f} a second" if span else ""
+    sentences = [
+        f"{count_of(total, 'message')} in {span:,.6g} s{rate}. Each bar is of {width:.3g} s.",
+        f"Hart {names[worst]} has the longest silence: {length:,.6g} s, from {start:,.6g} s on.",
+        "A silence is the time between two messages of a hart, before its first or after its last.",
+    ]
+    if timed.untimed:
+        sentences.append(f"Lines without a time, which are not counted: {timed.untimed:,}.")
+    rows = [[f"hart {hart}", f"{len(timed.harts[hart]):,}", f"{len(timed.harts[hart]) / span:,.1f}" if span else "",
+             f"{counts[at].max() / width:,.1f}" if span else "", f"{silences[at][1]:,.6g}", f"{silences[at][0]:,.6g}"]
+            for at, hart in enumerate(names)]
+    heads = ["hart", "messages", "a second", "most a second in a bar", "longest silence (s)", "from (s)"]
+    draw = figures.over_time([str(hart) for hart in names], counts / width, edges, silences)
+    return figure("rates", "Messages over time", sentences, heads, rows, draw)

@@ -22,6 +22,8 @@ all: 11 sent, 11 came, 1 lost, 1 repeated, 0 late, 0 changed, 0 strange, not who
 result: not whole
 """
 COMPARED = """hart 0: 9 events, 5 packets, 30 payload bytes, decoded 3, beginning
+hart 0: row 4: log 80000014,0,3,,
+hart 0: row 4: decoded end
 hart 1: 8 events, 6 packets, 30 payload bytes, decoded 8, whole
 result: not whole
 """

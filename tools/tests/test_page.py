@@ -1,4 +1,5 @@
-"""`tools/page`: what a page says of an audit, what is wrong with a file that is none, and that the table of harts is sorted."""
+"""`tools/page`: what a page says of an audit and of a capture without what was sent, what is wrong with a file that is
+none, and that the table of harts is sorted."""
 import html.parser
 import io
 import os
@@ -6,6 +7,7 @@ import re
 import shutil
 import subprocess
 import unittest
+from random import Random
 
 import audit_tables
 from support import BASE, TOOLS, TOP, TRACEBENCH, InFolder
@@ -29,9 +31,58 @@ message,0000002c,0,2,address,0,,,
 message,00000039,0,3,address,5,80000004,80000014,main
 message,00000045,0,4,sync,4,80000018,80000024,main
 message,00000055,0,5,close,2,80000028,8000002c,"f(int, int)"
-incomplete,00000060,,,,,,,
+message,00000060,1,0,open,0,,,
+message,0000006c,1,1,sync,1,80000000,80000000,main
+message,0000007c,1,2,address,0,,,
+message,00000089,1,3,address,0,,,
+message,00000095,1,4,close,3,80000004,8000000c,main
+"""
+OF_LIST = (
+    "kind,place,offset,hart,number,packet,addr,diff,priv,branch,trap,cause,tval,handler,epc,map,report,mode,ended,bad,"
+    "waits,closed,treatment,reason,late,bytes,added,first,last,first_symbol,first_distance,last_symbol,last_distance"
+).split(",")
+SALVAGED = """kind,hart,number,last,count,offset,second,mode,closed,reason
+hart,0,,,,,,differential,no,
+mode,0,,,,,,full,,
+stretch,0,0,3,3,,,,,
+gap,0,,,2,,,,,
+stretch,0,8,9,5,,,,,
+bad,0,10,,,00000100,,,,bad packet: Unsupported
+bad,0,11,,,00000110,,,,"closing, but number 12 came"
+doubtful,0,12,,,00000120,00000200,,,
+gap,0,,,1,,,,,
+stretch,0,13,13,1,,,,,
+alone,0,99,,,00000240,,,,
+copies,0,,,1,,,,,
+late,0,,,4,,,,,
+hart,1,,,,,,full,yes,
+stretch,1,0,4,1007,,,,,
+bytes,,,,12,00000058,,,,
+bytes,,,,3,00000260,,,,
+strangers,,,,2,,,,,
+"""
+TIMES = """# of a link with two sources
+0 0 1f @1000000
+
+1 8504 @1500000
+0,1,7300000020,@2000000
+0	2	0a @2500000
+1 8504
+0 3 4f @9000000
+"""
+KEPT = """
+import sys
+sys.path.insert(0, sys.argv[1])
+from paging import salvaged, tables
+for path in sys.argv[2:]:
+    found = salvaged.read(tables.Source(path))
+    names = "rows", "stretches", "missing", "bad", "doubtful", "alone", "far", "copies", "late"
+    print(sorted((hart, [counts[name] for name in names]) for hart, counts in found.harts.items()),
+          found.bytes, found.byte_runs, found.strangers)
 """
 COMPARED = """hart 0: 20 events, 5 packets, 30 payload bytes, decoded 10, beginning
+hart 0: row 11: log 80000014,0,3,,
+hart 0: row 11: decoded end
 hart 1: 20 events, 5 packets, 30 payload bytes, decoded 20, whole
 result: not whole
 """
@@ -69,6 +120,56 @@ def table(*rows):
 def of_example():
     with open(RECEIVED) as file:
         return audit_tables.table_of(file.read(), 10)
+
+
+def of_listed():
+    """The example's audit, with as many messages sent of hart 0 as the list has."""
+    return of_example().replace("hart,,,0,,,,,,,5,", "hart,,,0,,,,,,,6,")
+
+
+def listed(*rows, more=()):
+    """A table of `list --salvage` of rows (columns and values), and columns after the last."""
+    return "".join(",".join(line) + "\n" for line in (
+        [*OF_LIST, *more], *([row.get(name, "") for name in (*OF_LIST, *more)] for row in rows)))
+
+
+def message(offset, hart, number, treatment, added="", **more):
+    """A row of a message in a table of `list --salvage`."""
+    return {
+        "kind": "message",
+        "offset": f"{offset:08x}",
+        "hart": str(hart),
+        "number": str(number),
+        "packet": "sync",
+        "treatment": treatment,
+        "added": str(added),
+        "late": "no",
+        **more,
+    }
+
+
+def changed(messages, random):
+    """Some messages with a few faults."""
+    messages = list(messages)
+    for _ in range(random.randrange(1, 5)):
+        at = random.randrange(len(messages))
+        fault = random.randrange(5)
+        if fault == 0:
+            del messages[at:at + random.randrange(1, 4)]
+        elif fault == 1:
+            messages.insert(random.randrange(len(messages)), messages[at])
+        elif fault == 2:
+            messages.insert(random.randrange(len(messages)), messages.pop(at))
+        elif fault == 3:
+            place = random.randrange(11, len(messages[at]))
+            messages[at] = (
+                messages[at][:place]
+                + bytes([messages[at][place] ^ 1 << random.randrange(8)])
+                + messages[at][place + 1 :]
+            )
+        else:
+            messages[at] = messages[at][:random.randrange(1, len(messages[at]))]
+    return messages
 
 
 class Reader(html.parser.HTMLParser):
@@ -148,14 +249,14 @@ class Page(InFolder):
         """Message 2 of hart 0 is lost: it adds no row, and with it go rows 1 to 8, the 5 of message 3 and the 3 of message 4 before its
         own."""
         audit = table("run,,,0,2,2,,,,,,,,,,,,,,,", "hart,,,0,,,,,,,6,5,1,0,0,0,0,1,1,0,not whole",
-                      "hart,,,1,,,,,,,6,6,0,0,0,0,0,0,0,0,whole", "result,11,,,1,,,0,,,,,,,,,0,0,,,not whole")
+                      "hart,,,1,,,,,,,5,5,0,0,0,0,0,0,0,0,whole", "result,10,,,1,,,0,,,,,,,,,0,0,,,not whole")
         page = Reader(self.made(audit, *self.strips(STRIP)))
         found = page.tables[3]
         self.assertEqual(found, [["function", "rows", "rows lost"], ["main", "8", "7"], ["f(int, int)", "4", "1"], ["idle", "2", "0"]])
         self.assertIn("Most lost rows are of main: 7 of 8, by the function of each part.", page.paragraphs)
 
     def test_strips_that_are_none(self):
-        good = of_example()
+        good = of_listed()
         self.refused("strip.csv: line 1: no table of `tools/timeline --strip`", good, *self.strips("hart,first\n"))
         self.refused("strip.csv: line 3: no row of `tools/timeline --strip`", good, *self.strips(STRIP.replace("0,4,7", "0,x,7")))
         self.refused("strip.csv: no row: give it what `tools/timeline --strip` writes", good, *self.strips(STRIP.splitlines()[0] + "\n"))
@@ -240,15 +341,18 @@ class Page(InFolder):
 
     def test_the_other_files(self):
         page = Reader(self.made(
-            of_example(), "--list", self.file("list.csv", LISTED), "--measure", "8=" + self.file("8.csv", MEASURED),
+            of_listed(), "--list", self.file("list.csv", LISTED), "--measure", "8=" + self.file("8.csv", MEASURED),
             "--measure", "64=" + self.file("64.csv", MEASURED.replace("10\n1", "8\n1")),
             "--compare", self.file("compare.txt", COMPARED)))
         harts, _, _, _, _, taken, bits = page.tables
         self.assertEqual(harts[0][-4:], ["rows a loss costs", "rows", "rows decoded", "log"])
         # Open 0; sync 1 + 5 and the 3 before the next sync; address 8; address 8; sync 4 + 2; close 2.
         self.assertEqual(harts[1][-4:], [f"{(0 + 9 + 8 + 8 + 6 + 2) / 6:.1f}", "20", "10", "beginning"])
-        self.assertEqual(harts[2][-4:], ["", "20", "20", "whole"])
-        self.assertEqual(taken[1:], [["0", "1"], ["1", "0"], ["2", "1"], ["3 to 4", "0"], ["5 to 8", "3"], ["9 to 16", "1"]])
+        # Open 0, as the next sync alone is of it; sync 1 + 3; address 3; address 3; close 3.
+        self.assertEqual(harts[2][-4:], [f"{(0 + 4 + 3 + 3 + 3) / 5:.1f}", "20", "20", "whole"])
+        self.assertEqual(
+            taken[1:], [["0", "2"], ["1", "0"], ["2", "1"], ["3 to 4", "4"], ["5 to 8", "3"], ["9 to 16", "1"]]
+        )
         self.assertEqual(bits, [["hart", "period 8", "period 64"], ["hart 0", "10.000", "8.000"], ["hart 1", "20.000", "20.000"],
                                 ["all", "15.000", "15.000"]])
         self.assertIn("`compare`: 30 of 40 rows of the logs are decoded (75.0 %), not whole. It stops at the first fault of any hart; "
@@ -267,10 +371,295 @@ class Page(InFolder):
             gone.append(300 - sum(line.startswith("8000") for line in text.splitlines()))
         sent = self.file("sent.capture", capture)
         listed = self.of_program("list", "--format", "csv", "--base", f"{BASE:x}", image, sent)
-        page = Reader(self.made(of_example(), "--list", self.file("list.csv", listed)))
+        count = len(messages)
+        audit = table(
+            "message,1,,0,2,,skips,1,,,,,,,,,,,,,",
+            "run,,,0,1,1,,,,,,,,,,,,,,,",
+            f"hart,,,0,,,,,,,{count},{count - 1},1,0,0,0,0,1,1,0,not whole",
+            f"result,{count - 1},,,1,,,0,,,,,,,,,0,0,,,not whole",
+        )
+        page = Reader(self.made(audit, "--list", self.file("list.csv", listed)))
         self.assertGreater(max(gone), 32)
         self.assertEqual(page.tables[0][1][-1], f"{sum(gone) / len(gone):,.1f}")
-        self.assertEqual([int(count) for _, count in page.tables[5][1:]], in_classes(gone))
+        self.assertEqual([int(count) for _, count in page.tables[3][1:]], in_classes(gone))
+
+    def test_columns_and_rows_that_a_later_audit_has(self):
+        """Lost and missing side by side, and sources that were exchanged."""
+        lines = table(
+            "exchanged,,,1,,,,,,,,,,,,,,,,,",
+            "hart,,,0,,,,,,,5,5,2,0,0,1,0,1,2,0,not whole",
+            "hart,,,1,,,,,,,5,5,0,0,0,0,0,0,0,0,whole",
+            "result,10,,,1,,,0,,,,,,,,,0,0,,,not whole",
+        ).splitlines()
+        missing = ["missing", "", "1", "0", ""]
+        page = Reader(self.made("".join(f"{line},{field}\n" for line, field in zip(lines, missing))))
+        self.assertEqual(page.tables[0][0][4:6], ["lost", "missing"])
+        self.assertEqual([row[4:6] for row in page.tables[0][1:]], [["2", "1"], ["0", "0"]])
+        self.assertIn(
+            "As those of hart 1 came messages of another hart: look at the wiring of the sources.", page.paragraphs
+        )
+
+    def test_what_salvage_says(self):
+        """Numbers 4 and 5 of hart 0 did not come, 6 and 7 were passed over, 12 came with two payloads."""
+        page = Reader(self.made(SALVAGED))
+        self.assertEqual(
+            page.paragraphs[:7],
+            [
+                "✗ not all is there",
+                "Left: 1,016 rows of 2 harts, in 4 stretches.",
+                "Messages: missing 3, bad 2, doubtful numbers 1, alone 1, copies 1, late 4.",
+                "Messages of harts that are not known: 2.",
+                "15 bytes in 2 runs are of no message.",
+                "No closing packet of hart 0.",
+                "A click on a column's name sorts by it, another one the other way around. “missing” are numbers that "
+                "did not come; “passed over” are messages before the next synchronisation after a fault; “alone” and "
+                "“far” have numbers that are not believed.",
+            ],
+        )
+        harts, strip, marked, why, gaps = page.tables
+        self.assertEqual(
+            harts,
+            [
+                ["hart", "mode", "closed", *"rows left,stretches,missing,bad,doubtful numbers,alone,copies,late".split(",")],
+                ["0", "differential", "no", "9", "3", "3", "2", "1", "1", "1", "4"],
+                ["1", "full", "yes", "1,007", "1", "0", "0", "0", "0", "0", "0"],
+            ],
+        )
+        self.assertEqual(
+            strip,
+            [
+                ["hart", *(f"{kind}: first and last" for kind in ("gap", "bad", "doubtful", "passed", "stretch"))],
+                ["0", "4 to 5", "10 to 11", "12", "6 to 7", "0 to 13"],
+                ["1", "", "", "", "", "0 to 4"],
+            ],
+        )
+        self.assertEqual(
+            marked,
+            [
+                ["hart", *(f"{kind}: first and last" for kind in ("bad", "doubtful", "alone", "no message"))],
+                ["0", "256 to 300", "288 to 540", "576 to 604", ""],
+                ["1", "", "", "", ""],
+                ["none", "", "", "", "88 to 610"],
+            ],
+        )
+        self.assertEqual(why[1:], [["bad packet: Unsupported", "1"], ["closing, but a greater number came", "1"]])
+        self.assertEqual(gaps[1:], [["1", "1"], ["2", "1"]])
+
+    def test_a_salvage_that_finds_all(self):
+        page = Reader(self.made(SALVAGED.splitlines()[0] + "\nhart,3,,,,,,full,yes,\nstretch,3,0,4,7,,,,,\n"))
+        self.assertEqual(page.paragraphs[:3], ["✓ nothing is missing", "Left: 7 rows of 1 hart, in 1 stretch.",
+                                               "No message is missing, damaged or passed over."])
+        self.assertEqual(len(page.tables), 2)
+
+    def test_totals_and_far_numbers_of_a_later_salvage(self):
+        rows = "far,1,8716800,,,00000300,,,,\n", "all,,,,1016,,,,,rows\nall,,,,1,,,,,far\n"
+        page = Reader(self.made(SALVAGED.replace("bytes,,,,12", rows[0] + "bytes,,,,12") + rows[1]))
+        self.assertIn("`salvage` counts: 1,016 rows, 1 far.", page.paragraphs)
+        self.assertEqual([row[9] for row in page.tables[0]], ["far", "0", "1"])
+        self.assertEqual([row[-1] for row in page.tables[1][1:]], ["0 to 13", "0 to 4"])
+        self.assertEqual([row[4] for row in page.tables[2][1:]], ["", "768 to 796", ""])
+
+    def test_what_the_list_of_a_salvage_says(self):
+        """The damaged capture of the guide: number 2 came before 1, 3 twice, and the last message is cut."""
+        page = Reader(
+            self.made(
+                listed(
+                    message(0x10, 0, 0, "taken", 0, closed="no"),
+                    message(0x1C, 0, 2, "taken", 0, closed="no"),
+                    message(0x28, 0, 1, "taken", 1, closed="no", late="yes"),
+                    message(0x38, 0, 3, "taken", 2, closed="no"),
+                    message(0x48, 0, 3, "copy"),
+                    {"kind": "bytes", "offset": "00000058", "bytes": "12"},
+                )
+            )
+        )
+        self.assertEqual(
+            page.paragraphs[:5],
+            [
+                "✗ not all is there",
+                "Left: 3 rows of 1 hart, in 1 stretch.",
+                "Messages: decoded 4, copies 1, late 1.",
+                "12 bytes in 1 run are of no message.",
+                "No row closes hart 0.",
+            ],
+        )
+        self.assertEqual(
+            page.tables,
+            [
+                [
+                    [
+                        "hart",
+                        "closed",
+                        "rows left",
+                        "stretches",
+                        "decoded",
+                        "passed over",
+                        "missing",
+                        "bad",
+                        "doubtful numbers",
+                        "alone",
+                        "copies",
+                        "late",
+                    ],
+                    ["0", "no", "3", "1", "4", "0", "0", "0", "0", "0", "1", "1"],
+                ],
+                [
+                    ["hart", *(f"{kind}: first and last" for kind in ("no message", "copy", "stretch"))],
+                    ["0", "", "72 to 87", "16 to 71"],
+                    ["none", "88 to 99", "", ""],
+                ],
+            ],
+        )
+
+    def test_each_fate_in_a_list_of_a_salvage(self):
+        """Of hart 1 numbers 3 and 4 did not come, 5 is passed over, 6 bad, 7 passed over, 8 doubtful; 9 begins a
+        stretch that closes at 10. Number 900 is far, and was decoded."""
+        page = Reader(
+            self.made(
+                listed(
+                    message(0x10, 1, 0, "taken", 0, closed="no"),
+                    message(0x20, 1, 1, "taken", 2, closed="no"),
+                    message(0x30, 1, 2, "taken", 0, closed="no"),
+                    message(0x40, 1, 5, "passed"),
+                    message(0x50, 1, 6, "bad", reason="bad packet: Unsupported"),
+                    message(0x60, 1, 7, "passed"),
+                    message(0x70, 1, 8, "doubtful"),
+                    message(0x80, 1, 8, "doubtful"),
+                    message(0x90, 1, 900, "taken", 1, closed="no", far="yes"),
+                    message(0xA0, 1, 9, "taken", 1, closed="no"),
+                    message(0xB0, 1, 10, "taken", 4, closed="yes"),
+                    message(0xC0, 77, 5, "stranger"),
+                    more=["far"],
+                )
+            )
+        )
+        self.assertEqual(page.tables[0][1], ["1", "yes", "8", "3", "5", "2", "3", "1", "1", "0", "1", "0", "0"])
+        self.assertEqual(
+            page.tables[1],
+            [
+                [
+                    "hart",
+                    *(
+                        f"{kind}: first and last"
+                        for kind in ("gap", "bad", "doubtful", "far", "no message", "passed", "stretch")
+                    ),
+                ],
+                ["1", "64", "80 to 95", "112 to 143", "144 to 159", "", "64 to 111", "16 to 191"],
+                ["none", "", "", "", "", "192 to 220", "", ""],
+            ],
+        )
+        self.assertIn("Messages of harts that are not known: 1.", page.paragraphs)
+        self.assertEqual(page.tables[3][1:], [["1", "1"], ["2", "1"]])
+
+    def test_tables_of_another_kind(self):
+        wanted = "give it what `audit`, `salvage` or `list --salvage` writes with --format csv"
+        self.refused(f"audit.csv: a table of `measure`: {wanted}", MEASURED)
+        self.refused(f"audit.csv: a table of `tools/timeline --strip`: {wanted}", STRIP)
+        self.refused(f"audit.csv: a table of `decode`: {wanted}", "addr,itype,priv,cause,tval\n80000000,0,3,,\n")
+        self.refused(f"audit.csv: a table of `list` without --salvage: {wanted}", listed(message(0x10, 0, 0, "", 0)))
+        self.refused(
+            "audit.csv: line 3: the treatment is none that a message has",
+            listed(message(0x10, 0, 0, "taken"), message(0x20, 0, 1, "lost")),
+        )
+        self.refused("audit.csv: line 2: offset is no offset", listed({**message(0, 0, 0, "taken"), "offset": "x"}))
+        self.refused("audit.csv: no audit, and --list, --functions, --measure and --compare go with one", SALVAGED,
+                     "--compare", self.file("c.txt", COMPARED))
+        self.refused("audit.csv: line 4: number is not a number", SALVAGED.replace("stretch,0,0,", "stretch,0,x,"))
+        self.refused("audit.csv: line 4: not 10 fields", SALVAGED.replace("stretch,0,0,", "stretch,0,"))
+        self.refused(
+            "audit.csv: line 4: no row of its hart before it", SALVAGED.replace("stretch,0,0,", "stretch,1,0,")
+        )
+        self.refused(
+            "audit.csv: line 5: the kind is none that a table of `salvage` has",
+            SALVAGED.replace("gap,0,,,2", "gap?,0,,,2"),
+        )
+        self.refused(
+            "audit.csv: no row of a hart: give it what `salvage --format csv` writes", SALVAGED.splitlines()[0] + "\n"
+        )
+
+    def test_a_list_of_another_capture(self):
+        wanted, good = "give it what `list --format csv` writes of SENT", of_listed()
+        self.refused(
+            f"list.csv: hart 0 has 6 messages, and 5 were sent: {wanted}",
+            of_example(),
+            "--list",
+            self.file("list.csv", LISTED),
+        )
+        self.refused(
+            f"list.csv: hart 1 has 0 messages, and 5 were sent: {wanted}",
+            good,
+            "--list",
+            self.file("list.csv", LISTED[: LISTED.index("message,00000060")]),
+        )
+        self.refused(
+            f"list.csv: line 12: the list stops here, at a message that is refused: {wanted}",
+            good,
+            "--list",
+            self.file("list.csv", LISTED.replace("message,00000095", "refused,00000095")),
+        )
+        self.refused(
+            f"list.csv: a table of `list --salvage`: {wanted}",
+            good,
+            "--list",
+            self.file("list.csv", listed(message(0x10, 0, 0, "taken", 0))),
+        )
+        self.refused(
+            "list.csv: a table of `salvage --format csv`: give it what `list --format csv` writes",
+            good,
+            "--list",
+            self.file("list.csv", SALVAGED),
+        )
+
+    def test_messages_over_time(self):
+        """Hart 0 is silent from 1.5 s to 8 s, hart 1 from its only message to the end."""
+        for text in of_example(), SALVAGED:
+            page = Reader(self.made(text, "--times", self.file("lines.txt", TIMES)))
+            rates = next(table for table in page.tables if table[0][-1] == "from (s)")
+            self.assertEqual(rates, [
+                ["hart", "messages", "a second", "most a second in a bar", "longest silence (s)", "from (s)"],
+                ["hart 0", "4", "0.5", "30.0", "6.5", "1.5"], ["hart 1", "1", "0.1", "30.0", "7.5", "0.5"]])
+            self.assertIn("5 messages in 8 s, 0.6 a second. Each bar is of 0.0333 s.", page.paragraphs)
+            self.assertIn("Hart 1 has the longest silence: 7.5 s, from 0.5 s on.", page.paragraphs)
+            self.assertIn("Lines without a time, which are not counted: 1.", page.paragraphs)
+        page = Reader(self.made(of_example(), "--times", self.file("lines.txt", "0 1f @5\n"), "--ticks", "10"))
+        self.assertIn("1 message in 0 s. Each bar is of 1 s.", page.paragraphs)
+
+    def test_times_that_are_none(self):
+        good = of_example()
+        self.refused(
+            "lines.txt: no line has @TIME: `tools/unwrap --times` writes it",
+            good,
+            "--times",
+            self.file("lines.txt", "0 0 1f\n"),
+        )
+        self.refused(
+            "lines.txt: line 2: @soon is no time", good, "--times", self.file("lines.txt", "0 0 1f @1\n0 1 1f @soon\n")
+        )
+        self.refused(
+            "lines.txt: line 1: no line of a hart, a payload and @TIME",
+            good,
+            "--times",
+            self.file("lines.txt", "hart 0 1f @1\n"),
+        )
+
+    @unittest.skipUnless(TRACEBENCH, "the program is not built")
+    def test_both_tables_of_a_salvage_count_the_same(self):
+        """Of captures of two harts in which messages were taken out, doubled, exchanged, changed or cut."""
+        image = self.file("image.bin", long_logs.image(long_logs.MIXED))
+        log = self.file("log.csv", long_logs.HEADER + long_logs.mixed_rows(300)[0])
+        capture = self.of_program("encode", "--base", f"{BASE:x}", "--period", "16", image, log, log)
+        start, paths = len(wire.header(harts=2)), []
+        self.assertEqual(capture[:start], wire.header(harts=2, period=16))
+        sent, random = [part for _, part in wire.messages(capture, start)], Random(7)
+        for at in range(40):
+            damaged = self.file("damaged.capture", capture[:start] + b"".join(changed(sent, random)))
+            for command in ["salvage"], ["list", "--salvage"]:
+                written = self.of_program(*command, "--format", "csv", "--base", f"{BASE:x}", image, damaged)
+                paths.append(self.file(f"{at}{command[0]}.csv", written))
+        ran = subprocess.run([PYTHON, "-c", KEPT, TOOLS, *paths], capture_output=True, text=True, check=True)
+        lines = ran.stdout.splitlines()
+        self.assertEqual(lines[::2], lines[1::2])
+        self.assertGreater(len(set(lines)), 20)
 
     def of_program(self, *words):
         """What the program prints."""
@@ -279,7 +668,7 @@ class Page(InFolder):
     def test_a_file_that_is_none(self):
         header = table()
         good = of_example()
-        self.refused("audit.csv: empty: give it what `audit --format csv` writes", "")
+        self.refused("audit.csv: empty: give it what `audit`, `salvage` or `list --salvage` writes with --format csv", "")
         self.refused("audit.csv: no text: give it what `audit --format csv` writes", b"\xff\xffrvtrace2\0\0\n")
         self.refused("audit.csv: line 1: no table of `audit --format csv`: it has none of its columns", "hart 0: 5 sent\n")
         self.refused("audit.csv: line 1: the column verdict is lacking: give it what `audit --format csv` writes",
