@@ -50,13 +50,10 @@ enum class [[nodiscard]] status : std::uint32_t {
     Done = TRACEBENCH_DONE,
     TooSmall = TRACEBENCH_TOO_SMALL,
     Memory = TRACEBENCH_MEMORY,
-    NoHart = TRACEBENCH_NO_HART,
     OutOfRange = TRACEBENCH_OUT_OF_RANGE,
     BadEnds = TRACEBENCH_BAD_ENDS,
     Short = TRACEBENCH_SHORT,
     BadLength = TRACEBENCH_BAD_LENGTH,
-    Unread = TRACEBENCH_UNREAD,
-    Unwritten = TRACEBENCH_UNWRITTEN,
     BadHeader = TRACEBENCH_BAD_HEADER,
     Empty = TRACEBENCH_EMPTY,
     TooLong = TRACEBENCH_TOO_LONG,
@@ -141,9 +138,7 @@ using decoder_state = ::tracebench_decoder_state;
 using hart_state = ::tracebench_hart_state;
 using log_place = ::tracebench_log_place;
 using dump_end = ::tracebench_dump_end;
-using decode_end = ::tracebench_decode_end;
 using tally = ::tracebench_tally;
-using audit_end = ::tracebench_audit_end;
 using message = ::tracebench_message;
 using header = ::tracebench_header;
 using hart_row = ::tracebench_hart_row;
@@ -354,13 +349,30 @@ inline status unpack(span<const std::uint8_t> given, packet &unpacked) noexcept 
     return status{tracebench_unpack(detail::at(given), given.size(), &unpacked)};
 }
 
-/* An image, and the address of its first byte. */
-struct program {
-    std::uint64_t base;
-    span<const std::uint8_t> image;
+/* A piece of an image, whose bytes somebody else owns. */
+using piece = ::tracebench_piece;
+
+/* The piece of these bytes from an address on. */
+inline piece piece_of(std::uint64_t base, span<const std::uint8_t> bytes) noexcept {
+    return tracebench_image(base, detail::at(bytes), bytes.size());
+}
+
+/* A program: an image from the address of its first byte on, or pieces of one, which are sorted by base. */
+class program {
+  public:
+    program(std::uint64_t base, span<const std::uint8_t> image) noexcept : image_(piece_of(base, image)) {}
+    explicit program(span<const piece> pieces) noexcept : pieces_(detail::at(pieces)), size_(pieces.size()) {}
+
+    const piece *data() const noexcept { return pieces_ != nullptr ? pieces_ : &image_; }
+    std::size_t size() const noexcept { return size_; }
+
+  private:
+    piece image_{};
+    const piece *pieces_ = nullptr;
+    std::size_t size_ = 1;
 };
 
-/* Step by step: one event in, its packets out. */
+/* Events in, their packets out. */
 
 inline status encoder(std::uint16_t period, address_mode mode, encoder_state &state, packet &opening) noexcept {
     return status{tracebench_encoder(period, static_cast<std::uint32_t>(mode), &state, &opening)};
@@ -368,14 +380,14 @@ inline status encoder(std::uint16_t period, address_mode mode, encoder_state &st
 
 inline status push(const program &of, encoder_state &state, const event &next, due &packets) noexcept {
     return detail::into(packets, [&](auto room, auto &count) {
-        return status{tracebench_push(of.base, detail::at(of.image), of.image.size(), &state, &next, room.data(),
+        return status{tracebench_push(of.data(), of.size(), &state, &next, room.data(),
                                       room.size(), &count)};
     });
 }
 
 inline status push_checked(const program &of, encoder_state &state, const event &next, due &packets) noexcept {
     return detail::into(packets, [&](auto room, auto &count) {
-        return status{tracebench_push_checked(of.base, detail::at(of.image), of.image.size(), &state, &next,
+        return status{tracebench_push_checked(of.data(), of.size(), &state, &next,
                                               room.data(), room.size(), &count)};
     });
 }
@@ -383,7 +395,7 @@ inline status push_checked(const program &of, encoder_state &state, const event 
 /* Events at once, into so much room, which has the packets of those that are taken. */
 inline status push_all(const program &of, encoder_state &state, span<const event> nexts, span<packet> room,
                        std::size_t &taken, std::size_t &count) noexcept {
-    return status{tracebench_push_all(of.base, detail::at(of.image), of.image.size(), &state, detail::at(nexts),
+    return status{tracebench_push_all(of.data(), of.size(), &state, detail::at(nexts),
                                       nexts.size(), detail::at(room), room.size(), &taken, &count)};
 }
 
@@ -402,32 +414,32 @@ inline status push_all(const program &of, encoder_state &state, span<const event
 
 /* Whether an event is legal as the first of a log, and whether it is after the event before. */
 inline status follow(const program &of, const event &first) noexcept {
-    return status{tracebench_follow(of.base, detail::at(of.image), of.image.size(), 0, &first, &first)};
+    return status{tracebench_follow(of.data(), of.size(), 0, &first, &first)};
 }
 
 inline status follow(const program &of, const event &before, const event &next) noexcept {
-    return status{tracebench_follow(of.base, detail::at(of.image), of.image.size(), 1, &before, &next)};
+    return status{tracebench_follow(of.data(), of.size(), 1, &before, &next)};
 }
 
 inline status check(const program &of, span<const event> events, std::uint64_t &row) noexcept {
-    return status{tracebench_check_events(of.base, detail::at(of.image), of.image.size(), detail::at(events),
+    return status{tracebench_check_events(of.data(), of.size(), detail::at(events),
                                           events.size(), &row)};
 }
 
 inline status finish(const program &of, const encoder_state &state, due &packets) noexcept {
     return detail::into(packets, [&](auto room, auto &count) {
-        return status{tracebench_finish(of.base, detail::at(of.image), of.image.size(), &state, room.data(),
+        return status{tracebench_finish(of.data(), of.size(), &state, room.data(),
                                         room.size(), &count)};
     });
 }
 
-/* Step by step: one payload in, its events out. */
+/* Payloads in, their events out. */
 
 inline void decoder(decoder_state &state) noexcept { tracebench_decoder(&state); }
 
 inline status feed(const program &of, decoder_state &state, span<const std::uint8_t> given, span<event> room,
                    std::size_t &count) noexcept {
-    return status{tracebench_feed(of.base, detail::at(of.image), of.image.size(), &state, detail::at(given),
+    return status{tracebench_feed(of.data(), of.size(), &state, detail::at(given),
                                   given.size(), detail::at(room), room.size(), &count)};
 }
 
@@ -445,7 +457,7 @@ struct payloads {
 /* Payloads at once, into so much room, which has the events of those that are taken. */
 inline status feed_all(const program &of, decoder_state &state, const payloads &given, span<event> room,
                        std::size_t &taken, std::size_t &count) noexcept {
-    return status{tracebench_feed_all(of.base, detail::at(of.image), of.image.size(), &state, detail::at(given.bytes),
+    return status{tracebench_feed_all(of.data(), of.size(), &state, detail::at(given.bytes),
                                       given.bytes.size(), detail::at(given.ends), given.ends.size(), detail::at(room),
                                       room.size(), &taken, &count)};
 }
@@ -455,7 +467,7 @@ inline status feed_all(const program &of, decoder_state &state, const payloads &
 inline status receive(const program &of, hart_state &hart, std::uint64_t number, span<const std::uint8_t> given,
                       buffer<event> &events, std::uint64_t &missing) noexcept {
     return detail::into(events, [&](auto room, auto &count) {
-        return status{tracebench_receive(of.base, detail::at(of.image), of.image.size(), &hart, number,
+        return status{tracebench_receive(of.data(), of.size(), &hart, number,
                                          detail::at(given), given.size(), detail::at(room), room.size(), &count,
                                          &missing)};
     });
@@ -501,7 +513,7 @@ inline status read_header(span<const std::uint8_t> given, header &found, std::si
 /* Whole logs and captures. */
 
 inline status check(const program &of, span<const std::uint8_t> log, std::uint64_t &row) noexcept {
-    return status{tracebench_check(of.base, detail::at(of.image), of.image.size(), detail::at(log), log.size(), &row)};
+    return status{tracebench_check(of.data(), of.size(), detail::at(log), log.size(), &row)};
 }
 
 /* How logs are encoded. */
@@ -519,7 +531,7 @@ struct logs {
 
 inline status encode(const program &of, const logs &given, const settings &how, span<std::uint8_t> room,
                      std::size_t &wanted, log_place &place) noexcept {
-    return status{tracebench_encode(of.base, detail::at(of.image), of.image.size(), detail::at(given.texts),
+    return status{tracebench_encode(of.data(), of.size(), detail::at(given.texts),
                                     given.texts.size(), detail::at(given.ends), given.ends.size(), how.period,
                                     static_cast<std::uint32_t>(how.mode), static_cast<std::uint32_t>(how.version),
                                     detail::at(room), room.size(), &wanted, &place)};
@@ -554,24 +566,6 @@ inline status dump(span<const std::uint8_t> capture, span<std::uint8_t> room, st
 
 inline status dump(span<const std::uint8_t> capture, bytes &text, dump_end &ended) noexcept {
     return detail::into(text, [&](auto room, auto &wanted) { return dump(capture, room, wanted, ended); });
-}
-
-inline status decode(const program &of, std::uint16_t harts, span<const std::uint8_t> capture, std::uint16_t hart,
-                     span<std::uint8_t> room, std::size_t &wanted, decode_end &ended) noexcept {
-    return status{tracebench_decode(of.base, detail::at(of.image), of.image.size(), harts, detail::at(capture),
-                                    capture.size(), hart, detail::at(room), room.size(), &wanted, &ended)};
-}
-
-inline status decode(const program &of, std::uint16_t harts, span<const std::uint8_t> capture, std::uint16_t hart,
-                     bytes &log, decode_end &ended) noexcept {
-    return detail::into(
-        log, [&](auto room, auto &wanted) { return decode(of, harts, capture, hart, room, wanted, ended); });
-}
-
-inline status audit(span<const std::uint8_t> sent, span<const std::uint8_t> received, std::uint16_t hart, tally &counts,
-                    audit_end &ended) noexcept {
-    return status{tracebench_audit(detail::at(sent), sent.size(), detail::at(received), received.size(), hart, &counts,
-                                   &ended)};
 }
 
 /* How payloads are compared. */
@@ -670,7 +664,7 @@ inline status audit_unnumbered(span<const std::uint8_t> sent, span<const std::ui
 inline status decode_all(const program &of, std::uint16_t harts, span<const std::uint8_t> capture,
                          span<std::uint8_t> room, std::size_t &wanted, span<hart_end> ends,
                          decode_all_end &ended) noexcept {
-    return status{tracebench_decode_all(of.base, detail::at(of.image), of.image.size(), harts,
+    return status{tracebench_decode_all(of.data(), of.size(), harts,
                                              detail::at(capture), capture.size(), detail::at(room), room.size(),
                                              &wanted, detail::at(ends), ends.size(), &ended)};
 }
@@ -678,7 +672,7 @@ inline status decode_all(const program &of, std::uint16_t harts, span<const std:
 inline status list(const program &of, std::uint16_t harts, span<const std::uint8_t> capture,
                    span<const std::uint8_t> symbols, text_format how, bytes &text, text_end &ended) noexcept {
     return detail::into(text, [&](auto room, auto &wanted) {
-        return status{tracebench_list(of.base, detail::at(of.image), of.image.size(), harts,
+        return status{tracebench_list(of.data(), of.size(), harts,
                                            detail::at(capture), capture.size(), detail::at(symbols), symbols.size(),
                                            static_cast<std::uint32_t>(how), detail::at(room), room.size(), &wanted,
                                            &ended)};
@@ -688,7 +682,7 @@ inline status list(const program &of, std::uint16_t harts, span<const std::uint8
 inline status salvage(const program &of, std::uint16_t harts, span<const std::uint8_t> capture, salvage_format how,
                       bytes &text, text_end &ended) noexcept {
     return detail::into(text, [&](auto room, auto &wanted) {
-        return status{tracebench_salvage(of.base, detail::at(of.image), of.image.size(), harts,
+        return status{tracebench_salvage(of.data(), of.size(), harts,
                                            detail::at(capture), capture.size(), static_cast<std::uint32_t>(how),
                                            detail::at(room), room.size(), &wanted, &ended)};
     });
@@ -698,7 +692,7 @@ inline status list_salvaged(const program &of, std::uint16_t harts, span<const s
                             span<const std::uint8_t> symbols, text_format how, bytes &text,
                             text_end &ended) noexcept {
     return detail::into(text, [&](auto room, auto &wanted) {
-        return status{tracebench_list_salvaged(of.base, detail::at(of.image), of.image.size(), harts,
+        return status{tracebench_list_salvaged(of.data(), of.size(), harts,
                                            detail::at(capture), capture.size(), detail::at(symbols), symbols.size(),
                                            static_cast<std::uint32_t>(how), detail::at(room), room.size(), &wanted,
                                            &ended)};
@@ -710,7 +704,7 @@ inline status measure(const program &of, const logs &given, const settings &how,
                       log_place &place) noexcept {
     return detail::into(table, [&](auto room, auto &wanted) {
         return status{tracebench_measure(
-            of.base, detail::at(of.image), of.image.size(), detail::at(given.texts), given.texts.size(),
+            of.data(), of.size(), detail::at(given.texts), given.texts.size(),
             detail::at(given.ends), given.ends.size(), how.period, static_cast<std::uint32_t>(how.mode),
             detail::at(room), room.size(), &wanted, &place)};
     });
@@ -720,7 +714,7 @@ inline status compare(const program &of, std::uint16_t harts, span<const std::ui
                       bytes &text, text_end &ended, log_place &place) noexcept {
     return detail::into(text, [&](auto room, auto &wanted) {
         return status{tracebench_compare(
-            of.base, detail::at(of.image), of.image.size(), harts, detail::at(capture), capture.size(),
+            of.data(), of.size(), harts, detail::at(capture), capture.size(),
             detail::at(given.texts), given.texts.size(), detail::at(given.ends), given.ends.size(), detail::at(room),
             room.size(), &wanted, &ended, &place)};
     });
@@ -728,211 +722,14 @@ inline status compare(const program &of, std::uint16_t harts, span<const std::ui
 
 inline status explain(const program &of, span<const std::uint8_t> log, bytes &text, explain_end &ended) noexcept {
     return detail::into(text, [&](auto room, auto &wanted) {
-        return status{tracebench_explain(of.base, detail::at(of.image), of.image.size(), detail::at(log),
+        return status{tracebench_explain(of.data(), of.size(), detail::at(log),
                                               log.size(), detail::at(room), room.size(), &wanted, &ended)};
     });
 }
 
-/* Programs in several memories: the same calls over pieces. */
-
-/* A piece of an image, whose bytes somebody else owns. */
-using piece = ::tracebench_piece;
-
-/* The piece of these bytes from an address on. */
-inline piece piece_of(std::uint64_t base, span<const std::uint8_t> bytes) noexcept {
-    return {base, detail::at(bytes), bytes.size()};
-}
-
-/* An image in pieces, which are sorted by base. */
-struct program_in_pieces {
-    span<const piece> pieces;
-};
-
-inline status push(const program_in_pieces &of, encoder_state &state, const event &next, due &packets) noexcept {
-    return detail::into(packets, [&](auto room, auto &count) {
-        return status{tracebench_push_over_pieces(detail::at(of.pieces), of.pieces.size(), &state, &next, room.data(),
-                                                  room.size(), &count)};
-    });
-}
-
-inline status push_checked(const program_in_pieces &of, encoder_state &state, const event &next,
-                           due &packets) noexcept {
-    return detail::into(packets, [&](auto room, auto &count) {
-        return status{tracebench_push_checked_over_pieces(detail::at(of.pieces), of.pieces.size(), &state, &next,
-                                                          room.data(), room.size(), &count)};
-    });
-}
-
-/* Events at once, into so much room, which has the packets of those that are taken. */
-inline status push_all(const program_in_pieces &of, encoder_state &state, span<const event> nexts, span<packet> room,
-                       std::size_t &taken, std::size_t &count) noexcept {
-    return status{tracebench_push_all_over_pieces(detail::at(of.pieces), of.pieces.size(), &state, detail::at(nexts),
-                                                  nexts.size(), detail::at(room), room.size(), &taken, &count)};
-}
-
-/* The same into a buffer, which has room for the packets of all of them. */
-inline status push_all(const program_in_pieces &of, encoder_state &state, span<const event> nexts,
-                       buffer<packet> &packets, std::size_t &taken) noexcept {
-    taken = 0;
-    packets.keep(0);
-    if (packets.room().size() / 2 < nexts.size() && !packets.grow(2 * nexts.size()))
-        return status::Memory;
-    std::size_t count = 0;
-    const status said = push_all(of, state, nexts, packets.room(), taken, count);
-    packets.keep(count);
-    return said;
-}
-
-/* Whether an event is legal as the first of a log, and whether it is after the event before. */
-inline status follow(const program_in_pieces &of, const event &first) noexcept {
-    return status{tracebench_follow_over_pieces(detail::at(of.pieces), of.pieces.size(), 0, &first, &first)};
-}
-
-inline status follow(const program_in_pieces &of, const event &before, const event &next) noexcept {
-    return status{tracebench_follow_over_pieces(detail::at(of.pieces), of.pieces.size(), 1, &before, &next)};
-}
-
-inline status check(const program_in_pieces &of, span<const event> events, std::uint64_t &row) noexcept {
-    return status{tracebench_check_events_over_pieces(detail::at(of.pieces), of.pieces.size(), detail::at(events),
-                                                      events.size(), &row)};
-}
-
-inline status finish(const program_in_pieces &of, const encoder_state &state, due &packets) noexcept {
-    return detail::into(packets, [&](auto room, auto &count) {
-        return status{tracebench_finish_over_pieces(detail::at(of.pieces), of.pieces.size(), &state, room.data(),
-                                                    room.size(), &count)};
-    });
-}
-
-inline status feed(const program_in_pieces &of, decoder_state &state, span<const std::uint8_t> given, span<event> room,
-                   std::size_t &count) noexcept {
-    return status{tracebench_feed_over_pieces(detail::at(of.pieces), of.pieces.size(), &state, detail::at(given),
-                                              given.size(), detail::at(room), room.size(), &count)};
-}
-
-inline status feed(const program_in_pieces &of, decoder_state &state, span<const std::uint8_t> given,
-                   buffer<event> &events) noexcept {
-    return detail::into(events, [&](auto room, auto &count) { return feed(of, state, given, room, count); });
-}
-
-/* Payloads at once, into so much room, which has the events of those that are taken. */
-inline status feed_all(const program_in_pieces &of, decoder_state &state, const payloads &given, span<event> room,
-                       std::size_t &taken, std::size_t &count) noexcept {
-    return status{tracebench_feed_all_over_pieces(detail::at(of.pieces), of.pieces.size(), &state,
-                                                  detail::at(given.bytes), given.bytes.size(), detail::at(given.ends),
-                                                  given.ends.size(), detail::at(room), room.size(), &taken, &count)};
-}
-
-inline status receive(const program_in_pieces &of, hart_state &hart, std::uint64_t number,
-                      span<const std::uint8_t> given, buffer<event> &events, std::uint64_t &missing) noexcept {
-    return detail::into(events, [&](auto room, auto &count) {
-        return status{tracebench_receive_over_pieces(detail::at(of.pieces), of.pieces.size(), &hart, number,
-                                                     detail::at(given), given.size(), detail::at(room), room.size(),
-                                                     &count, &missing)};
-    });
-}
-
-inline status check(const program_in_pieces &of, span<const std::uint8_t> log, std::uint64_t &row) noexcept {
-    return status{
-        tracebench_check_over_pieces(detail::at(of.pieces), of.pieces.size(), detail::at(log), log.size(), &row)};
-}
-
-inline status encode(const program_in_pieces &of, const logs &given, const settings &how, span<std::uint8_t> room,
-                     std::size_t &wanted, log_place &place) noexcept {
-    return status{tracebench_encode_over_pieces(
-        detail::at(of.pieces), of.pieces.size(), detail::at(given.texts), given.texts.size(), detail::at(given.ends),
-        given.ends.size(), how.period, static_cast<std::uint32_t>(how.mode), static_cast<std::uint32_t>(how.version),
-        detail::at(room), room.size(), &wanted, &place)};
-}
-
-inline status encode(const program_in_pieces &of, const logs &given, const settings &how, bytes &capture,
-                     log_place &place) noexcept {
-    return detail::into(capture, [&](auto room, auto &wanted) { return encode(of, given, how, room, wanted, place); });
-}
-
-inline status decode(const program_in_pieces &of, std::uint16_t harts, span<const std::uint8_t> capture,
-                     std::uint16_t hart, span<std::uint8_t> room, std::size_t &wanted, decode_end &ended) noexcept {
-    return status{tracebench_decode_over_pieces(detail::at(of.pieces), of.pieces.size(), harts, detail::at(capture),
-                                                capture.size(), hart, detail::at(room), room.size(), &wanted, &ended)};
-}
-
-inline status decode(const program_in_pieces &of, std::uint16_t harts, span<const std::uint8_t> capture,
-                     std::uint16_t hart, bytes &log, decode_end &ended) noexcept {
-    return detail::into(log,
-                        [&](auto room, auto &wanted) { return decode(of, harts, capture, hart, room, wanted, ended); });
-}
-
-/* The texts of all harts, one after the other, and where each ends. */
-inline status decode_all(const program_in_pieces &of, std::uint16_t harts, span<const std::uint8_t> capture,
-                         span<std::uint8_t> room, std::size_t &wanted, span<hart_end> ends,
-                         decode_all_end &ended) noexcept {
-    return status{tracebench_decode_all_over_pieces(detail::at(of.pieces), of.pieces.size(), harts,
-                                             detail::at(capture), capture.size(), detail::at(room), room.size(),
-                                             &wanted, detail::at(ends), ends.size(), &ended)};
-}
-
-inline status list(const program_in_pieces &of, std::uint16_t harts, span<const std::uint8_t> capture,
-                   span<const std::uint8_t> symbols, text_format how, bytes &text, text_end &ended) noexcept {
-    return detail::into(text, [&](auto room, auto &wanted) {
-        return status{tracebench_list_over_pieces(detail::at(of.pieces), of.pieces.size(), harts,
-                                           detail::at(capture), capture.size(), detail::at(symbols), symbols.size(),
-                                           static_cast<std::uint32_t>(how), detail::at(room), room.size(), &wanted,
-                                           &ended)};
-    });
-}
-
-inline status salvage(const program_in_pieces &of, std::uint16_t harts, span<const std::uint8_t> capture,
-                      salvage_format how, bytes &text, text_end &ended) noexcept {
-    return detail::into(text, [&](auto room, auto &wanted) {
-        return status{tracebench_salvage_over_pieces(detail::at(of.pieces), of.pieces.size(), harts,
-                                           detail::at(capture), capture.size(), static_cast<std::uint32_t>(how),
-                                           detail::at(room), room.size(), &wanted, &ended)};
-    });
-}
-
-inline status list_salvaged(const program_in_pieces &of, std::uint16_t harts, span<const std::uint8_t> capture,
-                            span<const std::uint8_t> symbols, text_format how, bytes &text,
-                            text_end &ended) noexcept {
-    return detail::into(text, [&](auto room, auto &wanted) {
-        return status{tracebench_list_salvaged_over_pieces(detail::at(of.pieces), of.pieces.size(), harts,
-                                           detail::at(capture), capture.size(), detail::at(symbols), symbols.size(),
-                                           static_cast<std::uint32_t>(how), detail::at(room), room.size(), &wanted,
-                                           &ended)};
-    });
-}
-
-/* The version of these settings is not looked at. */
-inline status measure(const program_in_pieces &of, const logs &given, const settings &how, bytes &table,
-                      log_place &place) noexcept {
-    return detail::into(table, [&](auto room, auto &wanted) {
-        return status{tracebench_measure_over_pieces(
-            detail::at(of.pieces), of.pieces.size(), detail::at(given.texts), given.texts.size(),
-            detail::at(given.ends), given.ends.size(), how.period, static_cast<std::uint32_t>(how.mode),
-            detail::at(room), room.size(), &wanted, &place)};
-    });
-}
-
-inline status compare(const program_in_pieces &of, std::uint16_t harts, span<const std::uint8_t> capture, const logs &given,
-                      bytes &text, text_end &ended, log_place &place) noexcept {
-    return detail::into(text, [&](auto room, auto &wanted) {
-        return status{tracebench_compare_over_pieces(
-            detail::at(of.pieces), of.pieces.size(), harts, detail::at(capture), capture.size(),
-            detail::at(given.texts), given.texts.size(), detail::at(given.ends), given.ends.size(), detail::at(room),
-            room.size(), &wanted, &ended, &place)};
-    });
-}
-
-inline status explain(const program_in_pieces &of, span<const std::uint8_t> log, bytes &text, explain_end &ended) noexcept {
-    return detail::into(text, [&](auto room, auto &wanted) {
-        return status{tracebench_explain_over_pieces(detail::at(of.pieces), of.pieces.size(), detail::at(log),
-                                              log.size(), detail::at(room), room.size(), &wanted, &ended)};
-    });
-}
-
-/* The texts of all harts into buffers, over an image or over pieces. `ends` has one for each hart. */
-template <class Of>
-status decode_all(const Of &of, std::uint16_t harts, span<const std::uint8_t> capture, bytes &logs,
-                  buffer<hart_end> &ends, decode_all_end &ended) noexcept {
+/* The texts of all harts into buffers. `ends` has one for each hart. */
+inline status decode_all(const program &of, std::uint16_t harts, span<const std::uint8_t> capture, bytes &logs,
+                         buffer<hart_end> &ends, decode_all_end &ended) noexcept {
     logs.keep(0);
     ends.keep(0);
     std::size_t wanted = 0;

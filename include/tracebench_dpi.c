@@ -144,12 +144,12 @@ static uint32_t push_by(push_call *call, const struct image *of, svBitVecVal *st
 
 uint32_t tracebench_dpi_push(void *image, svBitVecVal *state, const svBitVecVal *next, svBitVecVal *packets,
                              uint32_t *count) {
-    return push_by(tracebench_push_over_pieces, (const struct image *)image, state, next, packets, count);
+    return push_by(tracebench_push, (const struct image *)image, state, next, packets, count);
 }
 
 uint32_t tracebench_dpi_push_checked(void *image, svBitVecVal *state, const svBitVecVal *next, svBitVecVal *packets,
                                      uint32_t *count) {
-    return push_by(tracebench_push_checked_over_pieces, (const struct image *)image, state, next, packets, count);
+    return push_by(tracebench_push_checked, (const struct image *)image, state, next, packets, count);
 }
 
 uint32_t tracebench_dpi_follow(void *image, uint32_t has_before, const svBitVecVal *before, const svBitVecVal *next) {
@@ -159,7 +159,7 @@ uint32_t tracebench_dpi_follow(void *image, uint32_t has_before, const svBitVecV
     memcpy(&earlier, before, sizeof earlier);
     memcpy(&event, next, sizeof event);
     return of == NULL ? TRACEBENCH_MEMORY
-                      : tracebench_follow_over_pieces(of->pieces, of->count, has_before, &earlier, &event);
+                      : tracebench_follow(of->pieces, of->count, has_before, &earlier, &event);
 }
 
 uint32_t tracebench_dpi_finish(void *image, const svBitVecVal *state, svBitVecVal *packets, uint32_t *count) {
@@ -170,7 +170,7 @@ uint32_t tracebench_dpi_finish(void *image, const svBitVecVal *state, svBitVecVa
     memset(due, 0, sizeof due);
     memcpy(&kept, state, sizeof kept);
     const uint32_t status =
-        of == NULL ? TRACEBENCH_MEMORY : tracebench_finish_over_pieces(of->pieces, of->count, &kept, due, 2, &made);
+        of == NULL ? TRACEBENCH_MEMORY : tracebench_finish(of->pieces, of->count, &kept, due, 2, &made);
     memcpy(packets, due, sizeof due);
     *count = (uint32_t)made;
     return status;
@@ -205,7 +205,7 @@ uint32_t tracebench_dpi_feed(void *image, svBitVecVal *state, const svBitVecVal 
         return TRACEBENCH_MEMORY;
     }
     memcpy(&kept, state, sizeof kept);
-    const uint32_t status = tracebench_feed_over_pieces(of->pieces, of->count, &kept, (const uint8_t *)payload, length,
+    const uint32_t status = tracebench_feed(of->pieces, of->count, &kept, (const uint8_t *)payload, length,
                                             at, room, &settled);
     memcpy(state, &kept, sizeof kept);
     if (status == TRACEBENCH_DONE) hand_out(at, settled, events);
@@ -229,7 +229,7 @@ uint32_t tracebench_dpi_receive(void *image, svBitVecVal *hart, uint64_t number,
         return TRACEBENCH_MEMORY;
     }
     memcpy(&kept, hart, sizeof kept);
-    const uint32_t status = tracebench_receive_over_pieces(of->pieces, of->count, &kept, number,
+    const uint32_t status = tracebench_receive(of->pieces, of->count, &kept, number,
                                                (const uint8_t *)payload, length, at, room, &settled, missing);
     memcpy(hart, &kept, sizeof kept);
     if (status == TRACEBENCH_DONE) hand_out(at, settled, events);
@@ -357,7 +357,7 @@ uint32_t tracebench_dpi_encode(void *image, const char *logs, const svOpenArrayH
     memset(&refused, 0, sizeof refused);
     const uint32_t status = of == NULL || log_ends == NULL || at == NULL
                                 ? TRACEBENCH_MEMORY
-                                : tracebench_encode_over_pieces(of->pieces, of->count, (const uint8_t *)logs,
+                                : tracebench_encode(of->pieces, of->count, (const uint8_t *)logs,
                                                                 strlen(logs), log_ends, count, period, mode, version,
                                                                 at, room, &wanted, &refused);
     if (status == TRACEBENCH_DONE) hand_out_bytes(at, wanted, capture);
@@ -472,39 +472,39 @@ struct asked {
 #define PIECES of->pieces, of->count
 
 static uint32_t ask_decode_all(const struct image *of, struct asked *asked, uint8_t *at, size_t room, size_t *wanted) {
-    return tracebench_decode_all_over_pieces(PIECES, asked->harts, asked->capture.at, asked->capture.length, at, room,
+    return tracebench_decode_all(PIECES, asked->harts, asked->capture.at, asked->capture.length, at, room,
                                              wanted, asked->hart_ends, asked->hart_room, &asked->all);
 }
 
 static uint32_t ask_list(const struct image *of, struct asked *asked, uint8_t *at, size_t room, size_t *wanted) {
-    return tracebench_list_over_pieces(PIECES, asked->harts, asked->capture.at, asked->capture.length, WORDS,
+    return tracebench_list(PIECES, asked->harts, asked->capture.at, asked->capture.length, WORDS,
                                        asked->choice, at, room, wanted, &asked->text);
 }
 
 static uint32_t ask_salvage(const struct image *of, struct asked *asked, uint8_t *at, size_t room, size_t *wanted) {
-    return tracebench_salvage_over_pieces(PIECES, asked->harts, asked->capture.at, asked->capture.length,
+    return tracebench_salvage(PIECES, asked->harts, asked->capture.at, asked->capture.length,
                                           asked->choice, at, room, wanted, &asked->text);
 }
 
 static uint32_t ask_list_salvaged(const struct image *of, struct asked *asked, uint8_t *at, size_t room,
                                   size_t *wanted) {
-    return tracebench_list_salvaged_over_pieces(PIECES, asked->harts, asked->capture.at, asked->capture.length, WORDS,
+    return tracebench_list_salvaged(PIECES, asked->harts, asked->capture.at, asked->capture.length, WORDS,
                                                 asked->choice, at, room, wanted, &asked->text);
 }
 
 static uint32_t ask_measure(const struct image *of, struct asked *asked, uint8_t *at, size_t room, size_t *wanted) {
-    return tracebench_measure_over_pieces(PIECES, WORDS, asked->log_ends, asked->logs, asked->period, asked->choice,
+    return tracebench_measure(PIECES, WORDS, asked->log_ends, asked->logs, asked->period, asked->choice,
                                           at, room, wanted, &asked->place);
 }
 
 static uint32_t ask_compare(const struct image *of, struct asked *asked, uint8_t *at, size_t room, size_t *wanted) {
-    return tracebench_compare_over_pieces(PIECES, asked->harts, asked->capture.at, asked->capture.length, WORDS,
+    return tracebench_compare(PIECES, asked->harts, asked->capture.at, asked->capture.length, WORDS,
                                           asked->log_ends, asked->logs, at, room, wanted, &asked->text,
                                           &asked->place);
 }
 
 static uint32_t ask_explain(const struct image *of, struct asked *asked, uint8_t *at, size_t room, size_t *wanted) {
-    return tracebench_explain_over_pieces(PIECES, WORDS, at, room, wanted, &asked->explained);
+    return tracebench_explain(PIECES, WORDS, at, room, wanted, &asked->explained);
 }
 
 /* The room for a text at first. */

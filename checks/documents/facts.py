@@ -13,7 +13,7 @@ DOCUMENT = "docs/FORMATS.md"
 README, GUIDE = "README.md", "docs/guide"
 HELP = "crates/cli/src/help.rt"
 SHARED = "Options of several subcommands"
-OPTION = re.compile(r"(?:^|, )`--(\w+)")
+OPTION = re.compile(r"(?:^|, )`--([\w-]+)")
 # Which limits README has, by the first column of their table.
 LIMITS_OF_README = ("a piece of an image", "an image", "pieces of an image", "a log",
                     "a log of `check`, `encode`, `measure`, `compare` with `--long`", "logs of a run, harts of a capture")

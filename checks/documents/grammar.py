@@ -13,7 +13,7 @@ TEXT = r'"((?:[^"\\]|\\.)*)"'
 # The form that an argument begins with, and what may be asked of it.
 FORM = re.compile(rf"(flag|file|option|count_of_harts)\(\s*alloc, {TEXT}(?:, {TEXT})?,?\s*\)")
 ASKED = re.compile(rf"\.(required\(true\)|action\(ArgAction::(?:Append|Set)\)|default_value\({TEXT}\)|num_args\(1\.\.\)|"
-                   r"value_parser\(.*\))")
+                   r"value_parser\(.*\))", re.DOTALL)
 ROW = re.compile(rf"^    Subcommand \{{\s+name: {TEXT},\s+about: {TEXT},\s+example: [A-Z_]+,\s+arguments: &\[(.*?)\],\s+\}},",
                  re.MULTILINE | re.DOTALL)
 

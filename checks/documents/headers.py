@@ -2,7 +2,7 @@
 whether the library exports each call of `ffi` with its contract.
 
 The text of a status is what a definition of the program has for the fault with this status, up to what is filled in. A
-status that is of no fault, or of one that only the library has, has its comment as its text.
+status that is of no fault, or of one that only the library has, has its comment in the crate as its text.
 """
 import glob
 import re
@@ -48,15 +48,15 @@ def of_source():
 
 
 def of_header():
-    """The same of the header."""
-    found = re.findall(r"^/\* (.*) \*/\n#define TRACEBENCH_([A-Z_]+) (\d+)u$", grammar.content(HEADER), re.MULTILINE)
-    return {name: (comment, int(number)) for comment, name, number in found}
+    """The statuses of the header: their numbers and texts, by their names."""
+    found = re.findall(r'^    STATUS\(([A-Z_]+), (\d+)u, "(.*)"\)', grammar.content(HEADER), re.MULTILINE)
+    return {name: (int(number), text) for name, number, text in found}
 
 
 def constants():
     """Each constant of the header, with its number."""
     found = re.findall(r"^#define TRACEBENCH_([A-Z_]+) (\d+)u", grammar.content(HEADER), re.MULTILINE)
-    return {name: int(number) for name, number in found}
+    return {name: int(number) for name, number in found} | {name: number for name, (number, _) in of_header().items()}
 
 
 def program_texts():
@@ -80,7 +80,7 @@ def wanted_texts():
                                           grammar.content(FAULTS), re.MULTILINE):
         if head == PIECES and status in wanted:
             continue
-        if (head, fault) in texts:
+        if (head, fault) in texts and status in of_source():
             wanted.setdefault(status, set()).add(BEFORE.get(head, "") + texts[head, fault])
     for name, (comment, _) in of_source().items():
         first = re.split(r"[.:]", comment)[0]
@@ -89,7 +89,7 @@ def wanted_texts():
 
 
 def of_texts():
-    told = dict(re.findall(r'case TRACEBENCH_([A-Z_]+): return "(.*)";', grammar.content(HEADER)))
+    told = {name: text for name, (_, text) in of_header().items()}
     wanted = wanted_texts()
     for name in sorted(told.keys() | wanted.keys()):
         if wanted.get(name) != {told.get(name)}:
@@ -97,7 +97,8 @@ def of_texts():
 
 
 def of_statuses():
-    source, header = of_source(), of_header()
+    source = {name: number for name, (_, number) in of_source().items()}
+    header = {name: number for name, (number, _) in of_header().items()}
     for name in sorted(source.keys() | header.keys()):
         if source.get(name) != header.get(name):
             yield f"{HEADER}: {name} is {header.get(name)}, and {STATUSES} has {source.get(name)}"

@@ -14,9 +14,10 @@ FOLDER = "packaging/man"
 HELP = "crates/transcripts/data/help.transcript"
 STRUCTS = "crates/command_inputs/src/words.rt"
 HEADER = "include/tracebench.h"
-OTHERS = {"tracebench.1", "tracebench.3", "tracebench-log.5", "tracebench-capture.5", "tracebench-record.1",
-          "tracebench-verdict.1"}
-SCRIPTS = {"tracebench-record.1": "tools/record", "tracebench-verdict.1": "tools/verdict"}
+SCRIPTS = {"record": (), "verdict": (), "image": (), "timeline": (), "wrap": ("tools/framing/settings.py",),
+           "unwrap": ("tools/framing/settings.py",)}  # each with the files beside it that have options of it
+OTHERS = {"tracebench.1", "tracebench.3", "tracebench-log.5", "tracebench-capture.5",
+          *(f"tracebench-{script}.1" for script in SCRIPTS)}
 OPTION = re.compile(r"^\*--([a-z0-9-]+)\*(?: _([\w,=-]+)_)?$", re.MULTILINE)
 FILE = re.compile(r"^_([A-Z]+)_(\.\.\.)?$", re.MULTILINE)
 OPTION_OF_HELP = re.compile(r"^!       --([a-z0-9-]+)(?: <([\w=-]+)>)? +(.*?)(?: \[default: (\w+)\])?$", re.MULTILINE)
@@ -123,11 +124,13 @@ def of_library():
 
 def of_scripts():
     """Whether the pages of the scripts have their options."""
-    for name, script in SCRIPTS.items():
-        taken = set(re.findall(r'\badd(?:_argument)?\("--([a-z-]+)"', grammar.content(script))) | {"help"}
+    for script, beside in SCRIPTS.items():
+        name = f"tracebench-{script}.1"
+        text = "".join(grammar.content(path) for path in (f"tools/{script}", *beside))
+        taken = set(re.findall(r'\badd(?:_argument)?\("--([a-z-]+)"', text)) | {"help"}
         told = {option for option, _ in OPTION.findall(section(page(name) or "", "OPTIONS"))}
         if taken != told:
-            yield f"{FOLDER}/{name}.scd: OPTIONS has {sorted(told)}, and {script} {sorted(taken)}"
+            yield f"{FOLDER}/{name}.scd: OPTIONS has {sorted(told)}, and tools/{script} {sorted(taken)}"
 
 
 def check():

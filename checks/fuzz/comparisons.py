@@ -58,7 +58,17 @@ def verdict(log, decoded, is_closed):
     return "beginning" if row == len(decoded) + 1 else f"differs at row {row}"
 
 
-def compare(program, harts, capture, logs, only=None):
+def rows_of(hart, log, decoded, explain):
+    """The lines below the one of a hart: the first row in which its log and what is decoded differ, as both have it, and
+    the up to three rows before it, which both have."""
+    row = next((row for row, (own, other) in enumerate(zip(log, decoded)) if own != other), min(len(log), len(decoded)))
+    before = range(max(row - 3, 0), row) if explain else ()
+    said = [(at, "both", decoded) for at in before] + [(row, "log", log), (row, "decoded", decoded)]
+    texts = ((at, name, reading.row_text(events[at]).rstrip("\n") if at < len(events) else "end") for at, name, events in said)
+    return [f"hart {hart}: row {at + 1}: {name} {text}\n" for at, name, text in texts]
+
+
+def compare(program, harts, capture, logs, only=None, explain=False):
     """The status, the text and the error of a comparison of the harts that are chosen with their logs."""
     stop, decoders = reading.decode(program, harts or DEFAULT_HARTS, capture, only)
     chosen = [hart for hart in range(len(decoders)) if reading.is_chosen(only, hart)]
@@ -77,6 +87,8 @@ def compare(program, harts, capture, logs, only=None):
         verdicts.append(verdict(events, decoder.events, decoder.closed))
         counts = f"{len(events)} events, {len(own)} packets, {sum(map(len, own))} payload bytes"
         lines.append(f"hart {hart}: {counts}, decoded {len(decoder.events)}, {verdicts[-1]}\n")
+        if verdicts[-1] != "whole":
+            lines += rows_of(hart, events, decoder.events, explain)
     is_whole = stop == "decoded" and set(verdicts) == {"whole"}
     lines.append("result: whole\n" if is_whole else "result: not whole\n")
     return (0 if is_whole else 1), "".join(lines), None if stop == "decoded" else stop
@@ -104,18 +116,41 @@ def same_bytes(section, log):
     return (f"differs at row {next(row for row, (own, other) in enumerate(both) if own != other)}",)
 
 
+ROW = re.compile(r"^hart \d+: row (\d+): (log|decoded|both) (.*)\n", re.MULTILINE)
+
+
+def rows_against(text, section, log):
+    """The rows below the line of a hart that the bytes of its log and of what `decode` printed deny: each is the line with
+    this number, where there is one. The last two are not the same, but for two ends."""
+    decoded, own = section.decode().split("\n")[:-1], log.decode().split("\n")[:-1]
+    rows = [(int(row), name, said) for row, name, said in ROW.findall(text)]
+    wrong = []
+    for row, name, said in rows:
+        there = [lines[row] if row < len(lines) else "end" for lines in ({"log": [own], "decoded": [decoded]}.get(name, [own, decoded]))]
+        if any(it != said for it in there):
+            wrong.append(f"row {row}: {name} {said}: {there}")
+    if rows and (rows[-1][2] == rows[-2][2] != "end" or [row for row, _, _ in rows[:-1]] != list(range(rows[0][0], rows[-1][0] + 1))):
+        wrong.append(f"the rows {rows}")
+    return wrong
+
+
 def against_decode(decoded, text, logs):
     """What a comparison's text has that `decode`, by its status and its text, and the bytes of the logs deny; None where
     it has nothing. The logs are spelt as `decode` spells them."""
     status, printed = decoded
     sections = re.split(rb"^hart \d+\n", printed, flags=re.MULTILINE)[1:]
-    *lines, result = text.splitlines()
+    below = [re.sub(r"^.*\n", "", part) for part in re.split(r"^(?=hart \d+: \d+ events, )", text, flags=re.MULTILINE)[1:]]
+    *lines, result = ROW.sub("", text).splitlines()
     if len(sections) != len(lines) or len(sections) != len(logs):
         return f"decode has {len(sections)} harts"
     if (result == "result: whole") != (status == 0 and sections == logs):
         return f"decode ends with status {status}, and its texts are {sections}"
-    for line, section, log in zip(lines, sections, logs):
+    for line, rows, section, log in zip(lines, below, sections, logs):
+        if wrong := rows_against(rows, section, log):
+            return f"{line}: {wrong}"
         said = line.split(", ")[-1]
+        if (said == "whole") != (not ROW.search(rows)):
+            return f"{line}: {rows}"
         may_be = same_bytes(section, log)
         counts = f": {log.count(10) - 1} events, ", f", decoded {section.count(10) - 1}, "
         if said not in may_be or status == 0 and said != may_be[0] or not all(it in line for it in counts):

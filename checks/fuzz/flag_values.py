@@ -22,7 +22,7 @@ FLAGS = {
     "unnumbered": ("--unnumbered", "--packets", "--summary"),
     "parts": (*FORMS, *PERIODS, *FEW_PARTS, *(f"--first {hart}" for hart in range(8))),
     "tables": ("--format text", "--format csv", "--packets", "--summary", "--unnumbered"),
-    "comparisons": ("--long", "--progress", *(f"--harts {count}" for count in comparisons.ASKED_HARTS)),
+    "comparisons": ("--explain", "--long", "--progress", *(f"--harts {count}" for count in comparisons.ASKED_HARTS)),
     "threads": ("--full", *PERIODS, *FEW_CAPACITIES),
     "only": (*FEW_HARTS, "--only", "--lossy", "--salvage", "--search", "--summary", "--packets", "--unnumbered", "--format csv"),
     "memories": (

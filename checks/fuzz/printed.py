@@ -108,11 +108,11 @@ def list_treated(program, harts, capture, symbols, only=None):
     return treated.listing(program, harts, capture, symbols, only)
 
 
-def compared(program, harts, capture, logs, only=None):
+def compared(program, harts, capture, logs, only=None, explain=False):
     """The status, the text and the error of `compare`."""
     if why := no_hart(only, counted(capture, harts or comparisons.DEFAULT_HARTS)):
         return 1, "", why
-    return comparisons.compare(program, harts, capture, logs, only)
+    return comparisons.compare(program, harts, capture, logs, only, explain)
 
 
 def no_hart_of_sent(sent, only):

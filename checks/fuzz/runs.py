@@ -274,10 +274,11 @@ def of_comparison(maker, _, case, only=None, asked=()):
         return run.status, run.out, run.error
 
     yield Run(run.words, None, decoded, None)
-    status, text, error = printed.compared(maker.program, harts, capture, logs, only)
+    explain = maker.random.randrange(2) == 0
+    status, text, error = printed.compared(maker.program, harts, capture, logs, only, explain)
     if text and all(map(comparisons.is_spelt_so, logs)):
         text = comparisons.against_decode((run.status, said[0]), text, logs) or text
-    flags = maker.random.choice(([], [], ["--long"], ["--progress"], ["--long", "--progress"]))
+    flags = maker.random.choice(([], [], ["--long"], ["--progress"], ["--long", "--progress"])) + ["--explain"] * explain
     names = [comparisons.name_of(hart) for hart in range(len(logs))]
     yield texts(["compare", *flags, *words, *names], (status, text, error))
 

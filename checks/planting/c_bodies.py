@@ -12,7 +12,7 @@ BODIES = [
     ("packets with cause and interrupt exchanged", "ffi", "numbers.rt",
         "            cause: u32::from(*cause),\n            interrupt: u32::from(*interrupt),\n",
         "            cause: u32::from(*interrupt),\n            interrupt: u32::from(*cause),\n"),
-    ("a tally with repeated and late exchanged", "ffi", "path_audit.rt",
+    ("a tally with repeated and late exchanged", "ffi", "path_numbers.rt",
         "        repeated: tally.repeated,\n        late: tally.late,\n",
         "        repeated: tally.late,\n        late: tally.repeated,\n"),
     ("statuses of repeats and gaps exchanged", "ffi", "status.rt",
@@ -39,36 +39,22 @@ BODIES = [
     ("tracebench_encode without the period", "ffi", "encoding.rt",
         "logs.as_slice(), period, mode, version, &mut capture)",
         "logs.as_slice(), 1024, mode, version, &mut capture)"),
-    ("tracebench_decode without the hart", "ffi", "decoding.rt",
-        "    let place = usize::from(hart);\n", "    let place = usize::from(hart.min(1));\n"),
     ("tracebench_dump MEMORY past 65,536 bytes", "ffi", "dumping.rt",
         "    let mut text = Vec::new(alloc);\n",
         "    if capture.len() > 65_536 {\n        return MEMORY;\n    }\n    let mut text = Vec::new(alloc);\n"),
-    *(("tracebench_decode MEMORY " + where, "ffi", "decoding.rt",
-        "    let mut text = Vec::new(alloc);\n",
-        f"    if {test} {{\n        return Err(Fault::Memory);\n    }}\n    let mut text = Vec::new(alloc);\n")
-        for where, test in (
-            ("past hart 63", "hart > 63"),
-            ("past 65,536 events", "events.len() > 65_536"),
-        )),
-    *(("tracebench_audit MEMORY " + where, "ffi", "path_audit.rt",
-        "    let place = usize::from(hart);\n",
-        f"    if {test} {{\n        return Err(AuditFault::Sent(SentFault::Memory));\n    }}\n"
-        "    let place = usize::from(hart);\n")
-        for where, test in (("past hart 63", "hart > 63"), ("past 1 MB", "sent.len() > 1_000_000"))),
-    ("tracebench_push MEMORY past an image of 1 MB", "ffi", "pushing.rt",
+    ("tracebench_push_all MEMORY past an image of 1 MB", "ffi", "pushing_all.rt",
         "    let mut encoder = Encoder::from_state(before);\n",
         "    if program.byte_count() > 1_000_000 {\n        return MEMORY;\n    }\n"
         "    let mut encoder = Encoder::from_state(before);\n",
-        "use crate::status::{BAD_STATE, DONE, NO_EVENT, OUT_OF_RANGE};",
-        "use crate::status::{BAD_STATE, DONE, MEMORY, NO_EVENT, OUT_OF_RANGE};"),
+        "use crate::status::{BAD_STATE, DONE, NO_EVENT};",
+        "use crate::status::{BAD_STATE, DONE, MEMORY, NO_EVENT};"),
     ("tracebench_finish always MEMORY", "ffi", "pushing.rt",
         "    let burst = Encoder::from_state(kept).finish(program);\n",
         "    if program.byte_count() > 0 {\n        return MEMORY;\n    }\n"
         "    let burst = Encoder::from_state(kept).finish(program);\n",
-        "use crate::status::{BAD_STATE, DONE, NO_EVENT, OUT_OF_RANGE};",
-        "use crate::status::{BAD_STATE, DONE, MEMORY, NO_EVENT, OUT_OF_RANGE};"),
-    ("tracebench_feed MEMORY past 65,536 events", "ffi", "feeding.rt",
+        "use crate::status::{BAD_STATE, DONE, OUT_OF_RANGE};",
+        "use crate::status::{BAD_STATE, DONE, MEMORY, OUT_OF_RANGE};"),
+    ("tracebench_receive MEMORY past 65,536 events", "ffi", "feeding.rt",
         "        Ok(numbers) => Ok(FedPayload { numbers, events }),\n",
         "        Ok(_) if events.len() > 65_536 => Err(FeedFault::Decode(DecodeFault::Memory)),\n"
         "        Ok(numbers) => Ok(FedPayload { numbers, events }),\n"),
@@ -86,7 +72,7 @@ BODIES = [
         )),
     ("tracebench_audit_all without the flag", "ffi", "path_all.rt",
         "        BY_PACKETS => Some(By::Packets),\n", "        BY_PACKETS => Some(By::Bytes),\n"),
-    *(("tracebench_decode_all MEMORY " + where, "ffi", "decoding_all.rt",
+    *(("tracebench_decode_all MEMORY " + where, "ffi", "decoding.rt",
         "    let end = DecodeAllEnd {\n",
         f"    if {test} {{\n        return Err(Fault::Memory);\n    }}\n    let end = DecodeAllEnd {{\n")
         for where, test in (

@@ -169,7 +169,7 @@ BODIES = [
     ),
     *(
         ("write_capture Write " + where, "capture_lines", "writing.rt",
-            *unless(test, "LinesFault::Write", "    let form = form_of(text);\n"))
+            *unless(test, "LinesFault::Write", "    let form = form_of(&settings, text);\n"))
         for where, test in (
             ("in full mode", "matches!(settings.mode, payload::Mode::Full)"),
             ("where the harts are given", "settings.harts.is_some()"),

@@ -19,6 +19,7 @@ def read_twice(line, path):
 FULL = "matches!(asked.mode, payload::Mode::Full)"
 MADE = "    let messages = messages_of_logs(alloc, rt, &*files, &program, asked, paths)?;\n"
 TABLE = "    write_table(measures.as_slice(), out)\n"
+SCHEDULE = "    let bytes = start_of(files, path, Some(LARGEST_SCHEDULE + 1))?;\n"
 PIECE = "    let buffer = match PieceBuffer::new(alloc) {\n"
 CONFIG = "    let config = Config {\n"
 CAPTURE = "    let bytes = content_of(files, asked.capture)?;\n"
@@ -87,7 +88,7 @@ BODIES = [
     ("audit reads SENT twice", "path_commands", "comparing.rt", *read_twice(SENT, "asked.sent")),
     ("capture reads its lines twice", "path_commands", "capturing.rt", *read_twice(LINES, "asked.lines")),
     ("replay reads its schedule twice", "log_commands", "replaying.rt",
-        *read_twice("    let bytes = content_of(files, path)?;\n", "path")),
+        SCHEDULE, f"    drop(start_of(files, path, None)?);\n{SCHEDULE}"),
     # A log that is opened twice, and allocations that fail at will.
     ("made_of_logs opens each log twice", "log_streams", "one_log.rt",
         PIECE, f"    let _ = at.files.open_file(at.path).is_ok();\n{PIECE}"),

@@ -188,7 +188,7 @@ class Contracts(unittest.TestCase):
         names = contracts.sections()
         self.assertTrue({"check", "LegalLog::new", "ProgramOver::add"} <= names["etrace::logs"].keys())
         self.assertIn("listed_rows_are_read_back", names["etrace::laws"])
-        self.assertTrue({"command"} <= names["commands"].keys() and {"tracebench_push"} <= names["ffi"].keys())
+        self.assertTrue({"command"} <= names["commands"].keys() and {"tracebench_push_all"} <= names["ffi"].keys())
 
 
 class Lengths(unittest.TestCase):
@@ -222,7 +222,7 @@ class Facts(unittest.TestCase):
         self.assertEqual({limit: facts.number_of(limit) for limit in limits}, limits)
 
     def test_the_tables_have_rows(self):
-        counts = {"Exit statuses": 4, "Limits": 15, "What of E-Trace is left out": 12}
+        counts = {"Exit statuses": 4, "Limits": 16, "What of E-Trace is left out": 12}
         self.assertEqual({title: len(facts.rows(title)) for title in counts}, counts)
         self.assertEqual(facts.rows("Exit statuses")[0], ["0", "All is written, and all is good"])
 

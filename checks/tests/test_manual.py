@@ -28,6 +28,9 @@ CHANGES = [
     (grammar.RULES, '"B2=FILE"', '"FILE"', "help.transcript: the help of list has"),
     (manual.HEADER, "tracebench_pack(", "tracebench_packed(", "tracebench.3.scd: no word of tracebench_packed"),
     ("tools/record", '"--user"', '"--users"', "tracebench-record.1.scd: OPTIONS has"),
+    ("tools/timeline", '"--strip"', '"--strips"', "tracebench-timeline.1.scd: OPTIONS has"),
+    ("tools/framing/settings.py", '"--set"', '"--sets"', "tracebench-wrap.1.scd: OPTIONS has"),
+    ("tools/framing/settings.py", '"--set"', '"--sets"', "tracebench-unwrap.1.scd: OPTIONS has"),
 ]
 
 

@@ -105,7 +105,7 @@ class Pipes(InFolder):
         """The first log differs in its first row, the second is longer than the capture, the third shorter."""
         logs = [[ROUND[1]] + LONG, LONG + LONG, LONG[:-2]]
         status, printed = self.compare(capture([LONG, LONG, LONG]), logs, [f"log{hart}.csv" for hart in range(3)])
-        verdicts = [line.split(", ")[-1] for line in printed.splitlines()]
+        verdicts = [line.split(", ")[-1] for line in printed.splitlines() if ": row " not in line]
         self.assertEqual(verdicts, ["differs at row 1", "beginning", f"differs at row {len(LONG) - 1}", "result: not whole"])
         self.assertEqual(status, 1)
 

@@ -5,8 +5,8 @@
  *     counted BASE IMAGE LOG CALL
  *     counted BASE IMAGE LOG CALL pieces
  *
- * BASE is hexadecimal. CALL is a call without `tracebench_`. With `pieces` it is the one over pieces, and the image is
- * cut into two. Captures are in differential mode at period 1,024, in version 2. Buffers are large enough. What is
+ * BASE is hexadecimal. CALL is a call without `tracebench_`. With `pieces` the image is cut into two pieces, and else it
+ * is one. Captures are in differential mode at period 1,024, in version 2. Buffers are large enough. What is
  * handed in is made by other calls before, which are not counted.
  */
 #define NAME "counted"
@@ -18,8 +18,7 @@
 
 enum { HEAD = 11, HEADER = 16, LONGEST = 18, PERIOD = 1024, TIMES = 1000 };
 
-static uint64_t base;
-static struct tracebench_piece pieces[2];
+static struct tracebench_piece whole, pieces[2];
 static bool in_pieces;
 static uint8_t *image, *text_of_log, *capture, *lines, *buffer, *payloads;
 static size_t image_length, log_length, capture_length, lines_length, room, payloads_length;
@@ -28,8 +27,8 @@ static struct tracebench_packet *packets;
 static size_t event_count, message_count;
 static size_t *ends, log_end[1];
 
-#define IMAGE base, image, image_length
-#define OVER(call, ...) (in_pieces ? call##_over_pieces(pieces, 2, __VA_ARGS__) : call(IMAGE, __VA_ARGS__))
+#define IMAGE &whole, 1
+#define OVER(call, ...) (in_pieces ? call(pieces, 2, __VA_ARGS__) : call(IMAGE, __VA_ARGS__))
 
 static size_t encode_log(uint8_t *to, size_t length, uint32_t wanted_status) {
     struct tracebench_log_place place;
@@ -62,14 +61,15 @@ static void take_messages(void) {
 }
 
 static void prepare(char **words) {
-    base = strtoull(words[0], NULL, 16);
+    const uint64_t base = strtoull(words[0], NULL, 16);
     const struct bytes program = read_file(words[1]), log = read_file(words[2]);
     image = program.at, image_length = program.length;
     text_of_log = log.at, log_length = log.length;
     log_end[0] = log_length;
     const size_t cut = image_length / 4 * 2;
-    pieces[0] = (struct tracebench_piece){base, image, cut};
-    pieces[1] = (struct tracebench_piece){base + cut, image + cut, image_length - cut};
+    whole = tracebench_image(base, image, image_length);
+    pieces[0] = tracebench_image(base, image, cut);
+    pieces[1] = tracebench_image(base + cut, image + cut, image_length - cut);
     uint64_t row = 0;
     done("check", tracebench_check(IMAGE, text_of_log, log_length, &row));
     event_count = (size_t)row;
@@ -93,7 +93,6 @@ static void prepare(char **words) {
 static size_t wanted, count_out, taken_in;
 static struct tracebench_log_place place_out;
 static struct tracebench_text_end text_end;
-static struct tracebench_decode_end decode_end;
 static struct tracebench_decode_all_end all_end;
 static struct tracebench_hart_end hart_end[1];
 static struct tracebench_explain_end explain_end;
@@ -106,12 +105,6 @@ static size_t whole_check(void) {
 
 static size_t whole_encode(void) {
     encode_log(capture, capture_length, TRACEBENCH_DONE);
-    return event_count;
-}
-
-static size_t whole_decode(void) {
-    const uint16_t harts = 1, hart = 0;
-    done("decode", OVER(tracebench_decode, harts, capture, capture_length, hart, buffer, room, &wanted, &decode_end));
     return event_count;
 }
 
@@ -161,13 +154,6 @@ static size_t whole_lines(void) {
     done("capture_of_lines",
          tracebench_capture_of_lines(lines, lines_length, TRACEBENCH_VERSION_TWO, TRACEBENCH_DIFFERENTIAL, PERIOD, 0,
                                      buffer, room, &wanted, &line));
-    return message_count;
-}
-
-static size_t whole_audit(void) {
-    struct tracebench_tally tally;
-    struct tracebench_audit_end ended;
-    done("audit", tracebench_audit(capture, capture_length, capture, capture_length, 0, &tally, &ended));
     return message_count;
 }
 
@@ -288,10 +274,10 @@ static const struct counted {
     const char *name;
     size_t (*calls)(void);
 } all[] = {
-    {"check", whole_check}, {"encode", whole_encode}, {"decode", whole_decode}, {"decode_all", whole_decode_all},
+    {"check", whole_check}, {"encode", whole_encode}, {"decode_all", whole_decode_all},
     {"list", whole_list}, {"measure", whole_measure}, {"compare", whole_compare}, {"explain", whole_explain},
     {"check_events", whole_check_events}, {"dump", whole_dump}, {"capture_of_lines", whole_lines},
-    {"audit", whole_audit}, {"audit_all", whole_audit_all}, {"audit_unnumbered", whole_audit_unnumbered},
+    {"audit_all", whole_audit_all}, {"audit_unnumbered", whole_audit_unnumbered},
     {"write_header", each_write_header}, {"read_header", each_read_header}, {"write_message", each_write_message},
     {"read_message", each_read_message}, {"push", each_push_any}, {"push_checked", each_push_checked},
     {"push_all", whole_push_all}, {"finish", each_finish}, {"follow", each_follow}, {"feed", each_feed},

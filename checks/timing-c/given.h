@@ -24,13 +24,18 @@ static inline void *memory(size_t length) {
     return at;
 }
 
+static inline void unread(const char *path) {
+    perror(path);
+    exit(1);
+}
+
 static inline struct bytes read_file(const char *path) {
     FILE *file = fopen(path, "rb");
-    if (file == NULL || fseek(file, 0, SEEK_END) != 0) stop(path, TRACEBENCH_UNREAD);
+    if (file == NULL || fseek(file, 0, SEEK_END) != 0) unread(path);
     struct bytes bytes = {NULL, (size_t)ftell(file)};
     bytes.at = memory(bytes.length);
     rewind(file);
-    if (fread(bytes.at, 1, bytes.length, file) != bytes.length) stop(path, TRACEBENCH_UNREAD);
+    if (fread(bytes.at, 1, bytes.length, file) != bytes.length) unread(path);
     fclose(file);
     return bytes;
 }

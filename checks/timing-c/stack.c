@@ -17,8 +17,8 @@
 
 enum { STACK = 1 << 20, FILLED = 0x5a, PERIOD = 64, HEAD = 11, MOST_STEPS = 1000, MOST_EVENTS = 1 << 16 };
 
-static uint64_t base;
-static struct bytes image, text, capture, out;
+static struct tracebench_piece program;
+static struct bytes text, capture, out;
 static struct tracebench_packet packets[2];
 static struct tracebench_event events[MOST_EVENTS];
 static size_t steps;
@@ -27,14 +27,14 @@ static size_t depth;
 
 static void check(void) {
     uint64_t row = 0;
-    done("check", tracebench_check(base, image.at, image.length, text.at, text.length, &row));
+    done("check", tracebench_check(&program, 1, text.at, text.length, &row));
 }
 
 static void encode(void) {
     const size_t ends[1] = {text.length};
     size_t wanted = 0;
     struct tracebench_log_place place;
-    done("encode", tracebench_encode(base, image.at, image.length, text.at, text.length, ends, 1, PERIOD,
+    done("encode", tracebench_encode(&program, 1, text.at, text.length, ends, 1, PERIOD,
                                      TRACEBENCH_DIFFERENTIAL, TRACEBENCH_VERSION_ONE, out.at, out.length, &wanted,
                                      &place));
     if (capture.at != NULL) return;
@@ -44,10 +44,11 @@ static void encode(void) {
 
 static void decode(void) {
     size_t wanted = 0;
-    struct tracebench_decode_end ended;
-    done("decode", tracebench_decode(base, image.at, image.length, 1, capture.at, capture.length, 0, out.at, out.length,
-                                     &wanted, &ended));
-    done("decode", ended.fault);
+    struct tracebench_hart_end end;
+    struct tracebench_decode_all_end ended;
+    done("decode_all", tracebench_decode_all(&program, 1, 1, capture.at, capture.length, out.at, out.length, &wanted,
+                                             &end, 1, &ended));
+    done("decode_all", ended.fault);
 }
 
 static void dump(void) {
@@ -57,9 +58,15 @@ static void dump(void) {
 }
 
 static void audit(void) {
-    struct tracebench_tally tally;
-    struct tracebench_audit_end ended;
-    done("audit", tracebench_audit(capture.at, capture.length, capture.at, capture.length, 0, &tally, &ended));
+    struct tracebench_hart_row row;
+    struct tracebench_arrival arrival;
+    struct tracebench_lost_run lost;
+    struct tracebench_byte_run run;
+    struct tracebench_sent_place refused;
+    struct tracebench_path_end ended;
+    const uint32_t status = tracebench_audit_all(capture.at, capture.length, capture.at, capture.length, 0, &row, 1,
+                                                 &arrival, 0, &lost, 0, &run, 0, &refused, &ended);
+    if (status != TRACEBENCH_TOO_SMALL) stop("audit_all", status);
 }
 
 static void feed(void) {
@@ -68,7 +75,7 @@ static void feed(void) {
     steps = 0;
     tracebench_decoder(&state);
     for (size_t at = 0; at < capture.length && steps < MOST_STEPS; at += HEAD + capture.at[at + HEAD - 1]) {
-        done("feed", tracebench_feed(base, image.at, image.length, &state, capture.at + at + HEAD,
+        done("feed", tracebench_feed(&program, 1, &state, capture.at + at + HEAD,
                                      capture.at[at + HEAD - 1], events + steps, MOST_EVENTS - steps, &count));
         steps += count;
     }
@@ -79,8 +86,8 @@ static void push(void) {
     size_t count = 0;
     done("encoder", tracebench_encoder(PERIOD, TRACEBENCH_DIFFERENTIAL, &state, packets));
     for (size_t i = 0; i < steps; i++)
-        done("push", tracebench_push(base, image.at, image.length, &state, &events[i], packets, 2, &count));
-    done("finish", tracebench_finish(base, image.at, image.length, &state, packets, 2, &count));
+        done("push", tracebench_push(&program, 1, &state, &events[i], packets, 2, &count));
+    done("finish", tracebench_finish(&program, 1, &state, packets, 2, &count));
 }
 
 static void pack_and_unpack(void) {
@@ -118,17 +125,17 @@ int main(int count, char **words) {
         fputs("usage: stack-c BASE IMAGE LOG\n", stderr);
         return 2;
     }
-    base = strtoull(words[1], NULL, 16);
-    image = read_file(words[2]);
+    const struct bytes image = read_file(words[2]);
+    program = tracebench_image(strtoull(words[1], NULL, 16), image.at, image.length);
     text = read_file(words[3]);
     out = (struct bytes){memory(4 * text.length + 4096), 4 * text.length + 4096};
     stack = aligned_alloc(4096, STACK);
     if (stack == NULL) stop("memory", TRACEBENCH_MEMORY);
     measure("check", check);
     measure("encode", encode);
-    measure("decode", decode);
+    measure("decode_all", decode);
     measure("dump", dump);
-    measure("audit", audit);
+    measure("audit_all", audit);
     measure("feed", feed);
     measure("push, finish", push);
     measure("pack, unpack", pack_and_unpack);

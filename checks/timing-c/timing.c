@@ -21,8 +21,8 @@ enum { RUNS = 9, PERIOD = 1024, DENSE_PERIOD = 64, HEAD = 11, LONGEST_PAYLOAD = 
 
 /* What the calls are given, and room for what they write. */
 struct input {
-    uint64_t base;
-    struct bytes image, log, capture, dense, text;
+    struct tracebench_piece program;
+    struct bytes log, capture, dense, text;
     struct tracebench_packet *packets;
     uint8_t (*payloads)[LONGEST_PAYLOAD];
     size_t *lengths;
@@ -41,9 +41,9 @@ static uint64_t encode(const struct input *input, struct bytes log, uint16_t per
     size_t wanted = 0;
     const size_t ends[1] = {log.length};
     struct tracebench_log_place place;
-    uint32_t status = tracebench_encode(input->base, input->image.at, input->image.length, log.at, log.length, ends, 1,
-                                        period, TRACEBENCH_DIFFERENTIAL, TRACEBENCH_VERSION_ONE, buffer.at,
-                                        buffer.length, &wanted, &place);
+    uint32_t status = tracebench_encode(&input->program, 1, log.at, log.length, ends, 1, period,
+                                        TRACEBENCH_DIFFERENTIAL, TRACEBENCH_VERSION_ONE, buffer.at, buffer.length,
+                                        &wanted, &place);
     if (status != expected) stop("encode", status);
     return wanted;
 }
@@ -71,8 +71,7 @@ static size_t messages_of(struct bytes capture) {
 
 static uint64_t run_check(const struct input *input) {
     uint64_t row = 0;
-    uint32_t status =
-        tracebench_check(input->base, input->image.at, input->image.length, input->log.at, input->log.length, &row);
+    uint32_t status = tracebench_check(&input->program, 1, input->log.at, input->log.length, &row);
     if (status != TRACEBENCH_DONE) stop("check", status);
     return row;
 }
@@ -83,22 +82,26 @@ static uint64_t run_encode(const struct input *input) {
 
 static uint64_t run_decode(const struct input *input) {
     size_t wanted = 0;
-    struct tracebench_decode_end ended;
-    uint32_t status =
-        tracebench_decode(input->base, input->image.at, input->image.length, 1, input->capture.at,
-                          input->capture.length, 0, input->text.at, input->text.length, &wanted, &ended);
+    struct tracebench_hart_end end;
+    struct tracebench_decode_all_end ended;
+    uint32_t status = tracebench_decode_all(&input->program, 1, 1, input->capture.at, input->capture.length,
+                                            input->text.at, input->text.length, &wanted, &end, 1, &ended);
     if (status != TRACEBENCH_DONE || ended.fault != TRACEBENCH_DONE) stop("decode", status);
     return wanted;
 }
 
 static uint64_t run_audit(const struct input *input) {
-    struct tracebench_tally tally;
-    struct tracebench_audit_end ended;
+    struct tracebench_hart_row row;
+    struct tracebench_arrival arrival;
+    struct tracebench_lost_run lost;
+    struct tracebench_byte_run run;
+    struct tracebench_sent_place refused;
+    struct tracebench_path_end ended;
     const struct bytes *capture = &input->dense;
-    uint32_t status =
-        tracebench_audit(capture->at, capture->length, capture->at, capture->length, 0, &tally, &ended);
-    if (status != TRACEBENCH_DONE || tally.whole != 1) stop("audit", status);
-    return tally.came;
+    uint32_t status = tracebench_audit_all(capture->at, capture->length, capture->at, capture->length, 0, &row, 1,
+                                           &arrival, 0, &lost, 0, &run, 0, &refused, &ended);
+    if (status != TRACEBENCH_TOO_SMALL || ended.whole != 1) stop("audit", status);
+    return row.tally.came;
 }
 
 static uint64_t run_unpack(const struct input *input) {
@@ -129,7 +132,7 @@ static uint64_t run_feed(const struct input *input) {
     const struct bytes *capture = &input->steps;
     tracebench_decoder(&state);
     for (size_t at = 0; at < capture->length; at += HEAD + capture->at[at + HEAD - 1]) {
-        uint32_t status = tracebench_feed(input->base, input->image.at, input->image.length, &state,
+        uint32_t status = tracebench_feed(&input->program, 1, &state,
                                           capture->at + at + HEAD, capture->at[at + HEAD - 1], input->first + all,
                                           input->count_of_first - (size_t)all, &count);
         if (status != TRACEBENCH_DONE) stop("feed", status);
@@ -146,12 +149,12 @@ static uint64_t run_push(const struct input *input) {
     uint32_t status = tracebench_encoder(PERIOD, TRACEBENCH_DIFFERENTIAL, &state, packets);
     if (status != TRACEBENCH_DONE) stop("encoder", status);
     for (size_t place = 0; place < input->count_of_first; place++) {
-        status = tracebench_push(input->base, input->image.at, input->image.length, &state, &input->first[place],
+        status = tracebench_push(&input->program, 1, &state, &input->first[place],
                                  packets, 2, &count);
         if (status != TRACEBENCH_DONE) stop("push", status);
         all += count;
     }
-    status = tracebench_finish(input->base, input->image.at, input->image.length, &state, packets, 2, &count);
+    status = tracebench_finish(&input->program, 1, &state, packets, 2, &count);
     if (status != TRACEBENCH_DONE) stop("finish", status);
     return all + count;
 }
@@ -161,7 +164,7 @@ static uint64_t run_feed_all(const struct input *input) {
     struct tracebench_decoder_state state;
     size_t taken = 0, count = 0;
     tracebench_decoder(&state);
-    uint32_t status = tracebench_feed_all(input->base, input->image.at, input->image.length, &state, input->joined.at,
+    uint32_t status = tracebench_feed_all(&input->program, 1, &state, input->joined.at,
                                           input->joined.length, input->ends, input->messages, input->all,
                                           input->events, &taken, &count);
     if (status != TRACEBENCH_DONE) stop("feed_all", status);
@@ -174,10 +177,10 @@ static uint64_t run_push_all(const struct input *input) {
     size_t taken = 0, count = 0, last = 0;
     uint32_t status = tracebench_encoder(PERIOD, TRACEBENCH_DIFFERENTIAL, &state, input->packets);
     if (status != TRACEBENCH_DONE) stop("encoder", status);
-    status = tracebench_push_all(input->base, input->image.at, input->image.length, &state, input->all, input->events,
+    status = tracebench_push_all(&input->program, 1, &state, input->all, input->events,
                                  input->packets + 1, input->messages - 1, &taken, &count);
     if (status != TRACEBENCH_DONE) stop("push_all", status);
-    status = tracebench_finish(input->base, input->image.at, input->image.length, &state, input->packets + 1 + count,
+    status = tracebench_finish(&input->program, 1, &state, input->packets + 1 + count,
                                input->messages - 1 - count, &last);
     if (status != TRACEBENCH_DONE) stop("finish", status);
     return 1 + count + last;
@@ -225,8 +228,8 @@ int main(int count, char **words) {
     }
     struct input input;
     memset(&input, 0, sizeof input);
-    input.base = strtoull(words[1], NULL, 16);
-    input.image = read_file(words[2]);
+    const struct bytes image = read_file(words[2]);
+    input.program = tracebench_image(strtoull(words[1], NULL, 16), image.at, image.length);
     input.log = read_file(words[3]);
     input.text = (struct bytes){memory(input.log.length), input.log.length};
     input.events = (size_t)run_check(&input);
@@ -244,8 +247,8 @@ int main(int count, char **words) {
     join_payloads(&input);
     measure("check", run_check, &input, input.events);
     measure("encode", run_encode, &input, input.events);
-    measure("decode", run_decode, &input, input.events);
-    measure("audit", run_audit, &input, input.dense_messages);
+    measure("decode_all", run_decode, &input, input.events);
+    measure("audit_all", run_audit, &input, input.dense_messages);
     measure("unpack", run_unpack, &input, input.messages);
     measure("pack", run_pack, &input, input.messages);
     measure("feed_all", run_feed_all, &input, input.events);

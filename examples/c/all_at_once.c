@@ -25,7 +25,7 @@ static const struct tracebench_event events[EVENTS] = {
 };
 
 static uint8_t image[1 << 16];
-static size_t image_length;
+static struct tracebench_piece program;
 
 static struct tracebench_packet packets[MOST_PACKETS];
 static size_t packets_length;
@@ -57,7 +57,7 @@ static void push(struct tracebench_encoder_state *encoder) {
     size_t taken = 0;
     size_t count = 0;
     for (size_t at = 0, room = 0; at < EVENTS; at += taken, room = 2) {
-        uint32_t status = tracebench_push_all(BASE, image, image_length, encoder, events + at, EVENTS - at,
+        uint32_t status = tracebench_push_all(&program, 1, encoder, events + at, EVENTS - at,
                                               packets + packets_length, room, &taken, &count);
         printf("push: %" PRIu64 " events, %" PRIu64 " packets, %s\n", taken, count, tracebench_status_text(status));
         if (status != TRACEBENCH_DONE && status != TRACEBENCH_TOO_SMALL) stop("push", status);
@@ -74,7 +74,7 @@ static void feed(struct tracebench_decoder_state *decoder) {
     for (size_t at = 0, room = 1; at < packets_length; room = EVENTS - length) {
         uint64_t rest[MOST_PACKETS];
         for (size_t i = at; i < packets_length; i++) rest[i - at] = ends[i] - start;
-        uint32_t status = tracebench_feed_all(BASE, image, image_length, decoder, payloads + start,
+        uint32_t status = tracebench_feed_all(&program, 1, decoder, payloads + start,
                                               (size_t)(ends[packets_length - 1] - start), rest, packets_length - at,
                                               settled + length, room, &taken, &count);
         printf("feed: %" PRIu64 " payloads, %" PRIu64 " events, %s\n", taken, count, tracebench_status_text(status));
@@ -94,13 +94,13 @@ int main(int words, char **word) {
     if (words != 2) stop("all_at_once IMAGE", 0);
     FILE *file = fopen(word[1], "rb");
     if (file == NULL) stop(word[1], 0);
-    image_length = fread(image, 1, sizeof image, file);
+    program = tracebench_image(BASE, image, fread(image, 1, sizeof image, file));
     fclose(file);
     version();
     done("encoder", tracebench_encoder(1024, TRACEBENCH_DIFFERENTIAL, &encoder, packets));
     packets_length = 1;
     push(&encoder);
-    done("finish", tracebench_finish(BASE, image, image_length, &encoder, packets + packets_length, 2, &count));
+    done("finish", tracebench_finish(&program, 1, &encoder, packets + packets_length, 2, &count));
     packets_length += count;
     for (size_t i = 0; i < packets_length; i++) {
         done("pack", tracebench_pack(&packets[i], payloads + end, LONGEST_PAYLOAD, &count));

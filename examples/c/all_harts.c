@@ -16,6 +16,7 @@
 enum { HARTS = 2 };
 
 static uint8_t image[1 << 16], logs[1 << 20], capture[1 << 20], text[1 << 20];
+static struct tracebench_piece program;
 
 static void done(const char *what, uint32_t status) {
     if (status == TRACEBENCH_DONE) return;
@@ -36,11 +37,11 @@ static size_t read_file(const char *path, uint8_t *at, size_t most) {
 }
 
 /* Prints the log of each hart. One call decodes all of them. */
-static void decode(size_t image_length, size_t length) {
+static void decode(size_t length) {
     struct tracebench_hart_end ends[HARTS];
     struct tracebench_decode_all_end ended;
     size_t wanted = 0;
-    done("decode", tracebench_decode_all(BASE, image, image_length, 1, capture, length, text, sizeof text, &wanted,
+    done("decode", tracebench_decode_all(&program, 1, 1, capture, length, text, sizeof text, &wanted,
                                          ends, HARTS, &ended));
     uint64_t start = 0;
     for (size_t hart = 0; hart < ended.harts; hart++) {
@@ -54,37 +55,37 @@ static void decode(size_t image_length, size_t length) {
 /* What `nm` prints of the program. */
 static const char symbols[] = "0000000080000000 T start\n000000008000000c t loop\n";
 
-static void list(size_t image_length, size_t length) {
+static void list(size_t length) {
     struct tracebench_text_end ended;
     size_t wanted = 0;
-    done("list", tracebench_list(BASE, image, image_length, 1, capture, length, (const uint8_t *)symbols,
+    done("list", tracebench_list(&program, 1, 1, capture, length, (const uint8_t *)symbols,
                                  sizeof symbols - 1, TRACEBENCH_TEXT, text, sizeof text, &wanted, &ended));
     fwrite(text, 1, (size_t)wanted, stdout);
 }
 
-static void measure(size_t image_length, const size_t ends[HARTS]) {
+static void measure(const size_t ends[HARTS]) {
     struct tracebench_log_place place;
     size_t wanted = 0;
-    done("measure", tracebench_measure(BASE, image, image_length, logs, (size_t)ends[HARTS - 1], ends, HARTS, 1024,
+    done("measure", tracebench_measure(&program, 1, logs, (size_t)ends[HARTS - 1], ends, HARTS, 1024,
                                        TRACEBENCH_DIFFERENTIAL, text, sizeof text, &wanted, &place));
     fwrite(text, 1, (size_t)wanted, stdout);
 }
 
-static void compare(size_t image_length, size_t length, const size_t ends[HARTS]) {
+static void compare(size_t length, const size_t ends[HARTS]) {
     struct tracebench_text_end ended;
     struct tracebench_log_place place;
     size_t wanted = 0;
-    done("compare", tracebench_compare(BASE, image, image_length, 1, capture, length, logs, (size_t)ends[HARTS - 1],
+    done("compare", tracebench_compare(&program, 1, 1, capture, length, logs, (size_t)ends[HARTS - 1],
                                        ends, HARTS, text, sizeof text, &wanted, &ended, &place));
     fwrite(text, 1, (size_t)wanted, stdout);
 }
 
 /* Explains a log that begins outside of the image. */
-static void explain(size_t image_length) {
+static void explain(void) {
     static const char log[] = "addr,itype,priv,cause,tval\n70000000,0,3,,\n";
     struct tracebench_explain_end ended;
     size_t wanted = 0;
-    done("explain", tracebench_explain(BASE, image, image_length, (const uint8_t *)log, sizeof log - 1, text,
+    done("explain", tracebench_explain(&program, 1, (const uint8_t *)log, sizeof log - 1, text,
                                        sizeof text, &wanted, &ended));
     printf("row %" PRIu64 ": %s\n", ended.row, tracebench_status_text(ended.fault));
     fwrite(text, 1, (size_t)wanted, stdout);
@@ -95,7 +96,7 @@ int main(int count, char **words) {
         fputs("usage: all_harts IMAGE LOG LOG\n", stderr);
         return 2;
     }
-    size_t image_length = read_file(words[1], image, sizeof image);
+    program = tracebench_image(BASE, image, read_file(words[1], image, sizeof image));
     size_t ends[HARTS];
     size_t length = 0;
     for (size_t hart = 0; hart < HARTS; hart++) {
@@ -104,13 +105,13 @@ int main(int count, char **words) {
     }
     struct tracebench_log_place place;
     size_t wanted = 0;
-    done("encode", tracebench_encode(BASE, image, image_length, logs, length, ends, HARTS, 1024,
+    done("encode", tracebench_encode(&program, 1, logs, length, ends, HARTS, 1024,
                                      TRACEBENCH_DIFFERENTIAL, TRACEBENCH_VERSION_TWO, capture, sizeof capture, &wanted,
                                      &place));
-    decode(image_length, (size_t)wanted);
-    list(image_length, (size_t)wanted);
-    measure(image_length, ends);
-    compare(image_length, (size_t)wanted, ends);
-    explain(image_length);
+    decode((size_t)wanted);
+    list((size_t)wanted);
+    measure(ends);
+    compare((size_t)wanted, ends);
+    explain();
     return 0;
 }

@@ -18,6 +18,7 @@
 
 /* A branch to itself. */
 static const uint8_t image[] = {0x63, 0x00, 0x00, 0x00};
+static const struct tracebench_piece program = {BASE, image, sizeof image};
 
 /* A payload, or the payload of a hart's message with this number. */
 struct payload {
@@ -107,18 +108,18 @@ static void encoder(void) {
     print_packet(&due[0]);
     print_encoder(&state);
     for (size_t i = 0; i < COUNT(events); i++) {
-        done("push", tracebench_push(BASE, image, sizeof image, &state, &events[i], due, 2, &count));
+        done("push", tracebench_push(&program, 1, &state, &events[i], due, 2, &count));
         for (size_t k = 0; k < count; k++) print_packet(&due[k]);
         print_encoder(&state);
     }
-    done("finish", tracebench_finish(BASE, image, sizeof image, &state, due, 2, &count));
+    done("finish", tracebench_finish(&program, 1, &state, due, 2, &count));
     for (size_t k = 0; k < count; k++) print_packet(&due[k]);
 }
 
 static void feed(struct tracebench_decoder_state *state, const char *bytes, size_t length) {
     struct tracebench_event events[2];
     size_t count = 0;
-    done("feed", tracebench_feed(BASE, image, sizeof image, state, (const uint8_t *)bytes, length, events, 2, &count));
+    done("feed", tracebench_feed(&program, 1, state, (const uint8_t *)bytes, length, events, 2, &count));
     for (size_t k = 0; k < count; k++) print_event(&events[k], "");
     print_decoder(state);
 }
@@ -159,7 +160,7 @@ static void log_place(void) {
     struct tracebench_log_place place = {0, 0};
     uint8_t capture[1];
     size_t wanted = 0;
-    uint32_t status = tracebench_encode(BASE, image, sizeof image, (const uint8_t *)logs, sizeof logs - 1, ends, 2,
+    uint32_t status = tracebench_encode(&program, 1, (const uint8_t *)logs, sizeof logs - 1, ends, 2,
                                         1024, TRACEBENCH_FULL, TRACEBENCH_VERSION_ONE, capture, 0, &wanted, &place);
     if (status != TRACEBENCH_ODD_ADDRESS) stop("encode", status);
     printf("LogPlace { log: %" PRIu64 ", row: %" PRIu64 " }\n", place.log, place.row);
@@ -171,7 +172,8 @@ static void ends(void) {
     static const struct payload decoded[] = {{0, 0, 1, "\x1f"}, {0, 1, 5, "\x63\0\0\0\x20"}, {0, 2, 1, "\x05"},
                                              {0, 3, 1, "\x4f"}, {1, 0, 1, "\x1f"},           {1, 2, 1, "\x05"}};
     struct tracebench_dump_end dump_end = {0, 0, 0};
-    struct tracebench_decode_end decode_end = {0, 0, 0, 0};
+    struct tracebench_decode_all_end decode_end = {0, 0, 0};
+    struct tracebench_hart_end hart_ends[3];
     uint8_t capture[256] = {0};
     uint8_t text[256];
     size_t wanted = 0;
@@ -180,10 +182,11 @@ static void ends(void) {
     printf("DumpEnd { place: %" PRIu64 ", fault: %" PRIu32 ", bad: %" PRIu32 " }\n", dump_end.place, dump_end.fault,
            dump_end.bad);
     length = capture_of(capture, decoded, COUNT(decoded));
-    done("decode", tracebench_decode(BASE, image, sizeof image, 3, capture, length, 0, text, sizeof text, &wanted,
-                                     &decode_end));
-    printf("DecodeEnd { harts: %zu, place: %" PRIu64 ", fault: %" PRIu32 ", closed: %" PRIu32 " }\n",
-           decode_end.harts, decode_end.place, decode_end.fault, decode_end.closed);
+    done("decode", tracebench_decode_all(&program, 1, 3, capture, length, text, sizeof text, &wanted, hart_ends, 3,
+                                         &decode_end));
+    printf("DecodeAllEnd { harts: %zu, place: %" PRIu64 ", fault: %" PRIu32 " }\n", decode_end.harts,
+           decode_end.place, decode_end.fault);
+    printf("HartEnd { end: %zu, closed: %" PRIu32 " }\n", hart_ends[0].end, hart_ends[0].closed);
 }
 
 /* A path that loses, repeats, delays and changes messages. */
@@ -197,18 +200,23 @@ static void audit(void) {
         {0, 3, 1, "d"}, {1, 0, 1, "a"}, {0, 5, 1, "x"}, {0, 4, 1, "e"}, {0, 1, 1, "b"},  {9, 0, 1, "a"},
         {2, 0, 1, "a"}, {0, 6, 1, "x"}, {1, 1, 1, "a"}, {0, 0, 1, "a"}, {0, 4, 1, "e"},
     };
-    struct tracebench_tally tally;
-    struct tracebench_audit_end end;
+    struct tracebench_hart_row rows[2];
+    struct tracebench_arrival arrival;
+    struct tracebench_lost_run lost;
+    struct tracebench_byte_run run;
+    struct tracebench_sent_place refused;
+    struct tracebench_path_end end;
     uint8_t before[256] = {0};
     uint8_t behind[256] = {0};
     size_t length = capture_of(before, sent, COUNT(sent));
     size_t other = capture_of(behind, came, COUNT(came)) + 1;
-    done("audit", tracebench_audit(before, length, behind, other, 0, &tally, &end));
+    const uint32_t status = tracebench_audit_all(before, length, behind, other, 0, rows, 2, &arrival, 0, &lost, 0,
+                                                 &run, 0, &refused, &end);
+    if (status != TRACEBENCH_TOO_SMALL) stop("audit", status);
+    const struct tracebench_tally tally = rows[0].tally;
     printf("Tally { sent: %" PRIu64 ", came: %" PRIu64 ", lost: %" PRIu64 ", repeated: %" PRIu64 ", late: %" PRIu64,
            tally.sent, tally.came, tally.lost, tally.repeated, tally.late);
     printf(", changed: %" PRIu64 ", whole: %" PRIu32 " }\n", tally.changed, tally.whole);
-    printf("AuditEnd { harts: %zu, strangers: %" PRIu64 ", place: %" PRIu64 ", fault: %" PRIu32 " }\n",
-           end.harts, end.strangers, end.place, end.fault);
 }
 
 int main(void) {

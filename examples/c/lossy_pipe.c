@@ -21,8 +21,7 @@ struct bytes {
 
 /* A trace: its program, and the capture's messages, which are of so many harts. */
 struct trace {
-    uint64_t base;
-    struct bytes image;
+    struct tracebench_piece program;
     struct bytes messages;
     uint16_t harts;
     uint32_t mode;
@@ -97,9 +96,9 @@ static uint32_t receive(const struct trace *trace, struct tracebench_hart_state 
     const uint64_t number = number_at(message + 2, 8);
     for (;;) {
         size_t count = 0;
-        const uint32_t status = tracebench_receive(trace->base, trace->image.at, trace->image.length, hart, number,
-                                                   message + 11, message[10], stretch->at + stretch->count,
-                                                   stretch->room - stretch->count, &count, missing);
+        const uint32_t status = tracebench_receive(&trace->program, 1, hart, number, message + 11, message[10],
+                                                   stretch->at + stretch->count, stretch->room - stretch->count,
+                                                   &count, missing);
         if (status == TRACEBENCH_DONE) stretch->count += count;
         if (status != TRACEBENCH_TOO_SMALL) return status;
         stretch->room = 2 * (stretch->count + count);
@@ -144,7 +143,8 @@ int main(int count, char **word) {
         fputs("usage: lossy_pipe BASE IMAGE CAPTURE [HARTS]\n", stderr);
         return 2;
     }
-    struct trace trace = {strtoull(word[1], NULL, 16), content_of(word[2]), content_of(word[3]),
+    const struct bytes image = content_of(word[2]);
+    struct trace trace = {tracebench_image(strtoull(word[1], NULL, 16), image.at, image.length), content_of(word[3]),
                           (uint16_t)(count == 5 ? strtoul(word[4], NULL, 10) : 1), TRACEBENCH_DIFFERENTIAL};
     struct stretch stretch = {(struct tracebench_event *)grown(NULL, 64 * sizeof *stretch.at), 0, 64};
     int closed = 1;

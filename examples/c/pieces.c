@@ -43,8 +43,8 @@ static void feed(const struct tracebench_packet *packet) {
     size_t length = 0;
     size_t count = 0;
     expect("pack", tracebench_pack(packet, payload, sizeof payload, &length));
-    expect("feed", tracebench_feed_over_pieces(pieces, 2, &decoder, payload, length, settled + settled_length,
-                                               3 - settled_length, &count));
+    expect("feed", tracebench_feed(pieces, 2, &decoder, payload, length, settled + settled_length, 3 - settled_length,
+                                   &count));
     settled_length += count;
     printf("packet of kind %" PRIu32 ": %" PRIu64 " events\n", packet->kind, count);
 }
@@ -58,15 +58,15 @@ int main(void) {
     expect("encoder", tracebench_encoder(1024, TRACEBENCH_DIFFERENTIAL, &encoder, &packets[0]));
     feed(&packets[0]);
     for (size_t i = 0; i < 3; i++) {
-        expect("push", tracebench_push_checked_over_pieces(pieces, 2, &encoder, &events[i], packets, 2, &count));
+        expect("push", tracebench_push_checked(pieces, 2, &encoder, &events[i], packets, 2, &count));
         for (size_t k = 0; k < count; k++) feed(&packets[k]);
     }
-    expect("finish", tracebench_finish_over_pieces(pieces, 2, &encoder, packets, 2, &count));
+    expect("finish", tracebench_finish(pieces, 2, &encoder, packets, 2, &count));
     for (size_t k = 0; k < count; k++) feed(&packets[k]);
     for (size_t i = 0; i < settled_length; i++)
         printf("%" PRIx64 ",%u,%u\n", settled[i].address, settled[i].itype, settled[i].privilege);
     printf("as it was: %d\n", settled_length == 3 && memcmp(settled, events, sizeof events) == 0);
-    const uint32_t status = tracebench_check_events_over_pieces(pieces, 1, events, 3, &row);
+    const uint32_t status = tracebench_check_events(pieces, 1, events, 3, &row);
     printf("the ROM alone: row %" PRIu64 ": %s\n", row, tracebench_status_text(status));
     return 0;
 }

@@ -20,6 +20,8 @@ struct bytes {
     size_t length;
 };
 
+static struct tracebench_piece program;
+
 static void stop(const char *what, uint32_t status) {
     fprintf(stderr, "round_trip: %s: status %" PRIu32 "\n", what, status);
     exit(1);
@@ -41,11 +43,11 @@ static struct bytes read_file(const char *path) {
 }
 
 /* The capture of two logs. The first call asks how long it is. */
-static struct bytes encode(struct bytes image, struct bytes logs, const size_t ends[2]) {
+static struct bytes encode(struct bytes logs, const size_t ends[2]) {
     size_t wanted = 0;
     struct tracebench_log_place place = {0, 0};
     struct bytes capture = room(0);
-    uint32_t status = tracebench_encode(BASE, image.at, image.length, logs.at, logs.length, ends, 2, 1024,
+    uint32_t status = tracebench_encode(&program, 1, logs.at, logs.length, ends, 2, 1024,
                                         TRACEBENCH_DIFFERENTIAL, TRACEBENCH_VERSION_TWO, capture.at, 0, &wanted,
                                         &place);
     if (status != TRACEBENCH_TOO_SMALL) {
@@ -54,7 +56,7 @@ static struct bytes encode(struct bytes image, struct bytes logs, const size_t e
     }
     free(capture.at);
     capture = room(wanted);
-    status = tracebench_encode(BASE, image.at, image.length, logs.at, logs.length, ends, 2, 1024,
+    status = tracebench_encode(&program, 1, logs.at, logs.length, ends, 2, 1024,
                                TRACEBENCH_DIFFERENTIAL, TRACEBENCH_VERSION_TWO, capture.at, capture.length, &wanted,
                                &place);
     if (status != TRACEBENCH_DONE) stop("encode", status);
@@ -62,30 +64,39 @@ static struct bytes encode(struct bytes image, struct bytes logs, const size_t e
 }
 
 /* Prints the log of each hart of a capture, and how decoding ended. */
-static void decode(struct bytes image, struct bytes capture) {
+static void decode(struct bytes capture) {
     static uint8_t text[1 << 20];
-    struct tracebench_decode_end ended = {0, 0, 0, 0};
+    struct tracebench_hart_end ends[2];
+    struct tracebench_decode_all_end ended = {0, 0, 0};
     size_t wanted = 0;
-    for (uint16_t hart = 0; hart < 2; hart++) {
-        uint32_t status = tracebench_decode(BASE, image.at, image.length, 2, capture.at, capture.length, hart, text,
-                                            sizeof text, &wanted, &ended);
-        if (status != TRACEBENCH_DONE) stop("decode", status);
+    size_t start = 0;
+    uint32_t status = tracebench_decode_all(&program, 1, 2, capture.at, capture.length, text, sizeof text, &wanted,
+                                            ends, 2, &ended);
+    if (status != TRACEBENCH_DONE) stop("decode", status);
+    for (unsigned hart = 0; hart < 2; hart++) {
         printf("hart %u of %zu: closed %" PRIu32 ", ends at message %" PRIu64 " with status %" PRIu32 "\n",
-               hart, ended.harts, ended.closed, ended.place, ended.fault);
-        fwrite(text, 1, wanted, stdout);
+               hart, ended.harts, ends[hart].closed, ended.place, ended.fault);
+        fwrite(text + start, 1, ends[hart].end - start, stdout);
+        start = ends[hart].end;
     }
 }
 
-/* Prints what became of the messages of each hart. */
+/* Prints what became of the messages of each hart: there is room for the rows alone. */
 static void audit(struct bytes sent, struct bytes received) {
-    struct tracebench_tally tally;
-    struct tracebench_audit_end ended;
-    for (uint16_t hart = 0; hart < 2; hart++) {
-        uint32_t status = tracebench_audit(sent.at, sent.length, received.at, received.length, hart, &tally, &ended);
-        if (status != TRACEBENCH_DONE) stop("audit", status);
+    struct tracebench_hart_row rows[2];
+    struct tracebench_arrival arrival;
+    struct tracebench_lost_run lost;
+    struct tracebench_byte_run run;
+    struct tracebench_sent_place refused;
+    struct tracebench_path_end ended;
+    uint32_t status = tracebench_audit_all(sent.at, sent.length, received.at, received.length, 0, rows, 2, &arrival, 0,
+                                           &lost, 0, &run, 0, &refused, &ended);
+    if (status != TRACEBENCH_TOO_SMALL) stop("audit", status);
+    for (unsigned hart = 0; hart < 2; hart++) {
+        const struct tracebench_tally tally = rows[hart].tally;
         printf("hart %u of %zu: %" PRIu64 " sent, %" PRIu64 " came, %" PRIu64 " lost, whole %" PRIu32
-               ", strangers %" PRIu64 ", ends with status %" PRIu32 "\n",
-               hart, ended.harts, tally.sent, tally.came, tally.lost, tally.whole, ended.strangers, ended.fault);
+               ", strangers %" PRIu64 "\n",
+               hart, ended.harts, tally.sent, tally.came, tally.lost, tally.whole, ended.strangers);
     }
 }
 
@@ -112,25 +123,26 @@ static void lose_second(struct bytes *capture) {
 int main(int count, char **words) {
     if (count != 4) stop("round_trip IMAGE LOG LOG", 0);
     struct bytes image = read_file(words[1]);
+    program = tracebench_image(BASE, image.at, image.length);
     struct bytes first = read_file(words[2]);
     struct bytes second = read_file(words[3]);
     uint64_t row = 0;
-    uint32_t status = tracebench_check(BASE, image.at, image.length, first.at, first.length, &row);
+    uint32_t status = tracebench_check(&program, 1, first.at, first.length, &row);
     printf("check: status %" PRIu32 ", row %" PRIu64 "\n", status, row);
     struct bytes logs = room(first.length + second.length);
     memcpy(logs.at, first.at, first.length);
     memcpy(logs.at + first.length, second.at, second.length);
     const size_t ends[2] = {first.length, first.length + second.length};
-    struct bytes capture = encode(image, logs, ends);
+    struct bytes capture = encode(logs, ends);
     printf("capture of %zu bytes\n", capture.length);
     dump(capture);
-    decode(image, capture);
+    decode(capture);
     struct bytes received = room(capture.length);
     memcpy(received.at, capture.at, capture.length);
     lose_second(&received);
     puts("without the second message");
     audit(capture, received);
-    decode(image, received);
+    decode(received);
     struct tracebench_packet packet;
     memset(&packet, 0, sizeof packet);
     packet.kind = TRACEBENCH_SYNC;

@@ -23,7 +23,7 @@ static const struct tracebench_event events[] = {
 };
 
 static uint8_t image[1 << 16];
-static size_t image_length;
+static struct tracebench_piece program;
 
 static struct tracebench_decoder_state decoder;
 
@@ -43,10 +43,9 @@ static void feed(const struct tracebench_packet *packet) {
     struct tracebench_event *at = settled + settled_length;
     uint32_t status = tracebench_pack(packet, payload, sizeof payload, &length);
     if (status != TRACEBENCH_DONE) stop("pack", status);
-    status = tracebench_feed(BASE, image, image_length, &decoder, payload, length, at, 0, &count);
+    status = tracebench_feed(&program, 1, &decoder, payload, length, at, 0, &count);
     if (status == TRACEBENCH_TOO_SMALL && count <= 4 - settled_length)
-        status = tracebench_feed(BASE, image, image_length, &decoder, payload, length, at, count,
-                                 &count);
+        status = tracebench_feed(&program, 1, &decoder, payload, length, at, count, &count);
     if (status != TRACEBENCH_DONE) stop("feed", status);
     settled_length += count;
     printf("packet of kind %" PRIu32 ": %" PRIu64 " events\n", packet->kind, count);
@@ -59,18 +58,18 @@ int main(int words, char **word) {
     if (words != 2) stop("step_by_step IMAGE", 0);
     FILE *file = fopen(word[1], "rb");
     if (file == NULL) stop(word[1], 0);
-    image_length = fread(image, 1, sizeof image, file);
+    program = tracebench_image(BASE, image, fread(image, 1, sizeof image, file));
     fclose(file);
     tracebench_decoder(&decoder);
     uint32_t status = tracebench_encoder(1024, TRACEBENCH_DIFFERENTIAL, &encoder, &packets[0]);
     if (status != TRACEBENCH_DONE) stop("encoder", status);
     feed(&packets[0]);
     for (size_t i = 0; i < sizeof events / sizeof *events; i++) {
-        status = tracebench_push(BASE, image, image_length, &encoder, &events[i], packets, 2, &count);
+        status = tracebench_push(&program, 1, &encoder, &events[i], packets, 2, &count);
         if (status != TRACEBENCH_DONE) stop("push", status);
         for (size_t k = 0; k < count; k++) feed(&packets[k]);
     }
-    status = tracebench_finish(BASE, image, image_length, &encoder, packets, 2, &count);
+    status = tracebench_finish(&program, 1, &encoder, packets, 2, &count);
     if (status != TRACEBENCH_DONE) stop("finish", status);
     for (size_t k = 0; k < count; k++) feed(&packets[k]);
     for (size_t i = 0; i < settled_length; i++)

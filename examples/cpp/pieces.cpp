@@ -27,7 +27,7 @@ constexpr std::array<tracebench::event, 3> events{{
 
 void run() {
     const std::array<tracebench::piece, 2> pieces{tracebench::piece_of(Rom, rom), tracebench::piece_of(Ram, ram)};
-    const tracebench::program_in_pieces program{pieces};
+    const tracebench::program program{pieces};
     std::vector<tracebench::event> settled;
     tracebench::decoder_state decoder;
     tracebench::decoder(decoder);
@@ -55,7 +55,7 @@ void run() {
     const bool as_it_was = settled.size() == 3 && std::memcmp(settled.data(), events.data(), sizeof events) == 0;
     std::printf("as it was: %d\n", as_it_was);
     std::uint64_t row = 0;
-    const tracebench::program_in_pieces alone{{pieces.data(), 1}};
+    const tracebench::program alone{Rom, rom};
     const tracebench::status said = check(alone, tracebench::span<const tracebench::event>(events), row);
     std::printf("the ROM alone: row %llu: %s\n", static_cast<unsigned long long>(row), status_text(said));
 }

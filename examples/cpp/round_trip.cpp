@@ -40,25 +40,27 @@ void dump(bytes_seen capture) {
 
 /* Prints the log of each hart of a capture, and how decoding ended. */
 void decode(const tracebench::program &program, bytes_seen capture) {
-    tracebench::bytes log;
-    tracebench::decode_end ended;
-    for (std::uint16_t hart = 0; hart < 2; hart++) {
-        expect(tracebench::decode(program, 2, capture, hart, log, ended));
-        std::cout << "hart " << hart << " of " << ended.harts << ": closed " << ended.closed << ", ends at message "
-                  << ended.place << " with status " << ended.fault << '\n'
-                  << tracebench::text_of(log);
-    }
+    tracebench::bytes logs;
+    tracebench::buffer<tracebench::hart_end> ends;
+    tracebench::decode_all_end ended;
+    expect(decode_all(program, 2, capture, logs, ends, ended));
+    std::size_t start = 0;
+    for (std::size_t hart = 0; hart < ends.size(); start = ends[hart++].end)
+        std::cout << "hart " << hart << " of " << ended.harts << ": closed " << ends[hart].closed
+                  << ", ends at message " << ended.place << " with status " << ended.fault << '\n'
+                  << tracebench::text_of({logs.data() + start, ends[hart].end - start});
 }
 
 /* Prints what became of the messages of each hart. */
 void audit(bytes_seen sent, bytes_seen received) {
-    tracebench::tally tally;
-    tracebench::audit_end ended;
-    for (std::uint16_t hart = 0; hart < 2; hart++) {
-        expect(tracebench::audit(sent, received, hart, tally, ended));
-        std::cout << "hart " << hart << " of " << ended.harts << ": " << tally.sent << " sent, " << tally.came
-                  << " came, " << tally.lost << " lost, whole " << tally.whole << ", strangers " << ended.strangers
-                  << ", ends with status " << ended.fault << '\n';
+    tracebench::audited_path found;
+    tracebench::sent_place refused;
+    expect(audit_all(sent, received, tracebench::compared::ByBytes, found, refused));
+    for (std::size_t hart = 0; hart < found.rows.size(); hart++) {
+        const tracebench::tally &tally = found.rows[hart].tally;
+        std::cout << "hart " << hart << " of " << found.ended.harts << ": " << tally.sent << " sent, " << tally.came
+                  << " came, " << tally.lost << " lost, whole " << tally.whole << ", strangers "
+                  << found.ended.strangers << '\n';
     }
 }
 

@@ -23,27 +23,28 @@ ROWS = [(0, 0), (4, 0), (8, 6), (4, 0)]
 TEXTS = {tracebench.DONE: "all is done", tracebench.TOO_SMALL: "the buffer is too small"}
 
 
-def push(library: tracebench.Library, image: bytes, events: List[Event]) -> List[Packet]:
+def push(library: tracebench.Library, program: tracebench.Program, events: List[Event]) -> List[Packet]:
     """The packets of the log. The first call has no room for one, and the others have room for two."""
     encoder, opening = library.encoder(1024, tracebench.DIFFERENTIAL)
     packets, at, room = [opening], 0, 0
     while at < len(events):
         rest, part = (Event * (len(events) - at))(*events[at:]), (Packet * room)()
-        status, taken, count = library.push_all(BASE, image, encoder, rest, part)
+        status, taken, count = library.push_all(program, encoder, rest, part)
         print(f"push: {taken} events, {count} packets, {TEXTS[status]}")
         packets += part[:count]
         at, room = at + taken, 2
-    return packets + library.finish(BASE, image, encoder)
+    return packets + library.finish(program, encoder)
 
 
-def feed(library: tracebench.Library, image: bytes, payloads: List[bytes], events: List[Event]) -> None:
+def feed(library: tracebench.Library, program: tracebench.Program, payloads: List[bytes],
+         events: List[Event]) -> None:
     """Feeds payloads. The first call has room for one event, and the next one for the others."""
     decoder, settled = library.decoder(), b""
     while payloads:
         size = len(settled) // ctypes.sizeof(Event)
         part = (Event * (len(events) - size if size else 1))()
         ends = (ctypes.c_size_t * len(payloads))(*accumulate(map(len, payloads)))
-        status, taken, count = library.feed_all(BASE, image, decoder, b"".join(payloads), ends, part)
+        status, taken, count = library.feed_all(program, decoder, b"".join(payloads), ends, part)
         print(f"feed: {taken} payloads, {count} events, {TEXTS[status]}")
         settled += bytes(part)[: count * ctypes.sizeof(Event)]
         payloads = payloads[taken:]
@@ -56,11 +57,11 @@ def main() -> None:
         sys.exit("usage: all_at_once.py LIBRARY IMAGE")
     library = tracebench.Library(sys.argv[1])
     with open(sys.argv[2], "rb") as file:
-        image = file.read()
+        program = tracebench.Program((BASE, file.read()))
     print(f"version: {int(library.version() == VERSION)}")
     events = [Event(tracebench.RETIREMENT, itype, 3, 0, 0, BASE + place, 0) for place, itype in ROWS]
-    packets = push(library, image, events)
-    feed(library, image, list(map(library.pack, packets)), events)
+    packets = push(library, program, events)
+    feed(library, program, list(map(library.pack, packets)), events)
 
 
 if __name__ == "__main__":

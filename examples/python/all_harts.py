@@ -16,14 +16,15 @@ WHY = {tracebench.OFF_PROGRAM: "OffProgram"}
 def main() -> None:
     library = tracebench.Library(sys.argv[1])
     image, *logs = (Path(path).read_bytes() for path in sys.argv[2:5])
-    capture = library.encode(BASE, image, logs, 1024, tracebench.DIFFERENTIAL, tracebench.VERSION_TWO)
-    texts, closed, _ = library.decode_all(BASE, image, 1, capture)
+    program = tracebench.Program((BASE, image))
+    capture = library.encode(program, logs, 1024, tracebench.DIFFERENTIAL, tracebench.VERSION_TWO)
+    texts, closed, _ = library.decode_all(program, 1, capture)
     for hart, text in enumerate(texts):
         print(f"hart {hart}\n{text.decode()}", end="" if closed[hart] else f"hart {hart}: no closing packet\n")
-    print(library.list(BASE, image, 1, capture, SYMBOLS)[0].decode(), end="")
-    print(library.measure(BASE, image, logs, 1024, tracebench.DIFFERENTIAL).decode(), end="")
-    print(library.compare(BASE, image, 1, capture, logs)[0].decode(), end="")
-    text, ended = library.explain(BASE, image, OUTSIDE)
+    print(library.list(program, 1, capture, SYMBOLS)[0].decode(), end="")
+    print(library.measure(program, logs, 1024, tracebench.DIFFERENTIAL).decode(), end="")
+    print(library.compare(program, 1, capture, logs)[0].decode(), end="")
+    text, ended = library.explain(program, OUTSIDE)
     print(f"row {ended.row}: {WHY[ended.fault]}\n{text.decode()}", end="")
 
 

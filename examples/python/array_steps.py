@@ -32,14 +32,14 @@ def main() -> None:
         sys.exit("usage: array_steps.py LIBRARY IMAGE")
     library = tracebench.Library(sys.argv[1])
     with open(sys.argv[2], "rb") as file:
-        image = mmap.mmap(file.fileno(), 0, access=mmap.ACCESS_READ)
+        program = tracebench.Program((BASE, mmap.mmap(file.fileno(), 0, access=mmap.ACCESS_READ)))
     events, decoder = log(), library.decoder()
     encoder, opening = library.encoder(1024, tracebench.DIFFERENTIAL)
-    packets = [opening, *map(packet_of, arrays.push(library, BASE, image, encoder, events))]
-    packets += library.finish(BASE, image, encoder)
+    packets = [opening, *map(packet_of, arrays.push(library, program, encoder, events))]
+    packets += library.finish(program, encoder)
     settled = []
     for packet in packets:
-        settled.append(arrays.feed(library, BASE, image, decoder, library.pack(packet)))
+        settled.append(arrays.feed(library, program, decoder, library.pack(packet)))
         print(f"packet of kind {packet.kind}: {len(settled[-1])} events")
     came = numpy.concatenate(settled)
     for event in came:

@@ -15,6 +15,7 @@ BASE = 0x80000000
 
 # A branch to itself.
 IMAGE = bytes.fromhex("63000000")
+PROGRAM = tracebench.Program((BASE, IMAGE))
 
 # Payloads of packets of each kind.
 PAYLOADS = (
@@ -54,8 +55,8 @@ def show_encoder(library):
     state, opening = library.encoder(1024, tracebench.FULL)
     show(opening, state)
     for event in (branch, branch, branch, exception, interrupt):
-        show(*library.push(BASE, IMAGE, state, event), state)
-    show(*library.finish(BASE, IMAGE, state))
+        show(*library.push(PROGRAM, state, event), state)
+    show(*library.finish(PROGRAM, state))
 
 
 def show_decoder(library):
@@ -63,16 +64,16 @@ def show_decoder(library):
     state = library.decoder()
     show(state)
     for payload in ("1f", "6300000020", "0d01"):
-        show(*library.feed(BASE, IMAGE, state, bytes.fromhex(payload)), state)
+        show(*library.feed(PROGRAM, state, bytes.fromhex(payload)), state)
     state = DecoderState(phase=2, mode=tracebench.FULL)
-    show(*library.feed(BASE, IMAGE, state, bytes.fromhex("0a")), state)
+    show(*library.feed(PROGRAM, state, bytes.fromhex("0a")), state)
 
 
 def show_log_place(library):
     """The place of a log that is refused."""
     logs = [HEADER + BRANCH, HEADER + BRANCH + b"80000001,5,3,,\n"]
     try:
-        library.encode(BASE, IMAGE, logs, 1024, tracebench.FULL, tracebench.VERSION_ONE)
+        library.encode(PROGRAM, logs, 1024, tracebench.FULL, tracebench.VERSION_ONE)
     except Refused as refused:
         print(f"LogPlace {{ log: {refused.log}, row: {refused.row} }}")
 
@@ -90,7 +91,8 @@ def show_ends(library):
     show(library.dump(capture_of((0, 0, b"\x1f"), (0, 1, b"\0")) + b"\0")[1])
     first = [(0, number, bytes.fromhex(payload)) for number, payload in enumerate(("1f", "6300000020", "05", "4f"))]
     capture = capture_of(*first, (1, 0, b"\x1f"), (1, 2, b"\x05"))
-    show(library.decode(BASE, IMAGE, 3, capture, 0)[1])
+    texts, closed, ended = library.decode_all(PROGRAM, 3, capture)
+    show(ended, tracebench.HartEnd(len(texts[0]), closed[0]))
 
 
 def show_path(library):
@@ -99,7 +101,7 @@ def show_path(library):
         capture_of(*((int(hart), int(number), byte.encode()) for hart, number, byte in map(str.split, rows.split(","))))
         for rows in (SENT, CAME)
     )
-    show(*library.audit(sent, came + b"\0", 0))
+    show(library.audit_all(sent, came + b"\0").rows[0].tally)
 
 
 def main():

@@ -12,7 +12,7 @@ import tracebench
 
 ROM, RAM = 0x1000, 0x80000000
 NOP, RET = bytes.fromhex("13000000"), bytes.fromhex("67800000")
-PIECES = tracebench.Pieces((ROM, NOP + RET), (RAM, NOP))
+PROGRAM = tracebench.Program((ROM, NOP + RET), (RAM, NOP))
 
 # A jump from the ROM to the RAM.
 ROWS = [(ROM, 0), (ROM + 4, 6), (RAM, 0)]
@@ -29,19 +29,19 @@ def main():
 
     def feed(packets):
         for packet in packets:
-            come = library.feed(0, PIECES, decoder, library.pack(packet))
+            come = library.feed(PROGRAM, decoder, library.pack(packet))
             settled.extend(come)
             print(f"packet of kind {packet.kind}: {len(come)} events")
 
     feed([opening])
     for event in events:
-        feed(library.push_checked(0, PIECES, encoder, event))
-    feed(library.finish(0, PIECES, encoder))
+        feed(library.push_checked(PROGRAM, encoder, event))
+    feed(library.finish(PROGRAM, encoder))
     for event in settled:
         print(f"{event.address:x},{event.itype},{event.privilege}")
     print(f"as it was: {int(list(map(bytes, settled)) == list(map(bytes, events)))}")
     try:
-        library.check_events(0, tracebench.Pieces((ROM, NOP + RET)), (tracebench.Event * 3)(*events))
+        library.check_events(tracebench.Program((ROM, NOP + RET)), (tracebench.Event * 3)(*events))
     except tracebench.Refused as refused:
         print(f"the ROM alone: row {refused.row}: {TEXTS.get(refused.status)}")
 

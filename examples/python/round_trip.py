@@ -17,20 +17,20 @@ def content(path):
         return file.read()
 
 
-def show_logs(library, image, capture):
+def show_logs(library, program, capture):
     """Prints the log of each hart of a capture, and how decoding ended."""
-    for hart in range(2):
-        text, ended = library.decode(BASE, image, 2, capture, hart)
-        end = f"closed {ended.closed}, ends at message {ended.place} with status {ended.fault}"
+    texts, closed, ended = library.decode_all(program, 2, capture)
+    for hart, text in enumerate(texts):
+        end = f"closed {int(closed[hart])}, ends at message {ended.place} with status {ended.fault}"
         print(f"hart {hart} of {ended.harts}: {end}\n{text.decode()}", end="")
 
 
 def show_audit(library, sent, received):
     """Prints what became of the messages of each hart."""
-    for hart in range(2):
-        tally, ended = library.audit(sent, received, hart)
-        counts = f"{tally.sent} sent, {tally.came} came, {tally.lost} lost, whole {tally.whole}"
-        print(f"hart {hart} of {ended.harts}: {counts}, strangers {ended.strangers}, ends with status {ended.fault}")
+    found = library.audit_all(sent, received)
+    for hart, row in enumerate(found.rows):
+        counts = f"{row.tally.sent} sent, {row.tally.came} came, {row.tally.lost} lost, whole {row.tally.whole}"
+        print(f"hart {hart} of {found.ended.harts}: {counts}, strangers {found.ended.strangers}")
 
 
 def without_second(capture):
@@ -46,16 +46,17 @@ def main():
         sys.exit("usage: round_trip.py LIBRARY IMAGE LOG LOG")
     library = tracebench.Library(sys.argv[1])
     image, first, second = map(content, sys.argv[2:])
-    print(f"check: status 0, row {library.check(BASE, image, first)}")
-    capture = library.encode(BASE, image, [first, second], 1024, tracebench.DIFFERENTIAL, tracebench.VERSION_TWO)
+    program = tracebench.Program((BASE, image))
+    print(f"check: status 0, row {library.check(program, first)}")
+    capture = library.encode(program, [first, second], 1024, tracebench.DIFFERENTIAL, tracebench.VERSION_TWO)
     print(f"capture of {len(capture)} bytes")
     text, ended = library.dump(capture)
     print(f"{text.decode()}bad {ended.bad}, ends at message {ended.place} with status {ended.fault}")
-    show_logs(library, image, capture)
+    show_logs(library, program, capture)
     received = without_second(capture)
     print("without the second message")
     show_audit(library, capture, received)
-    show_logs(library, image, received)
+    show_logs(library, program, received)
     payload = library.pack(tracebench.Packet(kind=tracebench.SYNC, privilege=3, address=BASE))
     print(f"pack: status 0, {len(payload)} bytes")
     print(f"unpack: status 0, address {library.unpack(payload).address:x}")

@@ -21,21 +21,21 @@ def main():
         sys.exit("usage: step_by_step.py LIBRARY IMAGE")
     library = tracebench.Library(sys.argv[1])
     with open(sys.argv[2], "rb") as file:
-        image = file.read()
+        program = tracebench.Program((BASE, file.read()))
     events = [tracebench.Event(itype=itype, privilege=3, address=BASE + place) for place, itype in ROWS]
     settled, decoder = [], library.decoder()
     encoder, opening = library.encoder(1024, tracebench.DIFFERENTIAL)
 
     def feed(packets):
         for packet in packets:
-            come = library.feed(BASE, image, decoder, library.pack(packet))
+            come = library.feed(program, decoder, library.pack(packet))
             settled.extend(come)
             print(f"packet of kind {packet.kind}: {len(come)} events")
 
     feed([opening])
     for event in events:
-        feed(library.push(BASE, image, encoder, event))
-    feed(library.finish(BASE, image, encoder))
+        feed(library.push(program, encoder, event))
+    feed(library.finish(program, encoder))
     for event in settled:
         print(f"{event.address:x},{event.itype},{event.privilege}")
     print(f"as it was: {int(list(map(bytes, settled)) == list(map(bytes, events)))}")

@@ -2,9 +2,10 @@
 
     import tracebench
     library = tracebench.Library("libtracebench.so")
-    capture = library.encode(0x80000000, image, [log], 1024, tracebench.DIFFERENTIAL, tracebench.VERSION_TWO)
+    program = tracebench.Program((0x80000000, image))
+    capture = library.encode(program, [log], 1024, tracebench.DIFFERENTIAL, tracebench.VERSION_TWO)
 
-An image (or `Pieces` of one), a log, a capture or a payload is any object that lends its bytes in one piece: bytes, bytearray, memoryview,
+An image, a log, a capture or a payload is any object that lends its bytes in one piece: bytes, bytearray, memoryview,
 mmap.mmap, an array. A call reads them where they are; `encode` joins the logs, since C wants them one after the other.
 arrays.py has events and packets as arrays of NumPy.
 """
@@ -17,6 +18,7 @@ from typing import get_type_hints
 
 DONE, TOO_SMALL = 0, 1
 SHORT, OFF_PROGRAM, WRONG_EPC, GAP = 16, 80, 85, 98
+AFTER_CLOSE, AFTER_CLOSING_PACKET, BAD_BEFORE = 99, 118, 130
 SYNC, TRAP, OPEN, ENDED_REP, ENDED_NTR, ADDRESS, MAP = range(7)
 DIFFERENTIAL, FULL = 0, 1
 PLAIN, UPDISCON, NOTIFY = range(3)
@@ -144,14 +146,6 @@ class DumpEnd(Struct):
 
 
 @of_hints
-class DecodeEnd(Struct):
-    harts: SIZE
-    place: U64
-    fault: U32
-    closed: U32
-
-
-@of_hints
 class Tally(Struct):
     sent: U64
     came: U64
@@ -160,14 +154,6 @@ class Tally(Struct):
     late: U64
     changed: U64
     whole: U32
-
-
-@of_hints
-class AuditEnd(Struct):
-    harts: SIZE
-    strangers: U64
-    place: U64
-    fault: U32
 
 
 @of_hints
@@ -361,11 +347,11 @@ class Piece(ctypes.Structure):
     _fields_ = [("base", c_uint64), ("bytes", c_void_p), ("length", c_size_t)]
 
 
-class Pieces:
-    """An image in several memories, as a boot ROM, flash and RAM: where each begins and what lends its bytes, sorted by
-    base. It is handed in for an image, and the base beside it is not looked at:
+class Program:
+    """A program: where each piece of its image begins and what lends its bytes, sorted by base. There is one, or a boot
+    ROM, flash and RAM:
 
-        library.push(0, tracebench.Pieces((0x1000, rom), (0x80000000, ram)), state, event)
+        program = tracebench.Program((0x1000, rom), (0x80000000, ram))
     """
 
     def __init__(self, *pieces: Tuple[int, Lender]) -> None:
@@ -376,6 +362,7 @@ class Pieces:
 
 
 SLICE = [c_void_p, c_size_t]
+PROGRAM = [POINTER(Piece), c_size_t]
 ROOM = [c_void_p, c_size_t, POINTER(c_size_t)]
 TAKEN = [c_void_p, c_size_t, POINTER(c_size_t), POINTER(c_size_t)]
 PARAMETERS = {
@@ -383,23 +370,17 @@ PARAMETERS = {
     "pack": [POINTER(Packet), *ROOM],
     "unpack": [*SLICE, POINTER(Packet)],
     "encoder": [c_uint16, c_uint32, POINTER(EncoderState), POINTER(Packet)],
-    "push": [c_uint64, *SLICE, POINTER(EncoderState), POINTER(Event), *ROOM],
-    "push_checked": [c_uint64, *SLICE, POINTER(EncoderState), POINTER(Event), *ROOM],
-    "push_all": [c_uint64, *SLICE, POINTER(EncoderState), *SLICE, *TAKEN],
-    "follow": [c_uint64, *SLICE, c_uint32, POINTER(Event), POINTER(Event)],
-    "check_events": [c_uint64, *SLICE, c_void_p, c_size_t, POINTER(c_uint64)],
-    "finish": [c_uint64, *SLICE, POINTER(EncoderState), *ROOM],
+    "push_all": [*PROGRAM, POINTER(EncoderState), *SLICE, *TAKEN],
+    "check_events": [*PROGRAM, c_void_p, c_size_t, POINTER(c_uint64)],
+    "finish": [*PROGRAM, POINTER(EncoderState), *ROOM],
     "decoder": [POINTER(DecoderState)],
-    "feed": [c_uint64, *SLICE, POINTER(DecoderState), *SLICE, *ROOM],
-    "feed_all": [c_uint64, *SLICE, POINTER(DecoderState), *SLICE, *SLICE, *TAKEN],
-    "receive": [c_uint64, *SLICE, POINTER(HartState), c_uint64, *SLICE, *ROOM, POINTER(c_uint64)],
+    "feed_all": [*PROGRAM, POINTER(DecoderState), *SLICE, *SLICE, *TAKEN],
+    "receive": [*PROGRAM, POINTER(HartState), c_uint64, *SLICE, *ROOM, POINTER(c_uint64)],
     "resume": [POINTER(HartState), c_uint64, c_uint32],
-    "check": [c_uint64, *SLICE, *SLICE, POINTER(c_uint64)],
-    "encode": [c_uint64, *SLICE, *SLICE, POINTER(c_size_t), c_size_t, c_uint16, c_uint32, c_uint32, *ROOM,
+    "check": [*PROGRAM, *SLICE, POINTER(c_uint64)],
+    "encode": [*PROGRAM, *SLICE, POINTER(c_size_t), c_size_t, c_uint16, c_uint32, c_uint32, *ROOM,
                POINTER(LogPlace)],
     "dump": [*SLICE, *ROOM, POINTER(DumpEnd)],
-    "decode": [c_uint64, *SLICE, c_uint16, *SLICE, c_uint16, *ROOM, POINTER(DecodeEnd)],
-    "audit": [*SLICE, *SLICE, c_uint16, POINTER(Tally), POINTER(AuditEnd)],
     "audit_all": [*SLICE, *SLICE, c_uint32, *SLICE, *SLICE, *SLICE, *SLICE, POINTER(SentPlace), POINTER(PathEnd)],
     "audit_unnumbered": [*SLICE, *SLICE, c_uint32, *SLICE, *SLICE, *SLICE, POINTER(SentPlace), POINTER(AlignedEnd)],
     "write_message": [c_uint16, c_uint64, *SLICE, *ROOM],
@@ -407,19 +388,15 @@ PARAMETERS = {
     "write_header": [POINTER(Header), *ROOM],
     "read_header": [*SLICE, POINTER(Header), POINTER(c_size_t)],
     "capture_of_lines": [*SLICE, c_uint32, c_uint32, c_uint16, c_uint16, *ROOM, POINTER(c_uint64)],
-    "decode_all": [c_uint64, *SLICE, c_uint16, *SLICE, *ROOM, POINTER(HartEnd), c_size_t, POINTER(DecodeAllEnd)],
-    "list": [c_uint64, *SLICE, c_uint16, *SLICE, *SLICE, c_uint32, *ROOM, POINTER(TextEnd)],
-    "salvage": [c_uint64, *SLICE, c_uint16, *SLICE, c_uint32, *ROOM, POINTER(TextEnd)],
-    "list_salvaged": [c_uint64, *SLICE, c_uint16, *SLICE, *SLICE, c_uint32, *ROOM, POINTER(TextEnd)],
-    "measure": [c_uint64, *SLICE, *SLICE, POINTER(c_size_t), c_size_t, c_uint16, c_uint32, *ROOM, POINTER(LogPlace)],
-    "compare": [c_uint64, *SLICE, c_uint16, *SLICE, *SLICE, POINTER(c_size_t), c_size_t, *ROOM, POINTER(TextEnd),
+    "decode_all": [*PROGRAM, c_uint16, *SLICE, *ROOM, POINTER(HartEnd), c_size_t, POINTER(DecodeAllEnd)],
+    "list": [*PROGRAM, c_uint16, *SLICE, *SLICE, c_uint32, *ROOM, POINTER(TextEnd)],
+    "salvage": [*PROGRAM, c_uint16, *SLICE, c_uint32, *ROOM, POINTER(TextEnd)],
+    "list_salvaged": [*PROGRAM, c_uint16, *SLICE, *SLICE, c_uint32, *ROOM, POINTER(TextEnd)],
+    "measure": [*PROGRAM, *SLICE, POINTER(c_size_t), c_size_t, c_uint16, c_uint32, *ROOM, POINTER(LogPlace)],
+    "compare": [*PROGRAM, c_uint16, *SLICE, *SLICE, POINTER(c_size_t), c_size_t, *ROOM, POINTER(TextEnd),
                 POINTER(LogPlace)],
-    "explain": [c_uint64, *SLICE, *SLICE, *ROOM, POINTER(ExplainEnd)],
+    "explain": [*PROGRAM, *SLICE, *ROOM, POINTER(ExplainEnd)],
 }
-# Calls that take a base and an image, and their like over pieces.
-OVER = "push", "push_checked", "push_all", "follow", "check_events", "finish", "feed", "feed_all", "receive", "check", \
-    "encode", "decode", "decode_all", "list", "salvage", "list_salvaged", "measure", "compare", "explain"
-PARAMETERS.update({f"{name}_over_pieces": [POINTER(Piece), c_size_t, *PARAMETERS[name][3:]] for name in OVER})
 Call = Callable[..., int]
 
 
@@ -457,14 +434,9 @@ class Library:
         call.argtypes, call.restype = PARAMETERS[name], None if name == "decoder" else c_uint32
         return call  # type: ignore[no-any-return]
 
-    def _over(self, name: str, base: int, image: Lender) -> Call:
-        """A call over an image, or over pieces, which stay as long as the call does."""
-        if isinstance(image, Pieces):
-            return partial(self.calls[f"{name}_over_pieces"], image.array, image.count)
-        of = Borrowed(image)
-        call = partial(self.calls[name], base, *of.slice)
-        call.of = of  # type: ignore[attr-defined]
-        return call
+    def _over(self, name: str, program: Program) -> Call:
+        """A call over a program."""
+        return partial(self.calls[name], program.array, program.count)
 
     def version(self) -> str:
         """The version of the library."""
@@ -494,33 +466,33 @@ class Library:
             raise Refused(status)
         return state, opening
 
-    def push(self, base: int, image: Lender, state: EncoderState, event: Event) -> List[Packet]:
+    def push(self, program: Program, state: EncoderState, event: Event) -> List[Packet]:
         """The packets that are due after the next event. `state` then has taken this event too. Whether the event is
         legal is not looked at."""
-        return self._pushed("push", base, image, state, event)
+        packets = (Packet * 2)()
+        status, _, count = self.push_all(program, state, (Event * 1)(event), packets)
+        if status:
+            raise Refused(status)
+        return packets[:count]
 
-    def push_checked(self, base: int, image: Lender, state: EncoderState, event: Event) -> List[Packet]:
+    def push_checked(self, program: Program, state: EncoderState, event: Event) -> List[Packet]:
         """The same where the event is legal after the one that `state` holds. Else `Refused` has why, and `state` is as
         it was."""
-        return self._pushed("push_checked", base, image, state, event)
-
-    def _pushed(self, call: str, base: int, image: Lender, state: EncoderState, event: Event) -> List[Packet]:
-        packets, count = (Packet * 2)(), c_size_t()
-        if status := self._over(call, base, image)(byref(state), byref(event), packets, 2, byref(count)):
+        if status := self.follow(program, state.held if state.holds else None, event):
             raise Refused(status)
-        return packets[: count.value]
+        return self.push(program, state, event)
 
-    def push_all(self, base: int, image: Lender, state: EncoderState, events: Lender,
+    def push_all(self, program: Program, state: EncoderState, events: Lender,
                  packets: Lender) -> Tuple[int, int, int]:
         """Pushes events, which lend their bytes, as long as their packets fit into what lends the bytes of packets: the
         status, which is not 0 where an event has no room or is refused, how many events were taken, and how many
         packets were written. `state` then has taken those events."""
         given, room, taken, count = Borrowed(events), Borrowed(packets), c_size_t(), c_size_t()
-        call = self._over("push_all", base, image)
+        call = self._over("push_all", program)
         status = call(byref(state), *given.of(Event), *room.of(Packet), byref(taken), byref(count))
         return status, taken.value, count.value
 
-    def feed_all(self, base: int, image: Lender, state: DecoderState, payloads: Lender, ends: Lender,
+    def feed_all(self, program: Program, state: DecoderState, payloads: Lender, ends: Lender,
                  events: Lender) -> Tuple[int, int, int]:
         """Feeds payloads, which are one after the other and end there, as long as their events fit into what lends the
         bytes of events: the status, which is not 0 where a payload has no room or is refused, how many payloads were
@@ -528,30 +500,33 @@ class Library:
         payloads."""
         given, to, room = Borrowed(payloads), Borrowed(ends), Borrowed(events)
         taken, count = c_size_t(), c_size_t()
-        call = self._over("feed_all", base, image)
+        call = self._over("feed_all", program)
         status = call(byref(state), *given.slice, *to.of(c_size_t), *room.of(Event), byref(taken), byref(count))
         return status, taken.value, count.value
 
-    def follow(self, base: int, image: Lender, before: Optional[Event], event: Event) -> int:
+    def follow(self, program: Program, before: Optional[Event], event: Event) -> int:
         """The status of an event after the event before, or as the first of a log: 0 where it is legal, and else why it
         is not."""
-        earlier = before or Event()
-        status = self._over("follow", base, image)(before is not None, byref(earlier), byref(event))
-        if status != DONE and not OFF_PROGRAM <= status <= WRONG_EPC:
-            raise Refused(status)
-        return status
+        events = [event] if before is None else [before, event]
+        try:
+            self.check_events(program, (Event * len(events))(*events))
+        except Refused as refused:
+            if not OFF_PROGRAM <= refused.status <= WRONG_EPC:
+                raise
+            return refused.status if refused.row == len(events) else BAD_BEFORE
+        return DONE
 
-    def check_events(self, base: int, image: Lender, events: Lender) -> int:
+    def check_events(self, program: Program, events: Lender) -> int:
         """How many events a legal log has, whose events lend their bytes: an array of `Event`, or one of NumPy."""
         given, row = Borrowed(events), c_uint64()
-        if status := self._over("check_events", base, image)(*given.of(Event), byref(row)):
+        if status := self._over("check_events", program)(*given.of(Event), byref(row)):
             raise Refused(status, row=row.value)
         return row.value
 
-    def finish(self, base: int, image: Lender, state: EncoderState) -> List[Packet]:
+    def finish(self, program: Program, state: EncoderState) -> List[Packet]:
         """The packets that are left at the end of a log."""
         packets, count = (Packet * 2)(), c_size_t()
-        if status := self._over("finish", base, image)(byref(state), packets, 2, byref(count)):
+        if status := self._over("finish", program)(byref(state), packets, 2, byref(count)):
             raise Refused(status)
         return packets[: count.value]
 
@@ -561,38 +536,41 @@ class Library:
         self.calls["decoder"](byref(state))
         return state
 
-    def feed(self, base: int, image: Lender, state: DecoderState, payload: Lender) -> List[Event]:
+    def feed(self, program: Program, state: DecoderState, payload: Lender) -> List[Event]:
         """The events that the next payload settles. `state` then has taken this payload too."""
-        events, count = self.settled(base, image, state, payload)
+        events, count = self.settled(program, state, payload)
         return events[:count]
 
-    def settled(self, base: int, image: Lender, state: DecoderState,
+    def settled(self, program: Program, state: DecoderState,
                 payload: Lender) -> Tuple["ctypes.Array[Event]", int]:
-        """The same, as an array that begins with these events, and how many they are. If the first array is too small,
-        the call is repeated with one that is not."""
-        call, given, room, count = self._over("feed", base, image), Borrowed(payload), 64, c_size_t()
-        while True:
-            events = (Event * room)()
-            status = call(byref(state), *given.slice, events, room, byref(count))
-            if status == DONE:
-                return events, count.value
-            if status != TOO_SMALL:
-                raise Refused(status)
-            room = count.value
+        """The same, as an array that begins with these events, and how many they are."""
+        hart = HartState(state, 0)
+        try:
+            events, count, _ = self._received(program, hart, 0, payload)
+        except Refused as refused:
+            raise Refused(AFTER_CLOSING_PACKET if refused.status == AFTER_CLOSE else refused.status) from refused
+        ctypes.pointer(state)[0] = hart.decoder
+        return events, count
 
-    def receive(self, base: int, image: Lender, hart: HartState, number: int,
-                payload: Lender) -> Tuple[List[Event], int]:
+    def receive(self, program: Program, hart: HartState, number: int, payload: Lender) -> Tuple[List[Event], int]:
         """The events that the message of a hart with this number settles, and 0. Or numbers are missing before it: no
         event, and how many. Then the message was not taken: end the stretch, call `resume`, and hand it in again."""
-        call, given, room = self._over("receive", base, image), Borrowed(payload), 64
+        events, count, missing = self._received(program, hart, number, payload)
+        return events[:count], missing
+
+    def _received(self, program: Program, hart: HartState, number: int,
+                  payload: Lender) -> Tuple["ctypes.Array[Event]", int, int]:
+        """An array that begins with the events, how many they are, and how many numbers are missing. If the first array
+        is too small, the call is repeated with one that is not."""
+        call, given, room = self._over("receive", program), Borrowed(payload), 64
         count, missing = c_size_t(), c_uint64()
         while True:
             events = (Event * room)()
             status = call(byref(hart), number, *given.slice, events, room, byref(count), byref(missing))
             if status == GAP:
-                return [], missing.value
+                return events, 0, missing.value
             if status == DONE:
-                return events[: count.value], 0
+                return events, count.value, 0
             if status != TOO_SMALL:
                 raise Refused(status)
             room = count.value
@@ -602,18 +580,18 @@ class Library:
         if status := self.calls["resume"](byref(hart), number, mode):
             raise Refused(status)
 
-    def check(self, base: int, image: Lender, log: Lender) -> int:
+    def check(self, program: Program, log: Lender) -> int:
         """How many events a legal log has."""
         text, row = Borrowed(log), c_uint64()
-        if status := self._over("check", base, image)(*text.slice, byref(row)):
+        if status := self._over("check", program)(*text.slice, byref(row)):
             raise Refused(status, row=row.value)
         return row.value
 
-    def encode(self, base: int, image: Lender, logs: Sequence[Lender], period: int, mode: int, version: int) -> bytes:
+    def encode(self, program: Program, logs: Sequence[Lender], period: int, mode: int, version: int) -> bytes:
         """The capture of harts' logs, hart 0 first."""
         given, place = Joined(logs), LogPlace()
         words = *given.words, period, mode, version
-        status, capture = handed_out(self._over("encode", base, image), *words, more=(place,))
+        status, capture = handed_out(self._over("encode", program), *words, more=(place,))
         if status != DONE:
             raise Refused(status, place.log, place.row)
         return capture
@@ -625,22 +603,6 @@ class Library:
         if status != DONE:
             raise Refused(status)
         return text, ended
-
-    def decode(self, base: int, image: Lender, harts: int, capture: Lender, hart: int) -> Tuple[bytes, DecodeEnd]:
-        """The log of a hart as text, and how decoding ended. A capture without a header has so many harts."""
-        given, ended = Borrowed(capture), DecodeEnd()
-        words = harts, *given.slice, hart
-        status, text = handed_out(self._over("decode", base, image), *words, more=(ended,))
-        if status != DONE:
-            raise Refused(status)
-        return text, ended
-
-    def audit(self, sent: Lender, received: Lender, hart: int) -> Tuple[Tally, AuditEnd]:
-        """What became of the messages of a hart of SENT in RECEIVED, and what was found besides."""
-        before, after, tally, ended = Borrowed(sent), Borrowed(received), Tally(), AuditEnd()
-        if status := self.calls["audit"](*before.slice, *after.slice, hart, byref(tally), byref(ended)):
-            raise Refused(status)
-        return tally, ended
 
     def audit_all(self, sent: Lender, received: Lender, flags: int = 0) -> AuditedPath:
         """What became of the messages of all harts of SENT in RECEIVED. Where SENT is refused, `Refused` has why, and
@@ -714,10 +676,10 @@ class Library:
             raise Refused(status, row=line.value)
         return capture
 
-    def decode_all(self, base: int, image: Lender, harts: int, capture: Lender) -> Tuple[List[bytes], List[bool],
-                                                                                         DecodeAllEnd]:
+    def decode_all(self, program: Program, harts: int,
+                   capture: Lender) -> Tuple[List[bytes], List[bool], DecodeAllEnd]:
         """The logs of all harts as texts, whether each is closed, and how decoding ended."""
-        call, given, ended = self._over("decode_all", base, image), Borrowed(capture), DecodeAllEnd()
+        call, given, ended = self._over("decode_all", program), Borrowed(capture), DecodeAllEnd()
         room, places, wanted = 4096, 64, c_size_t()
         while True:
             buffer, ends = ctypes.create_string_buffer(room), (HartEnd * places)()
@@ -733,59 +695,59 @@ class Library:
                  for start, own in zip(starts, found)]
         return texts, [own.closed == 1 for own in found], ended
 
-    def list(self, base: int, image: Lender, harts: int, capture: Lender, symbols: Lender = b"",
+    def list(self, program: Program, harts: int, capture: Lender, symbols: Lender = b"",
              how: int = TEXT) -> Tuple[bytes, TextEnd]:
         """The listing of a capture, with places named by symbols, if there are any, and how it ends."""
         given, names, ended = Borrowed(capture), Borrowed(symbols), TextEnd()
         words = harts, *given.slice, *names.slice, how
-        status, text = handed_out(self._over("list", base, image), *words, more=(ended,))
+        status, text = handed_out(self._over("list", program), *words, more=(ended,))
         if status != DONE:
             raise Refused(status)
         return text, ended
 
-    def salvage(self, base: int, image: Lender, harts: int, capture: Lender,
+    def salvage(self, program: Program, harts: int, capture: Lender,
                 how: int = TEXT) -> Tuple[bytes, TextEnd]:
         """What is left of the logs of a capture after any damage, and how it ends."""
         given, ended = Borrowed(capture), TextEnd()
         words = harts, *given.slice, how
-        status, text = handed_out(self._over("salvage", base, image), *words, more=(ended,))
+        status, text = handed_out(self._over("salvage", program), *words, more=(ended,))
         if status != DONE:
             raise Refused(status)
         return text, ended
 
-    def list_salvaged(self, base: int, image: Lender, harts: int, capture: Lender, symbols: Lender = b"",
+    def list_salvaged(self, program: Program, harts: int, capture: Lender, symbols: Lender = b"",
                       how: int = TEXT) -> Tuple[bytes, TextEnd]:
         """What `salvage` does with each message of a capture, and how it ends."""
         given, names, ended = Borrowed(capture), Borrowed(symbols), TextEnd()
         words = harts, *given.slice, *names.slice, how
-        status, text = handed_out(self._over("list_salvaged", base, image), *words, more=(ended,))
+        status, text = handed_out(self._over("list_salvaged", program), *words, more=(ended,))
         if status != DONE:
             raise Refused(status)
         return text, ended
 
-    def measure(self, base: int, image: Lender, logs: Sequence[Lender], period: int, mode: int) -> bytes:
+    def measure(self, program: Program, logs: Sequence[Lender], period: int, mode: int) -> bytes:
         """The table of what harts' logs cost, hart 0 first."""
         given, place = Joined(logs), LogPlace()
         words = *given.words, period, mode
-        status, table = handed_out(self._over("measure", base, image), *words, more=(place,))
+        status, table = handed_out(self._over("measure", program), *words, more=(place,))
         if status != DONE:
             raise Refused(status, place.log, place.row)
         return table
 
-    def compare(self, base: int, image: Lender, harts: int, capture: Lender,
+    def compare(self, program: Program, harts: int, capture: Lender,
                 logs: Sequence[Lender]) -> Tuple[bytes, TextEnd]:
         """How a capture compares with the logs of its harts, as text, and how that ends."""
         given, texts, ended, place = Borrowed(capture), Joined(logs), TextEnd(), LogPlace()
         words = harts, *given.slice, *texts.words
-        status, text = handed_out(self._over("compare", base, image), *words, more=(ended, place))
+        status, text = handed_out(self._over("compare", program), *words, more=(ended, place))
         if status != DONE:
             raise Refused(status, place.log, place.row)
         return text, ended
 
-    def explain(self, base: int, image: Lender, log: Lender) -> Tuple[bytes, ExplainEnd]:
+    def explain(self, program: Program, log: Lender) -> Tuple[bytes, ExplainEnd]:
         """What explains the first illegal row of a log, if it has one, and how the log ends."""
         given, ended = Borrowed(log), ExplainEnd()
-        status, text = handed_out(self._over("explain", base, image), *given.slice, more=(ended,))
+        status, text = handed_out(self._over("explain", program), *given.slice, more=(ended,))
         if status != DONE:
             raise Refused(status, row=ended.row)
         return text, ended

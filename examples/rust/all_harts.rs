@@ -6,7 +6,7 @@
 use std::error::Error;
 use std::io::{stdout, Write};
 use std::{env, fs};
-use tracebench::{compare, decode_all, encode, explain, list, measure, Format, Mode, Version};
+use tracebench::{compare, decode_all, encode, explain, list, measure, Format, Mode, Piece, Version};
 
 /// The address of the image's first byte.
 const BASE: u64 = 0x8000_0000;
@@ -23,24 +23,25 @@ fn main() -> Result<(), Box<dyn Error>> {
         return Err("all_harts IMAGE LOG LOG".into());
     };
     let (image, first, second) = (fs::read(image)?, fs::read(first)?, fs::read(second)?);
+    let program = [Piece::new(BASE, &image)];
     let logs = [&first[..], &second[..]];
     let refused = |(status, place): (tracebench::Status, tracebench::LogPlace)| {
         format!("log {} row {}: {status}", place.log, place.row)
     };
     let mode = Mode::Differential;
-    let capture = encode(BASE, &image, &logs, 1024, mode, Version::Two).map_err(refused)?;
+    let capture = encode(&program, &logs, 1024, mode, Version::Two).map_err(refused)?;
     let mut out = stdout();
-    for (hart, (log, closed)) in decode_all(BASE, &image, 1, &capture)?.0.iter().enumerate() {
+    for (hart, (log, closed)) in decode_all(&program, 1, &capture)?.0.iter().enumerate() {
         writeln!(out, "hart {hart}")?;
         out.write_all(log)?;
         if !closed {
             writeln!(out, "hart {hart}: no closing packet")?;
         }
     }
-    out.write_all(&list(BASE, &image, 1, &capture, SYMBOLS, Format::Text)?.0)?;
-    out.write_all(&measure(BASE, &image, &logs, 1024, mode).map_err(refused)?)?;
-    out.write_all(&compare(BASE, &image, 1, &capture, &logs).map_err(refused)?.0)?;
-    let (text, ended) = explain(BASE, &image, OUTSIDE)?;
+    out.write_all(&list(&program, 1, &capture, SYMBOLS, Format::Text)?.0)?;
+    out.write_all(&measure(&program, &logs, 1024, mode).map_err(refused)?)?;
+    out.write_all(&compare(&program, 1, &capture, &logs).map_err(refused)?.0)?;
+    let (text, ended) = explain(&program, OUTSIDE)?;
     let why = if ended.fault == 80 { "OffProgram" } else { "?" };
     writeln!(out, "row {}: {why}", ended.row)?;
     out.write_all(&text)?;

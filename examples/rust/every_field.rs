@@ -4,7 +4,8 @@
 //!     every_field
 
 use std::error::Error;
-use tracebench::{audit, decode, dump, encode, pack, unpack, DecoderState, Event, Mode, Version};
+use tracebench::{audit_all, decode_all, dump, encode, pack, unpack};
+use tracebench::{Compared, DecoderState, Event, HartEnd, Mode, Piece, Version};
 
 /// The address of the image's first byte.
 const BASE: u64 = 0x8000_0000;
@@ -60,12 +61,12 @@ fn encoder() -> Result<(), Box<dyn Error>> {
     let (mut state, opening) = tracebench::encoder(1024, Mode::Full)?;
     println!("{opening:?}\n{state:?}");
     for event in [branch, branch, branch, exception, interrupt] {
-        for packet in tracebench::push(BASE, IMAGE, &mut state, &event)? {
+        for packet in tracebench::push(&[Piece::new(BASE, IMAGE)], &mut state, &event)? {
             println!("{packet:?}");
         }
         println!("{state:?}");
     }
-    for packet in tracebench::finish(BASE, IMAGE, &state)? {
+    for packet in tracebench::finish(&[Piece::new(BASE, IMAGE)], &state)? {
         println!("{packet:?}");
     }
     Ok(())
@@ -73,7 +74,7 @@ fn encoder() -> Result<(), Box<dyn Error>> {
 
 /// Feeds a payload, and prints the events and the state.
 fn feed(state: &mut DecoderState, payload: &[u8]) -> Result<(), Box<dyn Error>> {
-    for event in tracebench::feed(BASE, IMAGE, state, payload)? {
+    for event in tracebench::feed(&[Piece::new(BASE, IMAGE)], state, payload)? {
         println!("{event:?}");
     }
     println!("{state:?}");
@@ -100,7 +101,7 @@ fn log_place() {
     let first = b"addr,itype,priv,cause,tval\n80000000,5,3,,\n";
     let second = b"addr,itype,priv,cause,tval\n80000000,5,3,,\n80000001,5,3,,\n";
     let logs = [first.as_slice(), second];
-    match encode(BASE, IMAGE, &logs, 1024, Mode::Full, Version::One) {
+    match encode(&[Piece::new(BASE, IMAGE)], &logs, 1024, Mode::Full, Version::One) {
         Ok(_) => println!("a capture"),
         Err((_, place)) => println!("{place:?}"),
     }
@@ -131,7 +132,9 @@ fn ends() -> Result<(), Box<dyn Error>> {
         (1, 0, b"\x1f"),
         (1, 2, b"\x05"),
     ]);
-    println!("{:?}", decode(BASE, IMAGE, 3, &capture, 0)?.1);
+    let (logs, ended) = decode_all(&[Piece::new(BASE, IMAGE)], 3, &capture)?;
+    let (end, closed) = (logs[0].0.len(), logs[0].1.into());
+    println!("{ended:?}\n{:?}", HartEnd { end, closed });
     Ok(())
 }
 
@@ -166,8 +169,8 @@ fn path() -> Result<(), Box<dyn Error>> {
         (0, 4, b'e'),
     ]);
     came.push(0);
-    let (tally, ended) = audit(&messages_of(&sent), &came, 0)?;
-    println!("{tally:?}\n{ended:?}");
+    let found = audit_all(&messages_of(&sent), &came, Compared::ByBytes).map_err(|(status, _)| status)?;
+    println!("{:?}", found.rows[0].tally);
     Ok(())
 }
 

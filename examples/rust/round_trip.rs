@@ -6,31 +6,40 @@
 use std::error::Error;
 use std::io::{stdout, Write};
 use std::{env, fs};
-use tracebench::{audit, check, decode, dump, encode, pack, unpack, Mode, Packet, Status, Version};
+use tracebench::{audit_all, check, decode_all, dump, encode, pack, unpack};
+use tracebench::{Compared, Mode, Packet, Piece, Status, Version};
 
 /// The address of the image's first byte.
 const BASE: u64 = 0x8000_0000;
 
 /// Prints the log of each hart of a capture, and how decoding ended.
-fn show_logs(image: &[u8], capture: &[u8]) -> Result<(), Box<dyn Error>> {
-    for hart in 0..2 {
-        let (text, ended) = decode(BASE, image, 2, capture, hart)?;
+fn show_logs(program: &[Piece<'_>], capture: &[u8]) -> Result<(), Box<dyn Error>> {
+    let (logs, ended) = decode_all(program, 2, capture)?;
+    for (hart, (text, closed)) in logs.iter().enumerate() {
         println!(
             "hart {hart} of {}: closed {}, ends at message {} with status {}",
-            ended.harts, ended.closed, ended.place, ended.fault
+            ended.harts,
+            u8::from(*closed),
+            ended.place,
+            ended.fault
         );
-        stdout().write_all(&text)?;
+        stdout().write_all(text)?;
     }
     Ok(())
 }
 
 /// Prints what became of the messages of each hart.
 fn show_audit(sent: &[u8], received: &[u8]) -> Result<(), Status> {
-    for hart in 0..2 {
-        let (tally, ended) = audit(sent, received, hart)?;
+    let found = audit_all(sent, received, Compared::ByBytes).map_err(|(status, _)| status)?;
+    for (hart, row) in found.rows.iter().enumerate() {
         println!(
-            "hart {hart} of {}: {} sent, {} came, {} lost, whole {}, strangers {}, ends with status {}",
-            ended.harts, tally.sent, tally.came, tally.lost, tally.whole, ended.strangers, ended.fault
+            "hart {hart} of {}: {} sent, {} came, {} lost, whole {}, strangers {}",
+            found.ended.harts,
+            row.tally.sent,
+            row.tally.came,
+            row.tally.lost,
+            row.tally.whole,
+            found.ended.strangers
         );
     }
     Ok(())
@@ -50,12 +59,13 @@ fn main() -> Result<(), Box<dyn Error>> {
         return Err("round_trip IMAGE LOG LOG".into());
     };
     let (image, first, second) = (fs::read(image)?, fs::read(first)?, fs::read(second)?);
-    match check(BASE, &image, &first) {
+    let program = [Piece::new(BASE, &image)];
+    match check(&program, &first) {
         Ok(row) => println!("check: status 0, row {row}"),
         Err((status, row)) => println!("check: {status}, row {row}"),
     }
     let logs = [&first[..], &second[..]];
-    let capture = encode(BASE, &image, &logs, 1024, Mode::Differential, Version::Two)
+    let capture = encode(&program, &logs, 1024, Mode::Differential, Version::Two)
         .map_err(|(status, place)| format!("log {} row {}: {status}", place.log, place.row))?;
     println!("capture of {} bytes", capture.len());
     let (text, ended) = dump(&capture)?;
@@ -64,11 +74,11 @@ fn main() -> Result<(), Box<dyn Error>> {
         "bad {}, ends at message {} with status {}",
         ended.bad, ended.place, ended.fault
     );
-    show_logs(&image, &capture)?;
+    show_logs(&program, &capture)?;
     let received = without_second(&capture);
     println!("without the second message");
     show_audit(&capture, &received)?;
-    show_logs(&image, &received)?;
+    show_logs(&program, &received)?;
     let payload = pack(&Packet::sync(BASE, 3))?;
     println!("pack: status 0, {} bytes", payload.len());
     println!("unpack: status 0, address {:x}", unpack(&payload)?.address);

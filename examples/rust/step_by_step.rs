@@ -4,7 +4,7 @@
 //!     step_by_step IMAGE
 
 use std::{env, error, fs};
-use tracebench::{DecoderState, Event, Mode, Packet};
+use tracebench::{DecoderState, Event, Mode, Packet, Piece};
 
 /// The address of the image's first byte.
 const BASE: u64 = 0x8000_0000;
@@ -14,13 +14,13 @@ const ROWS: [(u64, u8); 4] = [(0, 0), (4, 0), (8, 6), (4, 0)];
 
 /// The events that the payloads of packets settle.
 fn fed(
-    image: &[u8],
+    program: &[Piece<'_>],
     state: &mut DecoderState,
     packets: &[Packet],
 ) -> Result<Vec<Event>, Box<dyn error::Error>> {
     let mut settled = Vec::new();
     for packet in packets {
-        let events = tracebench::feed(BASE, image, state, &tracebench::pack(packet)?)?;
+        let events = tracebench::feed(program, state, &tracebench::pack(packet)?)?;
         println!("packet of kind {}: {} events", packet.kind, events.len());
         settled.extend(events);
     }
@@ -29,6 +29,7 @@ fn fed(
 
 fn main() -> Result<(), Box<dyn error::Error>> {
     let image = fs::read(env::args().nth(1).ok_or("usage: step_by_step IMAGE")?)?;
+    let program = [Piece::new(BASE, &image)];
     let events = ROWS.map(|(place, itype)| Event {
         itype,
         privilege: 3,
@@ -37,13 +38,13 @@ fn main() -> Result<(), Box<dyn error::Error>> {
     });
     let mut decoder = tracebench::decoder();
     let (mut encoder, opening) = tracebench::encoder(1024, Mode::Differential)?;
-    let mut settled = fed(&image, &mut decoder, &[opening])?;
+    let mut settled = fed(&program, &mut decoder, &[opening])?;
     for event in &events {
-        let packets = tracebench::push(BASE, &image, &mut encoder, event)?;
-        settled.extend(fed(&image, &mut decoder, &packets)?);
+        let packets = tracebench::push(&program, &mut encoder, event)?;
+        settled.extend(fed(&program, &mut decoder, &packets)?);
     }
-    let packets = tracebench::finish(BASE, &image, &encoder)?;
-    settled.extend(fed(&image, &mut decoder, &packets)?);
+    let packets = tracebench::finish(&program, &encoder)?;
+    settled.extend(fed(&program, &mut decoder, &packets)?);
     for event in &settled {
         println!("{:x},{},{}", event.address, event.itype, event.privilege);
     }

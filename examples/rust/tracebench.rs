@@ -4,6 +4,7 @@
 //! that the header asks of a caller in one thread.
 #![warn(missing_docs)]
 
+use std::marker::PhantomData;
 use std::mem::size_of;
 use std::{error, fmt};
 
@@ -140,17 +141,6 @@ pub struct DumpEnd {
     pub bad: u32,
 }
 
-/// How decoding a capture ends, `struct tracebench_decode_end`.
-#[derive(Clone, Copy, Debug, Default, PartialEq, Eq)]
-#[repr(C)]
-#[allow(missing_docs)]
-pub struct DecodeEnd {
-    pub harts: usize,
-    pub place: u64,
-    pub fault: u32,
-    pub closed: u32,
-}
-
 /// What became of the messages of a hart, `struct tracebench_tally`.
 #[derive(Clone, Copy, Debug, Default, PartialEq, Eq)]
 #[repr(C)]
@@ -163,17 +153,6 @@ pub struct Tally {
     pub late: u64,
     pub changed: u64,
     pub whole: u32,
-}
-
-/// What an audit finds besides, `struct tracebench_audit_end`.
-#[derive(Clone, Copy, Debug, Default, PartialEq, Eq)]
-#[repr(C)]
-#[allow(missing_docs)]
-pub struct AuditEnd {
-    pub harts: usize,
-    pub strangers: u64,
-    pub place: u64,
-    pub fault: u32,
 }
 
 /// Where the text of a hart ends, and whether the hart is closed, `struct tracebench_hart_end`.
@@ -414,30 +393,56 @@ pub enum Format {
     Csv = 1,
 }
 
+/// A piece of an image: bytes from an address on. A program is a slice of these, sorted by base.
+#[derive(Clone, Copy)]
+#[repr(C)]
+pub struct Piece<'b> {
+    base: u64,
+    bytes: *const u8,
+    length: usize,
+    lent: PhantomData<&'b [u8]>,
+}
+
+impl<'b> Piece<'b> {
+    /// The piece of these bytes from an address on.
+    pub fn new(base: u64, bytes: &'b [u8]) -> Piece<'b> {
+        Piece {
+            base,
+            bytes: bytes.as_ptr(),
+            length: bytes.len(),
+            lent: PhantomData,
+        }
+    }
+}
+
+/// What is kept of a hart from one message to the next.
+#[repr(C)]
+struct HartState {
+    decoder: DecoderState,
+    expected: u64,
+}
+
 #[rustfmt::skip]
 extern "C" {
     fn tracebench_pack(packet: *const Packet, buffer: *mut u8, buffer_length: usize, wanted: *mut usize) -> u32;
     fn tracebench_unpack(payload: *const u8, payload_length: usize, packet: *mut Packet) -> u32;
     fn tracebench_encoder(period: u16, mode: u32, state: *mut EncoderState, opening: *mut Packet) -> u32;
-    fn tracebench_push(base: u64, image: *const u8, image_length: usize, state: *mut EncoderState,
-        event: *const Event, packets: *mut Packet, packets_length: usize, count: *mut usize) -> u32;
-    fn tracebench_finish(base: u64, image: *const u8, image_length: usize, state: *const EncoderState,
+    fn tracebench_push_all(pieces: *const Piece<'_>, pieces_length: usize, state: *mut EncoderState,
+        events: *const Event, events_length: usize, packets: *mut Packet, packets_length: usize, taken: *mut usize,
+        count: *mut usize) -> u32;
+    fn tracebench_finish(pieces: *const Piece<'_>, pieces_length: usize, state: *const EncoderState,
         packets: *mut Packet, packets_length: usize, count: *mut usize) -> u32;
     fn tracebench_decoder(state: *mut DecoderState);
-    fn tracebench_feed(base: u64, image: *const u8, image_length: usize, state: *mut DecoderState,
-        payload: *const u8, payload_length: usize, events: *mut Event, events_length: usize, count: *mut usize) -> u32;
-    fn tracebench_check(base: u64, image: *const u8, image_length: usize, log: *const u8, log_length: usize,
+    fn tracebench_receive(pieces: *const Piece<'_>, pieces_length: usize, hart: *mut HartState, number: u64,
+        payload: *const u8, payload_length: usize, events: *mut Event, events_length: usize, count: *mut usize,
+        missing: *mut u64) -> u32;
+    fn tracebench_check(pieces: *const Piece<'_>, pieces_length: usize, log: *const u8, log_length: usize,
         row: *mut u64) -> u32;
-    fn tracebench_encode(base: u64, image: *const u8, image_length: usize, logs: *const u8, logs_length: usize,
+    fn tracebench_encode(pieces: *const Piece<'_>, pieces_length: usize, logs: *const u8, logs_length: usize,
         ends: *const usize, ends_length: usize, period: u16, mode: u32, version: u32, buffer: *mut u8,
         buffer_length: usize, wanted: *mut usize, place: *mut LogPlace) -> u32;
     fn tracebench_dump(capture: *const u8, capture_length: usize, buffer: *mut u8, buffer_length: usize,
         wanted: *mut usize, ended: *mut DumpEnd) -> u32;
-    fn tracebench_decode(base: u64, image: *const u8, image_length: usize, harts: u16, capture: *const u8,
-        capture_length: usize, hart: u16, buffer: *mut u8, buffer_length: usize, wanted: *mut usize,
-        ended: *mut DecodeEnd) -> u32;
-    fn tracebench_audit(sent: *const u8, sent_length: usize, received: *const u8, received_length: usize, hart: u16,
-        tally: *mut Tally, ended: *mut AuditEnd) -> u32;
     fn tracebench_audit_all(sent: *const u8, sent_length: usize, received: *const u8, received_length: usize,
         flags: u32, rows: *mut HartRow, rows_length: usize, arrivals: *mut Arrival, arrivals_length: usize,
         lost: *mut LostRun, lost_length: usize, runs: *mut ByteRun, runs_length: usize, refused: *mut SentPlace,
@@ -454,19 +459,19 @@ extern "C" {
     fn tracebench_read_header(bytes: *const u8, bytes_length: usize, header: *mut Header, taken: *mut usize) -> u32;
     fn tracebench_capture_of_lines(text: *const u8, text_length: usize, version: u32, mode: u32, period: u16,
         harts: u16, buffer: *mut u8, buffer_length: usize, wanted: *mut usize, line: *mut u64) -> u32;
-    fn tracebench_decode_all(base: u64, image: *const u8, image_length: usize, harts: u16, capture: *const u8,
+    fn tracebench_decode_all(pieces: *const Piece<'_>, pieces_length: usize, harts: u16, capture: *const u8,
         capture_length: usize, buffer: *mut u8, buffer_length: usize, wanted: *mut usize, ends: *mut HartEnd,
         ends_length: usize, ended: *mut DecodeAllEnd) -> u32;
-    fn tracebench_list(base: u64, image: *const u8, image_length: usize, harts: u16, capture: *const u8,
+    fn tracebench_list(pieces: *const Piece<'_>, pieces_length: usize, harts: u16, capture: *const u8,
         capture_length: usize, symbols: *const u8, symbols_length: usize, format: u32, buffer: *mut u8,
         buffer_length: usize, wanted: *mut usize, ended: *mut TextEnd) -> u32;
-    fn tracebench_measure(base: u64, image: *const u8, image_length: usize, logs: *const u8, logs_length: usize,
+    fn tracebench_measure(pieces: *const Piece<'_>, pieces_length: usize, logs: *const u8, logs_length: usize,
         ends: *const usize, ends_length: usize, period: u16, mode: u32, buffer: *mut u8, buffer_length: usize,
         wanted: *mut usize, place: *mut LogPlace) -> u32;
-    fn tracebench_compare(base: u64, image: *const u8, image_length: usize, harts: u16, capture: *const u8,
+    fn tracebench_compare(pieces: *const Piece<'_>, pieces_length: usize, harts: u16, capture: *const u8,
         capture_length: usize, logs: *const u8, logs_length: usize, ends: *const usize, ends_length: usize,
         buffer: *mut u8, buffer_length: usize, wanted: *mut usize, ended: *mut TextEnd, place: *mut LogPlace) -> u32;
-    fn tracebench_explain(base: u64, image: *const u8, image_length: usize, log: *const u8, log_length: usize,
+    fn tracebench_explain(pieces: *const Piece<'_>, pieces_length: usize, log: *const u8, log_length: usize,
         buffer: *mut u8, buffer_length: usize, wanted: *mut usize, ended: *mut ExplainEnd) -> u32;
 }
 
@@ -524,34 +529,33 @@ pub fn encoder(period: u16, mode: Mode) -> Result<(EncoderState, Packet), Status
 
 /// The packets that are due after the next event. `state` then has taken this event too.
 pub fn push(
-    base: u64,
-    image: &[u8],
+    program: &[Piece<'_>],
     state: &mut EncoderState,
     event: &Event,
 ) -> Result<Vec<Packet>, Status> {
     // SAFETY: as above.
     handed_out(|packets: &mut [Packet], count| unsafe {
-        tracebench_push(
-            base,
-            image.as_ptr(),
-            image.len(),
+        tracebench_push_all(
+            program.as_ptr(),
+            program.len(),
             state,
             event,
+            1,
             packets.as_mut_ptr(),
             packets.len(),
+            &mut 0,
             count,
         )
     })
 }
 
 /// The packets that are left at the end of a log.
-pub fn finish(base: u64, image: &[u8], state: &EncoderState) -> Result<Vec<Packet>, Status> {
+pub fn finish(program: &[Piece<'_>], state: &EncoderState) -> Result<Vec<Packet>, Status> {
     // SAFETY: as above.
     handed_out(|packets: &mut [Packet], count| unsafe {
         tracebench_finish(
-            base,
-            image.as_ptr(),
-            image.len(),
+            program.as_ptr(),
+            program.len(),
             state,
             packets.as_mut_ptr(),
             packets.len(),
@@ -570,36 +574,41 @@ pub fn decoder() -> DecoderState {
 
 /// The events that the next payload settles. `state` then has taken this payload too.
 pub fn feed(
-    base: u64,
-    image: &[u8],
+    program: &[Piece<'_>],
     state: &mut DecoderState,
     payload: &[u8],
 ) -> Result<Vec<Event>, Status> {
+    let mut hart = HartState {
+        decoder: *state,
+        expected: 0,
+    };
     // SAFETY: as above.
-    handed_out(|events: &mut [Event], count| unsafe {
-        tracebench_feed(
-            base,
-            image.as_ptr(),
-            image.len(),
-            state,
+    let events = handed_out(|events: &mut [Event], count| unsafe {
+        tracebench_receive(
+            program.as_ptr(),
+            program.len(),
+            &mut hart,
+            0,
             payload.as_ptr(),
             payload.len(),
             events.as_mut_ptr(),
             events.len(),
             count,
+            &mut 0,
         )
-    })
+    })?;
+    *state = hart.decoder;
+    Ok(events)
 }
 
 /// How many events a legal log has; or why the text is that of none, and the row that is named, or 0.
-pub fn check(base: u64, image: &[u8], log: &[u8]) -> Result<u64, (Status, u64)> {
+pub fn check(program: &[Piece<'_>], log: &[u8]) -> Result<u64, (Status, u64)> {
     let mut row = 0;
     // SAFETY: as above.
     let status = unsafe {
         tracebench_check(
-            base,
-            image.as_ptr(),
-            image.len(),
+            program.as_ptr(),
+            program.len(),
             log.as_ptr(),
             log.len(),
             &mut row,
@@ -623,8 +632,7 @@ fn joined(logs: &[&[u8]]) -> (Vec<u8>, Vec<usize>) {
 
 /// The capture of harts' logs, hart 0 first; or why there is none, and the log and row that are at fault.
 pub fn encode(
-    base: u64,
-    image: &[u8],
+    program: &[Piece<'_>],
     logs: &[&[u8]],
     period: u16,
     mode: Mode,
@@ -635,9 +643,8 @@ pub fn encode(
     // SAFETY: as above.
     let capture = handed_out(|buffer, wanted| unsafe {
         tracebench_encode(
-            base,
-            image.as_ptr(),
-            image.len(),
+            program.as_ptr(),
+            program.len(),
             texts.as_ptr(),
             texts.len(),
             ends.as_ptr(),
@@ -669,52 +676,6 @@ pub fn dump(capture: &[u8]) -> Result<(Vec<u8>, DumpEnd), Status> {
         )
     })?;
     Ok((text, ended))
-}
-
-/// The log of a hart of a capture, as text, and how decoding ended. A capture without a header has so many harts.
-pub fn decode(
-    base: u64,
-    image: &[u8],
-    harts: u16,
-    capture: &[u8],
-    hart: u16,
-) -> Result<(Vec<u8>, DecodeEnd), Status> {
-    let mut ended = DecodeEnd::default();
-    // SAFETY: as above.
-    let text = handed_out(|buffer, wanted| unsafe {
-        tracebench_decode(
-            base,
-            image.as_ptr(),
-            image.len(),
-            harts,
-            capture.as_ptr(),
-            capture.len(),
-            hart,
-            buffer.as_mut_ptr(),
-            buffer.len(),
-            wanted,
-            &mut ended,
-        )
-    })?;
-    Ok((text, ended))
-}
-
-/// What became of the messages of a hart of SENT in RECEIVED, and what was found besides.
-pub fn audit(sent: &[u8], received: &[u8], hart: u16) -> Result<(Tally, AuditEnd), Status> {
-    let (mut tally, mut ended) = (Tally::default(), AuditEnd::default());
-    // SAFETY: as above.
-    done(unsafe {
-        tracebench_audit(
-            sent.as_ptr(),
-            sent.len(),
-            received.as_ptr(),
-            received.len(),
-            hart,
-            &mut tally,
-            &mut ended,
-        )
-    })?;
-    Ok((tally, ended))
 }
 
 /// What became of the messages of all harts of SENT in RECEIVED; or why SENT is refused, and which message of it.
@@ -882,8 +843,7 @@ pub fn capture_of_lines(
 /// The log of each hart of a capture as text, whether the hart is closed, and how decoding ends.
 #[allow(clippy::type_complexity)]
 pub fn decode_all(
-    base: u64,
-    image: &[u8],
+    program: &[Piece<'_>],
     harts: u16,
     capture: &[u8],
 ) -> Result<(Vec<(Vec<u8>, bool)>, DecodeAllEnd), Status> {
@@ -893,9 +853,8 @@ pub fn decode_all(
         // SAFETY: as above.
         unsafe {
             tracebench_decode_all(
-                base,
-                image.as_ptr(),
-                image.len(),
+                program.as_ptr(),
+                program.len(),
                 harts,
                 capture.as_ptr(),
                 capture.len(),
@@ -927,8 +886,7 @@ pub fn decode_all(
 
 /// The listing of a capture, and how it ends. Without symbols, places have no names.
 pub fn list(
-    base: u64,
-    image: &[u8],
+    program: &[Piece<'_>],
     harts: u16,
     capture: &[u8],
     symbols: &[u8],
@@ -938,9 +896,8 @@ pub fn list(
     // SAFETY: as above.
     let text = handed_out(|buffer, wanted| unsafe {
         tracebench_list(
-            base,
-            image.as_ptr(),
-            image.len(),
+            program.as_ptr(),
+            program.len(),
             harts,
             capture.as_ptr(),
             capture.len(),
@@ -958,8 +915,7 @@ pub fn list(
 
 /// The table of what the logs of harts cost; or why there is none, and the log and row that are at fault.
 pub fn measure(
-    base: u64,
-    image: &[u8],
+    program: &[Piece<'_>],
     logs: &[&[u8]],
     period: u16,
     mode: Mode,
@@ -969,9 +925,8 @@ pub fn measure(
     // SAFETY: as above.
     let table = handed_out(|buffer, wanted| unsafe {
         tracebench_measure(
-            base,
-            image.as_ptr(),
-            image.len(),
+            program.as_ptr(),
+            program.len(),
             texts.as_ptr(),
             texts.len(),
             ends.as_ptr(),
@@ -990,8 +945,7 @@ pub fn measure(
 /// How a capture compares with the logs of its harts, and how that ends; or why it is not compared, and the log and row
 /// that are at fault.
 pub fn compare(
-    base: u64,
-    image: &[u8],
+    program: &[Piece<'_>],
     harts: u16,
     capture: &[u8],
     logs: &[&[u8]],
@@ -1001,9 +955,8 @@ pub fn compare(
     // SAFETY: as above.
     let text = handed_out(|buffer, wanted| unsafe {
         tracebench_compare(
-            base,
-            image.as_ptr(),
-            image.len(),
+            program.as_ptr(),
+            program.len(),
             harts,
             capture.as_ptr(),
             capture.len(),
@@ -1025,14 +978,13 @@ pub fn compare(
 }
 
 /// The lines that explain the first illegal row of a log, and how the log ends.
-pub fn explain(base: u64, image: &[u8], log: &[u8]) -> Result<(Vec<u8>, ExplainEnd), Status> {
+pub fn explain(program: &[Piece<'_>], log: &[u8]) -> Result<(Vec<u8>, ExplainEnd), Status> {
     let mut ended = ExplainEnd::default();
     // SAFETY: as above.
     let text = handed_out(|buffer, wanted| unsafe {
         tracebench_explain(
-            base,
-            image.as_ptr(),
-            image.len(),
+            program.as_ptr(),
+            program.len(),
             log.as_ptr(),
             log.len(),
             buffer.as_mut_ptr(),

@@ -24,8 +24,8 @@ _tracebench() {
     measure) options="--base --also --period --full --long --progress --help" ;;
     list) options="--base --also --harts --only --symbols --salvage --format --progress --help" ;;
     salvage) options="--base --also --harts --only --summary --format --progress --help" ;;
-    capture) options="--v1 --full --period --harts --help" ;;
-    compare) options="--base --also --harts --only --long --progress --help" ;;
+    capture) options="--v1 --full --period --harts --number-bits --help" ;;
+    compare) options="--base --also --harts --only --explain --long --progress --help" ;;
     help)
         mapfile -t COMPREPLY < <(compgen -W "$subcommands" -- "$current")
         return
@@ -39,7 +39,7 @@ _tracebench() {
         previous=${COMP_WORDS[COMP_CWORD - 2]}
     fi
     case $previous in
-    --also | --base | --capacity | --first | --format | --harts | --of | --only | --period) return ;;
+    --also | --base | --capacity | --first | --format | --harts | --number-bits | --of | --only | --period) return ;;
     esac
     case $current in
     -*) mapfile -t COMPREPLY < <(compgen -W "$options" -- "$current") ;;

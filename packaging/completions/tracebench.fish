@@ -112,11 +112,13 @@ complete -c tracebench -n '__tracebench_given capture' -l v1 -d 'Write a capture
 complete -c tracebench -n '__tracebench_given capture' -l full -d 'The header says that packets report addresses in full, not as differences'
 complete -c tracebench -n '__tracebench_given capture' -l period -x -d 'The period that the header has, 1 to 65535'
 complete -c tracebench -n '__tracebench_given capture' -l harts -x -d 'How many harts the header counts, 1 to 1024, with --v1 to 64; without it, those up to the highest'
+complete -c tracebench -n '__tracebench_given capture' -l number-bits -x -d 'NUMBER is the lowest W bits of a message'\''s number, W 4 to 32; without it, the number itself'
 
 complete -c tracebench -n '__tracebench_given compare' -F
 complete -c tracebench -n '__tracebench_given compare' -l base -x -d 'Address of the image'\''s first byte, in hexadecimal'
 complete -c tracebench -n '__tracebench_given compare' -l also -x -d 'Further piece of the image, any number of times: address in hexadecimal, =, file'
 complete -c tracebench -n '__tracebench_given compare' -l harts -x -d 'How many harts a capture of version 1 may have, 1 to 1024'
 complete -c tracebench -n '__tracebench_given compare' -l only -x -d 'Look at harts A to B alone, or at hart A, 0 to 1023; without it, at all'
+complete -c tracebench -n '__tracebench_given compare' -l explain -d 'Print the up to three rows before the first that differs'
 complete -c tracebench -n '__tracebench_given compare' -l long -d 'Take logs of up to 4294967295 rows, not 16777216'
 complete -c tracebench -n '__tracebench_given compare' -l progress -d 'Show how far the logs are read, where standard error is a terminal'

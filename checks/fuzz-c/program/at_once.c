@@ -48,9 +48,9 @@ static void judge_pushes(const struct given *given, const struct answer *answer)
         struct given one = *given;
         one.state = copy_of(&state, sizeof state);
         one.other = copy_of(given->bytes.at + taken * sizeof(struct tracebench_event), sizeof(struct tracebench_event));
-        size_t room = (size_t)(given->harts - count);
-        struct answer step = run(&push, &one, room < 2 ? room : 2);
+        struct answer step = run(&push, &one, 2);
         status = step.status;
+        if (status == TRACEBENCH_DONE && wanted_of(&step) > given->harts - count) status = TRACEBENCH_TOO_SMALL;
         if (status == TRACEBENCH_DONE) {
             size_t size = (size_t)wanted_of(&step) * push.unit;
             require(size == 0 || memcmp(said.elements + count * push.unit, step.buffer.at, size) == 0, &push_all,
@@ -103,6 +103,11 @@ static void judge_feeds(const struct given *given, const struct answer *answer) 
         one.bytes = copy_of(given->bytes.at + from, (size_t)(end - from));
         struct answer step = run(&feed, &one, (size_t)(given->harts - count));
         status = step.status;
+        if (status == TRACEBENCH_AFTER_CLOSING_PACKET) { /* which is said of any payload */
+            struct answer read = run(&unpack, &one, 0);
+            if (read.status != TRACEBENCH_DONE) status = read.status;
+            give_back_answer(&read);
+        }
         if (status == TRACEBENCH_DONE) {
             size_t size = (size_t)wanted_of(&step) * feed.unit;
             require(size == 0 || memcmp(said.elements + count * feed.unit, step.buffer.at, size) == 0, &feed_all,

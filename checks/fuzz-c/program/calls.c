@@ -5,12 +5,11 @@
 /* Bytes up to and with a field. */
 #define UP_TO(type, field) (offsetof(type, field) + sizeof(((type *)0)->field))
 
-#define IMAGE given->base, given->image.at, given->image.length
+#define IMAGE &(const struct tracebench_piece){given->base, given->image.at, given->image.length}, 1
 #define PIECES (const struct tracebench_piece *)(const void *)given->pieces.at, \
                given->pieces.length / sizeof(struct tracebench_piece)
-/* A call over the image, or over the pieces where there are any. */
-#define OVER(call, ...) \
-    (given->in_pieces ? call##_over_pieces(PIECES, __VA_ARGS__) : call(IMAGE, __VA_ARGS__))
+/* A call over the image as one piece, or over the pieces where there are any. */
+#define OVER(call, ...) (given->in_pieces ? call(PIECES, __VA_ARGS__) : call(IMAGE, __VA_ARGS__))
 #define BYTES given->bytes.at, given->bytes.length
 #define OTHER given->other.at, given->other.length
 #define BESIDE given->beside.at, given->beside.length
@@ -40,8 +39,6 @@ MAKES(unpack, tracebench_unpack(BYTES, FIRST))
 MAKES(check, OVER(tracebench_check, BYTES, FIRST))
 MAKES(encode, OVER(tracebench_encode, BYTES, ENDS, given->period, given->mode, given->version, BUFFER, FIRST))
 MAKES(dump, tracebench_dump(BYTES, BUFFER, FIRST))
-MAKES(decode, OVER(tracebench_decode, given->harts, BYTES, given->hart, BUFFER, FIRST))
-MAKES(audit, tracebench_audit(BYTES, OTHER, given->hart, FIRST, SECOND))
 MAKES(encoder, tracebench_encoder(given->period, given->mode, FIRST, SECOND))
 MAKES(push, OVER(tracebench_push, FIRST, EVENT(other), PACKETS))
 MAKES(push_checked, OVER(tracebench_push_checked, FIRST, EVENT(other), PACKETS))
@@ -103,17 +100,13 @@ MAKES(explain, OVER(tracebench_explain, BYTES, BUFFER, FIRST))
 
 TAKES(packet_of, tracebench_packet, first)
 TAKES(dump_end_of, tracebench_dump_end, first)
-TAKES(decode_end_of, tracebench_decode_end, first)
-TAKES(tally_of, tracebench_tally, first)
-TAKES(audit_end_of, tracebench_audit_end, second)
+TAKES(path_end_of, tracebench_path_end, first)
 TAKES(decode_all_end_of, tracebench_decode_all_end, first)
 TAKES(text_end_of, tracebench_text_end, first)
 TAKES(explain_end_of, tracebench_explain_end, first)
 static TAKES(aligned_end_of, tracebench_aligned_end, first)
 
 static uint32_t dump_fault(const struct answer *answer) { return dump_end_of(answer).fault; }
-static uint32_t decode_fault(const struct answer *answer) { return decode_end_of(answer).fault; }
-static uint32_t audit_fault(const struct answer *answer) { return audit_end_of(answer).fault; }
 static uint32_t aligned_fault(const struct answer *answer) { return aligned_end_of(answer).fault; }
 static uint32_t decode_all_fault(const struct answer *answer) { return decode_all_end_of(answer).fault; }
 static uint32_t text_fault(const struct answer *answer) { return text_end_of(answer).fault; }
@@ -134,10 +127,6 @@ static const struct span of_encode[] = {ONE(DONE), ONE(TOO_SMALL), ONE(MEMORY), 
                                         SPAN(ODD_BASE, NOT_SORTED), SPAN(WRONG_HEADER, TOO_MANY_ROWS),
                                         SPAN(OFF_PROGRAM, WRONG_EPC), END};
 static const struct span of_dump[] = {ONE(DONE), ONE(TOO_SMALL), ONE(MEMORY), END};
-static const struct span of_decode[] = {ONE(DONE), ONE(TOO_SMALL), ONE(NO_HART), ONE(MEMORY),
-                                        SPAN(ODD_BASE, NOT_SORTED), END};
-static const struct span of_audit[] = {ONE(DONE), ONE(NO_HART), ONE(MEMORY), ONE(SHORT), ONE(BAD_LENGTH),
-                                       ONE(BAD_HEADER), ONE(STRANGER), ONE(REPEAT), ONE(GAP), END};
 
 static const struct span of_encoder[] = {ONE(DONE), ONE(OUT_OF_RANGE), END};
 static const struct span of_push[] = {ONE(DONE), ONE(TOO_SMALL), ONE(MEMORY), SPAN(ODD_BASE, NOT_SORTED),
@@ -221,29 +210,18 @@ const struct call dump = {
     .name = "dump", .make = make_dump, .statuses = of_dump, .faults = unread, .fault = dump_fault,
     .first = ALL_OF(struct tracebench_dump_end), .unit = 1, .written = WITH_DONE | WITH_TOO_SMALL,
 };
-const struct call decode = {
-    .name = "decode", .make = make_decode, .takes_image = true, .statuses = of_decode, .faults = undecoded, .fault = decode_fault,
-    .first = ALL_OF(struct tracebench_decode_end), .unit = 1, .written = WITH_DONE | WITH_TOO_SMALL,
-};
-const struct call audit = {
-    .name = "audit", .make = make_audit, .statuses = of_audit, .faults = unread, .fault = audit_fault,
-    .first = {sizeof(struct tracebench_tally), UP_TO(struct tracebench_tally, whole)},
-    .second = {sizeof(struct tracebench_audit_end), UP_TO(struct tracebench_audit_end, fault)},
-    .written = WITH_DONE,
-};
-
 const struct call encoder = {
     .name = "encoder", .make = make_encoder, .statuses = of_encoder, .first = ALL_OF(struct tracebench_encoder_state),
     .second = ALL_OF(struct tracebench_packet), .written = WITH_DONE,
 };
 const struct call push = {
     .name = "push", .make = make_push, .takes_image = true, .statuses = of_push, .first = ALL_OF(struct tracebench_encoder_state),
-    .unit = sizeof(struct tracebench_packet), .written = WITH_DONE, .goes_on = true,
+    .unit = sizeof(struct tracebench_packet), .least = 2, .written = WITH_DONE, .goes_on = true,
 };
 const struct call push_checked = {
     .name = "push_checked", .make = make_push_checked, .takes_image = true, .statuses = of_push_checked,
-    .first = ALL_OF(struct tracebench_encoder_state), .unit = sizeof(struct tracebench_packet), .written = WITH_DONE,
-    .goes_on = true,
+    .first = ALL_OF(struct tracebench_encoder_state), .unit = sizeof(struct tracebench_packet), .least = 2,
+    .written = WITH_DONE, .goes_on = true,
 };
 const struct call follow = {
     .name = "follow", .make = make_follow, .takes_image = true, .statuses = of_follow,
@@ -357,8 +335,8 @@ const struct call explain = {
     .unit = 1, .written = WITH_DONE | WITH_TOO_SMALL | WITH_REFUSAL,
 };
 
-const struct call *const calls[CALLS] = {&pack, &unpack, &check, &encode, &dump, &decode,
-                                         &audit, &encoder, &push, &finish, &decoder, &feed,
+const struct call *const calls[CALLS] = {&pack, &unpack, &check, &encode, &dump,
+                                         &encoder, &push, &finish, &decoder, &feed,
                                          &follow, &check_events, &push_checked, &receive, &resume,
                                          &push_all, &feed_all, &version, &write_message, &read_message,
                                          &write_header, &read_header, &capture_of_lines, &audit_all, &decode_all,

@@ -12,8 +12,8 @@ struct given {
     struct slice image;
     struct slice bytes; /* a payload, the text of a log or of several, a capture, or SENT */
     struct slice other; /* RECEIVED, or where each log ends, or the numbers of a packet or an event */
-    struct slice pieces; /* the image in pieces */
-    bool in_pieces;      /* these are handed in in its place */
+    struct slice pieces; /* the image in several pieces */
+    bool in_pieces;      /* these are handed in in place of one */
     struct slice state; /* of an encoder or a decoder, before the call; or the numbers of an event before */
     struct slice beside; /* symbols; or the texts of logs that a capture is compared with */
     uint16_t harts; /* or for how many elements there is room */
@@ -57,13 +57,14 @@ struct call {
     struct written second;
     size_t unit; /* how many bytes an element has that it hands out through a buffer; 0 where it hands out none */
     int written; /* with which statuses `first` and `second` are written */
-    bool takes_image; /* and there is the same call over pieces */
+    size_t least; /* it is always given room for so many elements */
+    bool takes_image; /* as one piece or as several */
     bool goes_on; /* `first` is a state, which is at first the one that is given */
     bool in_texts; /* an allocation that fails ends the text of each hart, and so of all not at one place */
     bool (*is_short)(const struct answer *answer); /* too small is what is given besides the buffer; NULL: never */
 };
 
-enum { CALLS = 34, STATUSES = 256 };
+enum { CALLS = 32, STATUSES = 256 };
 
 /* Room for what is found of a path: arrays of these lengths, one after the other behind the message that is refused. */
 enum { MOST_HART_ROWS = 4, MOST_ARRIVALS = 64, MOST_LOST = 32, MOST_RUNS = 32 };
@@ -89,7 +90,7 @@ enum { MOST_AT_ONCE = 16 };
 /* The most harts that tracebench_decode_all is given room for. */
 enum { MOST_ENDS = 32 };
 
-extern const struct call pack, unpack, check, encode, dump, decode, audit, encoder, push, finish, decoder, feed;
+extern const struct call pack, unpack, check, encode, dump, encoder, push, finish, decoder, feed;
 extern const struct call follow, check_events, push_checked, receive, resume, push_all, feed_all, version;
 extern const struct call write_message, read_message, write_header, read_header, capture_of_lines, audit_all;
 extern const struct call decode_all, list_capture, measure, compare_logs, explain, audit_unnumbered;
@@ -112,9 +113,7 @@ uint64_t wanted_of(const struct answer *answer);
 /* The structs that are written, with what stands for the padding as it is. */
 struct tracebench_packet packet_of(const struct answer *answer);
 struct tracebench_dump_end dump_end_of(const struct answer *answer);
-struct tracebench_decode_end decode_end_of(const struct answer *answer);
-struct tracebench_tally tally_of(const struct answer *answer);
-struct tracebench_audit_end audit_end_of(const struct answer *answer);
+struct tracebench_path_end path_end_of(const struct answer *answer);
 struct tracebench_decode_all_end decode_all_end_of(const struct answer *answer);
 struct tracebench_text_end text_end_of(const struct answer *answer);
 struct tracebench_explain_end explain_end_of(const struct answer *answer);

@@ -29,7 +29,7 @@ struct program {
     struct list texts;    /* texts of logs, most of them damaged */
     struct list captures; /* captures, many of them damaged */
     struct pool encoded;  /* captures that tracebench_encode wrote */
-    struct pool decoded;  /* texts that tracebench_decode wrote */
+    struct pool decoded;  /* texts of hart 0 that tracebench_decode_all wrote */
     struct pool encoders; /* states that tracebench_push wrote */
     struct pool decoders; /* states that tracebench_feed wrote */
 };

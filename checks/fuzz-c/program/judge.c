@@ -60,6 +60,7 @@ static void judge(const struct call *call, const struct given *given, const stru
 }
 
 struct answer run(const struct call *call, const struct given *given, size_t length) {
+    if (length < call->least) length = call->least;
     struct answer answer = {
         TRACEBENCH_DONE, room(length * call->unit), room(sizeof(uint64_t)),
         call->goes_on ? again(&given->state) : room(call->first.size), room(call->second.size),

@@ -5,7 +5,7 @@
 #include "draws.h"
 #include "judge.h"
 
-/* Harts of a capture that are decoded and audited each. */
+/* The most harts of a capture that is decoded. */
 enum { MOST_FOLLOWED = 4 };
 
 /* The packet that a payload stands for. */
@@ -63,26 +63,6 @@ void try_dump(struct program *program) {
     forget(&given, &answer);
 }
 
-void try_decode(struct program *program) {
-    struct given given = drawn_for_decode(program);
-    struct answer answer = exercise(&decode, &given);
-    if (answer.status == TRACEBENCH_DONE) keep(&program->decoded, answer.buffer.at, (size_t)wanted_of(&answer));
-    forget(&given, &answer);
-}
-
-void try_audit(struct program *program) {
-    struct given given = drawn_for_audit(program);
-    struct answer answer = exercise(&audit, &given);
-    if (answer.status == TRACEBENCH_DONE) {
-        struct tracebench_tally tally = tally_of(&answer);
-        bool clean = tally.sent == tally.came && tally.lost + tally.repeated + tally.late + tally.changed == 0;
-        require(tally.whole <= 1, &audit, "a flag is neither 0 nor 1");
-        require(tally.whole == 0 || clean, &audit, "a hart is whole, with messages that are lost or came otherwise");
-        require(tally.lost <= tally.sent, &audit, "more messages are lost than were sent");
-    }
-    forget(&given, &answer);
-}
-
 /* A capture, and the logs that it is of. */
 struct encoding {
     const struct given *given;
@@ -107,8 +87,8 @@ static struct given given_program(const struct encoding *encoding, const uint8_t
 }
 
 /* The text of a log is legal, and has an event for each line but the first. */
-static void check_decoded(const struct encoding *encoding, const struct answer *decoded) {
-    struct given given = given_program(encoding, decoded->buffer.at, decoded->buffer.length);
+static void check_decoded(const struct encoding *encoding, const uint8_t *text, size_t length) {
+    struct given given = given_program(encoding, text, length);
     struct answer answer = exercise(&check, &given);
     require(answer.status == TRACEBENCH_DONE, &check, "a log that was encoded and decoded is not legal");
     uint64_t row, lines = 0;
@@ -118,38 +98,41 @@ static void check_decoded(const struct encoding *encoding, const struct answer *
     forget(&given, &answer);
 }
 
-/* Decodes the log of a hart. */
-static struct answer decode_hart(const struct encoding *encoding, size_t hart) {
+/* Decodes the logs of all harts, and says where the text of each ends. */
+static struct answer decode_harts(const struct encoding *encoding, size_t ends[MOST_FOLLOWED]) {
     const struct slice *capture = &encoding->answer->buffer;
     struct given given = given_program(encoding, capture->at, capture->length);
     given.harts = (uint16_t)encoding->count;
-    given.hart = (uint16_t)hart;
-    struct answer answer = exercise(&decode, &given);
-    require(answer.status == TRACEBENCH_DONE, &decode, "a capture that was encoded has no such hart");
-    struct tracebench_decode_end ended = decode_end_of(&answer);
-    require(ended.fault == TRACEBENCH_DONE && ended.closed == 1 && ended.place == 0 && ended.harts == encoding->count,
-            &decode, "a capture that was encoded is not decoded to its end");
-    check_decoded(encoding, &answer);
-    size_t from = hart == 0 ? 0 : (size_t)end_of(encoding, hart - 1), end = (size_t)end_of(encoding, hart);
-    require(!encoding->plain || (answer.buffer.length == end - from &&
-                                 memcmp(answer.buffer.at, encoding->given->bytes.at + from, end - from) == 0),
-            &decode, "another log than was encoded");
+    struct answer answer = exercise(&decode_all, &given);
+    require(answer.status == TRACEBENCH_DONE, &decode_all, "a capture that was encoded is not decoded");
+    struct tracebench_decode_all_end ended = decode_all_end_of(&answer);
+    require(ended.fault == TRACEBENCH_DONE && ended.place == 0 && ended.harts == encoding->count, &decode_all,
+            "a capture that was encoded is not decoded to its end");
+    for (size_t hart = 0; hart < encoding->count; hart++) {
+        struct tracebench_hart_end end;
+        memcpy(&end, answer.second.at + hart * sizeof end, sizeof end);
+        require(end.closed == 1, &decode_all, "a hart of a capture that was encoded is not closed");
+        size_t from = hart == 0 ? 0 : ends[hart - 1];
+        ends[hart] = end.end;
+        check_decoded(encoding, answer.buffer.at + from, end.end - from);
+        require(!encoding->plain || end.end == end_of(encoding, hart), &decode_all, "another log than was encoded");
+    }
+    require(!encoding->plain || memcmp(answer.buffer.at, encoding->given->bytes.at, ends[encoding->count - 1]) == 0,
+            &decode_all, "other logs than were encoded");
     give_back_given(&given);
     return answer;
 }
 
-static void audit_hart(const struct encoding *encoding, size_t hart) {
+static void audit_capture(const struct encoding *encoding) {
     const struct slice *capture = &encoding->answer->buffer;
     struct given given = given_bytes(again(capture));
     give_back(&given.other);
     given.other = again(capture);
-    given.hart = (uint16_t)hart;
-    struct answer answer = exercise(&audit, &given);
-    require(answer.status == TRACEBENCH_DONE, &audit, "a capture that was encoded has no such hart");
-    require(tally_of(&answer).whole == 1, &audit, "a capture is not whole against itself");
-    struct tracebench_audit_end ended = audit_end_of(&answer);
-    require(ended.fault == TRACEBENCH_DONE && ended.strangers == 0 && ended.harts == encoding->count, &audit,
-            "a capture has strangers against itself, or other harts, or is not read to its end");
+    struct answer answer = exercise(&audit_all, &given);
+    require(is_answer(answer.status), &audit_all, "a capture that was encoded is not audited");
+    struct tracebench_path_end ended = path_end_of(&answer);
+    require(ended.whole == 1 && ended.strangers == 0 && ended.harts == encoding->count, &audit_all,
+            "a capture is not whole against itself, or has strangers or other harts");
     forget(&given, &answer);
 }
 
@@ -162,21 +145,11 @@ static void dump_capture(const struct encoding *encoding) {
     forget(&given, &answer);
 }
 
-/* Decodes each hart, and encodes these texts: the capture is the same. */
+/* Decodes all harts, and encodes these texts: the capture is the same. */
 static void encode_again(const struct encoding *encoding) {
-    uint64_t ends[MOST_FOLLOWED];
-    static uint8_t texts[1 << 20];
-    size_t length = 0;
-    for (size_t hart = 0; hart < encoding->count; hart++) {
-        struct answer decoded = decode_hart(encoding, hart);
-        bool fits = decoded.buffer.length <= sizeof texts - length;
-        if (fits) memcpy(texts + length, decoded.buffer.at, decoded.buffer.length);
-        length += fits ? decoded.buffer.length : 0;
-        ends[hart] = length;
-        give_back_answer(&decoded);
-        if (!fits) return;
-    }
-    struct given given = given_program(encoding, texts, length);
+    size_t ends[MOST_FOLLOWED];
+    struct answer decoded = decode_harts(encoding, ends);
+    struct given given = given_program(encoding, decoded.buffer.at, ends[encoding->count - 1]);
     give_back(&given.other);
     given.other = copy_of(ends, encoding->count * sizeof *ends);
     given.period = encoding->given->period;
@@ -187,20 +160,15 @@ static void encode_again(const struct encoding *encoding) {
     require(answer.status == TRACEBENCH_DONE && answer.buffer.length == capture->length &&
                 begin_alike(&answer.buffer, capture, capture->length),
             &encode, "what a capture decodes to gives another capture");
+    give_back_answer(&decoded);
     forget(&given, &answer);
 }
 
-/* The capture of so many logs, each of which may be encoded. */
+/* The capture of so many logs. */
 static void follow_up(const struct encoding *encoding) {
     dump_capture(encoding);
+    audit_capture(encoding);
     if (encoding->count <= MOST_FOLLOWED) encode_again(encoding);
-    for (size_t times = 0; times < MOST_FOLLOWED && times < encoding->count; times++) {
-        size_t hart = encoding->count <= MOST_FOLLOWED ? times : below(encoding->count);
-        audit_hart(encoding, hart);
-        if (encoding->count <= MOST_FOLLOWED) continue;
-        struct answer decoded = decode_hart(encoding, hart);
-        give_back_answer(&decoded);
-    }
 }
 
 void try_encode(struct program *program) {

@@ -19,11 +19,6 @@ void try_check(struct program *program);
 void try_encode(struct program *program);
 
 void try_dump(struct program *program);
-void try_decode(struct program *program);
-
-/* A hart is whole only where as many messages came as were sent, and none is lost, repeated, late or changed. */
-void try_audit(struct program *program);
-
 /* A log of too many rows is refused. */
 void try_too_many_rows(struct program *program);
 

@@ -23,8 +23,7 @@
 #include "texts.h"
 
 int main(int count, char **words) {
-    static void (*const tries[])(struct program *) = {try_pack,   try_unpack,  try_check, try_encode,
-                                                      try_dump,   try_decode,  try_audit, try_log_in_steps,
+    static void (*const tries[])(struct program *) = {try_pack,   try_unpack,  try_check, try_encode, try_dump, try_log_in_steps,
                                                       try_encoder, try_push, try_finish, try_feed,
                                                       try_follow, try_check_events, try_receive, try_resume,
                                                       try_push_all, try_feed_all, try_version, try_messages,

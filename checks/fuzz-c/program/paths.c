@@ -211,18 +211,13 @@ void try_audit_all(struct program *program) {
     given.mode = one_in(16) ? (uint32_t)any_number() : (uint32_t)below(2);
     given.harts = (uint16_t)(one_in(3) ? below(16) : 15);
     if (given.bytes.length > 40000 || given.other.length > 40000) given.mode = 2;
-    struct answer answer = exercise(&audit_all, &given), one = run(&audit, &given, 0);
+    struct answer answer = exercise(&audit_all, &given);
     if (given.mode > TRACEBENCH_BY_PACKETS) {
         require(answer.status == TRACEBENCH_OUT_OF_RANGE, &audit_all, "a flag that is not known is taken");
     } else if (is_answer(answer.status)) {
-        require(one.status == TRACEBENCH_DONE || one.status == TRACEBENCH_NO_HART || one.status == TRACEBENCH_MEMORY,
-                &audit_all, "SENT is refused by the audit of a hart");
         judge_path(&given, &answer);
-    } else {
-        require(answer.status == one.status || answer.status == TRACEBENCH_MEMORY || one.status == TRACEBENCH_MEMORY,
-                &audit_all, "another status than that of the audit of a hart");
-        if (answer.status != TRACEBENCH_MEMORY) judge_refusal(&given, &answer);
+    } else if (answer.status != TRACEBENCH_MEMORY) {
+        judge_refusal(&given, &answer);
     }
     forget(&given, &answer);
-    give_back_answer(&one);
 }

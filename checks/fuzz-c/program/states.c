@@ -45,7 +45,7 @@ static uint64_t number_in(const uint8_t **at) {
     return number;
 }
 
-/* The event of a row, as tracebench_decode writes it. */
+/* The event of a row, as tracebench_decode_all writes it. */
 static struct tracebench_event event_in(const uint8_t **at) {
     struct tracebench_event event;
     memset(&event, 0, sizeof event);

@@ -34,9 +34,10 @@ static struct answer step(const struct call *call, const struct given *given) {
     bool (*const has_state)(const uint8_t *) = call == &feed ? has_decoder : has_encoder;
     bool there = has_state(given->state.at);
     struct answer answer = exercise(call, given);
-    require(there == (answer.status != TRACEBENCH_BAD_STATE), call, "a state is refused, or what is none is not");
-    if ((call == &push || call == &push_checked) && there)
-        require(has_event(given->other.at) == (answer.status != TRACEBENCH_NO_EVENT), call,
+    require(there ? answer.status != TRACEBENCH_BAD_STATE : !is_answer(answer.status), call,
+            "a state is refused, or what is none is not");
+    if (call == &push || call == &push_checked)
+        require(has_event(given->other.at) ? answer.status != TRACEBENCH_NO_EVENT : !is_answer(answer.status), call,
                 "an event is refused, or what is none is not");
     if (call->goes_on && answer.status == TRACEBENCH_DONE)
         require(has_state(answer.first.at), call, "it wrote what is no state");
@@ -206,7 +207,7 @@ void try_follow(struct program *program) {
     bool there = has_event(given.other.at) && (given.mode != 1 || has_event(given.state.at));
     struct answer answer = exercise(&follow, &given);
     require((given.mode > 1) == (answer.status == TRACEBENCH_OUT_OF_RANGE), &follow, "a flag is refused, or is not");
-    require(given.mode > 1 || there == (answer.status != TRACEBENCH_NO_EVENT), &follow,
+    require(there ? answer.status != TRACEBENCH_NO_EVENT : answer.status != TRACEBENCH_DONE, &follow,
             "an event is refused, or what is none is not");
     forget(&given, &answer);
 }

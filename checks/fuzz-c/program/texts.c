@@ -5,9 +5,6 @@
 #include "draws.h"
 #include "judge.h"
 
-/* Harts whose texts are compared with those that tracebench_decode writes. */
-enum { MOST_COMPARED = 3 };
-
 /* Whether a status is what is wrong with an image. */
 static bool is_of_image(uint32_t status) { return TRACEBENCH_ODD_BASE <= status && status <= TRACEBENCH_NOT_SORTED; }
 
@@ -16,25 +13,6 @@ static struct tracebench_hart_end hart_end_of(const struct answer *answer, size_
     struct tracebench_hart_end end;
     memcpy(&end, answer->second.at + hart * sizeof end, sizeof end);
     return end;
-}
-
-/* The text of the hart, and its end, are those of the call for one. */
-static void compare_hart(const struct given *given, const struct answer *answer, size_t hart) {
-    struct given one = *given;
-    struct tracebench_hart_end end = hart_end_of(answer, hart);
-    size_t from = hart == 0 ? 0 : hart_end_of(answer, hart - 1).end;
-    require(from <= end.end && end.end <= wanted_of(answer), &decode_all, "a text ends before it begins, or too late");
-    one.hart = (uint16_t)hart;
-    struct answer own = run(&decode, &one, end.end - from);
-    require(own.status == TRACEBENCH_DONE && wanted_of(&own) == end.end - from &&
-                memcmp(own.buffer.at, answer->buffer.at + from, end.end - from) == 0,
-            &decode_all, "another text of a hart than that of the call for one");
-    struct tracebench_decode_end ended = decode_end_of(&own);
-    struct tracebench_decode_all_end all = decode_all_end_of(answer);
-    require(ended.closed == end.closed && ended.harts == all.harts && ended.place == all.place &&
-                ended.fault == all.fault,
-            &decode_all, "another end than that of the call for one hart");
-    give_back_answer(&own);
 }
 
 void try_decode_all(struct program *program) {
@@ -46,8 +24,9 @@ void try_decode_all(struct program *program) {
                 "the last text does not end where all end");
         require(is_kept_from(&answer.second, harts * sizeof(struct tracebench_hart_end)), &decode_all,
                 "the end of a hart is written that the capture has not");
-        for (size_t place = 0; place < MOST_COMPARED && place < harts; place++)
-            compare_hart(&given, &answer, harts <= MOST_COMPARED ? place : below(harts));
+        for (size_t hart = 0, from = 0; hart < harts; from = hart_end_of(&answer, hart++).end)
+            require(from <= hart_end_of(&answer, hart).end, &decode_all, "a text ends before it begins");
+        keep(&program->decoded, answer.buffer.at, harts == 0 ? 0 : hart_end_of(&answer, 0).end);
     } else {
         require(is_kept_from(&answer.second, 0), &decode_all, "ends are written without their texts");
     }

@@ -4,7 +4,7 @@
 
 #include "corpus.h"
 
-/* The text of each hart, and whether it is closed, are those that tracebench_decode says. */
+/* The texts of all harts end one after the other. */
 void try_decode_all(struct program *program);
 
 /* How a listing ends is how decoding all harts ends. */

@@ -48,6 +48,7 @@ struct tried rattle_realloc(uint8_t *block, size_t kept, size_t size, size_t ali
 void rattle_dealloc(uint8_t *block) { (void)block; }
 
 static uint8_t image[LENGTH];
+static const struct tracebench_piece program = {BASE_OF_IMAGE, image, LENGTH};
 
 static int failures;
 
@@ -69,19 +70,19 @@ int main(void) {
         events[place] = (struct tracebench_event){TRACEBENCH_RETIREMENT, 0, 3, 0, 0, BASE_OF_IMAGE + 2 * place, 0};
 
     expect("encoder", tracebench_encoder(1, TRACEBENCH_FULL, &state, &opening), TRACEBENCH_DONE);
-    expect("push", tracebench_push(BASE_OF_IMAGE, image, LENGTH, &state, &events[0], packets, 2, &count), 0);
+    expect("push", tracebench_push(&program, 1, &state, &events[0], packets, 2, &count), 0);
     expect("packets of a push", count, 0);
     expect("push_checked",
-           tracebench_push_checked(BASE_OF_IMAGE, image, LENGTH, &state, &events[1], packets, 2, &count), 0);
+           tracebench_push_checked(&program, 1, &state, &events[1], packets, 2, &count), 0);
     expect("packets of push_checked", count, 1);
-    expect("push_all", tracebench_push_all(BASE_OF_IMAGE, image, LENGTH, &state, events + 2, EVENTS - 2, packets, EVENTS,
+    expect("push_all", tracebench_push_all(&program, 1, &state, events + 2, EVENTS - 2, packets, EVENTS,
                                            &taken, &count), 0);
     expect("events of push_all", taken, EVENTS - 2);
     expect("packets of push_all", count, EVENTS - 2);
-    expect("finish", tracebench_finish(BASE_OF_IMAGE, image, LENGTH, &state, packets, 2, &count), 0);
+    expect("finish", tracebench_finish(&program, 1, &state, packets, 2, &count), 0);
     expect("packets of finish", count, 2);
-    expect("follow", tracebench_follow(BASE_OF_IMAGE, image, LENGTH, 1, &events[0], &events[1]), 0);
-    expect("check_events", tracebench_check_events(BASE_OF_IMAGE, image, LENGTH, events, EVENTS, &row), 0);
+    expect("follow", tracebench_follow(&program, 1, 1, &events[0], &events[1]), 0);
+    expect("check_events", tracebench_check_events(&program, 1, events, EVENTS, &row), 0);
     expect("rows", row, EVENTS);
 
     uint8_t bytes[29];

@@ -7,10 +7,10 @@ use Rattle.capture_commands.specs.declared.reason.CaptureReason.TheVariants.{Log
 use Rattle.output.specs.Begun.{AppendsBeginning}
 use Rattle.bench.specs.Got.{Got}
 use Rattle.captures.specs.declared.outcome.CaptureFault.{CaptureFault}
-use Rattle.comparing.proofs.LineTexts.{lines_whole_of, lines_written_of}
-use Rattle.comparing.specs.Compared.{AreGotOf, comparison_text_of, is_compared_whole}
-use Rattle.comparing.specs.Lines.{are_whole_lines, lines_text}
-use Rattle.comparing.specs.declared.hart_line.ComparedHart.{ComparedHart}
+use Rattle.comparing.proofs.LineTexts.{harts_whole_of, harts_written_of}
+use Rattle.comparing.specs.Compared.{AreGotOf, is_compared_whole}
+use Rattle.comparing.specs.Explained.{are_whole_harts, explained_text, explained_text_of}
+use Rattle.comparing.specs.declared.explained.ExplainedHart.{ExplainedHart}
 use Rattle.message.specs.declared.range.HartRange.{HartRange}
 use Rattle.rvclass.specs.Fetch.{words_of}
 use Rattle.rvclass.specs.Image.{Image}
@@ -43,9 +43,9 @@ as_many harts paths u are = go (length paths == harts) refl are
     go false is found = cc
 
 module _ (content : Content) (asked : Compare) (base : ℕ) (range : HartRange) (program : Image) (bytes : List ℕ)
-    (based : IsBase {W = CaptureReason} asked.base.now asked.also.items (Ok base))
+    (based : IsBase {W = CaptureReason} asked.program (Ok base))
     (chosen : IsOnly {W = CaptureReason} asked.only (Ok range))
-    (found : IsProgramAt {W = CaptureReason} content base asked.image asked.also.items (Ok program))
+    (found : IsProgramAt {W = CaptureReason} content base asked.program (Ok program))
     (read : IsRead {W = CaptureReason} content asked.capture (Ok bytes)) where
   -- What is written of the harts is what `compare` prints.
   harts_lead : (printed : Printed) → ComparesHarts content asked range program bytes printed
@@ -144,17 +144,20 @@ module _ (content : Content) (asked : Compare) (range : HartRange) (program : Im
           prints = (Err why, (Ok u, many, refused), refl);
         })
 
-    module _ (lines : List ComparedHart)
+    module _ (lines : List ExplainedHart)
         (are : AreLinesOfLogs (rows_of asked.long) content program asked.logs.items range.first gots lines) where
-      text_is : lines_text (is_none stop) lines ≡ comparison_text_of range.first stop gots are.logs
+      text_is : explained_text asked.explain (is_none stop) lines
+          ≡ explained_text_of asked.explain range.first stop gots are.logs
       text_is =
-          ap (lines_text (is_none stop)) are.each ∙ lines_written_of range.first stop gots are.logs are.many
+          ap (explained_text asked.explain (is_none stop)) are.each
+          ∙ harts_written_of asked.explain range.first stop gots are.logs are.many
 
-      whole_is : are_whole_lines (is_none stop) lines ≡ is_compared_whole stop gots are.logs
+      whole_is : are_whole_harts (is_none stop) lines ≡ is_compared_whole stop gots are.logs
       whole_is =
-          ap (are_whole_lines (is_none stop)) are.each ∙ lines_whole_of range.first stop gots are.logs are.many
+          ap (are_whole_harts (is_none stop)) are.each
+          ∙ harts_whole_of asked.explain range.first stop gots are.logs are.many
 
-      leads : (printed : Printed) → WritesLines stop lines printed → Prints printed
+      leads : (printed : Printed) → WritesLines asked.explain stop lines printed → Prints printed
       leads printed writes = record {
         gots = gots;
         stop = stop;
@@ -166,10 +169,10 @@ module _ (content : Content) (asked : Compare) (range : HartRange) (program : Im
           writes
               ∙ ap (λ text. record {
                 text = text;
-                ended = comparison_end (end_of_stop stop) (are_whole_lines (is_none stop) lines);
+                ended = comparison_end (end_of_stop stop) (are_whole_harts (is_none stop) lines);
               }) text_is
               ∙ ap (λ whole. record {
-                text = comparison_text_of range.first stop gots are.logs;
+                text = explained_text_of asked.explain range.first stop gots are.logs;
                 ended = comparison_end (end_of_stop stop) whole;
               }) whole_is,
         );
@@ -177,9 +180,10 @@ module _ (content : Content) (asked : Compare) (range : HartRange) (program : Im
 
       -- The report is what is printed.
       pub report_printed : (ended : Result Status Fault) (old new : Option (List ℕ))
-          → PrintsUnlessDenied (WritesLines stop lines) ⊤ ended old new → PrintsUnlessDenied Prints Can ended old new
+          → PrintsUnlessDenied (WritesLines asked.explain stop lines) ⊤ ended old new
+          → PrintsUnlessDenied Prints Can ended old new
       report_printed ended old new =
-          leads_on (WritesLines stop lines) Prints ⊤ Can ended old new leads
+          leads_on (WritesLines asked.explain stop lines) Prints ⊤ Can ended old new leads
           (λ there. record {
             gots = gots;
             stop = stop;
@@ -189,8 +193,8 @@ module _ (content : Content) (asked : Compare) (range : HartRange) (program : Im
           })
 
       -- Or a prefix of it.
-      pub report_cut : (old new : Option (List ℕ)) → AppendsBeginning (lines_text (is_none stop) lines) old new
-          → IsCutOf Prints old new
+      pub report_cut : (old new : Option (List ℕ))
+          → AppendsBeginning (explained_text asked.explain (is_none stop) lines) old new → IsCutOf Prints old new
       report_cut old new begun =
-          inr (printed_begun Prints (lines_text (is_none stop) lines)
-          (comparison_end (end_of_stop stop) (are_whole_lines (is_none stop) lines)) old new (leads _ refl) begun)
+          inr (printed_begun Prints (explained_text asked.explain (is_none stop) lines)
+          (comparison_end (end_of_stop stop) (are_whole_harts (is_none stop) lines)) old new (leads _ refl) begun)

@@ -39,9 +39,9 @@ decodes harts range program bytes lists closed stop decoded = record {
 }
 
 module _ (content : Content) (asked : Decode) (base : ℕ) (range : HartRange) (program : Image) (bytes : List ℕ)
-    (based : IsBase {W = CaptureReason} asked.base.now asked.also.items (Ok base))
+    (based : IsBase {W = CaptureReason} asked.program (Ok base))
     (chosen : IsOnly {W = CaptureReason} asked.only (Ok range))
-    (found : IsProgramAt {W = CaptureReason} content base asked.image asked.also.items (Ok program))
+    (found : IsProgramAt {W = CaptureReason} content base asked.program (Ok program))
     (read : IsRead {W = CaptureReason} content asked.capture (Ok bytes)) where
   abbrev Own : Printed → Type 0
   Own = WritesLogsOf asked.lossy asked.harts range program bytes

@@ -11,9 +11,9 @@ use Rattle.command_inputs.proofs.StreamLemmas.{log_read_in}
 use Rattle.command_inputs.specs.Faults.{Path}
 use Rattle.command_inputs.specs.FoundLogs.{IsLegalLogUpTo}
 use Rattle.comparing.specs.Compared.{got_by, gots_by, of_harts}
-use Rattle.comparing.specs.Lines.{line_of, lines_of}
+use Rattle.comparing.specs.Explained.{explained_hart, explained_harts}
 use Rattle.comparing.specs.declared.hart_count.HartCount.{HartCount}
-use Rattle.comparing.specs.declared.hart_line.ComparedHart.{ComparedHart}
+use Rattle.comparing.specs.declared.explained.ExplainedHart.{ExplainedHart}
 use Rattle.log_streams.specs.Known.{Content}
 use Rattle.capture_index.specs.Placed.{ArePlacedLogs, IsPlacedLog}
 use Rattle.legalpath.specs.ProgramLog.{ProgramLog, program_log}
@@ -32,10 +32,10 @@ use Rattle.message.specs.declared.range.HartRange.{HartRange}
 
 -- This is made of the events of a log, where the messages of harts are at these places.
 abbrev pub OfEvents : {A : Type 0} → Words → List ℕ → List (Vec ℕ A) → Image → List HartCount → List Bool → ℕ → ℕ
-    → List Event → ComparedHart → Type 0
+    → List Event → ExplainedHart → Type 0
 OfEvents words messages places program counts closed first place events line =
     (log : List Event) → IsPlacedLog words messages (places_in places (hart_at_place first place)) log
-    → line ≡ line_of (hart_at_place first place) (got_by (count_in counts (hart_at_place first place)) log
+    → line ≡ explained_hart (hart_at_place first place) (got_by (count_in counts (hart_at_place first place)) log
     (get_or closed (hart_at_place first place) false)) (program_log program events)
 
 -- The messages of a hart are at its places.
@@ -53,21 +53,21 @@ placed_at {A} words messages places lists hart are within =
 
 module _ (rows : ℕ) (content : Content) (program : Image) where
   -- The legal log at a path, and the line of it.
-  record LineAt (hart : ℕ) (got : Got) (path : Path) (line : ComparedHart) : Type 0 where
+  record LineAt (hart : ℕ) (got : Got) (path : Path) (line : ExplainedHart) : Type 0 where
     pub log : ProgramLog
     pub legal : IsLegalLogUpTo {W = CaptureReason} rows content program path (Ok log)
-    pub is : line ≡ line_of hart got log
+    pub is : line ≡ explained_hart hart got log
 
   -- The logs of harts, from this one on, and their lines.
-  record LinesFrom (hart : ℕ) (gots : List Got) (paths : List Path) (lines : List ComparedHart) : Type 0 where
+  record LinesFrom (hart : ℕ) (gots : List Got) (paths : List Path) (lines : List ExplainedHart) : Type 0 where
     pub logs : List ProgramLog
     pub legal : AllZip (λ path log. IsLegalLogUpTo {W = CaptureReason} rows content program path (Ok log)) paths logs
     pub many : length logs ≡ length gots
-    pub each : lines ≡ lines_of hart gots logs
+    pub each : lines ≡ explained_harts hart gots logs
 
-  lines_from : (hart : ℕ) (gots : List Got) (paths : List Path) (lines : List ComparedHart)
+  lines_from : (hart : ℕ) (gots : List Got) (paths : List Path) (lines : List ExplainedHart)
       → length paths ≡ length gots → length lines ≡ length paths
-      → ((i : ℕ) (got : Got) (path : Path) (line : ComparedHart) → slice_get gots i ≡ Some got
+      → ((i : ℕ) (got : Got) (path : Path) (line : ExplainedHart) → slice_get gots i ≡ Some got
       → slice_get paths i ≡ Some path → slice_get lines i ≡ Some line → LineAt (hart + i) got path line)
       → LinesFrom hart gots paths lines
   lines_from hart [] [] [] same many each = record { logs = []; legal = tt; many = refl; each = refl }
@@ -84,8 +84,8 @@ module _ (rows : ℕ) (content : Content) (program : Image) where
         logs = here.log ∷ rest.logs;
         legal = (here.legal, rest.legal);
         many = ap (λ n. suc n) rest.many;
-        each = ap (λ one. one ∷ lines) (here.is ∙ ap (λ hart. line_of hart got here.log) first)
-            ∙ ap (λ others. line_of hart got here.log ∷ others) rest.each;
+        each = ap (λ one. one ∷ lines) (here.is ∙ ap (λ hart. explained_hart hart got here.log) first)
+            ∙ ap (λ others. explained_hart hart got here.log ∷ others) rest.each;
       }
 
   module _ {A : Type 0} (words : Words) (messages : List ℕ) (places : List (Vec ℕ A)) (range : HartRange)
@@ -94,10 +94,10 @@ module _ (rows : ℕ) (content : Content) (program : Image) where
     abbrev gots : List Got
     gots = of_harts range (gots_by (count_in counts) 0 lists closed)
 
-    abbrev Of : ℕ → List Event → ComparedHart → Type 0
+    abbrev Of : ℕ → List Event → ExplainedHart → Type 0
     Of = OfEvents words messages places program counts closed range.first
 
-    line_at : (place : ℕ) (got : Got) (path : Path) (line : ComparedHart) → slice_get gots place ≡ Some got
+    line_at : (place : ℕ) (got : Got) (path : Path) (line : ExplainedHart) → slice_get gots place ≡ Some got
         → IsMadeOf Of (λ events row line. ⊥) (content path.now) program rows place (Ok line)
         → LineAt (range.first + place) got path line
     line_at place got path line there (inl made) =
@@ -118,15 +118,15 @@ module _ (rows : ℕ) (content : Content) (program : Image) where
             judged = (refl, made.legal.legal);
           };
           is = subst (λ hart. IsPlacedLog words messages (places_in places hart) (get_or lists (range.first + place) [])
-              → line ≡ line_of hart (got_by (count_in counts hart) (get_or lists (range.first + place) [])
+              → line ≡ explained_hart hart (got_by (count_in counts hart) (get_or lists (range.first + place) [])
               (get_or closed hart false)) (program_log program made.events)) hart
               (made.makes (get_or lists (range.first + place) [])) own
-              ∙ ap (λ got. line_of (range.first + place) got (program_log program made.events)) is;
+              ∙ ap (λ got. explained_hart (range.first + place) got (program_log program made.events)) is;
         }
     line_at place got path line there (inr made) = elim made.makes [ ]
 
     -- All logs are legal, and these are the lines.
-    pub lines_made : (paths : List Path) (lines : List ComparedHart) (end : Unit {0}) → length paths ≡ length gots
+    pub lines_made : (paths : List Path) (lines : List ExplainedHart) (end : Unit {0}) → length paths ≡ length gots
         → AreMade Of (λ events row line. ⊥) content program rows paths lines (Ok end)
         → AreLinesOfLogs rows content program paths range.first gots lines
     lines_made paths lines end same are =

@@ -41,7 +41,7 @@ memory_leads Own Prints leads old new (inr is) = inr (record {
 
 module _ (content : Content) (asked : Listing) (base : ℕ) (only : HartRange) (program : Image)
     (symbols : Option (List ℕ)) (bytes : List ℕ)
-    (found : IsProgramAt {W = CaptureReason} content base asked.image asked.also.items (Ok program))
+    (found : IsProgramAt {W = CaptureReason} content base asked.program (Ok program))
     (named : AreSymbols content asked.symbols (Ok symbols))
     (read : IsRead {W = CaptureReason} content asked.capture (Ok bytes)) where
   abbrev Own : Printed → Type 0

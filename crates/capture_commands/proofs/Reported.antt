@@ -8,8 +8,8 @@ use Rattle.capture_commands.specs.Faults.{Fault}
 use Rattle.command_inputs.proofs.Runs.{appends-keeps}
 use Rattle.command_inputs.specs.Printed.{PrintsUnlessDenied}
 use Rattle.command_inputs.specs.declared.status.Status.{Status}
-use Rattle.comparing.specs.Lines.{are_whole_lines, lines_text}
-use Rattle.comparing.specs.declared.hart_line.ComparedHart.{ComparedHart}
+use Rattle.comparing.specs.Explained.{are_whole_harts, explained_text}
+use Rattle.comparing.specs.declared.explained.ExplainedHart.{ExplainedHart}
 use Rattle.capture_commands.specs.Comparison.{comparison_end, end_of_stop}
 use Rattle.capture_commands.specs.steps.Lines.{WritesLines}
 
@@ -20,19 +20,20 @@ none_is None false is = absurd (true≢false (sym is))
 none_is (Some at) true is = absurd (true≢false is)
 none_is (Some at) false is = refl
 
-module _ (stop : Option (ℕ × CaptureFault)) (lines : List ComparedHart) (old mid new : Option (List ℕ))
-    (text : Appends old mid (lines_text (is_none stop) lines)) (kept : Keeps mid new) where
+module _ (before : Bool) (stop : Option (ℕ × CaptureFault)) (harts : List ExplainedHart)
+    (old mid new : Option (List ℕ)) (text : Appends old mid (explained_text before (is_none stop) harts))
+    (kept : Keeps mid new) where
   abbrev written : List ℕ
-  written = lines_text (is_none stop) lines
+  written = explained_text before (is_none stop) harts
 
   abbrev is_whole : Bool
-  is_whole = are_whole_lines (is_none stop) lines
+  is_whole = are_whole_harts (is_none stop) harts
 
   -- The run ends at the fault at which decoding stops.
   pub ends_at_stop : (why : Fault) (ended : Result Status Fault) → ended ≡ Err why → end_of_stop stop ≡ Err why
-      → PrintsUnlessDenied (WritesLines stop lines) ⊤ ended old new
+      → PrintsUnlessDenied (WritesLines before stop harts) ⊤ ended old new
   ends_at_stop why ended is end =
-      subst (λ ended. PrintsUnlessDenied (WritesLines stop lines) ⊤ ended old new) (sym is)
+      subst (λ ended. PrintsUnlessDenied (WritesLines before stop harts) ⊤ ended old new) (sym is)
       (inr (record {
         text = written;
         prints = ap (λ end. record { text = written; ended = comparison_end end is_whole }) (sym end);
@@ -41,7 +42,8 @@ module _ (stop : Option (ℕ × CaptureFault)) (lines : List ComparedHart) (old 
 
   -- Or with the status by whether it is whole.
   pub ends_well : (u : Unit {0}) (whole : Bool) (status : Status) → end_of_stop stop ≡ Ok u → whole ≡ is_whole
-      → comparison_end (Ok u) whole ≡ Ok status → PrintsUnlessDenied (WritesLines stop lines) ⊤ (Ok status) old new
+      → comparison_end (Ok u) whole ≡ Ok status
+      → PrintsUnlessDenied (WritesLines before stop harts) ⊤ (Ok status) old new
   ends_well u whole status end same is = record {
     text = written;
     prints = ap (λ ended. record { text = written; ended = ended })

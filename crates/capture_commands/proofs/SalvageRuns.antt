@@ -72,9 +72,9 @@ module _ (only : HartRange) (format : Format) (asked : Option ℕ) (summary : Bo
       (begun_kept text old mid new (subst (λ l. AppendsBeginning l old mid) text_same begun) kept))
 
 module _ (content : Content) (asked : Salvage) (base : ℕ) (only : HartRange) (program : Image) (bytes : List ℕ)
-    (based : IsAskedBase {W = CaptureReason} asked.format asked.base.now asked.also.items (Ok base))
+    (based : IsAskedBase {W = CaptureReason} asked.format asked.program (Ok base))
     (ranged : IsOnly {W = CaptureReason} asked.only (Ok only))
-    (found : IsProgramAt {W = CaptureReason} content base asked.image asked.also.items (Ok program))
+    (found : IsProgramAt {W = CaptureReason} content base asked.program (Ok program))
     (read : IsRead {W = CaptureReason} content asked.capture (Ok bytes)) where
   abbrev Own : Printed → Type 0
   Own = SalvagesOf only asked.format asked.harts asked.summary program bytes

@@ -1,8 +1,9 @@
 -- What `compare` prints, and how it ends.
-use Rattle.std.specs.Prelude.{⊤, ℕ, ◌≡◌, ◌≢◌, List, Option, Err, length}
+use Rattle.std.specs.Prelude.{⊤, ℕ, ◌≡◌, ◌≢◌, Bool, List, Option, Err, length}
 use Rattle.bench.specs.Got.{Got}
 use Rattle.captures.specs.declared.outcome.CaptureFault.{CaptureFault}
-use Rattle.comparing.specs.Compared.{AreGotOf, comparison_text_of, is_compared_whole}
+use Rattle.comparing.specs.Compared.{AreGotOf, is_compared_whole}
+use Rattle.comparing.specs.Explained.{explained_text_of}
 use Rattle.log_streams.specs.Known.{Content}
 use Rattle.message.specs.declared.range.HartRange.{HartRange}
 use Rattle.legalpath.specs.ProgramLog.{ProgramLog}
@@ -20,10 +21,11 @@ use Rattle.capture_commands.specs.CountedHarts.{HasHartBelow}
 use Rattle.capture_commands.specs.Faults.{Meaning, Once, Printed}
 use Rattle.capture_commands.specs.Comparison.{AreLogsOfHarts, comparison_end, end_of_stop, rows_of}
 
--- The report of a comparison is written, whose first hart has this number, and the run ends as that says.
-abbrev pub WritesComparison : ℕ → Option (ℕ × CaptureFault) → List Got → List ProgramLog → Printed → Type 0
-WritesComparison hart stop gots logs printed = printed ≡ record {
-  text = comparison_text_of hart stop gots logs;
+-- The report of a comparison that says where logs differ is written, whose first hart has this number, and the run ends
+-- as that says. The rows before the first difference are written if they are wanted.
+abbrev pub WritesComparison : Bool → ℕ → Option (ℕ × CaptureFault) → List Got → List ProgramLog → Printed → Type 0
+WritesComparison before hart stop gots logs printed = printed ≡ record {
+  text = explained_text_of before hart stop gots logs;
   ended = comparison_end (end_of_stop stop) (is_compared_whole stop gots logs);
 }
 
@@ -37,7 +39,7 @@ pub record ComparesCapture (content : Content) (asked : Compare) (range : HartRa
   pub no_memory : end_of_stop stop ≢ Err fault.Memory
   pub prints : First
       (AreLogsOfHarts (rows_of asked.long) content program asked.logs.items (length gots))
-      (WritesComparison range.first stop gots) printed
+      (WritesComparison asked.explain range.first stop gots) printed
 
 -- The capture is compared where it has one of these harts.
 abbrev pub ComparesHarts : Content → Compare → HartRange → Image → List ℕ → Printed → Type 0
@@ -48,9 +50,9 @@ ComparesHarts content asked range program bytes =
 -- capture. Where there is no fault, what the capture has of these harts is compared.
 abbrev pub Compares : Content → Compare → Printed → Type 0
 Compares content asked =
-    First (IsBase asked.base.now asked.also.items) (λ base.
+    First (IsBase asked.program) (λ base.
     First (IsOnly asked.only) (λ range.
-    First (IsProgramAt content base asked.image asked.also.items) (λ program.
+    First (IsProgramAt content base asked.program) (λ program.
     First (IsRead content asked.capture) (ComparesHarts content asked range program))))
 
 -- A capture's bytes decode to something of each of these harts without want of memory, and the logs of as many harts
@@ -71,13 +73,13 @@ CanCompareHarts content asked range program bytes =
 -- `compare` writes once it has the legal logs.
 abbrev pub CanCompare : Content → Compare → Type 0
 CanCompare content asked =
-    Once (IsBase asked.base.now asked.also.items) (λ base.
+    Once (IsBase asked.program) (λ base.
     Once (IsOnly asked.only) (λ range.
-    Once (IsProgramAt content base asked.image asked.also.items) (λ program.
+    Once (IsProgramAt content base asked.program) (λ program.
     Once (IsRead content asked.capture) (CanCompareHarts content asked range program))))
 
 -- What `compare` means. Where allocation fails, it wrote nothing.
 abbrev pub compare_meaning : Compare → Meaning
 compare_meaning asked = writing_at_once
-    (base_or_only_fault (base_number asked.base.now asked.also.items) (asked_harts asked.only))
+    (base_or_only_fault (base_number asked.program) (asked_harts asked.only))
     (λ content. Compares content asked) (λ content. CanCompare content asked)

@@ -47,9 +47,9 @@ WritesLogsOf lossy harts range program bytes =
 -- Where there is no fault, what the capture has of the logs of these harts is written.
 abbrev pub Decodes : Content → Decode → Printed → Type 0
 Decodes content asked =
-    First (IsBase asked.base.now asked.also.items) (λ base.
+    First (IsBase asked.program) (λ base.
     First (IsOnly asked.only) (λ range.
-    First (IsProgramAt content base asked.image asked.also.items) (λ program.
+    First (IsProgramAt content base asked.program) (λ program.
     First (IsRead content asked.capture) (WritesLogsOf asked.lossy asked.harts range program))))
 
 -- Where messages may be lost, what is left of the logs is written once it is collected.
@@ -65,16 +65,16 @@ CanWriteLogsOf lossy harts range program bytes =
 -- `decode` writes once it has the program and the capture, and that has one of the harts.
 abbrev pub CanDecode : Content → Decode → Type 0
 CanDecode content asked =
-    Once (IsBase asked.base.now asked.also.items) (λ base.
+    Once (IsBase asked.program) (λ base.
     Once (IsOnly asked.only) (λ range.
-    Once (IsProgramAt content base asked.image asked.also.items) (λ program.
+    Once (IsProgramAt content base asked.program) (λ program.
     Once (IsRead content asked.capture) (CanWriteLogsOf asked.lossy asked.harts range program))))
 
 -- What `decode` means. Only where messages may be lost does it take memory for the text of a log once the logs before
 -- it are written.
 abbrev pub decode_meaning : Decode → Meaning
 decode_meaning asked = record {
-  early = base_or_only_fault (base_number asked.base.now asked.also.items) (asked_harts asked.only);
+  early = base_or_only_fault (base_number asked.program) (asked_harts asked.only);
   Prints = λ content. Decodes content asked;
   CanWrite = λ content. CanDecode content asked;
   Begins = λ content old new. Keeps old new ⊎ ((asked.lossy ≡ true) × BeginsPrinted (Decodes content asked) old new);

@@ -51,7 +51,7 @@ WritesListed format false only harts program symbols bytes =
 -- no fault, what is listed of these harts of the capture is written.
 abbrev pub ListsHarts : Content → Listing → ℕ → HartRange → Printed → Type 0
 ListsHarts content asked base only =
-    First (IsProgramAt content base asked.image asked.also.items) (λ program.
+    First (IsProgramAt content base asked.program) (λ program.
     First (AreSymbols content asked.symbols) (λ symbols.
     First (IsRead content asked.capture) (WritesListed asked.format asked.salvage only asked.harts program symbols)))
 
@@ -59,13 +59,13 @@ ListsHarts content asked base only =
 -- is listed of these harts is written.
 abbrev pub Lists : Content → Listing → Printed → Type 0
 Lists content asked =
-    First (IsAskedBase asked.format asked.base.now asked.also.items) (λ base.
+    First (IsAskedBase asked.format asked.program) (λ base.
     First (IsOnly asked.only) (ListsHarts content asked base))
 
 -- The program, the symbols and the bytes of the capture are found, and this holds of them.
 abbrev pub OnceListed : Content → Listing → ℕ → (Image → Option (List ℕ) → List ℕ → Type 0) → Type 0
 OnceListed content asked base Holds =
-    Once (IsProgramAt content base asked.image asked.also.items) (λ program.
+    Once (IsProgramAt content base asked.program) (λ program.
     Once (AreSymbols content asked.symbols) (λ symbols.
     Once (IsRead content asked.capture) (Holds program symbols)))
 
@@ -87,7 +87,7 @@ CanListHarts content asked base only =
 
 abbrev pub CanList : Content → Listing → Type 0
 CanList content asked =
-    Once (IsAskedBase asked.format asked.base.now asked.also.items) (λ base.
+    Once (IsAskedBase asked.format asked.program) (λ base.
     Once (IsOnly asked.only) (CanListHarts content asked base))
 
 -- A part of the listing of these harts of a capture, which has one of them, is written in a format, however the run
@@ -115,7 +115,7 @@ ListsHartsInPart content asked base only printed =
 
 abbrev pub ListsInPart : Content → Listing → Printed → Type 0
 ListsInPart content asked printed =
-    Once (IsAskedBase asked.format asked.base.now asked.also.items) (λ base.
+    Once (IsAskedBase asked.format asked.program) (λ base.
     Once (IsOnly asked.only) (λ only. ListsHartsInPart content asked base only printed))
 
 -- Nothing was written, or all lines before the message at which allocation failed.
@@ -126,7 +126,7 @@ ListsUpToMemory Prints old new = Keeps old new ⊎ IsPrinted Prints (Err fault.M
 -- `salvage` is asked for.
 abbrev pub list_meaning : Listing → Meaning
 list_meaning asked = record {
-  early = format_base_or_only_fault asked.format (base_number asked.base.now asked.also.items)
+  early = format_base_or_only_fault asked.format (base_number asked.program)
       (asked_harts asked.only);
   Prints = λ content. Lists content asked;
   CanWrite = λ content. CanList content asked;

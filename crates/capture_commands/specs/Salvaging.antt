@@ -68,9 +68,9 @@ SalvagesOf only format asked summary program bytes =
 -- the capture. Where there is no fault, what is salvaged of these harts of the capture is written in that format.
 abbrev pub Salvages : Content → Salvage → Printed → Type 0
 Salvages content asked =
-    First (IsAskedBase asked.format asked.base.now asked.also.items) (λ base.
+    First (IsAskedBase asked.format asked.program) (λ base.
     First (IsOnly asked.only) (λ only.
-    First (IsProgramAt content base asked.image asked.also.items) (λ program.
+    First (IsProgramAt content base asked.program) (λ program.
     First (IsRead content asked.capture) (SalvagesOf only asked.format asked.harts asked.summary program))))
 
 -- What is salvaged is written once the capture has one of these harts.
@@ -80,13 +80,13 @@ CanSalvageOf only asked bytes = Once (HasHartFound asked only bytes) (λ _. ⊤)
 -- `salvage` writes once it has the program and the capture, and that has one of the harts.
 abbrev pub CanSalvage : Content → Salvage → Type 0
 CanSalvage content asked =
-    Once (IsAskedBase asked.format asked.base.now asked.also.items) (λ base.
+    Once (IsAskedBase asked.format asked.program) (λ base.
     Once (IsOnly asked.only) (λ only.
-    Once (IsProgramAt content base asked.image asked.also.items) (λ program.
+    Once (IsProgramAt content base asked.program) (λ program.
     Once (IsRead content asked.capture) (CanSalvageOf only asked.harts))))
 
 -- What `salvage` means.
 abbrev pub salvage_meaning : Salvage → Meaning
 salvage_meaning asked = writing_at_once
-    (format_base_or_only_fault asked.format (base_number asked.base.now asked.also.items) (asked_harts asked.only))
+    (format_base_or_only_fault asked.format (base_number asked.program) (asked_harts asked.only))
     (λ content. Salvages content asked) (λ content. CanSalvage content asked)

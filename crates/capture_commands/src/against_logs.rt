@@ -25,8 +25,11 @@ use std::io::Write;
 use std::thread::Threads;
 
 /// Writes a line for each hart, which says how what the capture decodes to compares with the hart's log, and a line for
-/// the result. Returns that all is done where the capture decodes without a fault to just these logs and each hart is
-/// closed, and else that a log is not whole. Where the capture has a fault, that is the fault, behind the lines.
+/// the result. Below the line of a hart whose log did not come back whole is the first row in which both differ: the
+/// log's, and the decoded one. Where that is asked for, the up to three rows before it come first.
+///
+/// Returns that all is done where the capture decodes without a fault to just these logs and each hart is closed, and
+/// else that a log is not whole. Where the capture has a fault, that is the fault, behind the lines.
 ///
 /// There have to be as many logs as the capture has harts: by its header, or else by `harts`; where its header is bad
 /// there are `harts` harts, and nothing of them is decoded. Each log has to be legal for the program, also behind a
@@ -47,8 +50,8 @@ pub fn compare<'a, F: Files + Sync, O: Write, R: Threads + Sync>(
 ) -> Result<Status, Fault<'a>>
 where
     F::Reader: Send,
-    ensures early { IfSome (base_or_only_fault (base_number asked.now.base.now asked.now.also.items)
-        (asked_harts asked.now.only)) (λ fault. result ≡ Err fault) }
+    ensures early { IfSome (base_or_only_fault (base_number asked.now.program) (asked_harts asked.now.only))
+        (λ fault. result ≡ Err fault) }
     ensures refused { final_status result ≡ Status.Refused → out.new ≡ out.old }
     ensures untouched { result ≡ Err Fault.Memory → out.new ≡ out.old }
     ensures printed { PrintsUnlessDenied (Compares (F.content files.old) asked.now)
@@ -56,9 +59,9 @@ where
         (O.contents out.old) (O.contents out.new) }
     ensures cut { IsCutOf (Compares (F.content files.old) asked.now) (O.contents out.old) (O.contents out.new) }
 {
-    let base = base_of(asked.base, &asked.also)?;
+    let base = base_of(&asked.program)?;
     let only = harts_asked(asked.only)?;
-    let program = program_of(alloc, files, base, asked.image, &asked.also)?;
+    let program = program_of(alloc, files, base, &asked.program)?;
     let bytes = content_of(files, asked.capture)?;
     let input = Input {
         program: &program,
@@ -97,5 +100,5 @@ where
     let paths = asked.logs.as_slice();
     check_count(harts_below(input.only, found.places.len()), paths)?;
     let lines = lines_of_logs(alloc, rt, files, asked, input, &found)?;
-    write_report(lines.as_slice(), found.stop, out)
+    write_report(lines.as_slice(), asked.explain, found.stop, out)
 }

@@ -47,7 +47,7 @@ pub fn decode<'a, F: Files, O: Write, R: Threads + Sync>(
     out: &mut O,
 ) -> Result<Status, Fault<'a>>
     ensures early { IfSome
-        (base_or_only_fault (base_number asked.now.base.now asked.now.also.items) (asked_harts asked.now.only))
+        (base_or_only_fault (base_number asked.now.program) (asked_harts asked.now.only))
         (λ fault. result ≡ Err fault) }
     ensures untouched { (final_status result ≡ Status.Refused)
         ⊎ ((asked.now.lossy ≡ false) × (result ≡ Err Fault.Memory)) → out.new ≡ out.old }
@@ -59,9 +59,9 @@ pub fn decode<'a, F: Files, O: Write, R: Threads + Sync>(
         × BeginsPrinted (Decodes (F.content files.old) asked.now) (O.contents out.old) (O.contents out.new)) }
     ensures cut { IsCutOf (Decodes (F.content files.old) asked.now) (O.contents out.old) (O.contents out.new) }
 {
-    let base = base_of(asked.base, &asked.also)?;
+    let base = base_of(&asked.program)?;
     let only = harts_asked(asked.only)?;
-    let program = program_of(alloc, files, base, asked.image, &asked.also)?;
+    let program = program_of(alloc, files, base, &asked.program)?;
     let bytes = content_of(files, asked.capture)?;
     let progress = MessageProgress::new(&*files, asked.progress);
     let input = Input {

@@ -15,7 +15,7 @@ use crate::reason::{CaptureReason, Fault};
 use crate::surveyed::Surveyed;
 use crate::task::AgainstMessages;
 use command_inputs::{Compare, begin_progress};
-use comparing::ComparedHart;
+use comparing::ExplainedHart;
 use log_streams::{Files, LogsFault, MadeLogs, made_of_logs};
 use retire::{MOST_LONG_ROWS, MOST_ROWS};
 use std::alloc::Global;
@@ -38,8 +38,8 @@ fn rows_of(long: bool) -> u32
     if long { MOST_LONG_ROWS } else { MOST_ROWS }
 }
 
-/// The line of each hart of an input, by the log that is asked for. The logs are read side by side, and compared as they
-/// are read with what their harts' messages decode to. It is shown how far they are read, where that is asked for.
+/// What is said of each hart of an input, by the log that is asked for. The logs are read side by side, and compared as
+/// they are read with what their harts' messages decode to. It is shown how far they are read, where that is asked for.
 pub(crate) fn lines_of_logs<'a, F: Files + Sync, R: Threads + Sync>(
     alloc: Global,
     rt: &R,
@@ -47,7 +47,7 @@ pub(crate) fn lines_of_logs<'a, F: Files + Sync, R: Threads + Sync>(
     asked: &Compare<'a>,
     input: &Input,
     found: &Surveyed,
-) -> Result<Vec<ComparedHart>, Fault<'a>>
+) -> Result<Vec<ExplainedHart>, Fault<'a>>
 where
     F::Reader: Send,
     requires many { length asked.now.logs.items ≡ length (of_harts input.now.only found.now.places.items) }

@@ -58,8 +58,7 @@ pub fn list<'a, F: Files, O: Write>(
     out: &mut O,
 ) -> Result<Status, Fault<'a>>
     ensures early { IfSome
-        (format_base_or_only_fault asked.now.format (base_number asked.now.base.now asked.now.also.items)
-        (asked_harts asked.now.only))
+        (format_base_or_only_fault asked.now.format (base_number asked.now.program) (asked_harts asked.now.only))
         (λ fault. result ≡ Err fault) }
     ensures untouched { (final_status result ≡ Status.Refused)
         ⊎ ((asked.now.salvage ≡ true) × (result ≡ Err Fault.Memory)) → out.new ≡ out.old }
@@ -70,7 +69,7 @@ pub fn list<'a, F: Files, O: Write>(
         → ListsUpToMemory (Lists (F.content files.old) asked.now) (O.contents out.old) (O.contents out.new) }
     ensures cut { IsCutOf (ListsInPart (F.content files.old) asked.now) (O.contents out.old) (O.contents out.new) }
 {
-    let base = asked_base(asked.format, asked.base, &asked.also)?;
+    let base = asked_base(asked.format, &asked.program)?;
     let only = harts_asked(asked.only)?;
     list_harts(alloc, files, asked, base, only, out)
 }
@@ -95,7 +94,7 @@ fn list_harts<'a, F: Files, O: Write>(
     ensures cut { IsCutOf (ListsHartsInPart (F.content files.old) asked.now base only)
         (O.contents out.old) (O.contents out.new) }
 {
-    let program = program_of(alloc, files, base, asked.image, &asked.also)?;
+    let program = program_of(alloc, files, base, &asked.program)?;
     let symbols = symbols_of(alloc, files, asked.symbols)?;
     let bytes = content_of(files, asked.capture)?;
     let progress = MessageProgress::new(&*files, asked.progress);

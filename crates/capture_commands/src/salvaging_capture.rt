@@ -49,8 +49,7 @@ pub fn salvage<'a, F: Files, O: Write>(
     out: &mut O,
 ) -> Result<Status, Fault<'a>>
     ensures early { IfSome
-        (format_base_or_only_fault asked.now.format (base_number asked.now.base.now asked.now.also.items)
-        (asked_harts asked.now.only))
+        (format_base_or_only_fault asked.now.format (base_number asked.now.program) (asked_harts asked.now.only))
         (λ fault. result ≡ Err fault) }
     ensures refused { final_status result ≡ Status.Refused → out.new ≡ out.old }
     ensures untouched { result ≡ Err Fault.Memory → out.new ≡ out.old }
@@ -59,9 +58,9 @@ pub fn salvage<'a, F: Files, O: Write>(
         (O.contents out.old) (O.contents out.new) }
     ensures cut { IsCutOf (Salvages (F.content files.old) asked.now) (O.contents out.old) (O.contents out.new) }
 {
-    let base = asked_base(asked.format, asked.base, &asked.also)?;
+    let base = asked_base(asked.format, &asked.program)?;
     let only = harts_asked(asked.only)?;
-    let program = program_of(alloc, files, base, asked.image, &asked.also)?;
+    let program = program_of(alloc, files, base, &asked.program)?;
     let bytes = content_of(files, asked.capture)?;
     let progress = MessageProgress::new(&*files, asked.progress);
     let input = Input {

@@ -1,7 +1,7 @@
 //! A log that is compared as it is read.
 
 ghost use Rattle.std.specs.Prelude.{◌≡◌, [], false, get_or, List};
-ghost use Rattle.comparing.specs.Lines.{line_of};
+ghost use Rattle.comparing.specs.Explained.{explained_hart};
 ghost use Rattle.comparing.specs.Compared.{got_by};
 ghost use Rattle.comparing.specs.steps.Held.{count_in};
 ghost use Rattle.capture_index.specs.Placed.{IsPlacedLog};
@@ -12,7 +12,7 @@ ghost use Rattle.capture_commands.specs.steps.Beside.{IsBeside};
 ghost use Rattle.capture_commands.specs.steps.Places.{hart_at_place, places_in};
 
 use crate::beside::Beside;
-use comparing::{ComparedHart, HartCount};
+use comparing::{ComparedHart, ExplainedHart, HartCount};
 use legalpath::PathFault;
 use log_streams::{IllegalRow, LogTask};
 use retire::Event;
@@ -72,7 +72,7 @@ impl<'d> AgainstMessages<'d> {
     }
 }
 
-impl<'d> LogTask<ComparedHart> for AgainstMessages<'d> {
+impl<'d> LogTask<ExplainedHart> for AgainstMessages<'d> {
     type State = ComparingHart<'d>;
 
     ghost Keeps = { λ task program place seen state. (state.hart ≡ hart_at_place task.first place)
@@ -82,7 +82,7 @@ impl<'d> LogTask<ComparedHart> for AgainstMessages<'d> {
     ghost Makes = { λ task program place events line. (log : List AnyEvent)
         → IsPlacedLog (words_of task.program.now) task.messages.now
         (places_in task.places.now (hart_at_place task.first place)) log
-        → line ≡ line_of (hart_at_place task.first place)
+        → line ≡ explained_hart (hart_at_place task.first place)
         (got_by (count_in task.counts.now (hart_at_place task.first place)) log
         (get_or task.closed.now (hart_at_place task.first place) false)) (program_log program events) };
 
@@ -108,7 +108,7 @@ impl<'d> LogTask<ComparedHart> for AgainstMessages<'d> {
         &self,
         _: &ProgramOver,
         mut state: ComparingHart<'d>,
-    ) -> Result<ComparedHart, AllocError> {
+    ) -> Result<ExplainedHart, AllocError> {
         let hart = state.hart;
         let compared = state.beside.finish()?;
         let decoded = compared.decoded();
@@ -117,17 +117,22 @@ impl<'d> LogTask<ComparedHart> for AgainstMessages<'d> {
             return Err(AllocError);
         }
         let count = self.count(hart);
-        Ok(ComparedHart {
+        let line = ComparedHart {
             hart,
             events: compared.events(),
             taken: count.taken,
             bytes: count.bytes,
             decoded,
             verdict: compared.verdict(self.is_closed(hart)),
+        };
+        Ok(ExplainedHart {
+            line,
+            row: compared.row(),
+            near: compared.near(),
         })
     }
 
-    fn refuse(&self, _: &ProgramOver, row: IllegalRow) -> Result<ComparedHart, PathFault> {
+    fn refuse(&self, _: &ProgramOver, row: IllegalRow) -> Result<ExplainedHart, PathFault> {
         Err(row.fault)
     }
 }

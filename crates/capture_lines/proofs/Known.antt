@@ -3,14 +3,15 @@ use Rattle.std.proofs.Common.{◌≡◌, ◌<◌, ◌&&◌, ℕ, Bool, true, fal
 use Rattle.std.proofs.Common.{arith, nat_lt, refl}
 use Rattle.std.specs.Prelude.{if◌then◌else◌}
 use Rattle.std.specs.Char.{is_digit}
-use Rattle.std.specs.List.{list_all, list_any}
+use Rattle.std.specs.List.{list_all}
 use Rattle.std.specs.Str.Parse.{digits_value}
 use Rattle.std.proofs.lemmas.Bool.{ltb-true}
 use Rattle.message.specs.Version.{most_harts}
 use Rattle.message.specs.declared.header.Version.{Version}
 use Rattle.message.specs.declared.header.Version.TheVariants.{One, Two}
-use Rattle.capture_lines.specs.Line.{by_form, fields_of, is_empty, is_within, line_of, number_below, number_said, payload_of}
-use Rattle.capture_lines.specs.Line.{said, with_hart, with_number, with_payload}
+use Rattle.capture_lines.specs.Line.{are_filled, fields_of, is_over, is_passed_over, is_within, line_by, line_of}
+use Rattle.capture_lines.specs.Line.{number_below, number_said, payload_of, said, some_line, with_hart, with_number}
+use Rattle.capture_lines.specs.Line.{with_payload, without_prefix}
 use Rattle.capture_lines.specs.declared.fault.LineFault.{LineFault}
 use Rattle.capture_lines.specs.declared.fault.LineFault.TheVariants.{Fields, Above}
 use Rattle.capture_lines.specs.declared.form.Form.{Form}
@@ -58,13 +59,14 @@ bytes_known settings hart number (Some payload) under =
 number_known : (settings : Settings) (hart : ℕ) (number : Option (Option ℕ)) (bytes : List ℕ) → hart < 1024
     → HasHartBelow 1024 (with_number settings hart number bytes)
 number_known settings hart None bytes under = tt
-number_known settings hart (Some number) bytes under = bytes_known settings hart number (payload_of bytes) under
+number_known settings hart (Some number) bytes under =
+    bytes_known settings hart number (payload_of (without_prefix bytes)) under
 
 hart_known : (settings : Settings) (hart : Option ℕ) (number : Option (List ℕ)) (bytes : List ℕ)
     → IsBelow (most_harts settings.version) hart → HasHartBelow 1024 (with_hart settings hart number bytes)
 hart_known settings None number bytes under = tt
 hart_known settings (Some hart) number bytes under =
-    number_known settings hart (number_said number) bytes (few_harts settings.version hart under)
+    number_known settings hart (number_said settings.numbers number) bytes (few_harts settings.version hart under)
 
 said_known : (settings : Settings) (hart : List ℕ) (number : Option (List ℕ)) (bytes : List ℕ)
     → HasHartBelow 1024 (said settings hart number bytes)
@@ -72,24 +74,37 @@ said_known settings hart number bytes =
     hart_known settings (number_below (most_harts settings.version) hart) number bytes
     (below (most_harts settings.version) hart)
 
+tested_known : (b : Bool) (r : Result Line LineFault) → HasHartBelow 1024 r
+    → HasHartBelow 1024 (if b then r else Err Fields)
+tested_known true r known = known
+tested_known false r known = tt
+
 form_known : (settings : Settings) (form : Form) (fields : List (List ℕ))
-    → HasHartBelow 1024 (by_form settings form fields)
+    → HasHartBelow 1024 (line_by settings form fields)
 form_known settings Counted [] = tt
 form_known settings Counted (a ∷ []) = tt
-form_known settings Counted (a ∷ b ∷ []) = said_known settings a None b
-form_known settings Counted (a ∷ b ∷ c ∷ more) = tt
+form_known settings Counted (a ∷ b ∷ more) =
+    tested_known (are_filled (a ∷ b ∷ []) && is_over more) (said settings a None b) (said_known settings a None b)
 form_known settings Numbered [] = tt
 form_known settings Numbered (a ∷ []) = tt
 form_known settings Numbered (a ∷ b ∷ []) = tt
-form_known settings Numbered (a ∷ b ∷ c ∷ []) = said_known settings a (Some b) c
-form_known settings Numbered (a ∷ b ∷ c ∷ d ∷ more) = tt
+form_known settings Numbered (a ∷ b ∷ c ∷ more) =
+    tested_known (are_filled (a ∷ b ∷ c ∷ []) && is_over more) (said settings a (Some b) c)
+    (said_known settings a (Some b) c)
 
-either_known : (empty : Bool) (r : Result Line LineFault) → HasHartBelow 1024 r
-    → HasHartBelow 1024 (if empty then Err Fields else r)
-either_known true r known = tt
-either_known false r known = known
+-- If a line says something, its hart is below this.
+abbrev pub HasHartIfTold : ℕ → Result (Option Line) LineFault → Type 0
+HasHartIfTold limit (Ok None) = Unit {0}
+HasHartIfTold limit (Ok (Some line)) = line.hart < limit
+HasHartIfTold limit (Err why) = Unit {0}
 
-pub line_known : (settings : Settings) (form : Form) (line : List ℕ) → HasHartBelow 1024 (line_of settings form line)
+some_known : (passed : Bool) (r : Result Line LineFault) → HasHartBelow 1024 r
+    → HasHartIfTold 1024 (if passed then Ok None else some_line r)
+some_known true r known = tt
+some_known false (Ok line) known = known
+some_known false (Err why) known = tt
+
+pub line_known : (settings : Settings) (form : Form) (line : List ℕ) → HasHartIfTold 1024 (line_of settings form line)
 line_known settings form line =
-    either_known (list_any is_empty (fields_of line)) (by_form settings form (fields_of line))
-    (form_known settings form (fields_of line))
+    some_known (is_passed_over line) (line_by settings form (fields_of line)) (form_known settings form
+    (fields_of line))

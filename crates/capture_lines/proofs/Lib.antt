@@ -1,6 +1,7 @@
 mod Parts
 mod Numbers
-mod ManyFields
+mod Fields
+mod Lowest
 mod Sending
 mod Known
 mod Counts
@@ -8,3 +9,4 @@ mod Whole
 mod HexLineRead
 mod SentMessages
 mod HexTextRead
+mod Recovering

@@ -1,5 +1,6 @@
 -- What is written of lines that were checked is their capture.
-use Rattle.std.proofs.Common.{◌≡◌, ◌≤◌, ◌<◌, ◌^◌, ◌++◌, ◌∙◌, ℕ, List, [], Option, Some, None, Result, Ok, Err, IfOk, IfSome}
+use Rattle.std.proofs.Common.{◌≡◌, ◌≤◌, ◌<◌, ◌^◌, ◌++◌, ◌∙◌, ℕ, List, [], Option, Some, None, Result, Ok, Err, IfOk}
+use Rattle.std.proofs.Common.{IfSome}
 use Rattle.std.proofs.Common.{ap, sym}
 use Rattle.std.specs.Prelude.{unwrap_or}
 use Rattle.std.specs.Str.Lines.{lines}
@@ -26,19 +27,21 @@ refused_by settings (Ok lines) why is = cc
 refused_by settings (Err fault) why is = cc
 
 accepted_by : (settings : Settings) (r : Result (List Line) LinesFault) (harts : ℕ) (sent : List Message)
-    → summary 1 r ≡ Ok harts → IfOk r (λ said. sent ≡ messages_after [] said)
+    → summary 1 r ≡ Ok harts → IfOk r (λ said. sent ≡ messages_after settings.numbers [] said)
     → capture_or_fault settings r ≡ Ok (start_bytes settings.version (header_with settings harts) ++ capture sent)
 accepted_by settings (Err why) harts sent is same = cc
 accepted_by settings (Ok said) harts sent is same =
     let count : harts_up_to said ≡ harts = cc in
-    ap (λ n. Ok (start_bytes settings.version (header_with settings n) ++ capture (messages_of said))) count
+    ap (λ n. Ok (start_bytes settings.version (header_with settings n) ++ capture
+    (messages_of settings.numbers said))) count
     ∙ ap (λ ms. Ok (start_bytes settings.version (header_with settings harts) ++ capture ms)) (sym same)
 
-module _ (settings : Settings) (form : Form) (text : List ℕ) (formed : form ≡ form_of (lines text)) where
+module _ (settings : Settings) (form : Form) (text : List ℕ) (formed : form ≡ form_of settings.numbers
+    (lines text)) where
   same_check : checked_from settings form 1 1 (lines text) ≡ summary 1 (lines_of settings text)
   same_check =
       ap (λ f. checked_from settings f 1 1 (lines text)) formed
-      ∙ checked settings (form_of (lines text)) 1 1 (lines text)
+      ∙ checked settings (form_of settings.numbers (lines text)) 1 1 (lines text)
 
   -- A fault is the first of the lines.
   pub refused_text : (why : LinesFault) → checked_from settings form 1 1 (lines text) ≡ Err why
@@ -49,13 +52,15 @@ module _ (settings : Settings) (form : Form) (text : List ℕ) (formed : form �
   pub accepted_text : (harts : ℕ) → checked_from settings form 1 1 (lines text) ≡ Ok harts
       → capture_of_text settings text
       ≡ Ok (start_bytes settings.version (header_with settings harts)
-      ++ capture (sent_from settings form no_counts (lines text)))
+      ++ capture (sent_from settings form no_counts no_counts (lines text)))
   accepted_text harts is =
-      let sent = sent_is settings (form_of (lines text)) 1 (lines text) no_counts [] agree_none in
-      accepted_by settings (lines_of settings text) harts (sent_from settings (form_of (lines text)) no_counts (lines text))
+      let sent = sent_is settings (form_of settings.numbers (lines text)) 1 (lines text) no_counts no_counts []
+      (agree_none settings.numbers) in
+      accepted_by settings (lines_of settings text) harts
+      (sent_from settings (form_of settings.numbers (lines text)) no_counts no_counts (lines text))
       (sym same_check ∙ is) sent
       ∙ ap (λ f. Ok (start_bytes settings.version (header_with settings harts)
-      ++ capture (sent_from settings f no_counts (lines text)))) (sym formed)
+      ++ capture (sent_from settings f no_counts no_counts (lines text)))) (sym formed)
 
 may_start_with : (version : Version) (mode : Mode) (period : ℕ) (asked : Option ℕ) (harts : ℕ) → 1 ≤ period
     → period < 2 ^ 16 → IfSome asked (λ n. (1 ≤ n) × (n ≤ most_harts version)) → 1 ≤ harts → harts ≤ 1024

@@ -17,7 +17,8 @@ header_with settings harts =
 -- the harts up to the highest, where no other count is asked for.
 abbrev pub capture_of_lines : Settings → List Line → List ℕ
 capture_of_lines settings lines =
-    start_bytes settings.version (header_with settings (harts_up_to lines)) ++ capture (messages_of lines)
+    start_bytes settings.version (header_with settings (harts_up_to lines)) ++ capture
+    (messages_of settings.numbers lines)
 
 -- The capture of these lines, or their fault.
 abbrev pub capture_or_fault : Settings → Result (List Line) LinesFault → Result (List ℕ) LinesFault

@@ -1,5 +1,5 @@
 -- The texts of faults.
-use Rattle.std.specs.Prelude.{ℕ, ◌++◌, List, codes}
+use Rattle.std.specs.Prelude.{ℕ, ◌++◌, List, Some, None, codes}
 use Rattle.std.specs.Fmt.{decimal}
 use Rattle.message.specs.declared.header.Version.TheVariants.{One, Two}
 use Rattle.capture_lines.specs.declared.fault.LineFault.{LineFault}
@@ -12,7 +12,8 @@ abbrev pub line_fault_text : LineFault → List ℕ
 line_fault_text Fields = codes "wrong number of fields"
 line_fault_text (Hart One) = codes "hart is not a number below 64"
 line_fault_text (Hart Two) = codes "hart is not a number below 1024"
-line_fault_text Number = codes "number is not a number"
+line_fault_text (Number None) = codes "number is not a number"
+line_fault_text (Number (Some limit)) = codes "number is not a number below " ++ decimal limit
 line_fault_text Bytes = codes "bytes are not 1 to 18"
 line_fault_text Above = codes "hart is not below --harts"
 

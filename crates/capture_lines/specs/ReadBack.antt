@@ -15,9 +15,11 @@ use Rattle.capture_lines.specs.Lines.{lines_of, messages_of}
 use Rattle.capture_lines.specs.declared.line.Line.{Line}
 use Rattle.capture_lines.specs.declared.settings.Settings.{Settings}
 
--- The settings of a capture in this version and mode, at this period, where no count of harts is asked for.
+-- The settings of a capture in this version and mode, at this period, where no count of harts is asked for, and lines
+-- have the messages' own numbers.
 abbrev pub settings_of : Version → Mode → ℕ → Settings
-settings_of version mode period = record { version = version; mode = mode; period = period; harts = None }
+settings_of version mode period =
+    record { version = version; mode = mode; period = period; harts = None; numbers = None }
 
 -- The lines of hexadecimal of the messages of one log or more, and of no more than a capture of the version has, become
 -- the capture of these logs, in the same version and mode, at the same period. The logs are legal and may be long.
@@ -29,9 +31,10 @@ LinesBecomeTheCapture =
     ≡ Ok (capture_of version period mode logs)
 
 -- The lines of hexadecimal of any messages in their ranges, whose harts a capture of the version has, say these
--- messages.
+-- messages, where lines have the messages' own numbers.
 abbrev pub LinesSayTheirMessages : Type 0
 LinesSayTheirMessages =
-    (settings : Settings) (messages : List Message) → settings.harts ≡ None
+    (settings : Settings) (messages : List Message) → settings.harts ≡ None → settings.numbers ≡ None
     → All (λ (message : Message). IsMessage message × (message.hart < most_harts settings.version)) messages
-    → (lines : List Line) × (lines_of settings (hex_text messages) ≡ Ok lines) × (messages_of lines ≡ messages)
+    → (lines : List Line) × (lines_of settings (hex_text messages) ≡ Ok lines)
+    × (messages_of settings.numbers lines ≡ messages)

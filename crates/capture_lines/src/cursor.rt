@@ -3,7 +3,7 @@
 ghost use Rattle.std.specs.Prelude.{◌≡◌, ◌<◌, ◌≤◌, List, [], ◌∷◌, ℕ, IfSome, MatchOption, length};
 ghost use Rattle.std.specs.Str.Lines.{lines, strip_carriage_return};
 
-use crate::field::first_place;
+use crate::field::{Stop, first_place};
 use std::marker::Model;
 
 /// The lines of a text that are left to read. A clause sees the bytes that are left.
@@ -36,7 +36,7 @@ impl<'a> Lines<'a> {
         if rest.is_empty() {
             return None;
         }
-        let feed = first_place(rest, b'\n');
+        let feed = first_place(rest, Stop::Feed);
         if feed == rest.len() {
             self.rest = &rest[feed..];
             return Some(rest);

@@ -10,12 +10,12 @@ use std::fmt;
 /// What is wrong with a line. Of several faults of a line, the first in this order is returned.
 #[derive(Clone, Copy, Debug, PartialEq, Eq)]
 pub enum LineFault {
-    /// The line has not as many fields as its form has, or a field is empty.
+    /// The line has not as many fields as its form has, or a field is empty. A time at the end does not count.
     Fields,
     /// The hart is not a decimal number below the most harts of the version.
     Hart(Version),
-    /// The number is not a decimal number below 2^64.
-    Number,
+    /// The number is not a decimal number below 2^64, or below the count of numbers that a field has.
+    Number(Option<u64>),
     /// The bytes are not 2 to 36 hexadecimal digits, or their count is odd.
     Bytes,
     /// The hart is not below the count of harts that was asked for.
@@ -26,14 +26,15 @@ impl fmt::Display for LineFault {
     ghost output = { λ fault. Some (line_fault_text fault) };
 
     fn fmt<W: fmt::Write>(&self, f: &mut fmt::Formatter<W>) -> fmt::Result {
-        f.write_str(match *self {
-            LineFault::Fields => "wrong number of fields",
-            LineFault::Hart(Version::One) => "hart is not a number below 64",
-            LineFault::Hart(Version::Two) => "hart is not a number below 1024",
-            LineFault::Number => "number is not a number",
-            LineFault::Bytes => "bytes are not 1 to 18",
-            LineFault::Above => "hart is not below --harts",
-        })
+        match *self {
+            LineFault::Fields => f.write_str("wrong number of fields"),
+            LineFault::Hart(Version::One) => f.write_str("hart is not a number below 64"),
+            LineFault::Hart(Version::Two) => f.write_str("hart is not a number below 1024"),
+            LineFault::Number(None) => f.write_str("number is not a number"),
+            LineFault::Number(Some(limit)) => write!(f, "number is not a number below {limit}"),
+            LineFault::Bytes => f.write_str("bytes are not 1 to 18"),
+            LineFault::Above => f.write_str("hart is not below --harts"),
+        }
     }
 }
 

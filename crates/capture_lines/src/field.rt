@@ -1,36 +1,109 @@
 //! The fields of a line, and what they say.
 
-ghost use Rattle.std.specs.Prelude.{◌≡◌, ◌≤◌, ◌<◌, ◌==◌, ◌+◌, ◌*◌, ◌^◌, ◌∷◌, [], IfSome, MatchOption, length};
+ghost use Rattle.std.specs.Prelude.{◌≡◌, ◌≤◌, ◌<◌, ◌+◌, ◌*◌, ◌^◌, ◌∷◌, IfSome, MatchOption, length};
+ghost use Rattle.std.specs.Prelude.{option_map};
 ghost use Rattle.std.specs.List.{position_or_len};
-ghost use Rattle.capture_lines.specs.Line.{fields_of, number_below, payload_of};
+ghost use Rattle.capture_lines.specs.Line.{fields_of, is_over, is_passed_over, is_time, number_below, payload_of};
+ghost use Rattle.capture_lines.specs.Line.{without_prefix};
+ghost use Rattle.capture_lines.specs.steps.Cutting.{after_comma, fields_left, stops, unblanked};
 
 use hex::decode_to_slice;
 use payload::{MOST_BYTES, Payload};
 
-/// The place of the first such byte, or the length where there is none.
-pub(crate) fn first_place(text: &[u8], byte: u8) -> usize
-    ensures place { result ≡ position_or_len (λ other. other == byte) text.now }
+/// A kind of bytes.
+#[derive(Clone, Copy)]
+pub(crate) enum Stop {
+    /// A line feed.
+    Feed,
+    /// A byte that is no blank and no tab.
+    Word,
+    /// A byte that ends a word: a blank, a tab or a comma.
+    End,
+}
+
+/// Whether a byte is of this kind.
+fn stops(stop: Stop, byte: u8) -> bool
+    ensures { result ≡ stops stop byte }
+{
+    match stop {
+        Stop::Feed => byte == b'\n',
+        Stop::Word => byte != b' ' && byte != b'\t',
+        Stop::End => byte == b' ' || byte == b'\t' || byte == b',',
+    }
+}
+
+/// The place of the first byte of this kind, or the length where there is none.
+pub(crate) fn first_place(text: &[u8], stop: Stop) -> usize
+    ensures place { result ≡ position_or_len (stops stop) text.now }
     ensures within { result ≤ length text.now }
 {
-    for (place, other) in text.iter().enumerate() {
-        if *other == byte {
+    for (place, byte) in text.iter().enumerate() {
+        if stops(stop, *byte) {
             return place;
         }
     }
     text.len()
 }
 
-/// The first field, and what follows the blank after it, where there is one.
-pub(crate) fn cut(text: &[u8]) -> (&[u8], Option<&[u8]>)
-    ensures { MatchOption result.1 (fields_of text.now ≡ result.0.now ∷ [])
-        (λ rest. fields_of text.now ≡ result.0.now ∷ fields_of rest.now) }
+/// A text from its first byte on that is no blank and no tab.
+fn unblanked(text: &[u8]) -> &[u8]
+    ensures { result.now ≡ unblanked text.now }
 {
-    let blank = first_place(text, b' ');
-    if blank < text.len() {
-        (&text[..blank], Some(&text[blank + 1..]))
+    &text[first_place(text, Stop::Word)..]
+}
+
+/// The first field, and what follows what ends it, where something follows.
+///
+/// A field ends at a comma or at a run of blanks and tabs, in which there may be a comma.
+pub(crate) fn cut(text: &[u8]) -> (&[u8], Option<&[u8]>)
+    ensures { fields_of text.now ≡ result.0.now ∷ fields_left (option_map (λ rest. rest.now) result.1) }
+{
+    let text = unblanked(text);
+    let end = first_place(text, Stop::End);
+    let rest = unblanked(&text[end..]);
+    (&text[..end], after_comma(rest))
+}
+
+/// What follows a comma, or the text where it does not begin with one. Nothing follows where there is no text.
+fn after_comma(text: &[u8]) -> Option<&[u8]>
+    ensures { option_map (λ rest. rest.now) result ≡ after_comma text.now }
+{
+    if text.is_empty() {
+        None
+    } else if text[0] == b',' {
+        Some(&text[1..])
     } else {
-        (text, None)
+        Some(text)
     }
+}
+
+/// Whether a line is passed over: it is empty but for blanks and tabs, or begins with `#`.
+pub(crate) fn is_passed_over(line: &[u8]) -> bool
+    ensures { result ≡ is_passed_over line.now }
+{
+    let text = unblanked(line);
+    text.is_empty() || text[0] == b'#'
+}
+
+/// Whether what is left after the bytes of a line is passed over: nothing, or a time.
+pub(crate) fn is_over(rest: Option<&[u8]>) -> bool
+    ensures { result ≡ is_over (fields_left (option_map (λ rest. rest.now) rest.entry)) }
+{
+    let Some(rest) = rest else {
+        return true;
+    };
+    let (time, rest) = cut(rest);
+    match rest {
+        None => is_time(time),
+        Some(_) => false,
+    }
+}
+
+/// Whether a field is a time.
+fn is_time(field: &[u8]) -> bool
+    ensures { result ≡ is_time field.now }
+{
+    !field.is_empty() && field[0] == b'@'
 }
 
 /// The number that decimal digits spell, where there is one at least, and it is below the limit.
@@ -74,10 +147,22 @@ fn with_digit(value: u64, digit: u32) -> Option<u64>
     tens.checked_add(u64::from(digit))
 }
 
-/// The payload that hexadecimal digits spell, where they are 2 to 36 and their count is even.
-pub(crate) fn payload_of(digits: &[u8]) -> Option<Payload>
-    ensures { result ≡ payload_of digits.now }
+/// A field without the `0x` that it may begin with.
+fn without_prefix(field: &[u8]) -> &[u8]
+    ensures { result.now ≡ without_prefix field.now }
 {
+    if field.len() >= 2 && field[0] == b'0' && field[1] == b'x' {
+        &field[2..]
+    } else {
+        field
+    }
+}
+
+/// The payload that a field spells, which is 2 to 36 hexadecimal digits, an even count, and may begin with `0x`.
+pub(crate) fn payload_of(field: &[u8]) -> Option<Payload>
+    ensures { result ≡ payload_of (without_prefix field.now) }
+{
+    let digits = without_prefix(field);
     let count = digits.len() / 2;
     if count == 0 || count > MOST_BYTES {
         return None;

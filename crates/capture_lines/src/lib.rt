@@ -17,6 +17,8 @@ mod settings;
 mod writing;
 
 pub use fault::{LineFault, LinesFault};
-pub use laws::{hex_lines_become_the_capture, hex_lines_say_their_messages};
+pub use laws::{
+    hex_lines_become_the_capture, hex_lines_say_their_messages, low_numbers_are_recovered,
+};
 pub use settings::Settings;
 pub use writing::write_capture;

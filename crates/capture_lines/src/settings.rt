@@ -15,4 +15,7 @@ pub struct Settings {
     /// The count of harts, below which the hart of each line is. `None` is the count up to the highest hart of the
     /// lines, and 1 where there is no line.
     pub harts: Option<u16>,
+    /// How many numbers a line's field has, 2 or more, where it begins again at 0 after the last of them. A message of
+    /// a hart is then the one nearest to those of its hart before it. `None` where a line has the message's own number.
+    pub numbers: Option<u64>,
 }

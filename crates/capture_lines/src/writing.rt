@@ -20,10 +20,17 @@ use std::io::Write;
 
 /// Writes the capture of a text's lines, one message a line, in the order of the lines.
 ///
-/// A line has a hart, a number and bytes, or a hart and bytes alone; the first line decides which for all. In the
-/// second form the messages of each hart are numbered from 0. One blank separates the fields. A line feed ends a line,
-/// and a carriage return may come before it; the last line needs no end. The hart and the number are decimal. The bytes
-/// are 2 to 36 hexadecimal digits of either case, two a byte.
+/// A line has a hart, a number and bytes, or a hart and bytes alone; the first line decides which for all, but for a
+/// count of numbers, with which each line has a number. In the second form the messages of each hart are numbered from
+/// 0. A comma, a blank or a tab separates the fields, and there may be blanks and tabs around each. After the bytes
+/// there may be a time, a field that begins with `@`. A line feed ends a line, and a carriage return may come before
+/// it; the last line needs no end. The hart and the number are decimal. The bytes are 2 to 36 hexadecimal digits of
+/// either case, two a byte, and `0x` may come before them. Empty lines and lines that begin with `#` are passed over,
+/// and so is a time.
+///
+/// Where a field counts so many numbers alone, N, and then begins again at 0, it stands for one of N numbers. The first
+/// of these is the greatest number of the hart's messages so far, plus 1, less N / 2; it is 0 where that is below 0,
+/// and for the first message of a hart.
 ///
 /// Where a line has a fault, the first such line is returned, and nothing is written. Where the writer fails, what was
 /// written is a prefix of the capture. No memory is taken, and the writer is not flushed.
@@ -34,6 +41,7 @@ pub fn write_capture<W: Write>(
 ) -> Result<(), LinesFault>
     requires period { 1 ≤ settings.period }
     requires harts { IfSome settings.harts (λ harts. (1 ≤ harts) × (harts ≤ most_harts settings.version)) }
+    requires numbers { IfSome settings.numbers (λ numbers. 2 ≤ numbers) }
     ensures capture { IfOk (capture_of_text settings text.now)
         (λ bytes. OnOk result (Appends (W.contents sink.old) (W.contents sink.new) bytes)) }
     ensures begun { IfOk (capture_of_text settings text.now)
@@ -43,7 +51,7 @@ pub fn write_capture<W: Write>(
     ensures line_fault { IfErr (capture_of_text settings text.now) (λ fault. result ≡ Err fault) }
     ensures unwritten { IfErr (capture_of_text settings text.now) (λ fault. sink.new ≡ sink.old) }
 {
-    let form = form_of(text);
+    let form = form_of(&settings, text);
     let harts = match check(&settings, form, text) {
         Ok(harts) => harts,
         Err(fault) => return Err(fault),
@@ -60,11 +68,12 @@ fn write_checked<W: Write>(
     sink: &mut W,
 ) -> Result<(), LinesFault>
     requires header { MayStart settings.now.version (header_with settings.now harts) }
+    requires numbers { IfSome settings.now.numbers (λ numbers. 2 ≤ numbers) }
     ensures written { OnOk result (Appends (W.contents sink.old) (W.contents sink.new)
         (start_bytes settings.now.version (header_with settings.now harts)
-        ++ capture (sent_from settings.now form (replicate 1024 0) (lines text.now)))) }
+        ++ capture (sent_from settings.now form (replicate 1024 0) (replicate 1024 0) (lines text.now)))) }
     ensures begun { AppendsBeginning (start_bytes settings.now.version (header_with settings.now harts)
-        ++ capture (sent_from settings.now form (replicate 1024 0) (lines text.now)))
+        ++ capture (sent_from settings.now form (replicate 1024 0) (replicate 1024 0) (lines text.now)))
         (W.contents sink.old) (W.contents sink.new) }
     ensures fault { IfErr result (λ fault. fault ≡ LinesFault.Write) }
 {

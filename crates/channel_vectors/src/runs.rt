@@ -6,7 +6,7 @@ use crate::memory::{Memory, memory_of, put_requests};
 use crate::outcomes::{put_counts, put_outcome};
 use bench::{Config, HartOutcome, Open, Outcome, Setup, Turn, replay, run, run_in_rooms, run_on};
 use cases::Case;
-use command_inputs::Bench;
+use command_inputs::{Bench, ProgramArgs};
 use fault_injection::Refusing;
 use funnel::{Ended, Outlet, open};
 use legalpath::LegalLog;
@@ -249,9 +249,11 @@ pub(crate) fn run_over_threads<R: Threads + Wait + Sync>(
 /// The arguments of the subcommand `bench` with these settings, and with no paths.
 fn asked_with<'a>(case: &Case<'_>, config: Config) -> Bench<'a> {
     Bench {
-        base: "",
-        also: Vec::new(case.alloc),
-        image: "",
+        program: ProgramArgs {
+            base: "",
+            also: Vec::new(case.alloc),
+            image: "",
+        },
         logs: Vec::new(case.alloc),
         period: config.period,
         mode: config.mode,

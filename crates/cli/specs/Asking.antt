@@ -11,10 +11,12 @@ use Rattle.message.specs.declared.header.Version.TheVariants.{One, Two}
 use Rattle.payload.specs.declared.mode.Mode.{Mode}
 use Rattle.payload.specs.declared.mode.Mode.TheVariants.{Differential, Full}
 use Rattle.command_inputs.specs.Kind.{IsCheck}
-use Rattle.command_inputs.specs.Limits.{greatest_first, longest_period}
+use Rattle.command_inputs.specs.Limits.{AreBitsIfGiven, fewest_number_bits, greatest_first, longest_period}
+use Rattle.command_inputs.specs.Limits.{most_number_bits}
 use Rattle.command_inputs.specs.declared.words.Asked.{Asked}
 use Rattle.command_inputs.specs.declared.words.Format.{Format}
 use Rattle.command_inputs.specs.declared.words.Format.TheVariants as format
+use Rattle.command_inputs.specs.declared.words.ProgramArgs.{ProgramArgs}
 use Rattle.command_inputs.specs.declared.words.Asked.TheVariants.{Audit, Bench, Capture, Check, Decode, Dump, Encode}
 use Rattle.command_inputs.specs.declared.words.Asked.TheVariants.{Compare, Listing, Measure, Replay, Salvage}
 
@@ -95,55 +97,55 @@ IsGivenHarts value given = (value ≡ None → given ≡ None)
     × IfSome given (λ harts. (1 ≤ harts) × (harts ≤ most_harts Two))
     × ((text : Text) → value ≡ Some text → IsDecimalUpTo (most_harts Two) text → given ≡ Some (decimal text))
 
+-- The program that is asked for has the base, the further pieces and the image that these rows have for them.
+abbrev pub AsksProgram : List Row → ProgramArgs → Type 0
+AsksProgram rows asked = (asked.base.now ≡ text_of (codes "base") rows)
+    × (map (λ piece. piece.now) asked.also.items ≡ texts_of (codes "also") rows)
+    × (asked.image.now ≡ text_of (codes "IMAGE") rows)
+
+-- A count of low bits is there only where the argument has a value, and is 4 to 32. Where the argument's text spells
+-- such a number in decimal, it is that one.
+abbrev pub AreGivenBits : Option Text → Option ℕ → Type 0
+AreGivenBits value given = (value ≡ None → given ≡ None)
+    × AreBitsIfGiven given
+    × ((text : Text) → value ≡ Some text → IsNumeral 10 (without_leading_plus text)
+    → fewest_number_bits ≤ decimal text → decimal text ≤ most_number_bits → given ≡ Some (decimal text))
+
 -- What is asked is the subcommand of this name, with the values that these rows have for its arguments.
 abbrev pub Asks : Text → List Row → Asked → Type 0
-Asks name rows (Check asked) = (name ≡ codes "check")
-    × (asked.base.now ≡ text_of (codes "base") rows)
-    × (map (λ piece. piece.now) asked.also.items ≡ texts_of (codes "also") rows)
+Asks name rows (Check asked) = (name ≡ codes "check") × AsksProgram rows asked.program
     × IsFlag (one_of (codes "explain") rows) asked.explain
     × IsFlag (one_of (codes "long") rows) asked.long
     × IsFlag (one_of (codes "progress") rows) asked.progress
-    × (asked.image.now ≡ text_of (codes "IMAGE") rows)
     × (map (λ log. log.now) asked.logs.items ≡ texts_of (codes "LOG") rows)
-Asks name rows (Encode asked) = (name ≡ codes "encode")
-    × (asked.base.now ≡ text_of (codes "base") rows)
-    × (map (λ piece. piece.now) asked.also.items ≡ texts_of (codes "also") rows)
+Asks name rows (Encode asked) = (name ≡ codes "encode") × AsksProgram rows asked.program
     × IsPeriod (one_of (codes "period") rows) asked.period
     × IsMode (one_of (codes "full") rows) asked.mode × IsVersion (one_of (codes "v1") rows) asked.version
     × IsFlag (one_of (codes "hex") rows) asked.hex × IsGivenFirst (one_of (codes "first") rows) asked.first
     × IsGivenHarts (one_of (codes "of") rows) asked.of × IsFlag (one_of (codes "long") rows) asked.long
     × IsFlag (one_of (codes "progress") rows) asked.progress
-    × (asked.image.now ≡ text_of (codes "IMAGE") rows)
     × (map (λ log. log.now) asked.logs.items ≡ texts_of (codes "LOG") rows)
 Asks name rows (Dump asked) = (name ≡ codes "dump") × IsFlag (one_of (codes "search") rows) asked.search
     × (option_map (λ text. text.now) asked.only ≡ first_of (codes "only") rows)
     × IsFlag (one_of (codes "progress") rows) asked.progress
     × (asked.capture.now ≡ text_of (codes "CAPTURE") rows)
-Asks name rows (Decode asked) = (name ≡ codes "decode")
-    × (asked.base.now ≡ text_of (codes "base") rows)
-    × (map (λ piece. piece.now) asked.also.items ≡ texts_of (codes "also") rows)
+Asks name rows (Decode asked) = (name ≡ codes "decode") × AsksProgram rows asked.program
     × IsHarts (one_of (codes "harts") rows) asked.harts
     × (option_map (λ text. text.now) asked.only ≡ first_of (codes "only") rows)
     × IsFlag (one_of (codes "lossy") rows) asked.lossy × IsFlag (one_of (codes "progress") rows) asked.progress
-    × (asked.image.now ≡ text_of (codes "IMAGE") rows)
     × (asked.capture.now ≡ text_of (codes "CAPTURE") rows)
-Asks name rows (Replay asked) = (name ≡ codes "replay")
-    × (asked.base.now ≡ text_of (codes "base") rows)
-    × (map (λ piece. piece.now) asked.also.items ≡ texts_of (codes "also") rows)
+Asks name rows (Replay asked) = (name ≡ codes "replay") × AsksProgram rows asked.program
     × IsPeriod (one_of (codes "period") rows) asked.period
     × IsMode (one_of (codes "full") rows) asked.mode
     × IsCapacity (one_of (codes "capacity") rows) asked.capacity
     × IsFlag (one_of (codes "progress") rows) asked.progress
-    × (asked.image.now ≡ text_of (codes "IMAGE") rows) × (asked.schedule.now ≡ text_of (codes "SCHEDULE") rows)
+    × (asked.schedule.now ≡ text_of (codes "SCHEDULE") rows)
     × (map (λ log. log.now) asked.logs.items ≡ texts_of (codes "LOG") rows)
-Asks name rows (Bench asked) = (name ≡ codes "bench")
-    × (asked.base.now ≡ text_of (codes "base") rows)
-    × (map (λ piece. piece.now) asked.also.items ≡ texts_of (codes "also") rows)
+Asks name rows (Bench asked) = (name ≡ codes "bench") × AsksProgram rows asked.program
     × IsPeriod (one_of (codes "period") rows) asked.period
     × IsMode (one_of (codes "full") rows) asked.mode
     × IsCapacity (one_of (codes "capacity") rows) asked.capacity
     × IsFlag (one_of (codes "progress") rows) asked.progress
-    × (asked.image.now ≡ text_of (codes "IMAGE") rows)
     × (map (λ log. log.now) asked.logs.items ≡ texts_of (codes "LOG") rows)
 Asks name rows (Audit asked) = (name ≡ codes "audit") × IsFlag (one_of (codes "packets") rows) asked.packets
     × IsFlag (one_of (codes "unnumbered") rows) asked.unnumbered
@@ -151,43 +153,37 @@ Asks name rows (Audit asked) = (name ≡ codes "audit") × IsFlag (one_of (codes
     × IsFlag (one_of (codes "summary") rows) asked.summary
     × IsFormat (text_of (codes "format") rows) asked.format × IsFlag (one_of (codes "progress") rows) asked.progress
     × (asked.sent.now ≡ text_of (codes "SENT") rows) × (asked.received.now ≡ text_of (codes "RECEIVED") rows)
-Asks name rows (Measure asked) = (name ≡ codes "measure")
-    × (asked.base.now ≡ text_of (codes "base") rows)
-    × (map (λ piece. piece.now) asked.also.items ≡ texts_of (codes "also") rows)
+Asks name rows (Measure asked) = (name ≡ codes "measure") × AsksProgram rows asked.program
     × IsPeriod (one_of (codes "period") rows) asked.period
     × IsMode (one_of (codes "full") rows) asked.mode × IsFlag (one_of (codes "long") rows) asked.long
     × IsFlag (one_of (codes "progress") rows) asked.progress
-    × (asked.image.now ≡ text_of (codes "IMAGE") rows)
     × (map (λ log. log.now) asked.logs.items ≡ texts_of (codes "LOG") rows)
-Asks name rows (Listing asked) = (name ≡ codes "list")
-    × (asked.base.now ≡ text_of (codes "base") rows)
-    × (map (λ piece. piece.now) asked.also.items ≡ texts_of (codes "also") rows)
+Asks name rows (Listing asked) = (name ≡ codes "list") × AsksProgram rows asked.program
     × IsGivenHarts (one_of (codes "harts") rows) asked.harts
     × (option_map (λ text. text.now) asked.only ≡ first_of (codes "only") rows)
     × (option_map (λ path. path.now) asked.symbols ≡ first_of (codes "symbols") rows)
     × IsFlag (one_of (codes "salvage") rows) asked.salvage
     × IsFormat (text_of (codes "format") rows) asked.format
     × IsFlag (one_of (codes "progress") rows) asked.progress
-    × (asked.image.now ≡ text_of (codes "IMAGE") rows) × (asked.capture.now ≡ text_of (codes "CAPTURE") rows)
-Asks name rows (Salvage asked) = (name ≡ codes "salvage")
-    × (asked.base.now ≡ text_of (codes "base") rows)
-    × (map (λ piece. piece.now) asked.also.items ≡ texts_of (codes "also") rows)
+    × (asked.capture.now ≡ text_of (codes "CAPTURE") rows)
+Asks name rows (Salvage asked) = (name ≡ codes "salvage") × AsksProgram rows asked.program
     × IsGivenHarts (one_of (codes "harts") rows) asked.harts
     × (option_map (λ text. text.now) asked.only ≡ first_of (codes "only") rows)
     × IsFlag (one_of (codes "summary") rows) asked.summary
     × IsFormat (text_of (codes "format") rows) asked.format × IsFlag (one_of (codes "progress") rows) asked.progress
-    × (asked.image.now ≡ text_of (codes "IMAGE") rows) × (asked.capture.now ≡ text_of (codes "CAPTURE") rows)
+    × (asked.capture.now ≡ text_of (codes "CAPTURE") rows)
 Asks name rows (Capture asked) = (name ≡ codes "capture")
     × IsVersion (one_of (codes "v1") rows) asked.version × IsMode (one_of (codes "full") rows) asked.mode
     × IsPeriod (one_of (codes "period") rows) asked.period
-    × IsGivenHarts (one_of (codes "harts") rows) asked.harts × (asked.lines.now ≡ text_of (codes "LINES") rows)
-Asks name rows (Compare asked) = (name ≡ codes "compare")
-    × (asked.base.now ≡ text_of (codes "base") rows)
-    × (map (λ piece. piece.now) asked.also.items ≡ texts_of (codes "also") rows)
+    × IsGivenHarts (one_of (codes "harts") rows) asked.harts
+    × AreGivenBits (one_of (codes "number-bits") rows) asked.number_bits × (asked.lines.now ≡ text_of
+    (codes "LINES") rows)
+Asks name rows (Compare asked) = (name ≡ codes "compare") × AsksProgram rows asked.program
     × IsHarts (one_of (codes "harts") rows) asked.harts
     × (option_map (λ text. text.now) asked.only ≡ first_of (codes "only") rows)
+    × IsFlag (one_of (codes "explain") rows) asked.explain
     × IsFlag (one_of (codes "long") rows) asked.long × IsFlag (one_of (codes "progress") rows) asked.progress
-    × (asked.image.now ≡ text_of (codes "IMAGE") rows) × (asked.capture.now ≡ text_of (codes "CAPTURE") rows)
+    × (asked.capture.now ≡ text_of (codes "CAPTURE") rows)
     × (map (λ log. log.now) asked.logs.items ≡ texts_of (codes "LOG") rows)
 
 -- A subcommand with its rows was found, and it is what is asked.

@@ -8,9 +8,10 @@ use Rattle.clap.specs.declared.builder.command.Command.{Command}
 use Rattle.clap.specs.declared.builder.command.Command.TheViews.{out-Command as fields_of}
 use Rattle.cli.specs.declared.rules.Argument.{Argument}
 use Rattle.cli.specs.declared.rules.Argument.TheVariants.{Also, Base, Capacity, Capture, CaptureProgress}
-use Rattle.cli.specs.declared.rules.Argument.TheVariants.{CountedHarts, Explain, First, Format, Full, Harts}
+use Rattle.cli.specs.declared.rules.Argument.TheVariants.{CountedHarts, Explain, ExplainRow, First, Format, Full, Harts}
 use Rattle.cli.specs.declared.rules.Argument.TheVariants.{HeadedFull, HeadedPeriod, Headless, Hex, Image, Lines}
-use Rattle.cli.specs.declared.rules.Argument.TheVariants.{ListedHarts, Logs, Long, Lossy, Of, Only, Packets, Period}
+use Rattle.cli.specs.declared.rules.Argument.TheVariants.{ListedHarts, Logs, Long, Lossy, NumberBits, Of, Only, Packets}
+use Rattle.cli.specs.declared.rules.Argument.TheVariants.{Period}
 use Rattle.cli.specs.declared.rules.Argument.TheVariants.{Progress, Received, Salvaged, SalvagedHarts, Schedule}
 use Rattle.cli.specs.declared.rules.Argument.TheVariants.{Search, Sent, Summary, Symbols, Unnumbered, VersionOne}
 use Rattle.cli.specs.declared.rules.Argument.TheVariants.{WithoutLogs}
@@ -42,8 +43,9 @@ all_apps =
     Image ∷ Capture ∷ []) ∷
     with_arguments (codes "salvage") (Base ∷ Also ∷ SalvagedHarts ∷ Only ∷ WithoutLogs ∷ Format ∷ CaptureProgress ∷
     Image ∷ Capture ∷ []) ∷
-    with_arguments (codes "capture") (Headless ∷ HeadedFull ∷ HeadedPeriod ∷ CountedHarts ∷ Lines ∷ []) ∷
-    with_arguments (codes "compare") (Base ∷ Also ∷ Harts ∷ Only ∷ Long ∷ Progress ∷ Image ∷ Capture ∷ Logs ∷ []) ∷ []
+    with_arguments (codes "capture") (Headless ∷ HeadedFull ∷ HeadedPeriod ∷ CountedHarts ∷ NumberBits ∷ Lines ∷ []) ∷
+    with_arguments (codes "compare") (Base ∷ Also ∷ Harts ∷ Only ∷ ExplainRow ∷ Long ∷ Progress ∷ Image ∷ Capture ∷
+    Logs ∷ []) ∷ []
 
 -- The program without its subcommands, one of which has to be there. It has a version.
 abbrev pub bare_program : App

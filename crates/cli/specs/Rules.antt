@@ -10,7 +10,7 @@ use Rattle.clap.specs.declared.builder.value_parser.ValueParser.TheVariants.{Sig
 use Rattle.message.specs.Capacity.{most_capacity}
 use Rattle.message.specs.Version.{most_harts}
 use Rattle.message.specs.declared.header.Version.TheVariants.{Two}
-use Rattle.command_inputs.specs.Limits.{greatest_first, longest_period}
+use Rattle.command_inputs.specs.Limits.{fewest_number_bits, greatest_first, longest_period, most_number_bits}
 use Rattle.cli.specs.declared.rules.Argument.{Argument}
 use Rattle.cli.specs.declared.rules.Argument.TheVariants as argument
 
@@ -46,6 +46,10 @@ harts_parser = Signed (pos 1) (pos (most_harts Two))
 abbrev pub first_parser : ValueParser
 first_parser = Signed (pos 0) (pos greatest_first)
 
+-- A number from 4 to 32.
+abbrev pub bits_parser : ValueParser
+bits_parser = Signed (pos fewest_number_bits) (pos most_number_bits)
+
 -- `--name N`, a count of harts, which may be left out.
 abbrev pub count_rule : Text → Rule
 count_rule name = number_rule name harts_parser
@@ -63,6 +67,7 @@ argument_rule argument.Capture = file_rule (codes "CAPTURE")
 argument_rule argument.CaptureProgress = flag_rule (codes "progress")
 argument_rule argument.CountedHarts = count_rule (codes "harts")
 argument_rule argument.Explain = flag_rule (codes "explain")
+argument_rule argument.ExplainRow = flag_rule (codes "explain")
 argument_rule argument.First = number_rule (codes "first") first_parser
 argument_rule argument.Format = record (option_rule (codes "format")) { defaults = codes "text" ∷ [] }
 argument_rule argument.Full = flag_rule (codes "full")
@@ -77,6 +82,7 @@ argument_rule argument.ListedHarts = count_rule (codes "harts")
 argument_rule argument.Logs = record (file_rule (codes "LOG")) { action = Some Append; range = Some one_or_more }
 argument_rule argument.Long = flag_rule (codes "long")
 argument_rule argument.Lossy = flag_rule (codes "lossy")
+argument_rule argument.NumberBits = number_rule (codes "number-bits") bits_parser
 argument_rule argument.Of = count_rule (codes "of")
 argument_rule argument.Only = option_rule (codes "only")
 argument_rule argument.Packets = flag_rule (codes "packets")

@@ -3,8 +3,8 @@
 ghost use Rattle.std.specs.Prelude.{◌≡◌, ◌⊎◌, IfErr, IfOk, [], codes, map, option_map, string_bytes, unwrap_or};
 ghost use Rattle.clap.specs.Words.{FailsBy, fault_of, first_of, first_value, found_of, kind_of, one_of, rows_of};
 ghost use Rattle.clap.specs.declared.error.kind.ErrorKind.TheVariants as kind;
-ghost use Rattle.cli.specs.Asking.{AreRefused, Asks, IsCapacity, IsFlag, IsFormat, IsGivenFirst, IsGivenHarts, IsHarts};
-ghost use Rattle.cli.specs.Asking.{IsMode, IsPeriod, IsVersion};
+ghost use Rattle.cli.specs.Asking.{AreGivenBits, AreRefused, Asks, AsksProgram, IsCapacity, IsFlag, IsFormat};
+ghost use Rattle.cli.specs.Asking.{IsGivenFirst, IsGivenHarts, IsHarts, IsMode, IsPeriod, IsVersion};
 ghost use Rattle.cli.specs.Asking.{WordsAsk, text_of, texts_of};
 ghost use Rattle.cli.specs.Grammar.{IsSubcommand, program_app};
 ghost use Rattle.command_inputs.specs.Limits.{IsWithinLimits};
@@ -12,8 +12,9 @@ ghost use Rattle.command_inputs.specs.Limits.{IsWithinLimits};
 use crate::grammar::program;
 use clap::{ArgMatches, Error};
 use command_inputs::{
-    Asked, Audit, Bench, Capture, Check, Compare, Decode, Dump, Encode, Format, GREATEST_FIRST,
-    Listing, Measure, Replay, SHORTEST_PERIOD, SMALLEST_CAPACITY, Salvage,
+    Asked, Audit, Bench, Capture, Check, Compare, Decode, Dump, Encode, FEWEST_NUMBER_BITS, Format,
+    GREATEST_FIRST, Listing, MOST_NUMBER_BITS, Measure, ProgramArgs, Replay, SHORTEST_PERIOD,
+    SMALLEST_CAPACITY, Salvage,
 };
 use message::{MOST_CAPACITY, MOST_HARTS, Version};
 use payload::Mode;
@@ -77,17 +78,26 @@ fn flag<'a>(given: &ArgMatches<'a>, id: &str) -> bool
     given.get_flag(id)
 }
 
+/// The program that was asked for.
+fn program_args<'a>(alloc: Global, given: &ArgMatches<'a>) -> Result<ProgramArgs<'a>, AllocError>
+    ensures { IfOk result (AsksProgram (rows_of (found_of given.now))) }
+{
+    Ok(ProgramArgs {
+        base: text(given, "base"),
+        also: texts(alloc, given, "also")?,
+        image: text(given, "IMAGE"),
+    })
+}
+
 /// What was asked of `check`.
 fn check_asked<'a>(alloc: Global, given: &ArgMatches<'a>) -> Result<Asked<'a>, AllocError>
     ensures { IfOk result (Asks (codes "check") (rows_of (found_of given.now))) }
 {
     Ok(Asked::Check(Check {
-        base: text(given, "base"),
-        also: texts(alloc, given, "also")?,
+        program: program_args(alloc, given)?,
         explain: flag(given, "explain"),
         long: flag(given, "long"),
         progress: flag(given, "progress"),
-        image: text(given, "IMAGE"),
         logs: texts(alloc, given, "LOG")?,
     }))
 }
@@ -119,8 +129,7 @@ fn encode_asked<'a>(alloc: Global, given: &ArgMatches<'a>) -> Result<Asked<'a>, 
     ensures { IfOk result (Asks (codes "encode") (rows_of (found_of given.now))) }
 {
     Ok(Asked::Encode(Encode {
-        base: text(given, "base"),
-        also: texts(alloc, given, "also")?,
+        program: program_args(alloc, given)?,
         period: period(given),
         mode: mode(given),
         version: version(given),
@@ -129,7 +138,6 @@ fn encode_asked<'a>(alloc: Global, given: &ArgMatches<'a>) -> Result<Asked<'a>, 
         of: given_harts(given, "of"),
         long: flag(given, "long"),
         progress: flag(given, "progress"),
-        image: text(given, "IMAGE"),
         logs: texts(alloc, given, "LOG")?,
     }))
 }
@@ -181,13 +189,11 @@ fn decode_asked<'a>(alloc: Global, given: &ArgMatches<'a>) -> Result<Asked<'a>, 
     ensures { IfOk result (Asks (codes "decode") (rows_of (found_of given.now))) }
 {
     Ok(Asked::Decode(Decode {
-        base: text(given, "base"),
-        also: texts(alloc, given, "also")?,
+        program: program_args(alloc, given)?,
         harts: harts(given),
         only: given_text(given, "only"),
         lossy: flag(given, "lossy"),
         progress: flag(given, "progress"),
-        image: text(given, "IMAGE"),
         capture: text(given, "CAPTURE"),
     }))
 }
@@ -207,13 +213,11 @@ fn replay_asked<'a>(alloc: Global, given: &ArgMatches<'a>) -> Result<Asked<'a>, 
     ensures { IfOk result (Asks (codes "replay") (rows_of (found_of given.now))) }
 {
     Ok(Asked::Replay(Replay {
-        base: text(given, "base"),
-        also: texts(alloc, given, "also")?,
+        program: program_args(alloc, given)?,
         period: period(given),
         mode: mode(given),
         capacity: capacity(given),
         progress: flag(given, "progress"),
-        image: text(given, "IMAGE"),
         schedule: text(given, "SCHEDULE"),
         logs: texts(alloc, given, "LOG")?,
     }))
@@ -224,13 +228,11 @@ fn bench_asked<'a>(alloc: Global, given: &ArgMatches<'a>) -> Result<Asked<'a>, A
     ensures { IfOk result (Asks (codes "bench") (rows_of (found_of given.now))) }
 {
     Ok(Asked::Bench(Bench {
-        base: text(given, "base"),
-        also: texts(alloc, given, "also")?,
+        program: program_args(alloc, given)?,
         period: period(given),
         mode: mode(given),
         capacity: capacity(given),
         progress: flag(given, "progress"),
-        image: text(given, "IMAGE"),
         logs: texts(alloc, given, "LOG")?,
     }))
 }
@@ -267,13 +269,11 @@ fn measure_asked<'a>(alloc: Global, given: &ArgMatches<'a>) -> Result<Asked<'a>,
     ensures { IfOk result (Asks (codes "measure") (rows_of (found_of given.now))) }
 {
     Ok(Asked::Measure(Measure {
-        base: text(given, "base"),
-        also: texts(alloc, given, "also")?,
+        program: program_args(alloc, given)?,
         period: period(given),
         mode: mode(given),
         long: flag(given, "long"),
         progress: flag(given, "progress"),
-        image: text(given, "IMAGE"),
         logs: texts(alloc, given, "LOG")?,
     }))
 }
@@ -283,15 +283,13 @@ fn list_asked<'a>(alloc: Global, given: &ArgMatches<'a>) -> Result<Asked<'a>, Al
     ensures { IfOk result (Asks (codes "list") (rows_of (found_of given.now))) }
 {
     Ok(Asked::Listing(Listing {
-        base: text(given, "base"),
-        also: texts(alloc, given, "also")?,
+        program: program_args(alloc, given)?,
         harts: given_harts(given, "harts"),
         only: given_text(given, "only"),
         symbols: given_text(given, "symbols"),
         salvage: flag(given, "salvage"),
         format: format(given),
         progress: flag(given, "progress"),
-        image: text(given, "IMAGE"),
         capture: text(given, "CAPTURE"),
     }))
 }
@@ -301,16 +299,24 @@ fn salvage_asked<'a>(alloc: Global, given: &ArgMatches<'a>) -> Result<Asked<'a>,
     ensures { IfOk result (Asks (codes "salvage") (rows_of (found_of given.now))) }
 {
     Ok(Asked::Salvage(Salvage {
-        base: text(given, "base"),
-        also: texts(alloc, given, "also")?,
+        program: program_args(alloc, given)?,
         harts: given_harts(given, "harts"),
         only: given_text(given, "only"),
         summary: flag(given, "summary"),
         format: format(given),
         progress: flag(given, "progress"),
-        image: text(given, "IMAGE"),
         capture: text(given, "CAPTURE"),
     }))
+}
+
+/// How many low bits of a number the lines have, where it is given, 4 to 32 by the range that `clap` keeps.
+fn given_bits<'a>(given: &ArgMatches<'a>) -> Option<u16>
+    ensures { AreGivenBits (one_of (codes "number-bits") (rows_of (found_of given.now))) result }
+{
+    match given.get_one::<u16>("number-bits") {
+        Some(bits) => Some(bits.clamp(FEWEST_NUMBER_BITS, MOST_NUMBER_BITS)),
+        None => None,
+    }
 }
 
 /// What was asked of `capture`.
@@ -322,6 +328,7 @@ fn capture_asked<'a>(given: &ArgMatches<'a>) -> Asked<'a>
         mode: mode(given),
         period: period(given),
         harts: given_harts(given, "harts"),
+        number_bits: given_bits(given),
         lines: text(given, "LINES"),
     })
 }
@@ -331,13 +338,12 @@ fn compare_asked<'a>(alloc: Global, given: &ArgMatches<'a>) -> Result<Asked<'a>,
     ensures { IfOk result (Asks (codes "compare") (rows_of (found_of given.now))) }
 {
     Ok(Asked::Compare(Compare {
-        base: text(given, "base"),
-        also: texts(alloc, given, "also")?,
+        program: program_args(alloc, given)?,
         harts: harts(given),
         only: given_text(given, "only"),
+        explain: flag(given, "explain"),
         long: flag(given, "long"),
         progress: flag(given, "progress"),
-        image: text(given, "IMAGE"),
         capture: text(given, "CAPTURE"),
         logs: texts(alloc, given, "LOG")?,
     }))
@@ -369,9 +375,10 @@ fn asked_of<'a>(alloc: Global, name: &str, given: &ArgMatches<'a>) -> Result<Ask
 ///
 /// `Ok` comes where `clap` finds no fault in them by the program's grammar. It holds the texts of the subcommand's
 /// arguments as they are given: a base is not yet a number, and no file was looked at. A period is a number from 1 to
-/// 65535, a count of harts one from 1 to 1024, a first hart one from 0 to 1023, and a capacity one from 1 to 65536. Where
-/// no such number is given, a period is 1024, the count of harts of `decode` and `compare` 1, and a capacity 16; other
-/// counts and a first hart are none then. A capture is of version 1 with `--v1`, and else of version 2.
+/// 65535, a count of harts one from 1 to 1024, a first hart one from 0 to 1023, a capacity one from 1 to 65536, and a
+/// count of low bits one from 4 to 32. Where no such number is given, a period is 1024, the count of harts of `decode`
+/// and `compare` 1, and a capacity 16; other counts and a first hart are none then. A capture is of version 1 with
+/// `--v1`, and else of version 2.
 ///
 /// An error is `clap`'s own. A call for help or for the version is one. Its `Display` is the text for the user, and its
 /// kind is `ErrorKind::OutOfMemory` where an allocation failed.

@@ -11,10 +11,10 @@ use crate::help::{
     SALVAGE_EXAMPLE, VERSION,
 };
 use crate::rules::Argument::{
-    Also, Base, Capacity, Capture, CaptureProgress, CountedHarts, Explain, First, Format, Full,
-    Harts, HeadedFull, HeadedPeriod, Headless, Hex, Image, Lines, ListedHarts, Logs, Long, Lossy,
-    Of, Only, Packets, Period, Progress, Received, Salvaged, SalvagedHarts, Schedule, Search, Sent,
-    Summary, Symbols, Unnumbered, VersionOne, WithoutLogs,
+    Also, Base, Capacity, Capture, CaptureProgress, CountedHarts, Explain, ExplainRow, First,
+    Format, Full, Harts, HeadedFull, HeadedPeriod, Headless, Hex, Image, Lines, ListedHarts, Logs,
+    Long, Lossy, NumberBits, Of, Only, Packets, Period, Progress, Received, Salvaged,
+    SalvagedHarts, Schedule, Search, Sent, Summary, Symbols, Unnumbered, VersionOne, WithoutLogs,
 };
 use crate::rules::{Argument, arg_of};
 use clap::Command;
@@ -138,14 +138,21 @@ const SUBCOMMANDS: [Subcommand; 12] = [
         name: "capture",
         about: "Write the capture of lines, each of one message, as `encode --hex` prints them",
         example: CAPTURE_EXAMPLE,
-        arguments: &[Headless, HeadedFull, HeadedPeriod, CountedHarts, Lines],
+        arguments: &[
+            Headless,
+            HeadedFull,
+            HeadedPeriod,
+            CountedHarts,
+            NumberBits,
+            Lines,
+        ],
     },
     Subcommand {
         name: "compare",
         about: "Say whether a capture describes just these logs",
         example: COMPARE_EXAMPLE,
         arguments: &[
-            Base, Also, Harts, Only, Long, Progress, Image, Capture, Logs,
+            Base, Also, Harts, Only, ExplainRow, Long, Progress, Image, Capture, Logs,
         ],
     },
 ];

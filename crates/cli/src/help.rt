@@ -1,8 +1,8 @@
 //! What help ends with, and what `--version` prints. The statuses are those of docs/FORMATS.md, and the files of the
 //! examples those of the repository.
 
-/// The program's version, and the toolchain that it is proved with, as `rt version` prints that.
-pub(crate) const VERSION: &str = "1.0.0\nrattle-kit-13f logic dac8208d650f15bf";
+/// The program's version, and the logic that it is proved in, as `rt version` prints its sum.
+pub(crate) const VERSION: &str = "1.0.0\nrattle logic dac8208d650f15bf";
 
 /// What the help of the program ends with.
 pub(crate) const EXIT_STATUSES: &str = "\

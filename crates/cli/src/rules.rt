@@ -4,7 +4,10 @@ ghost use Rattle.cli.specs.Rules.{IsReadBy, argument_rule};
 
 use crate::forms::{count_of_harts, file, flag, option};
 use clap::{Arg, ArgAction, value_parser};
-use command_inputs::{GREATEST_FIRST, LONGEST_PERIOD, SHORTEST_PERIOD, SMALLEST_CAPACITY};
+use command_inputs::{
+    FEWEST_NUMBER_BITS, GREATEST_FIRST, LONGEST_PERIOD, MOST_NUMBER_BITS, SHORTEST_PERIOD,
+    SMALLEST_CAPACITY,
+};
 use message::MOST_CAPACITY;
 use std::alloc::Global;
 
@@ -18,6 +21,7 @@ pub(crate) enum Argument {
     CaptureProgress,
     CountedHarts,
     Explain,
+    ExplainRow,
     First,
     Format,
     Full,
@@ -32,6 +36,7 @@ pub(crate) enum Argument {
     Logs,
     Long,
     Lossy,
+    NumberBits,
     Of,
     Only,
     Packets,
@@ -74,7 +79,7 @@ fn read_as<'a>(alloc: Global, argument: Argument) -> Arg<'a>
         Argument::CountedHarts | Argument::ListedHarts | Argument::SalvagedHarts => count_of_harts(
             alloc, "harts",
         ),
-        Argument::Explain => flag(alloc, "explain"),
+        Argument::Explain | Argument::ExplainRow => flag(alloc, "explain"),
         Argument::First => option(alloc, "first", "H").value_parser(value_parser!(u16).range(
             0..=i64::from(GREATEST_FIRST),
         )),
@@ -88,6 +93,9 @@ fn read_as<'a>(alloc: Global, argument: Argument) -> Arg<'a>
         Argument::Logs => file(alloc, "LOG").action(ArgAction::Append).num_args(1..),
         Argument::Long => flag(alloc, "long"),
         Argument::Lossy => flag(alloc, "lossy"),
+        Argument::NumberBits => option(alloc, "number-bits", "W").value_parser(value_parser!(
+            u16
+        ).range(i64::from(FEWEST_NUMBER_BITS)..=i64::from(MOST_NUMBER_BITS))),
         Argument::Of => count_of_harts(alloc, "of"),
         Argument::Only => option(alloc, "only", "A-B"),
         Argument::Packets => flag(alloc, "packets"),
@@ -120,6 +128,7 @@ fn help_of(argument: Argument) -> &'static str {
         Argument::CountedHarts =>
             "How many harts the header counts, 1 to 1024, with --v1 to 64; without it, those up to the highest",
         Argument::Explain => "Print below an illegal row what is there and what may follow",
+        Argument::ExplainRow => "Print the up to three rows before the first that differs",
         Argument::First => "The hart of the first log, with --of, 0 to 1023; without it, 0",
         Argument::Format => "What is printed: text, or csv, a table",
         Argument::Full => "Report addresses in full, not as differences",
@@ -137,6 +146,8 @@ fn help_of(argument: Argument) -> &'static str {
         Argument::Logs => "Logs, each of one hart, as CSV",
         Argument::Long => "Take logs of up to 4294967295 rows, not 16777216",
         Argument::Lossy => "Go on where messages are missing, and print how many are",
+        Argument::NumberBits =>
+            "NUMBER is the lowest W bits of a message's number, W 4 to 32; without it, the number itself",
         Argument::Of =>
             "Of how many harts the logs are a part, 1 to 1024, with --v1 to 64; without it, the count of logs",
         Argument::Only => "Look at harts A to B alone, or at hart A, 0 to 1023; without it, at all",

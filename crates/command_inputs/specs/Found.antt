@@ -8,6 +8,7 @@ use Rattle.rvclass.specs.Image.{Image}
 use Rattle.rvclass.specs.Program.{program_of}
 use Rattle.command_inputs.specs.declared.words.Format.{Format}
 use Rattle.command_inputs.specs.declared.words.Format.TheVariants.{Other}
+use Rattle.command_inputs.specs.declared.words.ProgramArgs.{ProgramArgs}
 use Rattle.command_inputs.specs.Faults.{Path, piece_fault}
 use Rattle.command_inputs.specs.Finding.{After}
 use Rattle.command_inputs.specs.FurtherPieces.{base_number, given_piece}
@@ -29,12 +30,12 @@ base_at None = Err fault.Base
 base_at (Some base) = Ok base
 
 -- The number of the text of a base is found, where each further argument gives a piece.
-abbrev pub IsBase : {W : Type 0} → List ℕ → List Path → Result ℕ (Fault W) → Type 0
-IsBase text also found = found ≡ base_at (base_number text also)
+abbrev pub IsBase : {W : Type 0} → ProgramArgs → Result ℕ (Fault W) → Type 0
+IsBase asked found = found ≡ base_at (base_number asked)
 
 -- The format is looked at, and then the number of the text of a base is found.
-abbrev pub IsAskedBase : {W : Type 0} → Format → List ℕ → List Path → Result ℕ (Fault W) → Type 0
-IsAskedBase format text also = After (IsFormat format) (λ _. IsBase text also)
+abbrev pub IsAskedBase : {W : Type 0} → Format → ProgramArgs → Result ℕ (Fault W) → Type 0
+IsAskedBase format asked = After (IsFormat format) (λ _. IsBase asked)
 
 -- The fault of no log, or of more logs than `most`; else none.
 abbrev pub count_at : {W : Type 0} → ℕ → ℕ → Result (Unit {0}) (Fault W)
@@ -88,14 +89,14 @@ IsWithPieces content image [] found = found ≡ Ok image
 IsWithPieces content image (argument ∷ also) found =
     After (IsWithPiece content image (given_piece argument.now)) (λ more. IsWithPieces content more also) found
 
--- The program of the image at a path, its first byte at the base, with its further pieces, is found. The image is
--- looked at first, then each piece in turn.
-abbrev pub IsProgramAt : {W : Type 0} → Content → ℕ → Path → List Path → Result Image (Fault W) → Type 0
-IsProgramAt content base path also = After (IsImageAt content base path) (λ image. IsWithPieces content image also)
+-- The program of the image, its first byte at the base, with its further pieces, is found. The image is looked at
+-- first, then each piece in turn.
+abbrev pub IsProgramAt : {W : Type 0} → Content → ℕ → ProgramArgs → Result Image (Fault W) → Type 0
+IsProgramAt content base asked =
+    After (IsImageAt content base asked.image) (λ image. IsWithPieces content image asked.also.items)
 
 -- The program that is asked for together with logs is found. The bases are looked at first, then the count of logs,
 -- then the image and its further pieces.
-abbrev pub IsAskedProgram : {W : Type 0} → Content → ℕ → List ℕ → List Path → Path → List Path
-    → Result Image (Fault W) → Type 0
-IsAskedProgram content most text also image paths =
-    After (IsBase text also) (λ base. After (AreFew most paths) (λ _. IsProgramAt content base image also))
+abbrev pub IsAskedProgram : {W : Type 0} → Content → ℕ → ProgramArgs → List Path → Result Image (Fault W) → Type 0
+IsAskedProgram content most asked paths =
+    After (IsBase asked) (λ base. After (AreFew most paths) (λ _. IsProgramAt content base asked))

@@ -14,6 +14,7 @@ use Rattle.rvclass.specs.Image.{Image}
 use Rattle.command_inputs.specs.Faults.{Path, log_fault}
 use Rattle.command_inputs.specs.Finding.{After}
 use Rattle.command_inputs.specs.Found.{IsAskedProgram, IsRead}
+use Rattle.command_inputs.specs.declared.words.ProgramArgs.{ProgramArgs}
 use Rattle.command_inputs.specs.declared.fault.Fault.{Fault}
 use Rattle.command_inputs.specs.declared.fault.Fault.TheVariants as fault
 
@@ -66,10 +67,10 @@ AreLegalLogsUpTo rows content program paths (Err why) = IsFirstRefusedUpTo rows 
 
 -- The logs that are asked for, of at most so many rows each, are found. The program is looked at first, then each log
 -- in turn, which has to be legal for the program.
-abbrev pub AreAskedLogsUpTo : {W : Type 0} → ℕ → Content → ℕ → List ℕ → List Path → Path → List Path
+abbrev pub AreAskedLogsUpTo : {W : Type 0} → ℕ → Content → ℕ → ProgramArgs → List Path
     → Result (List ProgramLog) (Fault W) → Type 0
-AreAskedLogsUpTo rows content most text also image paths =
-    After (IsAskedProgram content most text also image paths) (λ program. AreLegalLogsUpTo rows content program paths)
+AreAskedLogsUpTo rows content most asked paths =
+    After (IsAskedProgram content most asked paths) (λ program. AreLegalLogsUpTo rows content program paths)
 
 -- The same of logs of at most 16777216 rows.
 abbrev pub IsLog : {W : Type 0} → Content → Path → Result (List Event) (Fault W) → Type 0
@@ -84,7 +85,6 @@ IsFirstRefused content program paths why = IsFirstRefusedUpTo most_rows content 
 abbrev pub AreLegalLogs : {W : Type 0} → Content → Image → List Path → Result (List ProgramLog) (Fault W) → Type 0
 AreLegalLogs content program paths found = AreLegalLogsUpTo most_rows content program paths found
 
-abbrev pub AreAskedLogs : {W : Type 0} → Content → ℕ → List ℕ → List Path → Path → List Path
+abbrev pub AreAskedLogs : {W : Type 0} → Content → ℕ → ProgramArgs → List Path
     → Result (List ProgramLog) (Fault W) → Type 0
-AreAskedLogs content most text also image paths found =
-    AreAskedLogsUpTo most_rows content most text also image paths found
+AreAskedLogs content most asked paths found = AreAskedLogsUpTo most_rows content most asked paths found

@@ -4,6 +4,7 @@ use Rattle.std.specs.Prelude.{length, nat_lt, option_map}
 use Rattle.std.specs.List.{after_first, before_first, list_all, position_or_len}
 use Rattle.retire.specs.Number.{number_of}
 use Rattle.command_inputs.specs.Faults.{Path}
+use Rattle.command_inputs.specs.declared.words.ProgramArgs.{ProgramArgs}
 
 -- A byte is `=`.
 abbrev pub is_equals : ℕ → Bool
@@ -29,5 +30,5 @@ abbrev pub gives_piece : Path → Bool
 gives_piece argument = is_some (given_piece argument.now)
 
 -- The number of the image's base, where it is one and each further argument gives a piece.
-abbrev pub base_number : List ℕ → List Path → Option ℕ
-base_number text also = if list_all gives_piece also then number_of text else None
+abbrev pub base_number : ProgramArgs → Option ℕ
+base_number asked = if list_all gives_piece asked.also.items then number_of asked.base.now else None

@@ -23,8 +23,20 @@ IsFirstIfGiven given = IfSome given (λ first. first ≤ greatest_first)
 abbrev pub IsCountIfGiven : Option ℕ → Type 0
 IsCountIfGiven given = IfSome given (λ harts. (1 ≤ harts) × (harts ≤ most_harts Two))
 
--- A period is 1 to 65535 retirements, a count of harts 1 to 1024, a first hart 0 to 1023, and a capacity 1 to 65536
--- messages.
+-- The fewest low bits of a number that lines may have.
+abbrev pub fewest_number_bits : ℕ
+fewest_number_bits = 4
+
+-- The most low bits of a number that lines may have, where they have not the number itself.
+abbrev pub most_number_bits : ℕ
+most_number_bits = 32
+
+-- A count of low bits that is given is 4 to 32.
+abbrev pub AreBitsIfGiven : Option ℕ → Type 0
+AreBitsIfGiven given = IfSome given (λ bits. (fewest_number_bits ≤ bits) × (bits ≤ most_number_bits))
+
+-- A period is 1 to 65535 retirements, a count of harts 1 to 1024, a first hart 0 to 1023, a capacity 1 to 65536
+-- messages, and a count of low bits 4 to 32.
 abbrev pub IsWithinLimits : Asked → Type 0
 IsWithinLimits (Encode asked) =
     (1 ≤ asked.period) × (asked.period ≤ longest_period) × IsFirstIfGiven asked.first × IsCountIfGiven asked.of
@@ -38,5 +50,6 @@ IsWithinLimits (Listing asked) = IsCountIfGiven asked.harts
 IsWithinLimits (Salvage asked) = IsCountIfGiven asked.harts
 IsWithinLimits (Capture asked) =
     (1 ≤ asked.period) × (asked.period ≤ longest_period) × IsCountIfGiven asked.harts
+    × AreBitsIfGiven asked.number_bits
 IsWithinLimits (Compare asked) = (1 ≤ asked.harts) × (asked.harts ≤ most_harts Two)
 IsWithinLimits _ = Unit {0}

@@ -7,10 +7,10 @@ ghost use Rattle.command_inputs.specs.FurtherPieces.{base_number};
 ghost use Rattle.log_streams.specs.Known.{MayBegin};
 ghost use Rattle.command_inputs.specs.Order.{format_fault, format_or_base_fault, logs_fault};
 
-use crate::Format;
 use crate::fault::Fault;
 use crate::limits::LARGEST_PIECE;
 use crate::pieces::{add_pieces, give_pieces};
+use crate::{Format, ProgramArgs};
 use log_streams::Files;
 use retire::number;
 use rvclass::Program;
@@ -29,44 +29,43 @@ pub fn check_format<'a, W>(format: Format) -> Result<(), Fault<'a, W>>
 }
 
 /// The number that a base is, where there is a format. The format is looked at first.
-pub fn asked_base<'a, W>(format: Format, text: &str, also: &Vec<&str>) -> Result<u64, Fault<'a, W>>
-    ensures found { IsAskedBase format text.now also.now.items result }
-    ensures number { IfOk result
-        (λ base. format_or_base_fault {W = W} format (base_number text.now also.now.items) ≡ None) }
-    ensures none { IfErr result
-        (λ why. format_or_base_fault format (base_number text.now also.now.items) ≡ Some why) }
+pub fn asked_base<'a, W>(format: Format, asked: &ProgramArgs) -> Result<u64, Fault<'a, W>>
+    ensures found { IsAskedBase format asked.now result }
+    ensures number { IfOk result (λ base. format_or_base_fault {W = W} format (base_number asked.now) ≡ None) }
+    ensures none { IfErr result (λ why. format_or_base_fault format (base_number asked.now) ≡ Some why) }
 {
     check_format(format)?;
-    base_of(text, also)
+    base_of(asked)
 }
 
 /// The number that a base is, where each of the further arguments gives a piece with a base that is a number too.
-pub fn base_of<'a, W>(text: &str, also: &Vec<&str>) -> Result<u64, Fault<'a, W>>
-    ensures found { IsBase text.now also.now.items result }
-    ensures number { IfOk result (λ base. base_number text.now also.now.items ≡ Some base) }
-    ensures none { IfErr result (λ fault. (fault ≡ Fault.Base) × (base_number text.now also.now.items ≡ None)) }
+pub fn base_of<'a, W>(asked: &ProgramArgs) -> Result<u64, Fault<'a, W>>
+    ensures found { IsBase asked.now result }
+    ensures number { IfOk result (λ base. base_number asked.now ≡ Some base) }
+    ensures none { IfErr result (λ fault. (fault ≡ Fault.Base) × (base_number asked.now ≡ None)) }
 {
-    if !give_pieces(also.as_slice()) {
+    if !give_pieces(asked.also.as_slice()) {
         return Err(Fault::Base);
     }
-    match number(text.as_bytes()) {
+    match number(asked.base.as_bytes()) {
         Some(base) => Ok(base),
         None => Err(Fault::Base),
     }
 }
 
 /// Refuses a count of logs that is 0 or more than this many.
-fn check_count<'a, W>(logs: &[&'a str], most: u16) -> Result<(), Fault<'a, W>>
-    ensures found { AreFew most logs.now result }
-    ensures some { IfOk result (λ _. 1 ≤ length logs.now) }
-    ensures few { IfOk result (λ _. length logs.now ≤ most) }
-    ensures fault { IfErr result (λ why. ((why ≡ Fault.NoLogs) × (length logs.now ≡ 0))
-        ⊎ ((why ≡ fault.ManyLogs most) × (1 ≤ length logs.now) × (most < length logs.now))) }
+fn check_count<'a, W>(logs: &Vec<&'a str>, most: u16) -> Result<(), Fault<'a, W>>
+    ensures found { AreFew most logs.now.items result }
+    ensures some { IfOk result (λ _. 1 ≤ length logs.now.items) }
+    ensures few { IfOk result (λ _. length logs.now.items ≤ most) }
+    ensures fault { IfErr result (λ why. ((why ≡ Fault.NoLogs) × (length logs.now.items ≡ 0))
+        ⊎ ((why ≡ fault.ManyLogs most) × (1 ≤ length logs.now.items) × (most < length logs.now.items))) }
 {
-    if logs.is_empty() {
+    let paths = logs.as_slice();
+    if paths.is_empty() {
         return Err(Fault::NoLogs);
     }
-    if logs.len() > usize::from(most) {
+    if paths.len() > usize::from(most) {
         return Err(Fault::ManyLogs(most));
     }
     Ok(())
@@ -116,23 +115,22 @@ fn image_of<'a, W, F: Files>(
     Ok(Program::new(base, bytes)?)
 }
 
-/// The program of an image at a base, with the further pieces that these arguments give. Each piece is read and added
-/// before the next is looked at.
+/// The program of the image at a base, with its further pieces. Each piece is read and added before the next is looked
+/// at.
 pub fn program_of<'a, W, F: Files>(
     alloc: Global,
     files: &mut F,
     base: u64,
-    image: &'a str,
-    also: &Vec<&'a str>,
+    asked: &ProgramArgs<'a>,
 ) -> Result<Program, Fault<'a, W>>
     ensures program { IfOk result
-        (λ program. IsProgramAt {W = W} (F.content files.old) base image.entry also.now.items (Ok program)) }
+        (λ program. IsProgramAt {W = W} (F.content files.old) base asked.now (Ok program)) }
     ensures fault { IfErr result (λ why.
-        (why ≡ Fault.Memory) ⊎ IsProgramAt (F.content files.old) base image.entry also.now.items (Err why)) }
+        (why ≡ Fault.Memory) ⊎ IsProgramAt (F.content files.old) base asked.now (Err why)) }
     ensures kept { F.content files.new ≡ F.content files.old }
 {
-    let program = image_of(files, base, image)?;
-    add_pieces(alloc, files, program, also.as_slice())
+    let program = image_of(files, base, asked.image)?;
+    add_pieces(alloc, files, program, asked.also.as_slice())
 }
 
 /// The program that is asked for together with logs. The bases are looked at first, then the count of logs, then the
@@ -141,22 +139,20 @@ pub fn asked_program<'a, W, F: Files>(
     alloc: Global,
     files: &mut F,
     most: u16,
-    base: &str,
-    also: &Vec<&'a str>,
-    image: &'a str,
-    paths: &[&'a str],
+    asked: &ProgramArgs<'a>,
+    logs: &Vec<&'a str>,
 ) -> Result<Program, Fault<'a, W>>
-    ensures early { IfSome (logs_fault most (base_number base.now also.now.items) (length paths.now))
+    ensures early { IfSome (logs_fault most (base_number asked.now) (length logs.now.items))
         (λ fault. result ≡ Err fault) }
-    ensures program { IfOk result (λ program.
-        IsAskedProgram {W = W} (F.content files.old) most base.now also.now.items image.entry paths.now (Ok program)) }
+    ensures program { IfOk result
+        (λ program. IsAskedProgram {W = W} (F.content files.old) most asked.now logs.now.items (Ok program)) }
     ensures fault { IfErr result (λ why. (why ≡ Fault.Memory)
-        ⊎ IsAskedProgram (F.content files.old) most base.now also.now.items image.entry paths.now (Err why)) }
-    ensures some { IfOk result (λ _. 1 ≤ length paths.now) }
-    ensures few { IfOk result (λ _. length paths.now ≤ most) }
+        ⊎ IsAskedProgram (F.content files.old) most asked.now logs.now.items (Err why)) }
+    ensures some { IfOk result (λ _. 1 ≤ length logs.now.items) }
+    ensures few { IfOk result (λ _. length logs.now.items ≤ most) }
     ensures kept { F.content files.new ≡ F.content files.old }
 {
-    let base = base_of(base, also)?;
-    check_count(paths, most)?;
-    program_of(alloc, files, base, image, also)
+    let base = base_of(asked)?;
+    check_count(logs, most)?;
+    program_of(alloc, files, base, asked)
 }

@@ -28,7 +28,10 @@ pub use inputs::{
     asked_base, asked_program, base_of, check_format, content_of, program_of, start_of,
 };
 pub use legal_logs::legal_logs_of;
-pub use limits::{GREATEST_FIRST, LONGEST_PERIOD, SHORTEST_PERIOD, SMALLEST_CAPACITY};
+pub use limits::{
+    FEWEST_NUMBER_BITS, GREATEST_FIRST, LONGEST_PERIOD, MOST_NUMBER_BITS, SHORTEST_PERIOD,
+    SMALLEST_CAPACITY,
+};
 pub use log_streams::{FileFault, FileReader, Files};
 pub use only_harts::harts_asked;
 pub use progress::{MessageProgress, begin_progress};
@@ -36,5 +39,5 @@ pub use reason::Reason;
 pub use status::Status;
 pub use words::{
     Asked, Audit, Bench, Capture, Check, Compare, Decode, Dump, Encode, Format, Listing, Measure,
-    Replay, Salvage,
+    ProgramArgs, Replay, Salvage,
 };

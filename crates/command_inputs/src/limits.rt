@@ -9,6 +9,12 @@ pub const LONGEST_PERIOD: u16 = 65535;
 /// The greatest hart that the first of some logs may be of.
 pub const GREATEST_FIRST: u16 = 1023;
 
+/// The fewest low bits of a number that lines may have.
+pub const FEWEST_NUMBER_BITS: u16 = 4;
+
+/// The most low bits of a number that lines may have, where they have not the number itself.
+pub const MOST_NUMBER_BITS: u16 = 32;
+
 /// The most bytes of an image, or of a further piece of one.
 pub(crate) const LARGEST_PIECE: usize = 16_777_216;
 

@@ -3,22 +3,29 @@
 use message::Version;
 use payload::Mode;
 
-/// `check --base B [--also B2=FILE]... [--explain] [--long] [--progress] IMAGE LOG...`: whether the log of each hart is
-/// legal.
+/// `--base B [--also B2=FILE]... IMAGE`: a program, as the bytes of an image and of its further pieces.
 #[derive(Drop)]
-pub struct Check<'a> {
+pub struct ProgramArgs<'a> {
     /// The address of the image's first byte, not yet read as a number.
     pub base: &'a str,
     /// The further pieces of the image, each as `B2=FILE`, not yet taken apart, in the order of the arguments.
     pub also: Vec<&'a str>,
+    /// The path of the image.
+    pub image: &'a str,
+}
+
+/// `check --base B [--also B2=FILE]... [--explain] [--long] [--progress] IMAGE LOG...`: whether the log of each hart is
+/// legal.
+#[derive(Drop)]
+pub struct Check<'a> {
+    /// The program.
+    pub program: ProgramArgs<'a>,
     /// Whether a line is wanted that explains an illegal row.
     pub explain: bool,
     /// Whether a log may have up to 4,294,967,295 rows. Where this is false, it may have up to 16,777,216.
     pub long: bool,
     /// Whether a terminal is shown how far the logs are read.
     pub progress: bool,
-    /// The path of the image.
-    pub image: &'a str,
     /// The paths of the logs, at least one, in the order of the arguments.
     pub logs: Vec<&'a str>,
 }
@@ -27,10 +34,8 @@ pub struct Check<'a> {
 /// IMAGE LOG...`: the messages of the log of each hart.
 #[derive(Drop)]
 pub struct Encode<'a> {
-    /// The address of the image's first byte, not yet read as a number.
-    pub base: &'a str,
-    /// The further pieces of the image, each as `B2=FILE`, not yet taken apart, in the order of the arguments.
-    pub also: Vec<&'a str>,
+    /// The program.
+    pub program: ProgramArgs<'a>,
     /// How many retirements there are from one periodic synchronisation to the next, 1 to 65535.
     pub period: u16,
     /// Whether packets name addresses by differences or in full.
@@ -47,8 +52,6 @@ pub struct Encode<'a> {
     pub long: bool,
     /// Whether a terminal is shown how far the logs are read.
     pub progress: bool,
-    /// The path of the image.
-    pub image: &'a str,
     /// The paths of the logs, at least one, in the order of the arguments.
     pub logs: Vec<&'a str>,
 }
@@ -70,10 +73,8 @@ pub struct Dump<'a> {
 /// messages of a capture describe.
 #[derive(Drop)]
 pub struct Decode<'a> {
-    /// The address of the image's first byte, not yet read as a number.
-    pub base: &'a str,
-    /// The further pieces of the image, each as `B2=FILE`, not yet taken apart, in the order of the arguments.
-    pub also: Vec<&'a str>,
+    /// The program.
+    pub program: ProgramArgs<'a>,
     /// The count of harts of a capture with no header, 1 to 1024.
     pub harts: u16,
     /// The harts whose messages are wanted, not yet read as `A-B` or `A`, where not all are.
@@ -82,8 +83,6 @@ pub struct Decode<'a> {
     pub lossy: bool,
     /// Whether a terminal is shown how far the capture is worked through.
     pub progress: bool,
-    /// The path of the image.
-    pub image: &'a str,
     /// The path of the capture.
     pub capture: &'a str,
 }
@@ -92,10 +91,8 @@ pub struct Decode<'a> {
 /// is decoded of the log of each hart that is sent through the funnel.
 #[derive(Drop)]
 pub struct Replay<'a> {
-    /// The address of the image's first byte, not yet read as a number.
-    pub base: &'a str,
-    /// The further pieces of the image, each as `B2=FILE`, not yet taken apart, in the order of the arguments.
-    pub also: Vec<&'a str>,
+    /// The program.
+    pub program: ProgramArgs<'a>,
     /// How many retirements there are from one periodic synchronisation to the next, 1 to 65535.
     pub period: u16,
     /// Whether packets name addresses by differences or in full.
@@ -104,8 +101,6 @@ pub struct Replay<'a> {
     pub capacity: u32,
     /// Whether a terminal is shown how far the logs are read.
     pub progress: bool,
-    /// The path of the image.
-    pub image: &'a str,
     /// The path of the schedule.
     pub schedule: &'a str,
     /// The paths of the logs, at least one, in the order of the arguments.
@@ -116,10 +111,8 @@ pub struct Replay<'a> {
 /// of the log of each hart that is sent through the funnel from a thread of its own.
 #[derive(Drop)]
 pub struct Bench<'a> {
-    /// The address of the image's first byte, not yet read as a number.
-    pub base: &'a str,
-    /// The further pieces of the image, each as `B2=FILE`, not yet taken apart, in the order of the arguments.
-    pub also: Vec<&'a str>,
+    /// The program.
+    pub program: ProgramArgs<'a>,
     /// How many retirements there are from one periodic synchronisation to the next, 1 to 65535.
     pub period: u16,
     /// Whether packets name addresses by differences or in full.
@@ -128,8 +121,6 @@ pub struct Bench<'a> {
     pub capacity: u32,
     /// Whether a terminal is shown how far the logs are read.
     pub progress: bool,
-    /// The path of the image.
-    pub image: &'a str,
     /// The paths of the logs, at least one, in the order of the arguments.
     pub logs: Vec<&'a str>,
 }
@@ -171,10 +162,8 @@ pub struct Audit<'a> {
 /// and bytes the log of each hart takes.
 #[derive(Drop)]
 pub struct Measure<'a> {
-    /// The address of the image's first byte, not yet read as a number.
-    pub base: &'a str,
-    /// The further pieces of the image, each as `B2=FILE`, not yet taken apart, in the order of the arguments.
-    pub also: Vec<&'a str>,
+    /// The program.
+    pub program: ProgramArgs<'a>,
     /// How many retirements there are from one periodic synchronisation to the next, 1 to 65535.
     pub period: u16,
     /// Whether packets name addresses by differences or in full.
@@ -183,8 +172,6 @@ pub struct Measure<'a> {
     pub long: bool,
     /// Whether a terminal is shown how far the logs are read.
     pub progress: bool,
-    /// The path of the image.
-    pub image: &'a str,
     /// The paths of the logs, at least one, in the order of the arguments.
     pub logs: Vec<&'a str>,
 }
@@ -193,10 +180,8 @@ pub struct Measure<'a> {
 /// IMAGE CAPTURE`: what each message of a capture says and settles.
 #[derive(Drop)]
 pub struct Listing<'a> {
-    /// The address of the image's first byte, not yet read as a number.
-    pub base: &'a str,
-    /// The further pieces of the image, each as `B2=FILE`, not yet taken apart, in the order of the arguments.
-    pub also: Vec<&'a str>,
+    /// The program.
+    pub program: ProgramArgs<'a>,
     /// The count of harts of a capture with no header, 1 to 1024, where it is given.
     pub harts: Option<u16>,
     /// The harts whose messages are wanted, not yet read as `A-B` or `A`, where not all are.
@@ -209,8 +194,6 @@ pub struct Listing<'a> {
     pub format: Format,
     /// Whether a terminal is shown how far the capture is worked through.
     pub progress: bool,
-    /// The path of the image.
-    pub image: &'a str,
     /// The path of the capture.
     pub capture: &'a str,
 }
@@ -219,10 +202,8 @@ pub struct Listing<'a> {
 /// CAPTURE`: what is left of the log of each hart after any damage to a capture.
 #[derive(Drop)]
 pub struct Salvage<'a> {
-    /// The address of the image's first byte, not yet read as a number.
-    pub base: &'a str,
-    /// The further pieces of the image, each as `B2=FILE`, not yet taken apart, in the order of the arguments.
-    pub also: Vec<&'a str>,
+    /// The program.
+    pub program: ProgramArgs<'a>,
     /// The count of harts of a capture with no valid header, 1 to 1024, where it is given.
     pub harts: Option<u16>,
     /// The harts whose messages are wanted, not yet read as `A-B` or `A`, where not all are.
@@ -233,13 +214,12 @@ pub struct Salvage<'a> {
     pub format: Format,
     /// Whether a terminal is shown how far the capture is worked through.
     pub progress: bool,
-    /// The path of the image.
-    pub image: &'a str,
     /// The path of the capture.
     pub capture: &'a str,
 }
 
-/// `capture [--v1] [--full] [--period N] [--harts N] LINES`: the capture of a text of lines, each of one message.
+/// `capture [--v1] [--full] [--period N] [--harts N] [--number-bits W] LINES`: the capture of a text of lines, each of
+/// one message.
 #[derive(Drop)]
 pub struct Capture<'a> {
     /// The version of the capture. It limits the count of harts.
@@ -251,28 +231,28 @@ pub struct Capture<'a> {
     /// The count of harts that the capture's header has, 1 to 1024, where it is given. Else they are those up to the
     /// highest of a line.
     pub harts: Option<u16>,
+    /// How many low bits of a message's number the lines have, 4 to 32, where they have not the number itself.
+    pub number_bits: Option<u16>,
     /// The path of the lines.
     pub lines: &'a str,
 }
 
-/// `compare --base B [--also B2=FILE]... [--harts N] [--only A-B] [--long] [--progress] IMAGE CAPTURE LOG...`: whether a
-/// capture describes just these logs.
+/// `compare --base B [--also B2=FILE]... [--harts N] [--only A-B] [--explain] [--long] [--progress] IMAGE CAPTURE
+/// LOG...`: whether a capture describes just these logs.
 #[derive(Drop)]
 pub struct Compare<'a> {
-    /// The address of the image's first byte, not yet read as a number.
-    pub base: &'a str,
-    /// The further pieces of the image, each as `B2=FILE`, not yet taken apart, in the order of the arguments.
-    pub also: Vec<&'a str>,
+    /// The program.
+    pub program: ProgramArgs<'a>,
     /// The count of harts of a capture with no header, 1 to 1024.
     pub harts: u16,
     /// The harts whose messages are wanted, not yet read as `A-B` or `A`, where not all are.
     pub only: Option<&'a str>,
+    /// Whether the rows before the first difference are wanted.
+    pub explain: bool,
     /// Whether a log may have up to 4,294,967,295 rows. Where this is false, it may have up to 16,777,216.
     pub long: bool,
     /// Whether a terminal is shown how far the capture is worked through and the logs are read.
     pub progress: bool,
-    /// The path of the image.
-    pub image: &'a str,
     /// The path of the capture.
     pub capture: &'a str,
     /// The paths of the logs, at least one, in the order of the arguments.

@@ -2,7 +2,7 @@
 
 ghost use Rattle.std.specs.Prelude.{◌≤◌};
 ghost use Rattle.commands.specs.steps.Running.{IsRun};
-ghost use Rattle.command_inputs.specs.Limits.{IsCountIfGiven};
+ghost use Rattle.command_inputs.specs.Limits.{AreBitsIfGiven, IsCountIfGiven};
 ghost use Rattle.command_inputs.specs.declared.words.Asked.TheVariants as Asked;
 
 use crate::joining::joined_end;
@@ -19,6 +19,7 @@ pub(crate) fn run_capture<'a, F: Files, O: Write>(
 ) -> Result<Status, Fault<'a>>
     requires period { 1 ≤ asked.now.period }
     requires harts { IsCountIfGiven asked.now.harts }
+    requires bits { AreBitsIfGiven asked.now.number_bits }
     ensures { IsRun (F.content files.old) (Asked.Capture asked.now) O.contents result out.old out.new }
 {
     joined_end(capture(files, asked, out))

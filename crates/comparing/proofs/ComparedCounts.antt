@@ -4,16 +4,20 @@ use Rattle.std.proofs.Common.{ap, arith, inl, inr, length, refl, sym}
 use Rattle.std.proofs.Math.Nat.{min-eq_left, min-eq_right}
 use Rattle.std.proofs.lemmas.Bool.{eq-eqb, eqb-true, ne_eqb}
 use Rattle.std.proofs.lemmas.List.{length-append}
-use Rattle.std.specs.Prelude.{◌==◌, ◌&&◌, if◌then◌else◌, min}
+use Rattle.std.specs.Prelude.{◌==◌, ◌&&◌, if◌then◌else◌, min, slice_get}
 use Rattle.bench.specs.declared.verdict.Verdict.{Verdict}
 use Rattle.bench.specs.declared.verdict.Verdict.TheVariants.{Beginning, Differs, Whole}
 use Rattle.bench.specs.Verdict.{count_alike}
 use Rattle.retire.specs.Log.{most_long_rows}
 use Rattle.retire.specs.declared.event.Event.{Event}
 use Rattle.comparing.specs.Compared.{AreNext, HasCompared}
+use Rattle.comparing.specs.RowsAbout.{near_rows, rows_about}
 use Rattle.comparing.specs.Verdicts.{verdict_at}
+use Rattle.comparing.specs.declared.near.NearRows.{NearRows}
 use Rattle.comparing.specs.declared.pieces.Comparing.{Comparing}
+use Rattle.comparing.specs.steps.Moved.{IsMoved}
 use Rattle.comparing.proofs.AlikePieces.{alike_few, alike_on, alike_stays, alike_within}
+use Rattle.comparing.proofs.RowsMoved.{near_goes_on, near_stays}
 
 -- The greatest count.
 abbrev most : ℕ
@@ -77,19 +81,15 @@ module _ (before seen decoded events : List Event) (comparing : Comparing) (has 
   seen_few : length seen ≤ most_long_rows
   seen_few = let long = length-append seen events in omega (arith, few, long)
 
-  -- All that came is alike.
-  pub alike_more : are_alike ≡ true
-      → count_alike (before ++ decoded) (seen ++ events) ≡ comparing.alike + count_alike decoded events
-  alike_more is =
+  -- All that came is alike, and as many of both.
+  pub all_came : are_alike ≡ true → (count_alike before seen ≡ length seen) × (count_alike before seen ≡ length before)
+  all_came is =
       let same = both (comparing.alike == comparing.events) (comparing.alike == comparing.decoded) is in
       let one = eqb-true comparing.alike comparing.events same.0 in
       let other = eqb-true comparing.alike comparing.decoded same.1 in
       let all : count_alike before seen ≡ length seen = sym has.alike ∙ one ∙ has.events in
       let limited : count_alike before seen ≡ min (length before) most = sym has.alike ∙ other ∙ has.counted in
-      let short = seen_few in
-      let whole : count_alike before seen ≡ length before =
-      limited ∙ go (either (length before) most) limited all short in
-      alike_on before seen decoded events all whole ∙ ap (λ n. n + count_alike decoded events) (sym has.alike)
+      let short = seen_few in (all, limited ∙ go (either (length before) most) limited all short)
     where
       go : (length before ≤ most) ⊎ (most ≤ length before) → count_alike before seen ≡ min (length before) most
           → count_alike before seen ≡ length seen → length seen ≤ most_long_rows
@@ -98,9 +98,16 @@ module _ (before seen decoded events : List Event) (comparing : Comparing) (has 
       go (inr over) limited all short =
           let is = min-eq_right over in absurd (omega (arith, is, limited, all, short))
 
+  pub alike_more : are_alike ≡ true
+      → count_alike (before ++ decoded) (seen ++ events) ≡ comparing.alike + count_alike decoded events
+  alike_more is =
+      let came = all_came is in
+      alike_on before seen decoded events came.0 came.1 ∙ ap (λ n. n + count_alike decoded events) (sym has.alike)
+
   -- Or it is not.
-  pub alike_same : are_alike ≡ false → count_alike (before ++ decoded) (seen ++ events) ≡ comparing.alike
-  alike_same is = alike_stays before seen decoded events next never ∙ sym has.alike
+  pub not_all : are_alike ≡ false
+      → ¬ ((count_alike before seen ≡ length seen) × (count_alike before seen ≡ length before))
+  not_all is = never
     where
       never : ¬ ((count_alike before seen ≡ length seen) × (count_alike before seen ≡ length before))
       never all =
@@ -113,6 +120,38 @@ module _ (before seen decoded events : List Event) (comparing : Comparing) (has 
           let a = eq-eqb comparing.alike comparing.events one in
           let b = eq-eqb comparing.alike comparing.decoded other in
           true≢false (sym (ap (λ x. x && (comparing.alike == comparing.decoded)) a ∙ b) ∙ is)
+
+  pub alike_same : are_alike ≡ false → count_alike (before ++ decoded) (seen ++ events) ≡ comparing.alike
+  alike_same is = alike_stays before seen decoded events next (not_all is) ∙ sym has.alike
+
+  -- So the rows about the first difference stay.
+  pub near_same : are_alike ≡ false → comparing.near ≡ near_rows (before ++ decoded) (seen ++ events)
+  near_same is =
+      has.near ∙ near_stays before seen decoded events next (not_all is)
+      ∙ ap (λ n. rows_about n (before ++ decoded) (seen ++ events))
+      (sym (alike_stays before seen decoded events next (not_all is)))
+
+  -- Or they go on, where so many are alike now.
+  module _ (is : are_alike ≡ true) (alike : ℕ) (now : alike ≡ count_alike (before ++ decoded) (seen ++ events)) where
+    more_is : alike - comparing.alike ≡ count_alike decoded events
+    more_is = let sum = now ∙ alike_more is in omega (arith, sum)
+
+    place_is : count_alike before seen + (alike - comparing.alike) ≡ count_alike (before ++ decoded) (seen ++ events)
+    place_is =
+        ap (λ n. n + (alike - comparing.alike)) (sym has.alike) ∙ ap (λ n. comparing.alike + n) more_is
+        ∙ sym (alike_more is)
+
+    pub near_on : (moved : NearRows) → moved.log ≡ slice_get events (alike - comparing.alike)
+        → moved.decoded ≡ slice_get decoded (alike - comparing.alike)
+        → IsMoved 1 (alike - comparing.alike) decoded comparing.near moved.one_before
+        → IsMoved 2 (alike - comparing.alike) decoded comparing.near moved.two_before
+        → IsMoved 3 (alike - comparing.alike) decoded comparing.near moved.three_before
+        → moved ≡ near_rows (before ++ decoded) (seen ++ events)
+    near_on moved log row one two three =
+        let came = all_came is in
+        near_goes_on before seen decoded events came.0 came.1 comparing.near has.near (alike - comparing.alike) moved
+        log row one two three
+        ∙ ap (λ n. rows_about n (before ++ decoded) (seen ++ events)) place_is
 
   -- What is alike is as little as the log.
   pub alike_short : comparing.alike + count_alike decoded events ≡ count_alike (before ++ decoded) (seen ++ events)

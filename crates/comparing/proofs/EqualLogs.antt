@@ -29,7 +29,7 @@ flag_same true = refl
 flag_same false = refl
 
 -- Events that are alike are the same.
-same_event : (event row : Event) → is_alike event row ≡ true → event ≡ row
+pub same_event : (event row : Event) → is_alike event row ≡ true → event ≡ row
 same_event (Retire addr itype privilege) (Retire addr' itype' privilege') is =
     let first = both_true (addr == addr') (itype == itype' && privilege == privilege') is in
     let second = both_true (itype == itype') (privilege == privilege') first.1 in
@@ -54,7 +54,7 @@ same_event (Trap privilege interrupt cause epc tval) (Retire addr' itype' privil
     absurd (true≢false (sym is))
 
 -- An event is like itself.
-event_same : (event : Event) → is_alike event event ≡ true
+pub event_same : (event : Event) → is_alike event event ≡ true
 event_same (Retire addr itype privilege) =
     let a = eq-eqb addr addr refl in
     let b = eq-eqb itype itype refl in

@@ -1,4 +1,5 @@
 pub mod AlikePieces
+pub mod RowsMoved
 pub mod ComparedCounts
 pub mod CountedMessages
 pub mod CountedFronts
@@ -9,3 +10,4 @@ pub mod LineTexts
 pub mod MessageBounds
 pub mod SomeHarts
 pub mod EqualHarts
+pub mod AgreeingRows

@@ -15,44 +15,46 @@ use Rattle.bench.specs.Verdict.{verdict}
 use Rattle.captures.specs.declared.outcome.CaptureFault.{CaptureFault}
 use Rattle.legalpath.specs.ProgramLog.{ProgramLog}
 use Rattle.comparing.specs.Compared.{comparison_text, comparison_text_of, is_compared_whole}
+use Rattle.comparing.specs.Explained.{are_whole_harts, explained_harts, explained_text, explained_text_of, hart_lines}
+use Rattle.comparing.specs.Explained.{is_whole_hart}
 use Rattle.comparing.specs.Lines.{are_whole_lines, is_whole_line, line_of, line_text, lines_of, lines_text}
 use Rattle.comparing.specs.declared.hart_line.ComparedHart.{ComparedHart}
 
-module _ (all : List ComparedHart) (i : ℕ) (one : ComparedHart) (within : i < length all)
+module _ {X : Type 0} (text_of : X → List ℕ) (all : List X) (i : ℕ) (one : X) (within : i < length all)
     (is : one ≡ get_or all i one) (old mid new : Option (List ℕ))
-    (first : Appends old mid (flat_map line_text (take i all))) where
-  more : flat_map line_text (take (i + 1) all) ≡ flat_map line_text (take i all) ++ line_text one
+    (first : Appends old mid (flat_map text_of (take i all))) where
+  more : flat_map text_of (take (i + 1) all) ≡ flat_map text_of (take i all) ++ text_of one
   more =
-      ap (flat_map line_text) (take_more all i one within)
-      ∙ flat_map-append line_text (take i all) (get_or all i one ∷ [])
-      ∙ ap (λ one. flat_map line_text (take i all) ++ flat_map line_text (one ∷ [])) (sym is)
-      ∙ ap (λ text. flat_map line_text (take i all) ++ text) (append-nil (line_text one))
+      ap (flat_map text_of) (take_more all i one within)
+      ∙ flat_map-append text_of (take i all) (get_or all i one ∷ [])
+      ∙ ap (λ one. flat_map text_of (take i all) ++ flat_map text_of (one ∷ [])) (sym is)
+      ∙ ap (λ text. flat_map text_of (take i all) ++ text) (append-nil (text_of one))
 
   -- The first lines are written, and then one more.
-  pub line_written : Appends mid new (line_text one) → Appends old new (flat_map line_text (take (i + 1) all))
+  pub line_written : Appends mid new (text_of one) → Appends old new (flat_map text_of (take (i + 1) all))
   line_written then =
       subst (Appends old new) (sym more)
-      (Appends-trans old mid new (flat_map line_text (take i all)) (line_text one) first then)
+      (Appends-trans old mid new (flat_map text_of (take i all)) (text_of one) first then)
 
-  parted : flat_map line_text all ≡ (flat_map line_text (take i all) ++ line_text one) ++ flat_map line_text (drop (i + 1) all)
+  parted : flat_map text_of all ≡ (flat_map text_of (take i all) ++ text_of one) ++ flat_map text_of (drop (i + 1) all)
   parted =
-      ap (flat_map line_text) (sym (take-append-drop (i + 1) all))
-      ∙ flat_map-append line_text (take (i + 1) all) (drop (i + 1) all)
-      ∙ ap (λ text. text ++ flat_map line_text (drop (i + 1) all)) more
+      ap (flat_map text_of) (sym (take-append-drop (i + 1) all))
+      ∙ flat_map-append text_of (take (i + 1) all) (drop (i + 1) all)
+      ∙ ap (λ text. text ++ flat_map text_of (drop (i + 1) all)) more
 
   -- Or a prefix of it.
-  pub line_begun : AppendsBeginning (line_text one) mid new → AppendsBeginning (flat_map line_text all) old new
+  pub line_begun : AppendsBeginning (text_of one) mid new → AppendsBeginning (flat_map text_of all) old new
   line_begun begun =
       subst (λ text. AppendsBeginning text old new) (sym parted)
-      (begun_in_front (flat_map line_text (take i all) ++ line_text one) (flat_map line_text (drop (i + 1) all)) old new
-      (begun_behind (flat_map line_text (take i all)) (line_text one) old mid new first begun))
+      (begun_in_front (flat_map text_of (take i all) ++ text_of one) (flat_map text_of (drop (i + 1) all)) old new
+      (begun_behind (flat_map text_of (take i all)) (text_of one) old mid new first begun))
 
 -- The lines are written, and then the line of the result or a prefix of it.
-pub report_begun : (ended whole : Bool) (lines : List ComparedHart) (old mid new : Option (List ℕ))
-    → whole ≡ list_all is_whole_line lines → Appends old mid (flat_map line_text lines)
-    → AppendsBeginning (result_line (ended && whole)) mid new → AppendsBeginning (lines_text ended lines) old new
-report_begun ended whole lines old mid new is text begun =
-    begun_behind (flat_map line_text lines) (result_line (are_whole_lines ended lines)) old mid new text
+pub report_begun : (ended whole all : Bool) (lines : List ℕ) (old mid new : Option (List ℕ)) → whole ≡ all
+    → Appends old mid lines → AppendsBeginning (result_line (ended && whole)) mid new
+    → AppendsBeginning (lines ++ result_line (ended && all)) old new
+report_begun ended whole all lines old mid new is text begun =
+    begun_behind lines (result_line (ended && all)) old mid new text
     (subst (λ whole. AppendsBeginning (result_line (ended && whole)) mid new) is begun)
 
 -- The texts of the lines of harts are those of a report.
@@ -93,3 +95,24 @@ module _ (stop : Option (ℕ × CaptureFault)) (gots : List Got) (logs : List Pr
 
   pub lines_written : lines_text (is_none stop) (lines_of 0 gots logs) ≡ comparison_text stop gots logs
   lines_written = lines_written_of 0 stop gots logs same
+
+-- What is said of harts is whole where their logs came back whole, if there is a log for each hart.
+whole_of_harts : (hart : ℕ) (gots : List Got) (logs : List ProgramLog) → length logs ≡ length gots
+    → list_all is_whole_hart (explained_harts hart gots logs) ≡ are_whole gots logs
+whole_of_harts hart [] logs same = refl
+whole_of_harts hart (got ∷ gots) [] same = absurd (omega (arith, same))
+whole_of_harts hart (got ∷ gots) (log ∷ logs) same =
+    ap (λ rest. is_whole_verdict (verdict got.closed got.decoded log.events) && rest)
+    (whole_of_harts (hart + 1) gots logs (omega (arith, same)))
+
+module _ (before : Bool) (hart : ℕ) (stop : Option (ℕ × CaptureFault)) (gots : List Got) (logs : List ProgramLog)
+    (same : length logs ≡ length gots) where
+  pub harts_whole_of : are_whole_harts (is_none stop) (explained_harts hart gots logs)
+      ≡ is_compared_whole stop gots logs
+  harts_whole_of = ap (λ whole. is_none stop && whole) (whole_of_harts hart gots logs same)
+
+  -- What is written of them is the report that says where logs differ.
+  pub harts_written_of : explained_text before (is_none stop) (explained_harts hart gots logs)
+      ≡ explained_text_of before hart stop gots logs
+  harts_written_of =
+      ap (λ whole. flat_map (hart_lines before) (explained_harts hart gots logs) ++ result_line whole) harts_whole_of

@@ -16,15 +16,17 @@ use Rattle.message.specs.declared.message.Message.{Message}
 use Rattle.retire.specs.declared.event.Event.{Event}
 use Rattle.rvclass.specs.Words.{Words}
 use Rattle.comparing.specs.Counts.{before_stop, count_of}
+use Rattle.comparing.specs.RowsAbout.{near_rows}
 use Rattle.comparing.specs.declared.hart_count.HartCount.{HartCount}
 use Rattle.comparing.specs.declared.pieces.Comparing.{Comparing}
 
--- These events of a log and these decoded ones were compared: how many they are, and how many of the first are alike. Of
--- the decoded ones 2^64 - 1 is counted if there are more.
+-- These events of a log and these decoded ones were compared: how many they are, how many of the first are alike, and
+-- the rows about the first that are not. Of the decoded ones 2^64 - 1 is counted if there are more.
 pub record HasCompared (decoded : List Event) (seen : List Event) (comparing : Comparing) : Type 0 where
   pub events : comparing.events ≡ length seen
   pub counted : comparing.decoded ≡ min (length decoded) (2 ^ 64 - 1)
   pub alike : comparing.alike ≡ count_alike decoded seen
+  pub near : comparing.near ≡ near_rows decoded seen
 
 -- These come next of what is decoded and of the log: of the one of which fewer came before, none comes any more.
 abbrev pub AreNext : List Event → List Event → List Event → List Event → Type 0

@@ -1,6 +1,9 @@
 pub mod Counts
 pub mod Verdicts
+pub mod RowsAbout
+pub mod Agreeing
 pub mod Lines
 pub mod Compared
+pub mod Explained
 pub mod Whole
 pub mod steps

@@ -1,5 +1,6 @@
 //! Facts that follow from the definition of a comparison.
 
+ghost use Rattle.comparing.specs.Agreeing.{ListsAgreeBefore};
 ghost use Rattle.comparing.specs.Whole.{AllHartsAreGot, WholeIsDecoded, WholeIsEqual, WholeOfHartsIsDecoded};
 ghost use Rattle.comparing.specs.Whole.{WholeOfHartsIsEqual};
 
@@ -30,4 +31,10 @@ pub fn whole_of_harts_is_decoded()
 /// What a capture decodes to of all harts is what it decodes to: a comparison of these is one of the capture.
 pub fn all_harts_are_compared()
     ensures { AllHartsAreGot }
+{}
+
+/// A log and what is decoded of its hart have the same rows before the first row in which they differ, and both have
+/// them. Where both have that row, the two are not the same.
+pub fn lists_agree_before_the_row()
+    ensures { ListsAgreeBefore }
 {}

@@ -2,25 +2,30 @@
 //!
 //! [`counts_of`] counts the messages of each hart of a capture before decoding stops. [`Comparing`] compares the events
 //! of a log, which come piece by piece, with those that were decoded of its hart. [`write_comparison`] writes a line
-//! for each hart, as a report of `bench` has it, and one for the result. [`whole_is_these_logs`] says when the result
-//! is whole, and [`whole_is_decoded`] what the bytes of the capture then decode to; [`whole_of_harts_is_these_logs`]
-//! and [`whole_of_harts_is_decoded`] say so of some harts alone.
+//! for each hart, as a report of `bench` has it, and one for the result. [`write_explained`] also writes the rows about
+//! the first difference, which are those of both lists: [`lists_agree_before_the_row`]. [`whole_is_these_logs`] says
+//! when the result is whole, and [`whole_is_decoded`] what the bytes of the capture then decode to;
+//! [`whole_of_harts_is_these_logs`] and [`whole_of_harts_is_decoded`] say so of some harts alone.
 #![tactic(auto)]
 
 mod alike_events;
 mod counting;
+mod explained;
 mod hart_count;
 mod hart_line;
 mod laws;
+mod near;
 mod pieces;
 mod writing;
 
 pub use counting::counts_of;
+pub use explained::ExplainedHart;
 pub use hart_count::HartCount;
 pub use hart_line::ComparedHart;
 pub use laws::{
-    all_harts_are_compared, whole_is_decoded, whole_is_these_logs, whole_of_harts_is_decoded,
-    whole_of_harts_is_these_logs,
+    all_harts_are_compared, lists_agree_before_the_row, whole_is_decoded, whole_is_these_logs,
+    whole_of_harts_is_decoded, whole_of_harts_is_these_logs,
 };
+pub use near::NearRows;
 pub use pieces::Comparing;
-pub use writing::write_comparison;
+pub use writing::{write_comparison, write_explained};

@@ -1,13 +1,15 @@
 //! A log and what is decoded of its hart, which are compared piece by piece.
 
-ghost use Rattle.std.specs.Prelude.{◌≡◌, ◌≤◌, ◌-◌, ◌^◌, ◌++◌, ◌==◌, ◌&&◌, List, [], length, min};
+ghost use Rattle.std.specs.Prelude.{◌≡◌, ◌≤◌, ◌+◌, ◌-◌, ◌^◌, ◌++◌, ◌==◌, ◌&&◌, List, [], length, min};
 ghost use Rattle.bench.specs.Verdict.{count_alike, verdict};
 ghost use Rattle.comparing.specs.Compared.{AreNext, HasCompared};
+ghost use Rattle.comparing.specs.RowsAbout.{near_rows};
 ghost use Rattle.comparing.specs.Verdicts.{verdict_at};
 ghost use Rattle.retire.specs.Log.{most_long_rows};
 ghost use Rattle.retire.specs.declared.event.Event.{Event as AnyEvent};
 
 use crate::alike_events::count_alike;
+use crate::near::NearRows;
 use bench::Verdict;
 use retire::Event;
 
@@ -20,6 +22,8 @@ pub struct Comparing {
     pub(crate) decoded: usize,
     /// How many of the first are alike.
     pub(crate) alike: usize,
+    /// The rows about the first that are not.
+    pub(crate) near: NearRows,
 }
 
 impl Comparing {
@@ -31,6 +35,13 @@ impl Comparing {
             events: 0,
             decoded: 0,
             alike: 0,
+            near: NearRows {
+                log: None,
+                decoded: None,
+                one_before: None,
+                two_before: None,
+                three_before: None,
+            },
         }
     }
 
@@ -51,6 +62,24 @@ impl Comparing {
         decoded
     }
 
+    /// The first row, counted from 1, in which the log and the decoded events differ; where one of both has ended
+    /// before that, the row after its last.
+    pub fn row(&self) -> usize
+        ensures { (decoded seen : List AnyEvent) → HasCompared decoded seen self.now → length seen ≤ most_long_rows
+            → result ≡ count_alike decoded seen + 1 }
+    {
+        self.alike.saturating_add(1)
+    }
+
+    /// The rows about that one.
+    pub fn near(&self) -> NearRows
+        ensures { (decoded seen : List AnyEvent) → HasCompared decoded seen self.now
+            → result ≡ near_rows decoded seen }
+    {
+        let Comparing { near, .. } = *self;
+        near
+    }
+
     /// Compares the next decoded events with the next events of the log. As many of both came before, or of the one that
     /// was shorter none comes any more. A log has at most 4,294,967,295 events. After the first difference all are only
     /// counted.
@@ -59,7 +88,9 @@ impl Comparing {
             → AreNext before seen decoded.now events.now → length (seen ++ events.now) ≤ most_long_rows
             → HasCompared (before ++ decoded.now) (seen ++ events.now) self.new }
     {
-        self.alike = self.alike_with(decoded, events);
+        let alike = self.alike_with(decoded, events);
+        self.near = self.near_with(decoded, events, alike);
+        self.alike = alike;
         self.events = self.events.saturating_add(events.len());
         self.decoded = self.decoded.saturating_add(decoded.len());
     }
@@ -74,6 +105,20 @@ impl Comparing {
             return self.alike;
         }
         self.alike.saturating_add(count_alike(decoded, events))
+    }
+
+    /// The rows about the first difference, with the next events of both. So many of the first are alike then.
+    fn near_with(&self, decoded: &[Event], events: &[Event], alike: usize) -> NearRows
+        ensures { (before seen : List AnyEvent) → HasCompared before seen self.now
+            → AreNext before seen decoded.now events.now → length (seen ++ events.now) ≤ most_long_rows
+            → alike ≡ count_alike (before ++ decoded.now) (seen ++ events.now)
+            → result ≡ near_rows (before ++ decoded.now) (seen ++ events.now) }
+    {
+        if !self.are_alike() {
+            return self.near;
+        }
+        self.near
+            .moved(decoded, events, alike.saturating_sub(self.alike))
     }
 
     /// Whether all that came of both is alike.

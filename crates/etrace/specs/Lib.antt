@@ -4,4 +4,5 @@ pub mod lossy
 pub mod packets
 pub mod runs
 pub mod salvaged
+pub mod stimuli
 pub mod streams

@@ -45,8 +45,10 @@ pub use Rattle.parallel_decode.specs.MarkedRows as MarkedHarts
 pub use Rattle.capture_index.specs.Left as HartEventsLeft
 pub use Rattle.capture_lines.specs.Line as CaptureLine
 pub use Rattle.capture_lines.specs.Lines as CaptureLines
+pub use Rattle.capture_lines.specs.Number as LinesNumber
 pub use Rattle.capture_lines.specs.Capture as LinesCapture
 pub use Rattle.capture_lines.specs.ReadBack as LinesReadBack
+pub use Rattle.capture_lines.specs.Recovered as LinesRecovered
 pub use Rattle.capture_lines.specs.FaultText as LinesFaultText
 pub use Rattle.symbols.specs.File as SymbolFile
 pub use Rattle.symbols.specs.Nearest

@@ -22,6 +22,9 @@ pub use Rattle.bench.specs.Working
 pub use Rattle.bench.specs.Stopping
 pub use Rattle.bench.specs.SetupText
 pub use Rattle.comparing.specs.Counts as ComparedCounts
+pub use Rattle.comparing.specs.RowsAbout
+pub use Rattle.comparing.specs.Agreeing as AgreeingRows
+pub use Rattle.comparing.specs.Explained as ExplainedRows
 pub use Rattle.comparing.specs.Compared
 pub use Rattle.comparing.specs.Lines as ComparedLines
 pub use Rattle.comparing.specs.Verdicts as ComparedVerdicts

@@ -6,10 +6,12 @@ pub use auditing::{
 };
 pub use bench::turns_let_beginnings_through;
 pub use capture_index::all_harts_are_decoded;
-pub use capture_lines::{hex_lines_become_the_capture, hex_lines_say_their_messages};
+pub use capture_lines::{
+    hex_lines_become_the_capture, hex_lines_say_their_messages, low_numbers_are_recovered,
+};
 pub use comparing::{
-    all_harts_are_compared, whole_is_decoded, whole_is_these_logs, whole_of_harts_is_decoded,
-    whole_of_harts_is_these_logs,
+    all_harts_are_compared, lists_agree_before_the_row, whole_is_decoded, whole_is_these_logs,
+    whole_of_harts_is_decoded, whole_of_harts_is_these_logs,
 };
 pub use decoder::{
     closed_where_last_closes, first_packets_describe_a_beginning,
@@ -32,7 +34,12 @@ pub use retire::{
     written_is_plain, written_is_read_back,
 };
 pub use roundtrip::first_packets_settle_the_first_events;
-pub use rvclass::{cut_pieces_have_the_instructions_of_one, the_bytes_decide_the_instructions};
+pub use rvclass::{
+    added_pieces_leave_the_others, cut_pieces_act_as_one, cut_pieces_have_the_instructions_of_one,
+    cut_pieces_stay_legal, even_addresses_have_places, one_piece_is_an_image,
+    pieces_are_refused_for_the_first_reason, pieces_overlap_at_an_address, the_bytes_decide,
+    the_bytes_decide_the_instructions, the_order_of_adding_is_free,
+};
 pub use salvage_reports::{
     accepted_messages_are_taken, all_harts_are_treated, messages_of_logs_are_taken,
     salvaged_rows_are_read_back, taken_messages_have_their_effect,

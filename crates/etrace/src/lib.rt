@@ -52,7 +52,7 @@
 //!   [`LogTask`](streams::LogTask) makes something of the events of each.
 //!
 //! Each module re-exports what a caller wants together: [`logs`], [`streams`], [`packets`], [`capture`], [`runs`],
-//! [`lossy`] and [`salvaged`]; [`laws`] has the theorems that no call carries. The crate has no code of its own. The
+//! [`lossy`], [`salvaged`] and [`stimuli`]; [`laws`] has the theorems that no call carries. The crate has no code of its own. The
 //! definitions that the contracts cite are re-exported too: a crate above names them as
 //! `Rattle.etrace.specs.MODULE.FILE`, and the types as `Rattle.etrace.specs.declared.MODULE.TYPE`.
 #![tactic(auto)]
@@ -64,4 +64,5 @@ pub mod lossy;
 pub mod packets;
 pub mod runs;
 pub mod salvaged;
+pub mod stimuli;
 pub mod streams;

@@ -5,7 +5,10 @@ pub use bench::{
     CollectFault, Collector, Config, Gate, HartOutcome, Open, Outcome, Setup, Stop, Verdict,
     compare, is_whole, replay, report, run, run_in_rooms, run_on, write_report,
 };
-pub use comparing::{ComparedHart, Comparing, HartCount, counts_of, write_comparison};
+pub use comparing::{
+    ComparedHart, Comparing, ExplainedHart, HartCount, NearRows, counts_of, write_comparison,
+    write_explained,
+};
 pub use funnel::{
     Core, Ended, MOST_PORTS, OpenFault, Outlet, Port, Receipt, ScheduleFault, SendFault, Settled,
     Turn, open, opening_fault, read_schedule,

@@ -6,8 +6,8 @@ use Rattle.receiver.specs.Received.{events_in}
 use Rattle.retire.specs.LogText.{log_text}
 use Rattle.retire.specs.declared.event.Event.{Event}
 use Rattle.ffi.specs.Decoded.{closed_at}
-use Rattle.ffi.specs.DecodedAll.{hart_ends, texts_of}
-use Rattle.ffi.specs.declared.decoding_all.HartEnd.{HartEnd}
+use Rattle.ffi.specs.Decoded.{hart_ends, texts_of}
+use Rattle.ffi.specs.declared.decoding.HartEnd.{HartEnd}
 
 -- The end of a hart's text.
 abbrev pub end_at : ℕ → ℕ → HartEnd

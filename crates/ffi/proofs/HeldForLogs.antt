@@ -23,7 +23,7 @@ use Rattle.ffi.specs.Decoded.{stop_fault}
 use Rattle.ffi.specs.Encoded.{IsRefusedLog}
 use Rattle.ffi.specs.Images.{Judged}
 use Rattle.ffi.specs.declared.fault.Fault.{Fault}
-use Rattle.ffi.specs.declared.fault.Fault.TheVariants.{Memory, NoProgram, Log, Illegal, NoHart, Range, Ends}
+use Rattle.ffi.specs.declared.fault.Fault.TheVariants.{Memory, NoProgram, Log, Illegal, Range, Ends}
 use Rattle.ffi.specs.declared.status.TheConstants.{MEMORY}
 use Rattle.ffi.specs.declared.texts.TextFault.TheVariants as text
 use Rattle.ffi.specs.declared.texts.Written.{Written}
@@ -77,7 +77,6 @@ log_refused image harts capture bytes ends program place (NoProgram why) made ma
 log_refused image harts capture bytes ends program place (Log why) made many refused = (many, (program, made, refused))
 log_refused image harts capture bytes ends program place (Illegal why) made many refused =
     (many, (program, made, refused))
-log_refused image harts capture bytes ends program place NoHart made many refused = (many, (program, made, refused))
 log_refused image harts capture bytes ends program place Range made many refused = (many, (program, made, refused))
 log_refused image harts capture bytes ends program place Ends made many refused = (many, (program, made, refused))
 

@@ -9,12 +9,10 @@ mod EventsRead
 mod FedInTurn
 mod FirstUnclosed
 mod FrontStarts
-mod HartFound
 mod HartsListed
 mod HartsWritten
 mod HeaderMade
 mod HeadersKnown
-mod Hearing
 mod HeldForLogs
 mod LinesWritten
 mod LowBits
@@ -25,12 +23,10 @@ mod NoneSet
 mod PassingBack
 mod PathWalk
 mod PiecesAdded
-mod PiecesPushed
 mod PushedInTurn
 mod PushesReported
 mod StatesBack
 mod StatesRead
-mod StepsJudged
 mod StepsTaken
 mod TextsRead
 mod Unmatched

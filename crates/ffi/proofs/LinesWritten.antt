@@ -1,5 +1,5 @@
 -- Where lines are not written for another reason than their own, they have no fault.
-use Rattle.std.proofs.Common.{◌≡◌, ℕ, ◌+◌, ◌∙◌, List, [], ◌∷◌, Result, Ok, Err, refl, sym, ap, subst}
+use Rattle.std.proofs.Common.{◌≡◌, ℕ, ◌+◌, ◌∙◌, List, [], ◌∷◌, Some, None, Result, Ok, Err, refl, sym, ap, subst}
 use Rattle.std.specs.Prelude.{IfErr}
 use Rattle.std.specs.Str.Lines.{lines}
 use Rattle.capture_lines.specs.Capture.{capture_of_lines, capture_of_text, capture_or_fault}
@@ -17,12 +17,17 @@ module _ (settings : Settings) (form : _) where
       (elim (line_of settings form l)
       as (λ one. with_line number one (lines_from settings form (number + 1) ls) ≡ Err Write → ⊥) [
         | Err why ↦ λ is. cc
-        | Ok line ↦
-            (elim (lines_from settings form (number + 1) ls)
-            as (λ rest. (rest ≡ Err Write → ⊥) → before line rest ≡ Err Write → ⊥) [
-              | Ok more ↦ λ never is. cc
-              | Err why ↦ λ never is. never is
-            ]) (never_write (number + 1) ls)
+        | Ok said ↦
+            elim said
+            as (λ said. with_line number (Ok said) (lines_from settings form (number + 1) ls) ≡ Err Write → ⊥) [
+              | None ↦ never_write (number + 1) ls
+              | Some line ↦
+                  (elim (lines_from settings form (number + 1) ls)
+                  as (λ rest. (rest ≡ Err Write → ⊥) → before line rest ≡ Err Write → ⊥) [
+                    | Ok more ↦ λ never is. cc
+                    | Err why ↦ λ never is. never is
+                  ]) (never_write (number + 1) ls)
+            ]
       ]) is
 
 module _ (settings : Settings) (text : List ℕ) (result : Result (Unit {0}) LinesFault) (writes : result ≡ Err Write) where
@@ -37,5 +42,5 @@ module _ (settings : Settings) (text : List ℕ) (result : Result (Unit {0}) Lin
             let own : result ≡ Err why =
             subst (λ o. IfErr (capture_or_fault settings o) (λ fault. result ≡ Err fault)) is says in
             let same : why ≡ Write = let both = sym own ∙ writes in cc in
-            absurd (never_write settings (form_of (lines text)) 1 (lines text) (is ∙ ap Err same))
+            absurd (never_write settings (form_of settings.numbers (lines text)) 1 (lines text) (is ∙ ap Err same))
       ]) refl

@@ -1,7 +1,9 @@
 -- Pieces that are added one after the other make what all of them make.
 use Rattle.std.proofs.Common.{◌≡◌, ◌⊎◌, inl, inr, ℕ, ◌+◌, ◌-◌, ◌<◌, ◌≤◌, ◌++◌, List, [], ◌∷◌, Ok, Err, IsOk, Result, Bool, true, false, length}
 use Rattle.std.proofs.Common.{if◌then◌else◌, drop, take, slice_index_or, refl, sym, ap, subst, ◌∙◌, arith}
+use Rattle.std.proofs.Math.Dec.{leb-zero}
 use Rattle.std.proofs.lemmas.List.{length-append, length-drop, take-append-drop, take_all, take_more}
+use Rattle.std.specs.Prelude.{◌&&◌}
 use Rattle.rvclass.specs.Adding.{add_piece}
 use Rattle.rvclass.specs.declared.piece_fault.PieceFault.{PieceFault}
 use Rattle.rvclass.specs.Image.{Image}
@@ -101,6 +103,18 @@ parts_of : (pieces : List ImagePiece) (d : ImagePiece) → 1 ≤ length pieces
     → pieces ≡ slice_index_or pieces 0 d ∷ drop 1 pieces
 parts_of [] d some = absurd (omega (arith, some))
 parts_of (first ∷ others) d some = refl
+
+-- One piece is sorted.
+one_sorted : (only : ImagePiece) → are_sorted_from 0 (only ∷ []) ≡ true
+one_sorted only = ap (λ (least : Bool). least && true) (leb-zero only.base)
+
+-- It makes what it makes as an image.
+pub judged_only : (pieces : List ImagePiece) (d : ImagePiece) (image : Judged) → length pieces ≡ 1
+    → image ≡ judged_image (slice_index_or pieces 0 d).base (slice_index_or pieces 0 d).bytes.now
+    → IsJudged pieces image
+judged_only [] d image one is = absurd (omega (arith, one))
+judged_only (only ∷ []) d image one is = Judges (is ∙ sym (sorted_judged (only ∷ []) (one_sorted only)))
+judged_only (only ∷ other ∷ rest) d image one is = absurd (omega (arith, one))
 
 -- The others are all that come after the first.
 pub rest_of : (pieces : List ImagePiece) → take (length pieces - 1) (drop 1 pieces) ≡ drop 1 pieces

@@ -17,6 +17,7 @@ use Rattle.auditing.specs.declared.finding.Finding.{Finding}
 use Rattle.auditing.specs.declared.finding.Finding.TheVariants as finding
 use Rattle.auditing.specs.declared.lost.Lost.{Lost}
 use Rattle.auditing.specs.declared.row.HartRow.{HartRow}
+use Rattle.auditing.specs.declared.tally.Tally.{Tally}
 use Rattle.frames.specs.declared.span.Span.{Span}
 use Rattle.frames.specs.declared.span.Span.TheVariants.{Frame, Bytes}
 use Rattle.message.specs.declared.fault.DemuxFault.{DemuxFault}
@@ -27,20 +28,38 @@ use Rattle.message.specs.declared.message.Message.{Message}
 use Rattle.frames.specs.Counted.{bytes_in, messages_in}
 use Rattle.frames.specs.Passages.{spans_from}
 use Rattle.frames.specs.Start.{IsStart, first_place}
-use Rattle.ffi.specs.Audited.{sent_status, tally_reported}
 use Rattle.ffi.specs.Numbers.{flag}
 use Rattle.ffi.specs.Sending.{numbers_of_header}
-use Rattle.ffi.specs.Statuses.{message_status}
+use Rattle.ffi.specs.Statuses.{demux_status, message_status}
 use Rattle.ffi.specs.declared.headers.HeaderNumbers.{HeaderNumbers}
 use Rattle.ffi.specs.declared.path_numbers.Arrival.{Arrival}
 use Rattle.ffi.specs.declared.path_numbers.ByteRun.{ByteRun}
 use Rattle.ffi.specs.declared.path_numbers.HartRowNumbers.{HartRowNumbers}
+use Rattle.ffi.specs.declared.path_numbers.HartTally.{HartTally}
 use Rattle.ffi.specs.declared.path_numbers.LostRun.{LostRun}
 use Rattle.ffi.specs.declared.path_numbers.PathEnd.{PathEnd}
 use Rattle.ffi.specs.declared.path_numbers.SentPlace.{SentPlace}
 use Rattle.ffi.specs.declared.path_numbers.TheConstants.{FATE_IN_ORDER, FATE_LATE, FATE_REPEAT}
 use Rattle.ffi.specs.declared.path_numbers.TheConstants.{FATE_CHANGED, FATE_STRANGER, BY_PACKETS}
-use Rattle.ffi.specs.declared.status.TheConstants.{DONE, TOO_SMALL, OUT_OF_RANGE}
+use Rattle.ffi.specs.declared.status.TheConstants.{DONE, TOO_SMALL, MEMORY, OUT_OF_RANGE}
+
+-- A tally in numbers.
+abbrev pub tally_reported : Tally → HartTally
+tally_reported tally = record {
+  sent = tally.sent;
+  came = tally.came;
+  lost = tally.lost;
+  repeated = tally.repeated;
+  late = tally.late;
+  changed = tally.changed;
+  whole = flag tally.whole;
+}
+
+-- Why SENT is refused, as a status.
+abbrev pub sent_status : SentFault → ℕ
+sent_status (sent.Unread number why) = message_status why
+sent_status (sent.Misplaced number why) = demux_status why
+sent_status sent.Memory = MEMORY
 
 -- What is found of a hart, in numbers.
 abbrev pub row_reported : HartRow → HartRowNumbers

@@ -20,9 +20,8 @@ use Rattle.path_match.specs.Arrivals.{arrival_lines}
 use Rattle.path_match.specs.Counted.{counts_of, total_of}
 use Rattle.path_match.specs.declared.line.Line.{Line}
 use Rattle.path_match.specs.declared.line.Line.TheVariants as line
-use Rattle.ffi.specs.Audited.{sent_status}
 use Rattle.ffi.specs.AuditedAll.{IsGiven, fitting_status, header_fault, header_reported, heads_differ}
-use Rattle.ffi.specs.AuditedAll.{lost_reported, sent_place}
+use Rattle.ffi.specs.AuditedAll.{lost_reported, sent_place, sent_status}
 use Rattle.ffi.specs.Numbers.{flag}
 use Rattle.ffi.specs.declared.aligned_numbers.AlignedEnd.{AlignedEnd}
 use Rattle.ffi.specs.declared.aligned_numbers.AlignedRow.{AlignedRow}

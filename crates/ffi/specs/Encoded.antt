@@ -23,7 +23,7 @@ use Rattle.ffi.specs.Statuses.{fault_row, fault_status}
 use Rattle.ffi.specs.declared.encoding.LogPlace.{LogPlace}
 use Rattle.ffi.specs.declared.encoding.TheConstants.{VERSION_ONE, VERSION_TWO}
 use Rattle.ffi.specs.declared.fault.Fault.{Fault}
-use Rattle.ffi.specs.declared.fault.Fault.TheVariants.{Memory, NoProgram, Log, Illegal, NoHart, Range, Ends}
+use Rattle.ffi.specs.declared.fault.Fault.TheVariants.{Memory, NoProgram, Log, Illegal, Range, Ends}
 use Rattle.ffi.specs.declared.numbers.TheConstants.{DIFFERENTIAL, FULL}
 
 -- The mode of a number.
@@ -55,7 +55,6 @@ IsNoLegalText program None (Illegal why) = ⊥
 IsNoLegalText program (Some text) (Illegal why) =
     (events : List Event) × IsLogOf text events × IsFirstFault (words_of program) events why
 IsNoLegalText program text (NoProgram why) = ⊥
-IsNoLegalText program text NoHart = ⊥
 IsNoLegalText program text Range = ⊥
 
 -- The texts, of which the first begins here and each further one where the one before ends, are those of these legal
@@ -105,7 +104,6 @@ IsNoCapture image bytes ends place (NoProgram why) = (place ≡ 0) × (image ≡
 IsNoCapture image bytes ends place (Log why) = HasRefusedLog image bytes ends place (Log why)
 IsNoCapture image bytes ends place (Illegal why) = HasRefusedLog image bytes ends place (Illegal why)
 IsNoCapture image bytes ends place Ends = HasRefusedLog image bytes ends place Ends
-IsNoCapture image bytes ends place NoHart = ⊥
 IsNoCapture image bytes ends place Range = ⊥
 
 -- The numbers name this mode and this version, the period is 1 or more, and there is a log at least, and at most as

@@ -13,8 +13,8 @@ use Rattle.ffi.specs.Images.{Judged}
 use Rattle.ffi.specs.Statuses.{image_status, why_status}
 use Rattle.ffi.specs.declared.events.EventNumbers.{EventNumbers}
 use Rattle.ffi.specs.declared.fault.ImageFault.{ImageFault}
-use Rattle.ffi.specs.declared.following.EventsFault.{EventsFault}
-use Rattle.ffi.specs.declared.following.EventsFault.TheVariants as events
+use Rattle.ffi.specs.declared.checking.EventsFault.{EventsFault}
+use Rattle.ffi.specs.declared.checking.EventsFault.TheVariants as events
 use Rattle.ffi.specs.declared.status.TheConstants.{DONE, NO_EVENT, TOO_MANY_ROWS}
 
 -- The numbers are those of these events, each in its place.

@@ -8,14 +8,11 @@ pub mod DecoderKept
 pub mod EncoderKept
 pub mod Packed
 pub mod Checked
-pub mod Followed
 pub mod EventsChecked
 pub mod Decoded
-pub mod DecodedAll
 pub mod Fed
 pub mod FedAll
 pub mod Received
-pub mod Audited
 pub mod Dumped
 pub mod Texts
 pub mod Listed
@@ -27,7 +24,6 @@ pub mod Measured
 pub mod Compared
 pub mod Pushed
 pub mod PushedAll
-pub mod PushedChecked
 pub mod Sending
 pub mod OfLines
 pub mod AuditedAll

@@ -27,7 +27,8 @@ settings_with None mode period harts = None
 settings_with (Some version) None period harts = None
 settings_with (Some version) (Some mode) period harts =
     if nat_le 1 period && nat_le harts (most_harts version)
-    then Some (record { version = version; mode = mode; period = period; harts = harts_asked harts }) else None
+    then Some (record { version = version; mode = mode; period = period; harts = harts_asked harts; numbers = None })
+    else None
 
 -- The settings that numbers name, where all are in their ranges.
 abbrev pub settings_named : ℕ → ℕ → ℕ → ℕ → Option Settings

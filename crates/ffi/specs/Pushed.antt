@@ -1,6 +1,8 @@
 -- What a call reports of a step of an encoder.
-use Rattle.std.specs.Prelude.{ℕ, ◌≡◌, ◌<◌, ◌≤◌, ◌⊎◌, ◌==◌, ◌||◌, ◌++◌, [], ◌∷◌, All, is_none, if◌then◌else◌, List}
+use Rattle.std.specs.Prelude.{ℕ, ◌≡◌, ◌≢◌, ◌<◌, ◌≤◌, ◌⊎◌, ◌==◌, ◌||◌, ◌++◌, All, is_none, if◌then◌else◌, List}
 use Rattle.std.specs.Prelude.{Ok, Err, drop, length, map}
+use Rattle.encoder.specs.Packets.{packets as packets_of}
+use Rattle.encoder.specs.PacketsSoFar.{packets_so_far}
 use Rattle.legalpath.specs.Legal.{Legal}
 use Rattle.payload.specs.Profile.{InProfile}
 use Rattle.payload.specs.declared.mode.Mode.{Mode}
@@ -10,16 +12,14 @@ use Rattle.rvclass.specs.Fetch.{words_of}
 use Rattle.rvclass.specs.Image.{Image}
 use Rattle.ffi.specs.Encoded.{mode_of}
 use Rattle.ffi.specs.EncoderKept.{AreOfEncoder, NumbersStand}
-use Rattle.ffi.specs.Events.{AreOfEvent, numbers_of_event}
 use Rattle.ffi.specs.Handed.{IsHandedOut}
 use Rattle.ffi.specs.Images.{Judged}
 use Rattle.ffi.specs.Numbers.{numbers_of}
 use Rattle.ffi.specs.Statuses.{image_status}
 use Rattle.ffi.specs.declared.encoder_state.EncoderNumbers.{EncoderNumbers}
-use Rattle.ffi.specs.declared.events.EventNumbers.{EventNumbers}
 use Rattle.ffi.specs.declared.fault.ImageFault.{ImageFault}
 use Rattle.ffi.specs.declared.numbers.PacketNumbers.{PacketNumbers}
-use Rattle.ffi.specs.declared.status.TheConstants.{DONE, TOO_SMALL, OUT_OF_RANGE, BAD_STATE, NO_EVENT}
+use Rattle.ffi.specs.declared.status.TheConstants.{DONE, TOO_SMALL, OUT_OF_RANGE, BAD_STATE}
 
 -- How a new encoder is asked for: the period is 1 or more, and a mode has this number; or one of them is out of range.
 abbrev pub new_status : ℕ → ℕ → ℕ
@@ -32,14 +32,6 @@ EndsByProgram image status =
     ((fault : ImageFault) × (image ≡ Err fault) × (status ≡ image_status fault))
     ⊎ ((program : Image) × (image ≡ Ok program) × ((status ≡ DONE) ⊎ (status ≡ TOO_SMALL)))
 
--- How a push ends: the state is no encoder's; or it is one's, and the event is none; or the image and the size of the
--- buffer decide.
-abbrev pub EndsPush : Judged → EncoderNumbers → EventNumbers → ℕ → Type 0
-EndsPush image state event status =
-    ((AreOfEncoder state → ⊥) × (status ≡ BAD_STATE))
-    ⊎ (AreOfEncoder state × (AreOfEvent event → ⊥) × (status ≡ NO_EVENT))
-    ⊎ (AreOfEncoder state × AreOfEvent event × EndsByProgram image status)
-
 -- How a call for the end of a log ends: the state is no encoder's; or the image and the size of the buffer decide.
 abbrev pub EndsFinish : Judged → EncoderNumbers → ℕ → Type 0
 EndsFinish image state status =
@@ -51,15 +43,6 @@ pub record IsOn (image : Judged) (program : Image) (period : ℕ) (mode : Mode) 
   pub made : image ≡ Ok program
   pub stand : NumbersStand (words_of program) period mode log state
   pub legal : Legal (words_of program) log
-
--- An image makes a program, the numbers of a state stand for a log, and those of an event are of one that may come
--- next: the log with it is legal.
-pub record IsNext (image : Judged) (program : Image) (period : ℕ) (mode : Mode) (log : List Event)
-    (next : Event) (state : EncoderNumbers) (event : EventNumbers) : Type 0 where
-  pub made : image ≡ Ok program
-  pub stand : NumbersStand (words_of program) period mode log state
-  pub is : event ≡ numbers_of_event next
-  pub legal : Legal (words_of program) (log ++ next ∷ [])
 
 -- The packets by which the later ones are more than the earlier ones are handed out. All are of the profile.
 pub record AreMore (earlier later : List Packet) (status count : ℕ) (old new : List PacketNumbers) : Type 0 where
@@ -75,3 +58,17 @@ pub record AreFew (status count : ℕ) (old new : List PacketNumbers) : Type 0 w
   pub fit : status ≡ DONE → count ≤ length old
   pub small : status ≡ TOO_SMALL → length old < count
   pub behind : drop count new ≡ drop count old
+
+-- What is reported of the end of a log: how it ends; the packets that are left of a legal log; and, whatever was pushed,
+-- what is written where all is done, and that nothing is where it is not.
+pub record ReportsFinish (image : Judged) (state : EncoderNumbers) (status count_before count : ℕ)
+    (old new : List PacketNumbers) : Type 0 where
+  pub ends : EndsFinish image state status
+  pub packets : (program : Image) (period : ℕ) (mode : Mode) (log : List Event)
+      → IsOn image program period mode log state
+      → AreMore (packets_so_far (words_of program) period mode log) (packets_of (words_of program) period mode log)
+      status count old new
+  pub refused : status ≢ DONE → new ≡ old
+  pub counted : status ≢ DONE → status ≢ TOO_SMALL → count ≡ count_before
+  pub two : status ≡ TOO_SMALL → length old < 2
+  pub few : (status ≡ DONE) ⊎ (status ≡ TOO_SMALL) → AreFew status count old new

@@ -1,6 +1,7 @@
 -- What a call reports of many steps of an encoder.
-use Rattle.std.specs.Prelude.{ℕ, ◌≡◌, ◌<◌, ◌≤◌, ◌+◌, ◌*◌, ◌++◌, All, List, Some, Ok, Err, drop, length, map, slice_get}
+use Rattle.std.specs.Prelude.{ℕ, ◌≡◌, ◌<◌, ◌≤◌, ◌+◌, ◌*◌, ◌++◌, ◌∷◌, [], All, List, Some, Ok, Err, drop, length, map, slice_get}
 use Rattle.std.specs.Prelude.{take}
+use Rattle.encoder.specs.PacketsSoFar.{packets_so_far}
 use Rattle.legalpath.specs.Legal.{Legal}
 use Rattle.payload.specs.Profile.{InProfile}
 use Rattle.payload.specs.declared.mode.Mode.{Mode}
@@ -80,3 +81,31 @@ pub record FillRoom (taken count : ℕ) (old new : List PacketNumbers) : Type 0 
   pub two : count ≤ 2 * taken
   pub fit : count ≤ length old
   pub behind : drop count new ≡ drop count old
+
+-- What is reported of pushes of events: how they end; where the log with the events that were taken is legal, the state
+-- after it and its packets, and where that with the next one is, that those of the next one have no room; and what is
+-- written whatever was pushed.
+pub record ReportsPushAll (image : Judged) (numbers : List EventNumbers) (status : ℕ) (before after : EncoderNumbers)
+    (taken count : ℕ) (old new : List PacketNumbers) : Type 0 where
+  pub ends : EndsPushAll image before numbers taken status
+  pub stands : (program : Image) (period : ℕ) (mode : Mode) (log nexts : List Event)
+      → AreNext image program period mode log nexts before (take taken numbers)
+      → NumbersStand (words_of program) period mode (log ++ nexts) after
+  pub packets : (program : Image) (period : ℕ) (mode : Mode) (log nexts : List Event)
+      → AreNext image program period mode log nexts before (take taken numbers)
+      → AreWritten (packets_so_far (words_of program) period mode log)
+      (packets_so_far (words_of program) period mode (log ++ nexts)) count old new
+  -- The packets of the first events are written, as long as these are legal, whatever comes after them.
+  pub front : (program : Image) (period n : ℕ) (mode : Mode) (log nexts : List Event) → n ≤ taken
+      → AreNext image program period mode log nexts before (take n numbers)
+      → AreWrittenFirst (packets_so_far (words_of program) period mode log)
+      (packets_so_far (words_of program) period mode (log ++ nexts)) count new
+  pub no_room : (program : Image) (period : ℕ) (mode : Mode) (log nexts : List Event) (next : Event)
+      → status ≡ TOO_SMALL
+      → AreNext image program period mode log (nexts ++ next ∷ []) before (take (taken + 1) numbers)
+      → HaveNoRoom (packets_so_far (words_of program) period mode (log ++ nexts))
+      (packets_so_far (words_of program) period mode (log ++ nexts ++ next ∷ [])) count old
+  pub two : status ≡ TOO_SMALL → length old < count + 2
+  pub fill : FillRoom taken count old new
+  pub untaken : taken ≡ 0 → (after ≡ before) × (new ≡ old)
+  pub again : AreOfEncoder before → AreOfEncoder after

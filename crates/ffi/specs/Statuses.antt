@@ -28,7 +28,7 @@ use Rattle.ffi.specs.declared.fault.Fault.{Fault}
 use Rattle.ffi.specs.declared.fault.Fault.TheVariants as fault
 use Rattle.ffi.specs.declared.fault.ImageFault.{ImageFault}
 use Rattle.ffi.specs.declared.fault.ImageFault.TheVariants as made
-use Rattle.ffi.specs.declared.status.TheConstants.{MEMORY, NO_HART, OUT_OF_RANGE, BAD_ENDS}
+use Rattle.ffi.specs.declared.status.TheConstants.{MEMORY, OUT_OF_RANGE, BAD_ENDS}
 use Rattle.ffi.specs.declared.status.TheConstants.{SHORT, BAD_LENGTH, UNREAD, UNWRITTEN, BAD_HEADER}
 use Rattle.ffi.specs.declared.status.TheConstants.{EMPTY, TOO_LONG, BAD_PAD, UNSUPPORTED, BAD_PRIVILEGE}
 use Rattle.ffi.specs.declared.status.TheConstants.{BAD_REPORT}
@@ -160,7 +160,6 @@ fault_status fault.Memory = MEMORY
 fault_status (fault.NoProgram why) = image_status why
 fault_status (fault.Log why) = log_status why
 fault_status (fault.Illegal why) = why_status why.why
-fault_status fault.NoHart = NO_HART
 fault_status fault.Range = OUT_OF_RANGE
 fault_status fault.Ends = BAD_ENDS
 
@@ -170,7 +169,6 @@ fault_row fault.Memory = 0
 fault_row (fault.NoProgram why) = 0
 fault_row (fault.Log why) = log_row why
 fault_row (fault.Illegal why) = why.row
-fault_row fault.NoHart = 0
 fault_row fault.Range = 0
 fault_row fault.Ends = 0
 
@@ -183,7 +181,7 @@ line_hart_status version.Two = LINE_HART_TWO
 abbrev pub line_status : LineFault → ℕ
 line_status line.Fields = LINE_FIELDS
 line_status (line.Hart its) = line_hart_status its
-line_status line.Number = LINE_NUMBER
+line_status (line.Number limit) = LINE_NUMBER
 line_status line.Bytes = LINE_BYTES
 line_status line.Above = LINE_ABOVE
 

@@ -1,29 +1,44 @@
-//! Programs and logs from bytes, and which logs are legal.
+//! Logs and events that are checked.
 
+ghost use Rattle.std.specs.Prelude.{◌≡◌, ◌≤◌, length};
+ghost use Rattle.retire.specs.Log.{most_rows};
+ghost use Rattle.rvclass.specs.Fetch.{words_of};
 ghost use Rattle.ffi.specs.Checked.{ReportsCheck, IsChecked};
-ghost use Rattle.ffi.specs.Images.{judged_image};
+ghost use Rattle.ffi.specs.EventsChecked.{AreChecked, EndsCheckEvents, events_row, events_status};
+ghost use Rattle.ffi.specs.Images.{OfPieces};
 
-use crate::fault::Fault;
-use crate::images::{Judged, judge_image};
-use crate::status::DONE;
-use legalpath::check;
-use retire::read_log_from_slice;
+use crate::events::{EventNumbers, event_of};
+use crate::fault::{Fault, why_status};
+use crate::images::{ImagePiece, Judged, judge_pieces};
+use crate::status::{DONE, NO_EVENT, TOO_MANY_ROWS};
+use legalpath::{PathCheck, PathFault, check};
+use retire::{MOST_ROWS, read_log_from_slice};
+use rvclass::ProgramOver;
 use std::alloc::Global;
 
-/// Checks that the text of a log is that of a legal log of a program, whose image has its first byte at `base`.
+/// Why events are refused.
+#[derive(Clone, Copy)]
+pub enum EventsFault {
+    /// No event has the numbers of this row, counted from 1. The rows before it are a legal log.
+    NoEvent(u64),
+    /// This is the first illegal row.
+    Illegal(PathFault),
+}
+
+/// Checks that the text of a log is that of a legal log of the program of these pieces.
 ///
 /// The status is [`DONE`] where it is; then `row` is the count of events. Or it says why it is not: what is wrong with
-/// the image, with the text, or with the log; then `row` is the row that is at fault, counted from 1, or 0. Or it is
+/// the pieces, with the text, or with the log; then `row` is the row that is at fault, counted from 1, or 0. Or it is
 /// [`MEMORY`](crate::status::MEMORY).
-pub fn tracebench_check(alloc: Global, base: u64, image: &[u8], log: &[u8], row: &mut u64) -> u32
-    ensures { ReportsCheck (judged_image base image.now) log.now result row.new }
+pub fn tracebench_check(alloc: Global, pieces: &[ImagePiece<'_>], log: &[u8], row: &mut u64) -> u32
+    ensures { OfPieces pieces.now (λ image. ReportsCheck image log.now result row.new) }
 {
-    let judged = judge_image(base, image);
+    let judged = judge_pieces(alloc, pieces);
     report_check(alloc, &judged, log, row)
 }
 
 /// Checks the text of a log, and reports the result.
-pub(crate) fn report_check(alloc: Global, image: &Judged<'_>, log: &[u8], row: &mut u64) -> u32
+fn report_check(alloc: Global, image: &Judged<'_>, log: &[u8], row: &mut u64) -> u32
     ensures { ReportsCheck image.now log.now result row.new }
 {
     match check_log(alloc, image, log) {
@@ -49,4 +64,88 @@ fn check_log(alloc: Global, image: &Judged<'_>, log: &[u8]) -> Result<u64, Fault
     let events = read_log_from_slice(alloc, alloc, log)?;
     check(program, events.as_slice())?;
     Ok(events.len() as u64)
+}
+
+/// Checks that events are a legal log of the program of these pieces.
+///
+/// The status is [`DONE`] where they are; then `row` is how many there are. Else it says what is wrong with the pieces;
+/// or it is [`TOO_MANY_ROWS`] where there are more than 2^24 events; or it is of the first row that is at fault:
+/// [`NO_EVENT`] where no event has its numbers, and else why it is illegal. Then `row` is that row, counted from 1; it
+/// is 0 where no row is at fault. No memory is taken but for the list of the pieces.
+pub fn tracebench_check_events(
+    alloc: Global,
+    pieces: &[ImagePiece<'_>],
+    events: &[EventNumbers],
+    row: &mut u64,
+) -> u32
+    ensures { OfPieces pieces.now (λ image. EndsCheckEvents image events.now result row.new) }
+{
+    let judged = judge_pieces(alloc, pieces);
+    report_check_events(&judged, events, row)
+}
+
+/// Checks events as a log, and reports the result.
+fn report_check_events(image: &Judged<'_>, events: &[EventNumbers], row: &mut u64) -> u32
+    ensures { EndsCheckEvents image.now events.now result row.new }
+{
+    let program = match image {
+        Ok(program) => program,
+        Err(fault) => {
+            *row = 0;
+            return fault.status();
+        }
+    };
+    if events.len() > MOST_ROWS as usize {
+        *row = 0;
+        return TOO_MANY_ROWS;
+    }
+    match check_all(program, events) {
+        Ok(()) => {
+            *row = events.len() as u64;
+            DONE
+        }
+        Err(fault) => {
+            *row = events_row(fault);
+            events_status(fault)
+        }
+    }
+}
+
+/// Checks events one after the other, up to the first fault.
+fn check_all(program: &ProgramOver, events: &[EventNumbers]) -> Result<(), EventsFault>
+    requires { length events.now ≤ most_rows }
+    ensures { AreChecked (words_of program.now) events.now result }
+{
+    let mut path = PathCheck::new();
+    for place in 0..events.len() {
+        let event = match event_of(&events[place]) {
+            Some(event) => event,
+            None => return Err(EventsFault::NoEvent(place as u64 + 1)),
+        };
+        match path.pass(program, &[event]) {
+            Ok(()) => {}
+            Err(fault) => return Err(EventsFault::Illegal(fault)),
+        }
+    }
+    Ok(())
+}
+
+/// The row that is at fault.
+fn events_row(fault: EventsFault) -> u64
+    ensures { result ≡ events_row fault }
+{
+    match fault {
+        EventsFault::NoEvent(row) => row,
+        EventsFault::Illegal(fault) => u64::from(fault.row),
+    }
+}
+
+/// Why it is at fault, as a status.
+fn events_status(fault: EventsFault) -> u32
+    ensures { result ≡ events_status fault }
+{
+    match fault {
+        EventsFault::NoEvent(_) => NO_EVENT,
+        EventsFault::Illegal(fault) => why_status(fault.why),
+    }
 }

@@ -10,14 +10,14 @@ ghost use Rattle.retire.specs.Log.{most_rows};
 ghost use Rattle.rvclass.specs.Image.{Image};
 ghost use Rattle.ffi.specs.Compared.{IsCompared, ReportsCompare, ReportsCompared, text_row};
 ghost use Rattle.ffi.specs.Encoded.{IsNoLegalText, IsRefusedLog};
-ghost use Rattle.ffi.specs.Images.{OfPieces, judged_image};
+ghost use Rattle.ffi.specs.Images.{OfPieces};
 ghost use Rattle.ffi.specs.steps.Comparing.{AreCompared, IsComparedText, Writes};
 
 use crate::decoding::{stop_fault, stop_place};
 use crate::encoding::{LogPlace, text_between};
 use crate::fault::Fault;
 use crate::handing::hand_out;
-use crate::images::{ImagePiece, Judged, judge_image, judge_pieces};
+use crate::images::{ImagePiece, Judged, judge_pieces};
 use crate::legal_texts::legal_events;
 use crate::status::MEMORY;
 use crate::texts::{TextEnd, TextFault, Written, first_unclosed};
@@ -34,31 +34,9 @@ use std::alloc::Global;
 ///
 /// The status is [`DONE`](crate::status::DONE), [`TOO_SMALL`](crate::status::TOO_SMALL),
 /// [`UNEQUAL_COUNTS`](crate::status::UNEQUAL_COUNTS), [`MEMORY`](crate::status::MEMORY), or says what is wrong with the
-/// image or with the first log that is no legal log. With the first two `ended` is written. With the others `place` names
+/// pieces or with the first log that is no legal log. With the first two `ended` is written. With the others `place` names
 /// the log and its row, and nothing else is written; both are 0 where no log is at fault.
 pub fn tracebench_compare(
-    alloc: Global,
-    base: u64,
-    image: &[u8],
-    harts: u16,
-    capture: &[u8],
-    logs: &[u8],
-    ends: &[u64],
-    buffer: &mut [u8],
-    wanted: &mut u64,
-    ended: &mut TextEnd,
-    place: &mut LogPlace,
-) -> u32
-    ensures { ReportsCompare (judged_image base image.now) harts capture.now logs.now ends.now result wanted.old
-        wanted.new ended.old ended.new place.old place.new buffer.old buffer.new }
-{
-    let judged = judge_image(base, image);
-    let compared = compare_logs(alloc, &judged, harts, capture, logs, ends);
-    report_compared(compared, buffer, wanted, ended, place)
-}
-
-/// Compares a capture with logs as [`tracebench_compare`] does, over pieces.
-pub fn tracebench_compare_over_pieces(
     alloc: Global,
     pieces: &[ImagePiece<'_>],
     harts: u16,

@@ -17,7 +17,7 @@ use std::alloc::{AllocError, Global};
 pub(crate) type Copied = Result<Program, ImageFault>;
 
 /// The program of an image, which it copies.
-pub(crate) fn copy_image(alloc: Global, base: u64, image: &[u8]) -> Copied
+fn copy_image(alloc: Global, base: u64, image: &[u8]) -> Copied
     ensures { IsCopied (judged_image base image.now) result }
 {
     let bytes = match copy_bytes(alloc, image) {

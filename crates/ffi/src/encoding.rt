@@ -5,13 +5,14 @@ ghost use Rattle.message.specs.Version.{most_harts};
 ghost use Rattle.ffi.specs.Encoded.{AreInRange, AreLogs, IsEncoded, IsLegalText, IsMade, IsNoLegalText};
 ghost use Rattle.ffi.specs.Encoded.{IsOutOfRange, IsRefusedLog, ReportsEncode, ReportsMade, mode_of};
 ghost use Rattle.ffi.specs.Encoded.{text_between, version_of};
-ghost use Rattle.ffi.specs.Images.{judged_image};
+ghost use Rattle.ffi.specs.Images.{judged_pieces};
 ghost use Rattle.ffi.specs.declared.fault.Fault.TheVariants.{Memory};
 ghost use Rattle.ffi.specs.declared.fault.ImageFault.TheVariants as ImageFault;
 
-use crate::copying::{Copied, copy_image};
+use crate::copying::{Copied, copy_pieces};
 use crate::fault::{Fault, ImageFault};
 use crate::handing::hand_out;
+use crate::images::ImagePiece;
 use crate::numbers::{DIFFERENTIAL, FULL};
 use captures::encode_capture;
 use legalpath::LegalLog;
@@ -43,13 +44,12 @@ pub struct LogPlace {
 ///
 /// The status is [`DONE`](crate::status::DONE), [`TOO_SMALL`](crate::status::TOO_SMALL),
 /// [`OUT_OF_RANGE`](crate::status::OUT_OF_RANGE) where one of these numbers is out of its range,
-/// [`MEMORY`](crate::status::MEMORY), or says what is wrong with the image or with the first log that is no legal log.
+/// [`MEMORY`](crate::status::MEMORY), or says what is wrong with the pieces or with the first log that is no legal log.
 /// [`BAD_ENDS`](crate::status::BAD_ENDS) says that the log's end is before its start or past the texts. Where there is
 /// no capture, `place` names the log and its row; both are 0 where no log is at fault.
 pub fn tracebench_encode(
     alloc: Global,
-    base: u64,
-    image: &[u8],
+    pieces: &[ImagePiece<'_>],
     logs: &[u8],
     ends: &[u64],
     period: u16,
@@ -59,10 +59,10 @@ pub fn tracebench_encode(
     wanted: &mut u64,
     place: &mut LogPlace,
 ) -> u32
-    ensures { ReportsEncode (judged_image base image.now) logs.now ends.now period mode version result wanted.old
+    ensures { ReportsEncode (judged_pieces pieces.now) logs.now ends.now period mode version result wanted.old
         wanted.new place.old place.new buffer.old buffer.new }
 {
-    let made = encode_logs(alloc, base, image, logs, ends, period, mode, version);
+    let made = encode_logs(alloc, pieces, logs, ends, period, mode, version);
     report_made(made, buffer, wanted, place)
 }
 
@@ -90,19 +90,18 @@ pub(crate) fn report_made(
 /// The capture of logs, or the log that is at fault and why.
 fn encode_logs(
     alloc: Global,
-    base: u64,
-    image: &[u8],
+    pieces: &[ImagePiece<'_>],
     logs: &[u8],
     ends: &[u64],
     period: u16,
     mode: u32,
     version: u32,
 ) -> Result<Vec<u8>, (u64, Fault)>
-    ensures { IsEncoded (judged_image base image.now) logs.now ends.now period mode version result }
+    ensures { IsEncoded (judged_pieces pieces.now) logs.now ends.now period mode version result }
 {
     match settings_of(ends, period, mode, version) {
         Some((mode, version)) => {
-            let copied = copy_image(alloc, base, image);
+            let copied = copy_pieces(alloc, pieces);
             capture_of_texts(alloc, &copied, logs, ends, period, mode, version)
         }
         None => Err((0, Fault::Range)),
@@ -132,7 +131,7 @@ pub(crate) fn settings_of(
 }
 
 /// The capture of logs in this version, or the log that is at fault and why.
-pub(crate) fn capture_of_texts(
+fn capture_of_texts(
     alloc: Global,
     copied: &Copied,
     logs: &[u8],

@@ -3,12 +3,12 @@
 ghost use Rattle.std.specs.Prelude.{◌≤◌, IfOk, length};
 ghost use Rattle.retire.specs.Log.{most_rows};
 ghost use Rattle.ffi.specs.Explained.{IsExplained, ReportsExplain};
-ghost use Rattle.ffi.specs.Images.{OfPieces, judged_image};
+ghost use Rattle.ffi.specs.Images.{OfPieces};
 ghost use Rattle.ffi.specs.steps.Explaining.{IsExplainedOf};
 
 use crate::fault::{Fault, why_status};
 use crate::handing::hand_out;
-use crate::images::{ImagePiece, Judged, judge_image, judge_pieces};
+use crate::images::{ImagePiece, Judged, judge_pieces};
 use crate::status::DONE;
 use explaining::explain;
 use legalpath::check;
@@ -40,26 +40,9 @@ pub struct Explained {
 /// legal, there are none.
 ///
 /// The status is [`DONE`], or [`TOO_SMALL`](crate::status::TOO_SMALL), and `ended` has the row and why it is illegal. Or
-/// it is [`MEMORY`](crate::status::MEMORY), or says what is wrong with the image or with the text; then that is in
+/// it is [`MEMORY`](crate::status::MEMORY), or says what is wrong with the pieces or with the text; then that is in
 /// `ended` too, with the row that is at fault, and nothing else is written.
 pub fn tracebench_explain(
-    alloc: Global,
-    base: u64,
-    image: &[u8],
-    log: &[u8],
-    buffer: &mut [u8],
-    wanted: &mut u64,
-    ended: &mut ExplainEnd,
-) -> u32
-    ensures { ReportsExplain (judged_image base image.now) log.now result wanted.old wanted.new ended.new buffer.old
-        buffer.new }
-{
-    let judged = judge_image(base, image);
-    report_explain(alloc, &judged, log, buffer, wanted, ended)
-}
-
-/// Explains a log as [`tracebench_explain`] does, over pieces.
-pub fn tracebench_explain_over_pieces(
     alloc: Global,
     pieces: &[ImagePiece<'_>],
     log: &[u8],

@@ -50,8 +50,6 @@ pub enum Fault {
     Log(LogFault),
     /// The log is illegal.
     Illegal(PathFault),
-    /// The capture has no such hart.
-    NoHart,
     /// A number is out of its range.
     Range,
     /// A log ends before its beginning, or past the texts.
@@ -92,7 +90,6 @@ impl Fault {
             Fault::NoProgram(why) => why.status(),
             Fault::Log(why) => log_status(why),
             Fault::Illegal(why) => why_status(why.why),
-            Fault::NoHart => NO_HART,
             Fault::Range => OUT_OF_RANGE,
             Fault::Ends => BAD_ENDS,
         }
@@ -107,7 +104,6 @@ impl Fault {
             Fault::NoProgram(_) => 0,
             Fault::Log(why) => log_row(why),
             Fault::Illegal(why) => u64::from(why.row),
-            Fault::NoHart => 0,
             Fault::Range => 0,
             Fault::Ends => 0,
         }

@@ -1,10 +1,10 @@
-//! Decoding step by step: one payload in, its events out.
+//! A payload that a decoder is fed.
 
 ghost use Rattle.std.specs.Prelude.{◌≡◌, [], None, ℕ, List};
 ghost use Rattle.rvclass.specs.Words.{Words};
 ghost use Rattle.ffi.specs.DecoderKept.{HaveMode, NumbersStand};
 ghost use Rattle.ffi.specs.Fed.{GoesOnIfDone, IsFed, ReportsFeed, feed_status};
-ghost use Rattle.ffi.specs.Images.{judged_image, Judged as AnyJudged};
+ghost use Rattle.ffi.specs.Images.{Judged as AnyJudged};
 ghost use Rattle.ffi.specs.declared.decoder_state.DecoderNumbers.{DecoderNumbers as AnyNumbers};
 ghost use Rattle.ffi.specs.steps.FeedingAll.{IsPacketFed, IsToFeed};
 
@@ -13,7 +13,7 @@ use crate::decoding::decode_status;
 use crate::events::EventNumbers;
 use crate::fault::ImageFault;
 use crate::handing::hand_out_events;
-use crate::images::{Judged, judge_image};
+use crate::images::Judged;
 use crate::packing::pack_status;
 use crate::status::{BAD_STATE, DONE};
 use decoder::{DecodeFault, Decoder, DecoderState};
@@ -50,42 +50,6 @@ pub fn tracebench_decoder(state: &mut DecoderNumbers)
     ensures unannounced { HaveMode None state.new }
 {
     *state = numbers_of_state(&Decoder::new().state());
-}
-
-/// Feeds a payload to the decoder with these numbers, and writes the events that it settles, oldest first, and the
-/// decoder's new numbers. `count` is how many events there are.
-///
-/// An address packet with plain bits is not settled before the next packet, so its events come with that packet's. Hand
-/// in the same image at each call; it is not copied, and the time does not grow with it.
-///
-/// A decoder that passes over packets, after [`tracebench_resume`](crate::tracebench_resume), takes each packet up to
-/// the next synchronisation, settles nothing, and keeps its numbers; only a packet that closes the trace closes it. The
-/// synchronisation begins a stretch, as if it came right after the packet that opens a trace.
-///
-/// The status is [`DONE`], or one of these, which leave the numbers and the events as they were:
-///
-/// - [`TOO_SMALL`](crate::status::TOO_SMALL): the buffer is too small for the events, and `count` is how many there
-///   are.
-/// - [`BAD_STATE`]: no decoder has these numbers.
-/// - [`EMPTY`](crate::status::EMPTY) to [`BAD_REPORT`](crate::status::BAD_REPORT): the payload is that of no packet.
-/// - [`ODD_BASE`](crate::status::ODD_BASE) to [`PAST_END`](crate::status::PAST_END): the image makes no program.
-/// - [`NOT_OPENED`](crate::status::NOT_OPENED) to
-///   [`AFTER_CLOSING_PACKET`](crate::status::AFTER_CLOSING_PACKET): the packet does not follow those before.
-/// - [`MEMORY`](crate::status::MEMORY): an allocation failed.
-pub fn tracebench_feed(
-    alloc: Global,
-    base: u64,
-    image: &[u8],
-    state: &mut DecoderNumbers,
-    payload: &[u8],
-    events: &mut [EventNumbers],
-    count: &mut u64,
-) -> u32
-    ensures { ReportsFeed (judged_image base image.now) payload.now result state.old state.new count.old count.new
-        events.old events.new }
-{
-    let judged = judge_image(base, image);
-    report_feed(alloc, &judged, state, payload, events, count)
 }
 
 /// Feeds a payload to the decoder with these numbers, and reports what came of it.

@@ -3,7 +3,7 @@
 ghost use Rattle.std.specs.Prelude.{◌≡◌, ◌≤◌, ◌-◌, Ok, length, option_map};
 ghost use Rattle.ffi.specs.DecoderKept.{IsOfState};
 ghost use Rattle.ffi.specs.FedAll.{AreFed, EndsFeeds, ReportsFeedAll};
-ghost use Rattle.ffi.specs.Images.{judged_image, Judged as AnyJudged};
+ghost use Rattle.ffi.specs.Images.{OfPieces, Judged as AnyJudged};
 ghost use Rattle.ffi.specs.declared.status.TheConstants.{DONE};
 ghost use Rattle.ffi.specs.steps.FeedingAll.{IsNextFed};
 
@@ -13,7 +13,7 @@ use crate::encoding::text_between;
 use crate::events::EventNumbers;
 use crate::feeding::feed_packet;
 use crate::handing::hand_out_events;
-use crate::images::{Judged, judge_image};
+use crate::images::{ImagePiece, Judged, judge_pieces};
 use crate::packing::pack_status;
 use crate::status::{BAD_STATE, DONE, OUT_OF_RANGE};
 use decoder::DecoderState;
@@ -22,16 +22,22 @@ use retire::Event;
 use rvclass::ProgramOver;
 use std::alloc::Global;
 
-/// Feeds payloads to the decoder with these numbers, one after the other as [`tracebench_feed`](crate::tracebench_feed)
-/// each, and writes the events that they settle, oldest first. `payloads` holds the payloads one after the other, and
-/// `ends` where each ends. `taken` is how many of them were taken, `count` how many events there are at the start of
-/// the buffer, and `state` has the decoder's numbers after those. The time does not grow with the image.
+/// Feeds payloads to the decoder with these numbers, one after the other, and writes the events that they settle, oldest
+/// first. `payloads` holds the payloads one after the other, and `ends` where each ends. `taken` is how many of them were
+/// taken, `count` how many events there are at the start of the buffer, and `state` has the decoder's numbers after those.
+///
+/// An address packet with plain bits is not settled before the next packet, so its events come with that packet's. Hand
+/// in the same pieces at each call; they are not copied, and the time does not grow with their bytes.
+///
+/// A decoder that passes over packets, after [`tracebench_resume`](crate::tracebench_resume), takes each packet up to
+/// the next synchronisation, settles nothing, and keeps its numbers; only a packet that closes the trace closes it. The
+/// synchronisation begins a stretch, as if it came right after the packet that opens a trace.
 ///
 /// The status is [`DONE`] where all payloads were taken. Else it says why the payload after those was not:
 ///
 /// - [`TOO_SMALL`](crate::status::TOO_SMALL): the rest of the buffer is too small for its events. Hand in the payloads
-///   from there on again. Where none was taken, [`tracebench_feed`](crate::tracebench_feed) says how many events it
-///   has.
+///   from there on again. Where none was taken, [`tracebench_receive`](crate::tracebench_receive) says how many events
+///   a payload has: at most 64 for each two bytes of the pieces, and two.
 /// - [`OUT_OF_RANGE`]: its end is before its start, or past the payloads.
 /// - [`EMPTY`](crate::status::EMPTY) to [`BAD_REPORT`](crate::status::BAD_REPORT): it is the payload of no packet.
 /// - [`NOT_OPENED`](crate::status::NOT_OPENED) to [`AFTER_CLOSING_PACKET`](crate::status::AFTER_CLOSING_PACKET): its
@@ -39,11 +45,10 @@ use std::alloc::Global;
 /// - [`MEMORY`](crate::status::MEMORY): an allocation failed.
 ///
 /// Or no payload was taken, and the state stays: [`BAD_STATE`] where no decoder has these numbers, or what is wrong with
-/// the image.
+/// the pieces.
 pub fn tracebench_feed_all(
     alloc: Global,
-    base: u64,
-    image: &[u8],
+    pieces: &[ImagePiece<'_>],
     state: &mut DecoderNumbers,
     payloads: &[u8],
     ends: &[u64],
@@ -51,16 +56,16 @@ pub fn tracebench_feed_all(
     taken: &mut u64,
     count: &mut u64,
 ) -> u32
-    ensures { ReportsFeedAll (judged_image base image.now) payloads.now ends.now result state.old state.new taken.new
-        count.new events.old events.new }
+    ensures { OfPieces pieces.now (λ image. ReportsFeedAll image payloads.now ends.now result state.old state.new
+        taken.new count.new events.old events.new) }
 {
-    let judged = judge_image(base, image);
+    let judged = judge_pieces(alloc, pieces);
     report_feed_all(alloc, &judged, state, payloads, ends, events, taken, count)
 }
 
 /// Feeds payloads to the decoder with these numbers, and reports what came of them.
 #[inline(always)]
-pub(crate) fn report_feed_all(
+fn report_feed_all(
     alloc: Global,
     image: &Judged<'_>,
     state: &mut DecoderNumbers,

@@ -35,8 +35,21 @@ pub(crate) fn judge_image(base: u64, image: &[u8]) -> Judged<'_>
     }
 }
 
-/// The program of pieces, which it borrows. Memory is taken for the list of the pieces after the first.
+/// The program of pieces, which it borrows. Memory is taken for the list of the pieces after the first, and so none for
+/// one piece.
+#[inline(always)]
 pub(crate) fn judge_pieces<'b>(alloc: Global, pieces: &[ImagePiece<'b>]) -> Judged<'b>
+    ensures { IsJudged pieces.now result }
+{
+    if pieces.len() == 1 {
+        let only = pieces[0];
+        return judge_image(only.base, only.bytes);
+    }
+    judge_several(alloc, pieces)
+}
+
+/// The program of pieces, of which there may be any number.
+fn judge_several<'b>(alloc: Global, pieces: &[ImagePiece<'b>]) -> Judged<'b>
     ensures { IsJudged pieces.now result }
 {
     if !are_sorted(pieces) {

@@ -1,6 +1,6 @@
 //! From lines of text to a capture.
 
-ghost use Rattle.std.specs.Prelude.{◌≡◌, ◌≤◌, IfSome, Some};
+ghost use Rattle.std.specs.Prelude.{◌≡◌, ◌≤◌, IfSome, None, Some};
 ghost use Rattle.message.specs.Version.{most_harts};
 ghost use Rattle.ffi.specs.OfLines.{IsOfLines, ReportsOfLines, line_at_fault, lines_status, settings_named};
 ghost use Rattle.ffi.specs.OfLines.{harts_asked, settings_with};
@@ -66,6 +66,7 @@ fn settings_named(version: u32, mode: u32, period: u16, harts: u16) -> Option<Se
     ensures value { result ≡ settings_named version mode period harts }
     ensures period { IfSome result (λ own. 1 ≤ own.period) }
     ensures harts { IfSome result (λ own. IfSome own.harts (λ harts. (1 ≤ harts) × (harts ≤ most_harts own.version))) }
+    ensures numbers { IfSome result (λ own. own.numbers ≡ None) }
 {
     let Some(version) = version_of(version) else {
         return None;
@@ -81,6 +82,7 @@ fn settings_with(version: Version, mode: Mode, period: u16, harts: u16) -> Optio
     ensures value { result ≡ settings_with (Some version) (Some mode) period harts }
     ensures period { IfSome result (λ own. 1 ≤ own.period) }
     ensures harts { IfSome result (λ own. IfSome own.harts (λ harts. (1 ≤ harts) × (harts ≤ most_harts own.version))) }
+    ensures numbers { IfSome result (λ own. own.numbers ≡ None) }
 {
     if period >= 1 && harts <= version.most_harts() {
         Some(Settings {
@@ -88,6 +90,7 @@ fn settings_with(version: Version, mode: Mode, period: u16, harts: u16) -> Optio
             mode,
             period,
             harts: harts_asked(harts),
+            numbers: None,
         })
     } else {
         None
@@ -111,6 +114,7 @@ fn capture_of(
     requires period { IfSome settings (λ own. 1 ≤ own.period) }
     requires harts { IfSome settings (λ own.
         IfSome own.harts (λ harts. (1 ≤ harts) × (harts ≤ most_harts own.version))) }
+    requires numbers { IfSome settings (λ own. own.numbers ≡ None) }
     ensures { IsOfLines settings text.now result }
 {
     let Some(settings) = settings else {
@@ -142,7 +146,7 @@ fn line_status(why: LineFault) -> u32
     match why {
         LineFault::Fields => LINE_FIELDS,
         LineFault::Hart(version) => line_hart_status(version),
-        LineFault::Number => LINE_NUMBER,
+        LineFault::Number(_) => LINE_NUMBER,
         LineFault::Bytes => LINE_BYTES,
         LineFault::Above => LINE_ABOVE,
     }

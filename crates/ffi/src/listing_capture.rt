@@ -3,7 +3,7 @@
 ghost use Rattle.std.specs.Prelude.{◌≡◌, IfErr, IfOk, Ok, Some};
 ghost use Rattle.listing.specs.Listing.{AppendsListing, IsListing, names_in};
 ghost use Rattle.rvclass.specs.Fetch.{words_of};
-ghost use Rattle.ffi.specs.Images.{OfPieces, judged_image};
+ghost use Rattle.ffi.specs.Images.{OfPieces};
 ghost use Rattle.ffi.specs.Listed.{IsListed, IsListedAs, ReportsList, format_of, list_end};
 ghost use Rattle.ffi.specs.Listed.{symbols_in};
 ghost use Rattle.ffi.specs.steps.Listing.{AreNotRead};
@@ -11,7 +11,7 @@ ghost use Rattle.ffi.specs.steps.Listing.{AreNotRead};
 use crate::copying::copy_bytes;
 use crate::decoding::{stop_fault, stop_place};
 use crate::fault::Fault;
-use crate::images::{ImagePiece, Judged, judge_image, judge_pieces};
+use crate::images::{ImagePiece, Judged, judge_pieces};
 use crate::texts::{TextEnd, TextFault, Written, first_unclosed, report_text};
 use listing::{Form, ListInput, Listed, list_capture};
 use message::{HartRange, NoProgress};
@@ -31,29 +31,8 @@ pub const CSV: u32 = 1;
 ///
 /// The status is [`DONE`](crate::status::DONE), [`TOO_SMALL`](crate::status::TOO_SMALL),
 /// [`OUT_OF_RANGE`](crate::status::OUT_OF_RANGE) where the format is none, [`MEMORY`](crate::status::MEMORY), or says
-/// what is wrong with the image, or with the symbols. All but the first two write nothing.
+/// what is wrong with the pieces, or with the symbols. All but the first two write nothing.
 pub fn tracebench_list(
-    alloc: Global,
-    base: u64,
-    image: &[u8],
-    harts: u16,
-    capture: &[u8],
-    symbols: &[u8],
-    format: u32,
-    buffer: &mut [u8],
-    wanted: &mut u64,
-    ended: &mut TextEnd,
-) -> u32
-    ensures { ReportsList (judged_image base image.now) harts capture.now symbols.now format result wanted.old
-        wanted.new ended.old ended.new buffer.old buffer.new }
-{
-    let judged = judge_image(base, image);
-    let listed = list_text(alloc, &judged, harts, capture, symbols, format);
-    report_text(listed, buffer, wanted, ended)
-}
-
-/// Writes the listing of a capture as [`tracebench_list`] does, over pieces.
-pub fn tracebench_list_over_pieces(
     alloc: Global,
     pieces: &[ImagePiece<'_>],
     harts: u16,

@@ -3,13 +3,13 @@
 ghost use Rattle.std.specs.Prelude.{◌≡◌, IfOk, OnOk, Some, option_map};
 ghost use Rattle.std.specs.Io.KnownBytes.{Appends};
 ghost use Rattle.message.specs.Range.{every_hart};
-ghost use Rattle.ffi.specs.Images.{OfPieces, judged_image};
+ghost use Rattle.ffi.specs.Images.{OfPieces};
 ghost use Rattle.salvage_reports.specs.TreatedText.{treated_text_of};
 ghost use Rattle.ffi.specs.Treated.{IsTreatedAs, IsTreatedIn, ReportsTreated};
 ghost use Rattle.ffi.specs.steps.Treating.{IsTreatedBy};
 
 use crate::fault::Fault;
-use crate::images::{ImagePiece, Judged, judge_image, judge_pieces};
+use crate::images::{ImagePiece, Judged, judge_pieces};
 use crate::listing_capture::{format_of, symbols_of};
 use crate::salvaged::{end_of_found, harts_asked};
 use crate::texts::{TextEnd, TextFault, Written, report_text};
@@ -30,29 +30,8 @@ use symbols::Symbols;
 ///
 /// The status is [`DONE`](crate::status::DONE), [`TOO_SMALL`](crate::status::TOO_SMALL),
 /// [`OUT_OF_RANGE`](crate::status::OUT_OF_RANGE) where the format is none, [`MEMORY`](crate::status::MEMORY), or says
-/// what is wrong with the image, or with the symbols. All but the first two write nothing.
+/// what is wrong with the pieces, or with the symbols. All but the first two write nothing.
 pub fn tracebench_list_salvaged(
-    alloc: Global,
-    base: u64,
-    image: &[u8],
-    harts: u16,
-    capture: &[u8],
-    symbols: &[u8],
-    format: u32,
-    buffer: &mut [u8],
-    wanted: &mut u64,
-    ended: &mut TextEnd,
-) -> u32
-    ensures { ReportsTreated (judged_image base image.now) harts capture.now symbols.now format result wanted.old
-        wanted.new ended.old ended.new buffer.old buffer.new }
-{
-    let judged = judge_image(base, image);
-    let treated = treat_text(alloc, &judged, harts, capture, symbols, format);
-    report_text(treated, buffer, wanted, ended)
-}
-
-/// Writes what salvaging does with each message of a capture as [`tracebench_list_salvaged`] does, over pieces.
-pub fn tracebench_list_salvaged_over_pieces(
     alloc: Global,
     pieces: &[ImagePiece<'_>],
     harts: u16,

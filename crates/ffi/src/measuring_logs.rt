@@ -10,13 +10,13 @@ ghost use Rattle.message.specs.declared.header.Version.TheVariants.{Two};
 ghost use Rattle.retire.specs.Log.{most_rows};
 ghost use Rattle.rvclass.specs.Fetch.{words_of};
 ghost use Rattle.ffi.specs.Encoded.{IsNoLegalText, IsRefusedLog};
-ghost use Rattle.ffi.specs.Images.{OfPieces, judged_image};
+ghost use Rattle.ffi.specs.Images.{OfPieces};
 ghost use Rattle.ffi.specs.Measured.{IsMeasured, IsMeasuredIn, ReportsMeasure};
 ghost use Rattle.ffi.specs.steps.Measuring.{AreMeasured, IsMeasuredText};
 
 use crate::encoding::{LogPlace, VERSION_TWO, report_made, settings_of, text_between};
 use crate::fault::Fault;
-use crate::images::{ImagePiece, Judged, judge_image, judge_pieces};
+use crate::images::{ImagePiece, Judged, judge_pieces};
 use crate::legal_texts::legal_events;
 use measuring::{LogMeasures, Measures, write_measures_of};
 use payload::Mode;
@@ -32,27 +32,6 @@ use std::alloc::Global;
 /// The status is [`DONE`](crate::status::DONE), [`TOO_SMALL`](crate::status::TOO_SMALL), or one of those with which
 /// [`tracebench_encode`](crate::tracebench_encode) makes no capture; then `place` names the log and its row as there.
 pub fn tracebench_measure(
-    alloc: Global,
-    base: u64,
-    image: &[u8],
-    logs: &[u8],
-    ends: &[u64],
-    period: u16,
-    mode: u32,
-    buffer: &mut [u8],
-    wanted: &mut u64,
-    place: &mut LogPlace,
-) -> u32
-    ensures { ReportsMeasure (judged_image base image.now) logs.now ends.now period mode result wanted.old wanted.new
-        place.old place.new buffer.old buffer.new }
-{
-    let judged = judge_image(base, image);
-    let measured = measure_logs(alloc, &judged, logs, ends, period, mode);
-    report_made(measured, buffer, wanted, place)
-}
-
-/// Writes the table of what logs cost as [`tracebench_measure`] does, over pieces.
-pub fn tracebench_measure_over_pieces(
     alloc: Global,
     pieces: &[ImagePiece<'_>],
     logs: &[u8],

@@ -9,11 +9,11 @@ ghost use Rattle.ffi.specs.AuditedAll.{fitting_status};
 ghost use Rattle.ffi.specs.steps.Walking.{HasCome};
 
 use crate::path_arrivals::take_spans;
-use crate::path_audit::sent_status;
 use crate::path_ending::end_of;
 use crate::path_harts::{lost_of, rows_of};
 use crate::path_numbers::{
     Arrival, BY_PACKETS, ByteRun, HartRowNumbers, LostRun, PathEnd, SentPlace, sent_place,
+    sent_status,
 };
 use crate::status::{DONE, OUT_OF_RANGE, TOO_SMALL};
 use auditing::{Audit, SentFault};

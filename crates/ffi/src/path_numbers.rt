@@ -3,10 +3,13 @@
 ghost use Rattle.std.specs.Prelude.{◌≡◌};
 ghost use Rattle.frames.specs.Borrowed.{message_of};
 ghost use Rattle.ffi.specs.AuditedAll.{arrival_of, expected_at, fate_number, found_by, row_reported, sent_place};
+ghost use Rattle.ffi.specs.AuditedAll.{sent_status, tally_reported};
 
+use crate::decoding::demux_status;
+use crate::dumping::message_status;
 use crate::headers::HeaderNumbers;
-use crate::path_audit::{HartTally, tally_reported};
-use auditing::{Finding, HartRow, SentFault};
+use crate::status::MEMORY;
+use auditing::{Finding, HartRow, SentFault, Tally};
 use frames::BorrowedMessage;
 use message::DemuxFault;
 
@@ -23,6 +26,26 @@ pub const FATE_REPEAT: u32 = 2;
 pub const FATE_CHANGED: u32 = 3;
 /// SENT has no message of its hart and number.
 pub const FATE_STRANGER: u32 = 4;
+
+/// What became of the messages of a hart.
+#[repr(C)]
+#[derive(Clone, Copy)]
+pub struct HartTally {
+    /// How many messages of the hart SENT has.
+    pub sent: u64,
+    /// How many messages of the hart RECEIVED has, strangers among them.
+    pub came: u64,
+    /// How many numbers of the hart are lost: no true message of RECEIVED has them.
+    pub lost: u64,
+    /// How many messages of the hart are repeats.
+    pub repeated: u64,
+    /// How many messages of the hart are late.
+    pub late: u64,
+    /// How many messages of the hart are changed.
+    pub changed: u64,
+    /// 1 where the messages of the hart in RECEIVED are just those in SENT, in order, and else 0.
+    pub whole: u32,
+}
 
 /// What is found of a hart of SENT.
 #[repr(C)]
@@ -206,5 +229,31 @@ fn expected_at(why: DemuxFault) -> u64
         DemuxFault::Gap { expected } => expected,
         DemuxFault::AfterClose => 0,
         DemuxFault::Packet(_) => 0,
+    }
+}
+
+/// A tally in numbers.
+fn tally_reported(tally: Tally) -> HartTally
+    ensures { result ≡ tally_reported tally }
+{
+    HartTally {
+        sent: tally.sent,
+        came: tally.came,
+        lost: tally.lost,
+        repeated: tally.repeated,
+        late: tally.late,
+        changed: tally.changed,
+        whole: u32::from(tally.whole),
+    }
+}
+
+/// Why SENT is refused, as a status.
+pub(crate) fn sent_status(why: SentFault) -> u32
+    ensures { result ≡ sent_status why }
+{
+    match why {
+        SentFault::Unread(_, why) => message_status(why),
+        SentFault::Misplaced(_, why) => demux_status(why),
+        SentFault::Memory => MEMORY,
     }
 }

@@ -7,26 +7,30 @@ ghost use Rattle.retire.specs.declared.event.Event.{Event as AnyEvent};
 ghost use Rattle.rvclass.specs.Fetch.{words_of};
 ghost use Rattle.rvclass.specs.Image.{Image};
 ghost use Rattle.ffi.specs.EncoderKept.{AreOfEncoder, NumbersStand};
-ghost use Rattle.ffi.specs.Images.{judged_image};
+ghost use Rattle.ffi.specs.Images.{OfPieces};
 ghost use Rattle.ffi.specs.PushedAll.{AreNext, AreWritten, AreWrittenFirst, EndsPushAll, FillRoom, HaveNoRoom};
+ghost use Rattle.ffi.specs.PushedAll.{ReportsPushAll};
 ghost use Rattle.ffi.specs.declared.status.TheConstants.{TOO_SMALL};
 ghost use Rattle.ffi.specs.steps.PushingAll.{ArePushed, EndsPushes, IsPushed};
 
 use crate::encoder_state::{EncoderNumbers, numbers_of_state, state_of};
 use crate::events::{EventNumbers, event_of};
 use crate::handing::hand_out_packets;
-use crate::images::{Judged, judge_image};
+use crate::images::{ImagePiece, Judged, judge_pieces};
 use crate::numbers::PacketNumbers;
 use crate::pushing_blocks::push_blocks;
 use crate::status::{BAD_STATE, DONE, NO_EVENT};
 use encoder::Encoder;
 use retire::Event;
 use rvclass::ProgramOver;
+use std::alloc::Global;
 
-/// Takes the next events of a log, one after the other as [`tracebench_push`](crate::tracebench_push) takes each, and
-/// writes the packets that they make due. `taken` is how many events were taken, and `count` how many packets there
-/// are at the start of the buffer, at most 2 for each event. `state` holds what the encoder keeps of the events before,
-/// and then of those that were taken too. No memory is taken; the time grows with the events, not with the image.
+/// Takes the next events of a log, one after the other, and writes the packets that they make due. `taken` is how many
+/// events were taken, and `count` how many packets there are at the start of the buffer, at most 2 for each event.
+/// `state` holds what the encoder keeps of the events before, and then of those that were taken too. If the log is legal,
+/// the packets are those of the log. This call does not check whether it is, and is [`DONE`] for illegal events too:
+/// [`tracebench_check_events`](crate::tracebench_check_events) checks events. No memory is taken but for the list of the
+/// pieces; the time grows with the events, not with the bytes of the pieces.
 ///
 /// The status is [`DONE`] where all events were taken. Else it says why the event after those was not:
 ///
@@ -35,47 +39,26 @@ use rvclass::ProgramOver;
 /// - [`NO_EVENT`]: no event has its numbers.
 ///
 /// Or no event was taken, and the state stays: [`BAD_STATE`] where no encoder has this state, or what is wrong with the
-/// image.
+/// pieces.
 pub fn tracebench_push_all(
-    base: u64,
-    image: &[u8],
+    alloc: Global,
+    pieces: &[ImagePiece<'_>],
     state: &mut EncoderNumbers,
     events: &[EventNumbers],
     packets: &mut [PacketNumbers],
     taken: &mut u64,
     count: &mut u64,
 ) -> u32
-    ensures ends { EndsPushAll (judged_image base image.now) state.old events.now taken.new result }
-    ensures stands { (program : Image) (period : ℕ) (mode : Mode) (log nexts : List AnyEvent) →
-        AreNext (judged_image base image.now) program period mode log nexts state.old (take taken.new events.now) →
-        NumbersStand (words_of program) period mode (log ++ nexts) state.new }
-    ensures packets { (program : Image) (period : ℕ) (mode : Mode) (log nexts : List AnyEvent) →
-        AreNext (judged_image base image.now) program period mode log nexts state.old (take taken.new events.now) →
-        AreWritten (packets_so_far (words_of program) period mode log)
-        (packets_so_far (words_of program) period mode (log ++ nexts)) count.new packets.old packets.new }
-    // The packets of the first events are written, as long as these are legal, whatever comes after them.
-    ensures front { (program : Image) (period n : ℕ) (mode : Mode) (log nexts : List AnyEvent) → n ≤ taken.new →
-        AreNext (judged_image base image.now) program period mode log nexts state.old (take n events.now) →
-        AreWrittenFirst (packets_so_far (words_of program) period mode log)
-        (packets_so_far (words_of program) period mode (log ++ nexts)) count.new packets.new }
-    ensures no_room { (program : Image) (period : ℕ) (mode : Mode) (log nexts : List AnyEvent) (next : AnyEvent) →
-        result ≡ TOO_SMALL →
-        AreNext (judged_image base image.now) program period mode log (nexts ++ next ∷ []) state.old
-        (take (taken.new + 1) events.now) →
-        HaveNoRoom (packets_so_far (words_of program) period mode (log ++ nexts))
-        (packets_so_far (words_of program) period mode (log ++ nexts ++ next ∷ [])) count.new packets.old }
-    ensures two { result ≡ TOO_SMALL → length packets.old < count.new + 2 }
-    ensures fill { FillRoom taken.new count.new packets.old packets.new }
-    ensures untaken { taken.new ≡ 0 → (state.new ≡ state.old) × (packets.new ≡ packets.old) }
-    ensures again { AreOfEncoder state.old → AreOfEncoder state.new }
+    ensures { OfPieces pieces.now (λ image. ReportsPushAll image events.now result state.old state.new taken.new
+        count.new packets.old packets.new) }
 {
-    let judged = judge_image(base, image);
+    let judged = judge_pieces(alloc, pieces);
     push_all_over(&judged, state, events, packets, taken, count)
 }
 
 /// Pushes events as long as their packets have room, where the state is read and there is a program.
 #[inline(always)]
-pub(crate) fn push_all_over(
+fn push_all_over(
     image: &Judged<'_>,
     state: &mut EncoderNumbers,
     events: &[EventNumbers],

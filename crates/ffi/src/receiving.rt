@@ -3,7 +3,7 @@
 ghost use Rattle.std.specs.Prelude.{◌≡◌, ◌<◌, ◌≤◌};
 ghost use Rattle.message.specs.Harts.{end_of_numbers};
 ghost use Rattle.ffi.specs.DecoderKept.{AreClosed};
-ghost use Rattle.ffi.specs.Images.{judged_image};
+ghost use Rattle.ffi.specs.Images.{OfPieces};
 ghost use Rattle.ffi.specs.Received.{ReportsReceive, ReportsResume, number_status};
 ghost use Rattle.ffi.specs.declared.status.TheConstants.{DONE};
 
@@ -11,7 +11,7 @@ use crate::decoder_state::{CLOSED, DecoderNumbers, numbers_of_state, state_of};
 use crate::encoding::mode_of;
 use crate::events::EventNumbers;
 use crate::feeding::report_feed;
-use crate::images::{Judged, judge_image};
+use crate::images::{ImagePiece, Judged, judge_pieces};
 use crate::packing::pack_status;
 use crate::status::{AFTER_CLOSE, BAD_STATE, DONE, GAP, OUT_OF_RANGE, REPEAT};
 use decoder::Decoder;
@@ -44,11 +44,15 @@ pub struct HartNumbers {
 /// - [`OUT_OF_RANGE`]: the number is 2^63 or more.
 /// - [`EMPTY`](crate::status::EMPTY) to [`BAD_REPORT`](crate::status::BAD_REPORT): the payload is that of no packet.
 ///   This comes before [`GAP`].
-/// - Those of [`tracebench_feed`](crate::tracebench_feed). With [`TOO_SMALL`](crate::status::TOO_SMALL) `count` is written.
+/// - [`BAD_STATE`]: no decoder has the hart's numbers.
+/// - [`ODD_BASE`](crate::status::ODD_BASE) to [`NOT_SORTED`](crate::status::NOT_SORTED): the pieces make no program.
+/// - [`NOT_OPENED`](crate::status::NOT_OPENED) to [`AFTER_CLOSING_PACKET`](crate::status::AFTER_CLOSING_PACKET): the
+///   packet does not follow those before.
+/// - [`MEMORY`](crate::status::MEMORY): an allocation failed.
+/// - [`TOO_SMALL`](crate::status::TOO_SMALL): the buffer is too small for the events. Then `count` is how many there are.
 pub fn tracebench_receive(
     alloc: Global,
-    base: u64,
-    image: &[u8],
+    pieces: &[ImagePiece<'_>],
     hart: &mut HartNumbers,
     number: u64,
     payload: &[u8],
@@ -56,17 +60,17 @@ pub fn tracebench_receive(
     count: &mut u64,
     missing: &mut u64,
 ) -> u32
-    ensures { ReportsReceive (judged_image base image.now) number payload.now result hart.old hart.new count.old
-        count.new missing.old missing.new events.old events.new }
+    ensures { OfPieces pieces.now (λ image. ReportsReceive image number payload.now result hart.old hart.new count.old
+        count.new missing.old missing.new events.old events.new) }
 {
-    let judged = judge_image(base, image);
+    let judged = judge_pieces(alloc, pieces);
     report_receive(
         alloc, &judged, hart, number, payload, events, count, missing,
     )
 }
 
 /// Takes the next message of a hart, and reports what came of it.
-pub(crate) fn report_receive(
+fn report_receive(
     alloc: Global,
     image: &Judged<'_>,
     hart: &mut HartNumbers,

@@ -1,11 +1,11 @@
 //! What is left of a capture after any damage.
 
 ghost use Rattle.std.specs.Prelude.{◌≡◌};
-ghost use Rattle.ffi.specs.Images.{OfPieces, judged_image};
+ghost use Rattle.ffi.specs.Images.{OfPieces};
 ghost use Rattle.ffi.specs.Salvaged.{IsSalvagedAs, IsSalvagedIn, ReportsSalvage};
 
 use crate::fault::Fault;
-use crate::images::{ImagePiece, Judged, judge_image, judge_pieces};
+use crate::images::{ImagePiece, Judged, judge_pieces};
 use crate::salvaged::{end_of_found, harts_asked, layout_of};
 use crate::texts::{TextEnd, TextFault, Written, report_text};
 use message::{HartRange, NoProgress};
@@ -25,28 +25,8 @@ use std::alloc::Global;
 ///
 /// The status is [`DONE`](crate::status::DONE), [`TOO_SMALL`](crate::status::TOO_SMALL),
 /// [`OUT_OF_RANGE`](crate::status::OUT_OF_RANGE) where the format is none, [`MEMORY`](crate::status::MEMORY), or says
-/// what is wrong with the image. All but the first two write nothing.
+/// what is wrong with the pieces. All but the first two write nothing.
 pub fn tracebench_salvage(
-    alloc: Global,
-    base: u64,
-    image: &[u8],
-    harts: u16,
-    capture: &[u8],
-    format: u32,
-    buffer: &mut [u8],
-    wanted: &mut u64,
-    ended: &mut TextEnd,
-) -> u32
-    ensures { ReportsSalvage (judged_image base image.now) harts capture.now format result wanted.old wanted.new
-        ended.old ended.new buffer.old buffer.new }
-{
-    let judged = judge_image(base, image);
-    let salvaged = salvage_text(alloc, &judged, harts, capture, format);
-    report_text(salvaged, buffer, wanted, ended)
-}
-
-/// Writes what is left of the logs of a capture as [`tracebench_salvage`] does, over pieces.
-pub fn tracebench_salvage_over_pieces(
     alloc: Global,
     pieces: &[ImagePiece<'_>],
     harts: u16,

@@ -9,9 +9,6 @@ pub const TOO_SMALL: u32 = 1;
 /// An allocation failed.
 pub const MEMORY: u32 = 2;
 
-/// The capture has no hart of this number.
-pub const NO_HART: u32 = 3;
-
 /// A number is out of its range.
 pub const OUT_OF_RANGE: u32 = 4;
 
@@ -25,10 +22,10 @@ pub const SHORT: u32 = 16;
 pub const BAD_LENGTH: u32 = 17;
 
 /// A reader failed. No call of this library returns it.
-pub const UNREAD: u32 = 18;
+pub(crate) const UNREAD: u32 = 18;
 
 /// A writer failed. No call of this library returns it.
-pub const UNWRITTEN: u32 = 19;
+pub(crate) const UNWRITTEN: u32 = 19;
 
 /// The capture begins as one of version 2 does, but its header is not valid.
 pub const BAD_HEADER: u32 = 20;
@@ -199,8 +196,7 @@ pub const UNEQUAL_COUNTS: u32 = 152;
 const _: () = prove!(
     DONE < TOO_SMALL
         && TOO_SMALL < MEMORY
-        && MEMORY < NO_HART
-        && NO_HART < OUT_OF_RANGE
+        && MEMORY < OUT_OF_RANGE
         && OUT_OF_RANGE < BAD_ENDS
         && BAD_ENDS < SHORT
         && SHORT < BAD_LENGTH

@@ -74,15 +74,12 @@ fn struct_of<T: FromRecord>(case: &mut Case<'_>, store: &Store, text: &str) -> T
 pub(crate) struct Given<'a> {
     pub(crate) alloc: Global,
     store: &'a Store,
-    /// Whether the program is in pieces, and these.
-    pub(crate) in_pieces: bool,
+    /// The pieces of the program: those that are given, or the image.
     pub(crate) pieces: Vec<ImagePiece<'a>>,
     /// Bytes of several elements, one after the other, and where each ends.
     pub(crate) joined: Vec<u8>,
     pub(crate) ends: Vec<u64>,
     pub(crate) events: Vec<EventNumbers>,
-    pub(crate) event: EventNumbers,
-    pub(crate) before: EventNumbers,
     pub(crate) packet: PacketNumbers,
     pub(crate) encoder: EncoderNumbers,
     pub(crate) hart_state: HartNumbers,
@@ -93,7 +90,7 @@ pub(crate) struct Given<'a> {
 /// Bytes by the names of parameters.
 #[derive(Clone, Copy)]
 pub(crate) struct Bytes<'a> {
-    pub(crate) image: &'a [u8],
+    image: &'a [u8],
     pub(crate) payload: &'a [u8],
     pub(crate) capture: &'a [u8],
     pub(crate) sent: &'a [u8],
@@ -109,7 +106,6 @@ pub(crate) struct Bytes<'a> {
 /// Numbers by the names of parameters.
 #[derive(Clone, Copy)]
 pub(crate) struct Numbers {
-    pub(crate) base: u64,
     pub(crate) harts: u16,
     pub(crate) hart: u16,
     pub(crate) period: u16,
@@ -118,7 +114,6 @@ pub(crate) struct Numbers {
     pub(crate) format: u32,
     pub(crate) flags: u32,
     pub(crate) number: u64,
-    pub(crate) has_before: u32,
     /// The size of a buffer, if it is given.
     pub(crate) room: Option<usize>,
     pub(crate) places: usize,
@@ -151,7 +146,6 @@ const NO_BYTES: Bytes<'static> = Bytes {
 
 /// No number is given.
 const NO_NUMBERS: Numbers = Numbers {
-    base: BASE,
     harts: 0,
     hart: 0,
     period: 0,
@@ -160,7 +154,6 @@ const NO_NUMBERS: Numbers = Numbers {
     format: 0,
     flags: 0,
     number: 0,
-    has_before: 0,
     room: None,
     places: 0,
     rows: 0,
@@ -179,7 +172,6 @@ impl Numbers {
     fn set(&mut self, case: &mut Case<'_>, name: &str, text: &str) {
         let number = number_of(case, text);
         match name {
-            "base" => self.base = number,
             "number" => self.number = number,
             "harts" => self.harts = low_16(number),
             "hart" => self.hart = low_16(number),
@@ -188,7 +180,6 @@ impl Numbers {
             "version" => self.version = low_32(number),
             "format" => self.format = low_32(number),
             "flags" => self.flags = low_32(number),
-            "has_before" => self.has_before = low_32(number),
             _ => {
                 if !self.set_size(name, number.min(1 << 32) as usize) {
                     self.set_shown(case, name, number.min(1 << 32) as usize);
@@ -248,13 +239,10 @@ impl<'a> Given<'a> {
         Given {
             alloc,
             store,
-            in_pieces: false,
             pieces: Vec::new(alloc),
             joined: Vec::new(alloc),
             ends: Vec::new(alloc),
             events: Vec::new(alloc),
-            event: EventNumbers::of(NO_FIELDS),
-            before: EventNumbers::of(NO_FIELDS),
             packet: PacketNumbers::of(NO_FIELDS),
             encoder: EncoderNumbers::of(NO_FIELDS),
             hart_state: HartNumbers::of(NO_FIELDS),
@@ -303,6 +291,12 @@ impl<'a> Given<'a> {
         }
     }
 
+    /// Adds the image as one piece.
+    fn add_image(&mut self, case: &mut Case<'_>) {
+        let (bytes, base) = (self.bytes.image, number_or(case, "base", BASE));
+        case.push(&mut self.pieces, ImagePiece { base, bytes });
+    }
+
     /// Cuts the image.
     fn add_cut(&mut self, case: &mut Case<'_>, text: &str) {
         let at = number_of(case, text);
@@ -346,19 +340,19 @@ impl<'a> Given<'a> {
             "pieces" => self.add_pieces(case, text),
             "cut" => self.add_cut(case, text),
             "events" => self.add_events(case, text),
-            "event" => self.event = struct_of(case, self.store, text),
-            "before" => self.before = struct_of(case, self.store, text),
             "packet" => self.packet = struct_of(case, self.store, text),
             "state" => self.read_state(case, text),
-            "new" => {}
+            "base" | "new" => {}
             _ => self.numbers.set(case, name, text),
         }
     }
 
     /// Reads the arguments.
     pub(crate) fn read_all(&mut self, case: &mut Case<'_>) {
-        self.in_pieces = case.value("pieces").is_some() || case.value("cut").is_some();
         self.find_bytes(case);
+        if case.value("pieces").is_none() && case.value("cut").is_none() {
+            self.add_image(case);
+        }
         for word in case.text.split(' ') {
             if let Some((name, text)) = word.split_once('=') {
                 if !is_bytes(name) {

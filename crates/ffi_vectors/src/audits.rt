@@ -5,8 +5,8 @@ use crate::fields::{Fields, KEPT, KEPT_16, KEPT_32};
 use crate::writing::{put_all, put_list};
 use cases::Case;
 use ffi::{
-    AlignedEnd, AlignedRow, Arrival, AuditEnd, ByteRun, HartRowNumbers, HartTally, HeaderNumbers,
-    LostRun, PathEnd, SentPlace, Single,
+    AlignedEnd, AlignedRow, Arrival, ByteRun, HartRowNumbers, HeaderNumbers, LostRun, PathEnd,
+    SentPlace, Single,
 };
 
 /// What no call wrote.
@@ -51,37 +51,6 @@ fn put_headers(case: &mut Case<'_>, sent: &HeaderNumbers, received: &HeaderNumbe
             u64::from(received.harts),
         ],
     );
-}
-
-/// Of one hart.
-pub(crate) fn audit(case: &mut Case<'_>, given: &Given<'_>) {
-    let mut tally = HartTally::KEPT;
-    let mut end = AuditEnd {
-        harts: KEPT,
-        strangers: KEPT,
-        place: KEPT,
-        fault: KEPT_32,
-    };
-    let status = ffi::tracebench_audit(
-        given.alloc,
-        given.bytes.sent,
-        given.bytes.received,
-        given.numbers.hart,
-        &mut tally,
-        &mut end,
-    );
-    put_all(
-        case,
-        &["status", "harts", "strangers", "place", "fault"],
-        &[
-            u64::from(status),
-            end.harts,
-            end.strangers,
-            end.place,
-            u64::from(end.fault),
-        ],
-    );
-    put_list(case, "tally", &[tally], false);
 }
 
 /// Appends how an audit of all harts ends.

@@ -12,7 +12,6 @@ fn call(case: &mut Case<'_>, verb: &str, given: &Given<'_>) {
     match verb {
         "check" => looking::check(case, given),
         "check_events" => looking::check_events(case, given),
-        "follow" => looking::follow(case, given),
         "unpack" => looking::unpack(case, given),
         "read_header" => looking::read_header(case, given),
         "read_message" => looking::read_message(case, given),
@@ -27,7 +26,6 @@ fn call_on(case: &mut Case<'_>, verb: &str, given: &Given<'_>) {
         "decoder" => stepping::decoder(case),
         "resume" => stepping::resume(case, given),
         "push_both" => stepping::push_both(case, given),
-        "audit" => audits::audit(case, given),
         "audit_all" => audits::audit_all(case, given),
         "audit_unnumbered" => audits::audit_unnumbered(case, given),
         _ => call_in_rooms(case, verb, given),

@@ -74,17 +74,6 @@ const KEPT_EVENT: EventNumbers = EventNumbers {
     tval: KEPT,
 };
 
-/// The counts of a hart that no call wrote.
-const KEPT_TALLY: HartTally = HartTally {
-    sent: KEPT,
-    came: KEPT,
-    lost: KEPT,
-    repeated: KEPT,
-    late: KEPT,
-    changed: KEPT,
-    whole: KEPT_32,
-};
-
 impl Fields for PacketNumbers {
     const NAMES: &'static [&'static str] = &[
         "kind",
@@ -435,26 +424,6 @@ impl Fields for HartEnd {
     }
 }
 
-impl Fields for HartTally {
-    const NAMES: &'static [&'static str] = &[
-        "sent", "came", "lost", "repeated", "late", "changed", "whole",
-    ];
-
-    const KEPT: HartTally = KEPT_TALLY;
-
-    fn record(&self) -> Record {
-        padded(&[
-            self.sent,
-            self.came,
-            self.lost,
-            self.repeated,
-            self.late,
-            self.changed,
-            u64::from(self.whole),
-        ])
-    }
-}
-
 impl Fields for HartRowNumbers {
     const NAMES: &'static [&'static str] = &[
         "sent", "came", "lost", "repeated", "late", "changed", "whole", "strange", "runs",
@@ -462,7 +431,15 @@ impl Fields for HartRowNumbers {
     ];
 
     const KEPT: HartRowNumbers = HartRowNumbers {
-        tally: KEPT_TALLY,
+        tally: HartTally {
+            sent: KEPT,
+            came: KEPT,
+            lost: KEPT,
+            repeated: KEPT,
+            late: KEPT,
+            changed: KEPT,
+            whole: KEPT_32,
+        },
         strange: KEPT,
         runs: KEPT,
         longest: KEPT,

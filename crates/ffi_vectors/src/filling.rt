@@ -4,9 +4,7 @@ use crate::arguments::Given;
 use crate::fields::{Fields, KEPT, KEPT_32, NO_FIELDS, Record};
 use crate::writing::{Said, put_all, put_list};
 use cases::Case;
-use ffi::{
-    DecodeAllEnd, DecodeEnd, DumpEnd, ExplainEnd, HartEnd, HeaderNumbers, LogPlace, TextEnd,
-};
+use ffi::{DecodeAllEnd, DumpEnd, ExplainEnd, HartEnd, HeaderNumbers, LogPlace, TextEnd};
 
 /// What a buffer has before a call.
 const FILL: u8 = 0xaa;
@@ -19,7 +17,7 @@ static TEXT: [&str; 9] = [
     "status", "wanted", "harts", "unclosed", "place", "fault", "whole", "log", "row",
 ];
 
-static DECODED: [&str; 6] = ["status", "wanted", "harts", "place", "fault", "closed"];
+static DECODED: [&str; 5] = ["status", "wanted", "harts", "place", "fault"];
 
 static DUMPED: [&str; 5] = ["status", "wanted", "place", "fault", "bad"];
 
@@ -130,113 +128,36 @@ fn capture_of_lines(given: &Given<'_>, buffer: &mut [u8]) -> Said {
 fn encode(given: &Given<'_>, buffer: &mut [u8]) -> Said {
     let mut wanted = KEPT;
     let mut place = LOG_PLACE;
-    let status = if given.in_pieces {
-        ffi::tracebench_encode_over_pieces(
-            given.alloc,
-            &given.pieces,
-            &given.joined,
-            &given.ends,
-            given.numbers.period,
-            given.numbers.mode,
-            given.numbers.version,
-            buffer,
-            &mut wanted,
-            &mut place,
-        )
-    } else {
-        ffi::tracebench_encode(
-            given.alloc,
-            given.numbers.base,
-            given.bytes.image,
-            &given.joined,
-            &given.ends,
-            given.numbers.period,
-            given.numbers.mode,
-            given.numbers.version,
-            buffer,
-            &mut wanted,
-            &mut place,
-        )
-    };
+    let status = ffi::tracebench_encode(
+        given.alloc,
+        &given.pieces,
+        &given.joined,
+        &given.ends,
+        given.numbers.period,
+        given.numbers.mode,
+        given.numbers.version,
+        buffer,
+        &mut wanted,
+        &mut place,
+    );
     said_place(status, wanted, &place)
 }
 
 fn measure(given: &Given<'_>, buffer: &mut [u8]) -> Said {
     let mut wanted = KEPT;
     let mut place = LOG_PLACE;
-    let status = if given.in_pieces {
-        ffi::tracebench_measure_over_pieces(
-            given.alloc,
-            &given.pieces,
-            &given.joined,
-            &given.ends,
-            given.numbers.period,
-            given.numbers.mode,
-            buffer,
-            &mut wanted,
-            &mut place,
-        )
-    } else {
-        ffi::tracebench_measure(
-            given.alloc,
-            given.numbers.base,
-            given.bytes.image,
-            &given.joined,
-            &given.ends,
-            given.numbers.period,
-            given.numbers.mode,
-            buffer,
-            &mut wanted,
-            &mut place,
-        )
-    };
+    let status = ffi::tracebench_measure(
+        given.alloc,
+        &given.pieces,
+        &given.joined,
+        &given.ends,
+        given.numbers.period,
+        given.numbers.mode,
+        buffer,
+        &mut wanted,
+        &mut place,
+    );
     said_place(status, wanted, &place)
-}
-
-fn decode(given: &Given<'_>, buffer: &mut [u8]) -> Said {
-    let mut wanted = KEPT;
-    let mut end = DecodeEnd {
-        harts: KEPT,
-        place: KEPT,
-        fault: KEPT_32,
-        closed: KEPT_32,
-    };
-    let status = if given.in_pieces {
-        ffi::tracebench_decode_over_pieces(
-            given.alloc,
-            &given.pieces,
-            given.numbers.harts,
-            given.bytes.capture,
-            given.numbers.hart,
-            buffer,
-            &mut wanted,
-            &mut end,
-        )
-    } else {
-        ffi::tracebench_decode(
-            given.alloc,
-            given.numbers.base,
-            given.bytes.image,
-            given.numbers.harts,
-            given.bytes.capture,
-            given.numbers.hart,
-            buffer,
-            &mut wanted,
-            &mut end,
-        )
-    };
-    Said::of(
-        &DECODED,
-        &[
-            u64::from(status),
-            wanted,
-            end.harts,
-            end.place,
-            u64::from(end.fault),
-            u64::from(end.closed),
-        ],
-        NO_FIELDS,
-    )
 }
 
 fn decode_all(given: &Given<'_>, buffer: &mut [u8], ends: &mut [HartEnd]) -> Said {
@@ -246,37 +167,22 @@ fn decode_all(given: &Given<'_>, buffer: &mut [u8], ends: &mut [HartEnd]) -> Sai
         place: KEPT,
         fault: KEPT_32,
     };
-    let status = if given.in_pieces {
-        ffi::tracebench_decode_all_over_pieces(
-            given.alloc,
-            &given.pieces,
-            given.numbers.harts,
-            given.bytes.capture,
-            buffer,
-            &mut wanted,
-            ends,
-            &mut end,
-        )
-    } else {
-        ffi::tracebench_decode_all(
-            given.alloc,
-            given.numbers.base,
-            given.bytes.image,
-            given.numbers.harts,
-            given.bytes.capture,
-            buffer,
-            &mut wanted,
-            ends,
-            &mut end,
-        )
-    };
+    let status = ffi::tracebench_decode_all(
+        given.alloc,
+        &given.pieces,
+        given.numbers.harts,
+        given.bytes.capture,
+        buffer,
+        &mut wanted,
+        ends,
+        &mut end,
+    );
     let numbers = [
         u64::from(status),
         wanted,
         end.harts,
         end.place,
         u64::from(end.fault),
-        KEPT,
     ];
     Said::of(&DECODED, &numbers, NO_FIELDS)
 }
@@ -312,26 +218,14 @@ fn explain(given: &Given<'_>, buffer: &mut [u8]) -> Said {
         fault: KEPT_32,
     };
     let log = given.bytes.log;
-    let status = if given.in_pieces {
-        ffi::tracebench_explain_over_pieces(
-            given.alloc,
-            &given.pieces,
-            log,
-            buffer,
-            &mut wanted,
-            &mut end,
-        )
-    } else {
-        ffi::tracebench_explain(
-            given.alloc,
-            given.numbers.base,
-            given.bytes.image,
-            log,
-            buffer,
-            &mut wanted,
-            &mut end,
-        )
-    };
+    let status = ffi::tracebench_explain(
+        given.alloc,
+        &given.pieces,
+        log,
+        buffer,
+        &mut wanted,
+        &mut end,
+    );
     Said::of(
         &EXPLAINED,
         &[u64::from(status), wanted, end.row, u64::from(end.fault)],
@@ -342,94 +236,50 @@ fn explain(given: &Given<'_>, buffer: &mut [u8]) -> Said {
 fn list(given: &Given<'_>, buffer: &mut [u8]) -> Said {
     let mut wanted = KEPT;
     let mut end = TEXT_END;
-    let status = if given.in_pieces {
-        ffi::tracebench_list_over_pieces(
-            given.alloc,
-            &given.pieces,
-            given.numbers.harts,
-            given.bytes.capture,
-            given.bytes.symbols,
-            given.numbers.format,
-            buffer,
-            &mut wanted,
-            &mut end,
-        )
-    } else {
-        ffi::tracebench_list(
-            given.alloc,
-            given.numbers.base,
-            given.bytes.image,
-            given.numbers.harts,
-            given.bytes.capture,
-            given.bytes.symbols,
-            given.numbers.format,
-            buffer,
-            &mut wanted,
-            &mut end,
-        )
-    };
+    let status = ffi::tracebench_list(
+        given.alloc,
+        &given.pieces,
+        given.numbers.harts,
+        given.bytes.capture,
+        given.bytes.symbols,
+        given.numbers.format,
+        buffer,
+        &mut wanted,
+        &mut end,
+    );
     said_text(status, wanted, &end, &LOG_PLACE)
 }
 
 fn list_salvaged(given: &Given<'_>, buffer: &mut [u8]) -> Said {
     let mut wanted = KEPT;
     let mut end = TEXT_END;
-    let status = if given.in_pieces {
-        ffi::tracebench_list_salvaged_over_pieces(
-            given.alloc,
-            &given.pieces,
-            given.numbers.harts,
-            given.bytes.capture,
-            given.bytes.symbols,
-            given.numbers.format,
-            buffer,
-            &mut wanted,
-            &mut end,
-        )
-    } else {
-        ffi::tracebench_list_salvaged(
-            given.alloc,
-            given.numbers.base,
-            given.bytes.image,
-            given.numbers.harts,
-            given.bytes.capture,
-            given.bytes.symbols,
-            given.numbers.format,
-            buffer,
-            &mut wanted,
-            &mut end,
-        )
-    };
+    let status = ffi::tracebench_list_salvaged(
+        given.alloc,
+        &given.pieces,
+        given.numbers.harts,
+        given.bytes.capture,
+        given.bytes.symbols,
+        given.numbers.format,
+        buffer,
+        &mut wanted,
+        &mut end,
+    );
     said_text(status, wanted, &end, &LOG_PLACE)
 }
 
 fn salvage(given: &Given<'_>, buffer: &mut [u8]) -> Said {
     let mut wanted = KEPT;
     let mut end = TEXT_END;
-    let status = if given.in_pieces {
-        ffi::tracebench_salvage_over_pieces(
-            given.alloc,
-            &given.pieces,
-            given.numbers.harts,
-            given.bytes.capture,
-            given.numbers.format,
-            buffer,
-            &mut wanted,
-            &mut end,
-        )
-    } else {
-        ffi::tracebench_salvage(
-            given.alloc,
-            given.numbers.base,
-            given.bytes.image,
-            given.numbers.harts,
-            given.bytes.capture,
-            given.numbers.format,
-            buffer,
-            &mut wanted,
-            &mut end,
-        )
-    };
+    let status = ffi::tracebench_salvage(
+        given.alloc,
+        &given.pieces,
+        given.numbers.harts,
+        given.bytes.capture,
+        given.numbers.format,
+        buffer,
+        &mut wanted,
+        &mut end,
+    );
     said_text(status, wanted, &end, &LOG_PLACE)
 }
 
@@ -437,34 +287,18 @@ fn compare(given: &Given<'_>, buffer: &mut [u8]) -> Said {
     let mut wanted = KEPT;
     let mut end = TEXT_END;
     let mut place = LOG_PLACE;
-    let status = if given.in_pieces {
-        ffi::tracebench_compare_over_pieces(
-            given.alloc,
-            &given.pieces,
-            given.numbers.harts,
-            given.bytes.capture,
-            &given.joined,
-            &given.ends,
-            buffer,
-            &mut wanted,
-            &mut end,
-            &mut place,
-        )
-    } else {
-        ffi::tracebench_compare(
-            given.alloc,
-            given.numbers.base,
-            given.bytes.image,
-            given.numbers.harts,
-            given.bytes.capture,
-            &given.joined,
-            &given.ends,
-            buffer,
-            &mut wanted,
-            &mut end,
-            &mut place,
-        )
-    };
+    let status = ffi::tracebench_compare(
+        given.alloc,
+        &given.pieces,
+        given.numbers.harts,
+        given.bytes.capture,
+        &given.joined,
+        &given.ends,
+        buffer,
+        &mut wanted,
+        &mut end,
+        &mut place,
+    );
     said_text(status, wanted, &end, &place)
 }
 
@@ -490,7 +324,6 @@ fn call_on_capture(
     ends: &mut [HartEnd],
 ) -> Option<Said> {
     Some(match verb {
-        "decode" => decode(given, buffer),
         "decode_all" => decode_all(given, buffer, ends),
         "dump" => dump(given, buffer),
         "explain" => explain(given, buffer),

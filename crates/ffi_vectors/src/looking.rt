@@ -15,62 +15,15 @@ fn put_row(case: &mut Case<'_>, status: u32, row: u64) {
 pub(crate) fn check(case: &mut Case<'_>, given: &Given<'_>) {
     let mut row = KEPT;
     let log = given.bytes.log;
-    let status = if given.in_pieces {
-        ffi::tracebench_check_over_pieces(given.alloc, &given.pieces, log, &mut row)
-    } else {
-        ffi::tracebench_check(
-            given.alloc,
-            given.numbers.base,
-            given.bytes.image,
-            log,
-            &mut row,
-        )
-    };
+    let status = ffi::tracebench_check(given.alloc, &given.pieces, log, &mut row);
     put_row(case, status, row);
 }
 
 /// Which events are legal.
 pub(crate) fn check_events(case: &mut Case<'_>, given: &Given<'_>) {
     let mut row = KEPT;
-    let status = if given.in_pieces {
-        ffi::tracebench_check_events_over_pieces(
-            given.alloc,
-            &given.pieces,
-            &given.events,
-            &mut row,
-        )
-    } else {
-        ffi::tracebench_check_events(
-            given.numbers.base,
-            given.bytes.image,
-            &given.events,
-            &mut row,
-        )
-    };
+    let status = ffi::tracebench_check_events(given.alloc, &given.pieces, &given.events, &mut row);
     put_row(case, status, row);
-}
-
-/// Whether an event may follow.
-pub(crate) fn follow(case: &mut Case<'_>, given: &Given<'_>) {
-    let flag = given.numbers.has_before;
-    let status = if given.in_pieces {
-        ffi::tracebench_follow_over_pieces(
-            given.alloc,
-            &given.pieces,
-            flag,
-            &given.before,
-            &given.event,
-        )
-    } else {
-        ffi::tracebench_follow(
-            given.numbers.base,
-            given.bytes.image,
-            flag,
-            &given.before,
-            &given.event,
-        )
-    };
-    put_row(case, status, KEPT);
 }
 
 /// The packet of a payload.

@@ -1,8 +1,8 @@
 //! Cases of the library for C, as lines of data files.
 //!
 //! A case is a verb and its arguments, `NAME=VALUE`. Most verbs are calls of the library without `tracebench_`, and their
-//! arguments are named as the call's parameters; where `pieces` or `cut` is given, the program is in pieces. What a call
-//! gives is written as `NAME=VALUE`, and what it leaves as it was is not written.
+//! arguments are named as the call's parameters; the program is one piece, `image` at `base`, unless `pieces` or
+//! `cut` is given. What a call gives is written as `NAME=VALUE`, and what it leaves as it was is not written.
 //!
 //! - A number is decimal, or hexadecimal after `0x`. It is 0 where it is not given, and `base` is 0x80000000.
 //! - Bytes are parts joined by `+`: names of buffers, or hexadecimal digits. `N*` before a part stands for N of it.

@@ -12,10 +12,8 @@ const FEW: usize = 32;
 /// Makes the call that a verb names with a buffer of so many elements, and appends what it said.
 fn call(case: &mut Case<'_>, verb: &str, given: &Given<'_>, room: usize) -> Option<Said> {
     match verb {
-        "push" | "push_checked" | "push_all" | "push_each" | "finish" => {
-            fill_packets(case, verb, given, room)
-        }
-        "feed" | "feed_all" | "receive" => fill_events(case, verb, given, room),
+        "push_all" | "push_each" | "finish" => fill_packets(case, verb, given, room),
+        "feed_all" | "receive" => fill_events(case, verb, given, room),
         _ => fill(case, verb, given, room),
     }
 }

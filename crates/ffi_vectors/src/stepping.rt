@@ -10,103 +10,31 @@ static COUNT: [&str; 3] = ["status", "count", "missing"];
 
 static TAKEN: [&str; 3] = ["status", "count", "taken"];
 
-fn push(given: &Given<'_>, packets: &mut [PacketNumbers]) -> Said {
-    let mut state = given.encoder;
-    let mut count = KEPT;
-    let status = if given.in_pieces {
-        ffi::tracebench_push_over_pieces(
-            given.alloc,
-            &given.pieces,
-            &mut state,
-            &given.event,
-            packets,
-            &mut count,
-        )
-    } else {
-        ffi::tracebench_push(
-            given.numbers.base,
-            given.bytes.image,
-            &mut state,
-            &given.event,
-            packets,
-            &mut count,
-        )
-    };
-    Said::of(&COUNT, &[u64::from(status), count, KEPT], state.record())
-}
-
-fn push_checked(given: &Given<'_>, packets: &mut [PacketNumbers]) -> Said {
-    let mut state = given.encoder;
-    let mut count = KEPT;
-    let status = if given.in_pieces {
-        ffi::tracebench_push_checked_over_pieces(
-            given.alloc,
-            &given.pieces,
-            &mut state,
-            &given.event,
-            packets,
-            &mut count,
-        )
-    } else {
-        ffi::tracebench_push_checked(
-            given.numbers.base,
-            given.bytes.image,
-            &mut state,
-            &given.event,
-            packets,
-            &mut count,
-        )
-    };
-    Said::of(&COUNT, &[u64::from(status), count, KEPT], state.record())
-}
-
 fn push_all(given: &Given<'_>, packets: &mut [PacketNumbers]) -> Said {
     let mut state = given.encoder;
     let mut taken = KEPT;
     let mut count = KEPT;
-    let status = if given.in_pieces {
-        ffi::tracebench_push_all_over_pieces(
-            given.alloc,
-            &given.pieces,
-            &mut state,
-            &given.events,
-            packets,
-            &mut taken,
-            &mut count,
-        )
-    } else {
-        ffi::tracebench_push_all(
-            given.numbers.base,
-            given.bytes.image,
-            &mut state,
-            &given.events,
-            packets,
-            &mut taken,
-            &mut count,
-        )
-    };
+    let status = ffi::tracebench_push_all(
+        given.alloc,
+        &given.pieces,
+        &mut state,
+        &given.events,
+        packets,
+        &mut taken,
+        &mut count,
+    );
     Said::of(&TAKEN, &[u64::from(status), count, taken], state.record())
 }
 
 fn finish(given: &Given<'_>, packets: &mut [PacketNumbers]) -> Said {
     let mut count = KEPT;
-    let status = if given.in_pieces {
-        ffi::tracebench_finish_over_pieces(
-            given.alloc,
-            &given.pieces,
-            &given.encoder,
-            packets,
-            &mut count,
-        )
-    } else {
-        ffi::tracebench_finish(
-            given.numbers.base,
-            given.bytes.image,
-            &given.encoder,
-            packets,
-            &mut count,
-        )
-    };
+    let status = ffi::tracebench_finish(
+        given.alloc,
+        &given.pieces,
+        &given.encoder,
+        packets,
+        &mut count,
+    );
     Said::of(
         &COUNT,
         &[u64::from(status), count, KEPT],
@@ -114,22 +42,26 @@ fn finish(given: &Given<'_>, packets: &mut [PacketNumbers]) -> Said {
     )
 }
 
-/// Pushes the events by a call for each, with a buffer for each that is large enough.
+/// Pushes the events by a call for each.
 fn push_each(given: &Given<'_>, packets: &mut [PacketNumbers]) -> Said {
     let mut state = given.encoder;
     let mut seen: usize = 0;
     let mut taken: u64 = 0;
     for event in &given.events {
+        let mut one = 0;
         let mut count = 0;
         let rest = packets.get_mut(seen..).unwrap_or(&mut []);
-        let status = ffi::tracebench_push(
-            given.numbers.base,
-            given.bytes.image,
+        let status = ffi::tracebench_push_all(
+            given.alloc,
+            &given.pieces,
             &mut state,
-            event,
+            &[*event],
             rest,
+            &mut one,
             &mut count,
         );
+        seen = seen.saturating_add(count.min(2) as usize);
+        taken = taken.saturating_add(one.min(1));
         if status != 0 {
             return Said::of(
                 &TAKEN,
@@ -137,66 +69,24 @@ fn push_each(given: &Given<'_>, packets: &mut [PacketNumbers]) -> Said {
                 state.record(),
             );
         }
-        seen = seen.saturating_add(count.min(2) as usize);
-        taken = taken.saturating_add(1);
     }
     Said::of(&TAKEN, &[0, seen as u64, taken], state.record())
-}
-
-fn feed(given: &Given<'_>, events: &mut [EventNumbers]) -> Said {
-    let mut hart = given.hart_state;
-    let mut count = KEPT;
-    let status = if given.in_pieces {
-        ffi::tracebench_feed_over_pieces(
-            given.alloc,
-            &given.pieces,
-            &mut hart.decoder,
-            given.bytes.payload,
-            events,
-            &mut count,
-        )
-    } else {
-        ffi::tracebench_feed(
-            given.alloc,
-            given.numbers.base,
-            given.bytes.image,
-            &mut hart.decoder,
-            given.bytes.payload,
-            events,
-            &mut count,
-        )
-    };
-    Said::of(&COUNT, &[u64::from(status), count, KEPT], hart.record())
 }
 
 fn feed_all(given: &Given<'_>, events: &mut [EventNumbers]) -> Said {
     let mut hart = given.hart_state;
     let mut taken = KEPT;
     let mut count = KEPT;
-    let status = if given.in_pieces {
-        ffi::tracebench_feed_all_over_pieces(
-            given.alloc,
-            &given.pieces,
-            &mut hart.decoder,
-            &given.joined,
-            &given.ends,
-            events,
-            &mut taken,
-            &mut count,
-        )
-    } else {
-        ffi::tracebench_feed_all(
-            given.alloc,
-            given.numbers.base,
-            given.bytes.image,
-            &mut hart.decoder,
-            &given.joined,
-            &given.ends,
-            events,
-            &mut taken,
-            &mut count,
-        )
-    };
+    let status = ffi::tracebench_feed_all(
+        given.alloc,
+        &given.pieces,
+        &mut hart.decoder,
+        &given.joined,
+        &given.ends,
+        events,
+        &mut taken,
+        &mut count,
+    );
     Said::of(&TAKEN, &[u64::from(status), count, taken], hart.record())
 }
 
@@ -204,38 +94,22 @@ fn receive(given: &Given<'_>, events: &mut [EventNumbers]) -> Said {
     let mut hart = given.hart_state;
     let mut count = KEPT;
     let mut missing = KEPT;
-    let status = if given.in_pieces {
-        ffi::tracebench_receive_over_pieces(
-            given.alloc,
-            &given.pieces,
-            &mut hart,
-            given.numbers.number,
-            given.bytes.payload,
-            events,
-            &mut count,
-            &mut missing,
-        )
-    } else {
-        ffi::tracebench_receive(
-            given.alloc,
-            given.numbers.base,
-            given.bytes.image,
-            &mut hart,
-            given.numbers.number,
-            given.bytes.payload,
-            events,
-            &mut count,
-            &mut missing,
-        )
-    };
+    let status = ffi::tracebench_receive(
+        given.alloc,
+        &given.pieces,
+        &mut hart,
+        given.numbers.number,
+        given.bytes.payload,
+        events,
+        &mut count,
+        &mut missing,
+    );
     Said::of(&COUNT, &[u64::from(status), count, missing], hart.record())
 }
 
 /// Makes the call that a verb names, of those that hand out packets.
 fn call_for_packets(verb: &str, given: &Given<'_>, packets: &mut [PacketNumbers]) -> Said {
     match verb {
-        "push" => push(given, packets),
-        "push_checked" => push_checked(given, packets),
         "push_all" => push_all(given, packets),
         "push_each" => push_each(given, packets),
         _ => finish(given, packets),
@@ -245,7 +119,6 @@ fn call_for_packets(verb: &str, given: &Given<'_>, packets: &mut [PacketNumbers]
 /// Makes the call that a verb names, of those that hand out events.
 fn call_for_events(verb: &str, given: &Given<'_>, events: &mut [EventNumbers]) -> Said {
     match verb {
-        "feed" => feed(given, events),
         "feed_all" => feed_all(given, events),
         _ => receive(given, events),
     }

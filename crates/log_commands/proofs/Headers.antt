@@ -53,7 +53,7 @@ pub harts_in_part : (asked : Encode) (logs most : ℕ) → limit_of asked ≡ Ok
     → (1 ≤ all_harts asked.of logs) × (all_harts asked.of logs ≤ most_harts asked.version)
 harts_in_part asked logs most leads one few =
     let part = asked_part asked.version asked.first asked.of in
-    let base = base_number asked.base.now asked.also.items in
+    let base = base_number asked.program in
     let found = most_logs asked.version asked.first asked.of in
     in_part asked.version asked.first asked.of logs most (part_there part base found most leads)
     (limit_there part base found most leads) one few

@@ -52,7 +52,7 @@ same_end one other is =
 
 module _ (content : Content) (asked : Encode) where
   no_logs : (part : Result (Unit {0}) Fault) (base : Option ℕ) (found : Result ℕ Fault) (why : Fault)
-      → asked_part asked.version asked.first asked.of ≡ part → base_number asked.base.now asked.also.items ≡ base
+      → asked_part asked.version asked.first asked.of ≡ part → base_number asked.program ≡ base
       → most_logs asked.version asked.first asked.of ≡ found → limit_at part base found ≡ Err why
       → ArePartLogs content asked (Err why)
   no_logs (Err other) base found why parted based is stops = (Err other, sym parted, same_end other why stops)
@@ -63,7 +63,7 @@ module _ (content : Content) (asked : Encode) where
 
   all_logs : (part : Result (Unit {0}) Fault) (base : Option ℕ) (found : Result ℕ Fault) (most : ℕ)
       (logs : Result (List ProgramLog) Fault)
-      → asked_part asked.version asked.first asked.of ≡ part → base_number asked.base.now asked.also.items ≡ base
+      → asked_part asked.version asked.first asked.of ≡ part → base_number asked.program ≡ base
       → most_logs asked.version asked.first asked.of ≡ found → limit_at part base found ≡ Ok most
       → AreLogsOf content asked most logs → ArePartLogs content asked logs
   all_logs (Err other) base found most logs parted based is leads are = cc
@@ -75,7 +75,7 @@ module _ (content : Content) (asked : Encode) where
     -- Without a limit there are no logs of the part.
     pub logs_lacking : ArePartLogs content asked (Err why)
     logs_lacking =
-        no_logs (asked_part asked.version asked.first asked.of) (base_number asked.base.now asked.also.items)
+        no_logs (asked_part asked.version asked.first asked.of) (base_number asked.program)
         (most_logs asked.version asked.first asked.of) why refl refl refl stops
 
     -- That is found before any file is read, and the run ends at it.
@@ -83,14 +83,14 @@ module _ (content : Content) (asked : Encode) where
     early_stops =
         subst (λ seen. IfSome seen (λ fault. ◌≡◌ {A = Result Status Fault} (Err why) (Err fault)))
         (sym (refused_early (asked_part asked.version asked.first asked.of)
-        (base_number asked.base.now asked.also.items)
-        (most_logs asked.version asked.first asked.of) (length asked.logs.items) why stops)) refl
+        (base_number asked.program) (most_logs asked.version asked.first asked.of) (length asked.logs.items) why
+        stops)) refl
 
   module _ (most : ℕ) (leads : limit_of asked ≡ Ok most) where
     logs_of_part : (logs : Result (List ProgramLog) Fault) → AreLogsOf content asked most logs
         → ArePartLogs content asked logs
     logs_of_part logs are =
-        all_logs (asked_part asked.version asked.first asked.of) (base_number asked.base.now asked.also.items)
+        all_logs (asked_part asked.version asked.first asked.of) (base_number asked.program)
         (most_logs asked.version asked.first asked.of) most logs refl refl refl leads are
 
     -- What is printed of so many logs at most is what is printed of the part.
@@ -103,7 +103,7 @@ module _ (content : Content) (asked : Encode) where
 
     -- The count of logs is looked at before any file is read.
     pub early_leads : encode_fault asked
-        ≡ logs_fault most (base_number asked.base.now asked.also.items) (length asked.logs.items)
+        ≡ logs_fault most (base_number asked.program) (length asked.logs.items)
     early_leads =
-        counted_early (asked_part asked.version asked.first asked.of) (base_number asked.base.now asked.also.items)
+        counted_early (asked_part asked.version asked.first asked.of) (base_number asked.program)
         (most_logs asked.version asked.first asked.of) (length asked.logs.items) most leads

@@ -41,7 +41,7 @@ BenchesLogs asked logs =
 -- is no fault, the logs are sent, and a report is written.
 abbrev pub Benches : Content → Bench → Printed → Type 0
 Benches content asked =
-    First (AreAskedLogs content most_ports asked.base.now asked.also.items asked.image asked.logs.items)
+    First (AreAskedLogs content most_ports asked.program asked.logs.items)
     (BenchesLogs asked)
 
 -- The report of what is received of these logs is written once it is found that they may be sent.
@@ -52,11 +52,11 @@ CanBenchLogs asked logs =
 -- `bench` writes once it has the legal logs, and they may be sent.
 abbrev pub CanBench : Content → Bench → Type 0
 CanBench content asked =
-    Once (AreAskedLogs content most_ports asked.base.now asked.also.items asked.image asked.logs.items)
+    Once (AreAskedLogs content most_ports asked.program asked.logs.items)
     (CanBenchLogs asked)
 
 -- What `bench` means. There may be as many logs as ports of the funnel.
 abbrev pub bench_meaning : Bench → Meaning
 bench_meaning asked = writing_at_once
-    (logs_fault most_ports (base_number asked.base.now asked.also.items) (length asked.logs.items))
+    (logs_fault most_ports (base_number asked.program) (length asked.logs.items))
     (λ content. Benches content asked) (λ content. CanBench content asked)

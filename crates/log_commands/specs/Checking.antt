@@ -89,14 +89,13 @@ WritesLines most content explain program paths printed =
 -- fault, the lines of the logs are written.
 abbrev pub Checks : Content → Check → Printed → Type 0
 Checks content asked =
-    First (IsAskedProgram content (most_harts Two) asked.base.now asked.also.items asked.image asked.logs.items)
-    (λ program.
-    WritesLines (most_of asked.long) content asked.explain program asked.logs.items)
+    First (IsAskedProgram content (most_harts Two) asked.program asked.logs.items)
+    (λ program. WritesLines (most_of asked.long) content asked.explain program asked.logs.items)
 
 -- `check` writes once it has the program.
 abbrev pub CanCheck : Content → Check → Type 0
 CanCheck content asked =
-    Once (IsAskedProgram content (most_harts Two) asked.base.now asked.also.items asked.image asked.logs.items) (λ _. ⊤)
+    Once (IsAskedProgram content (most_harts Two) asked.program asked.logs.items) (λ _. ⊤)
 
 -- All logs at a front part of these paths were read, perhaps at none or at all of them, and their lines were appended.
 pub record AppendsFirstLines (most : ℕ) (content : Content) (explain : Bool) (program : Image) (paths : List Path)
@@ -110,7 +109,7 @@ pub record AppendsFirstLines (most : ℕ) (content : Content) (explain : Bool) (
 -- The program was found, and the lines of the first logs were appended, perhaps of none.
 abbrev pub BeginsLines : Content → Check → Option (List ℕ) → Option (List ℕ) → Type 0
 BeginsLines content asked old new =
-    Once (IsAskedProgram content (most_harts Two) asked.base.now asked.also.items asked.image asked.logs.items)
+    Once (IsAskedProgram content (most_harts Two) asked.program asked.logs.items)
     (λ program. AppendsFirstLines (most_of asked.long) content asked.explain program asked.logs.items old new)
 
 -- The lines of the logs at a front part of these paths are written.
@@ -124,13 +123,13 @@ pub record WritesFirstLines (most : ℕ) (content : Content) (explain : Bool) (p
 -- The program was found, and the lines of the first logs are written.
 abbrev pub ChecksFirst : Content → Check → Printed → Type 0
 ChecksFirst content asked printed =
-    Once (IsAskedProgram content (most_harts Two) asked.base.now asked.also.items asked.image asked.logs.items)
+    Once (IsAskedProgram content (most_harts Two) asked.program asked.logs.items)
     (λ program. WritesFirstLines (most_of asked.long) content asked.explain program asked.logs.items printed)
 
 -- What `check` means. It writes the lines of the logs in turn, once it has read them all or up to one that it cannot.
 abbrev pub check_meaning : Check → Meaning
 check_meaning asked = record {
-  early = logs_fault (most_harts Two) (base_number asked.base.now asked.also.items) (length asked.logs.items);
+  early = logs_fault (most_harts Two) (base_number asked.program) (length asked.logs.items);
   Prints = λ content. Checks content asked;
   CanWrite = λ content. CanCheck content asked;
   Begins = λ content old new. Keeps old new ⊎ BeginsLines content asked old new;

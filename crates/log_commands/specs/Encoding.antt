@@ -36,14 +36,14 @@ IsMostLogs asked found = found ≡ most_logs asked.version asked.first asked.of
 -- The logs that are asked for, at most so many, are found.
 abbrev pub AreLogsOf : Content → Encode → ℕ → Result (List ProgramLog) Fault → Type 0
 AreLogsOf content asked most =
-    AreAskedLogsUpTo (most_of asked.long) content most asked.base.now asked.also.items asked.image asked.logs.items
+    AreAskedLogsUpTo (most_of asked.long) content most asked.program asked.logs.items
 
 -- The logs of the part that is asked for are found. The part is looked at first, then the bases, the first hart, the
 -- count of logs, the image with its further pieces, and each log.
 abbrev pub ArePartLogs : Content → Encode → Result (List ProgramLog) Fault → Type 0
 ArePartLogs content asked =
     After (IsPart asked) (λ part.
-    After (IsBase asked.base.now asked.also.items) (λ base. After (IsMostLogs asked) (AreLogsOf content asked)))
+    After (IsBase asked.program) (λ base. After (IsMostLogs asked) (AreLogsOf content asked)))
 
 -- Where there is no fault, the messages of the logs are written.
 abbrev pub Encodes : Content → Encode → Printed → Type 0
@@ -56,7 +56,7 @@ CanEncode content asked = Once (ArePartLogs content asked) (λ _. ⊤)
 -- The fault that is found before any file is read.
 abbrev pub encode_fault : Encode → Option Fault
 encode_fault asked =
-    part_fault (asked_part asked.version asked.first asked.of) (base_number asked.base.now asked.also.items)
+    part_fault (asked_part asked.version asked.first asked.of) (base_number asked.program)
     (most_logs asked.version asked.first asked.of) (length asked.logs.items)
 
 -- What `encode` means.

@@ -25,20 +25,18 @@ WritesTable asked logs printed =
 abbrev pub Measures : Content → Measure → Printed → Type 0
 Measures content asked =
     First
-    (AreAskedLogsUpTo (most_of asked.long) content (most_harts Two) asked.base.now asked.also.items asked.image
-    asked.logs.items)
+    (AreAskedLogsUpTo (most_of asked.long) content (most_harts Two) asked.program asked.logs.items)
     (WritesTable asked)
 
 -- `measure` writes once it has the legal logs.
 abbrev pub CanMeasure : Content → Measure → Type 0
 CanMeasure content asked =
     Once
-    (AreAskedLogsUpTo (most_of asked.long) content (most_harts Two) asked.base.now asked.also.items asked.image
-    asked.logs.items)
+    (AreAskedLogsUpTo (most_of asked.long) content (most_harts Two) asked.program asked.logs.items)
     (λ _. ⊤)
 
 -- What `measure` means.
 abbrev pub measure_meaning : Measure → Meaning
 measure_meaning asked = writing_at_once
-    (logs_fault (most_harts Two) (base_number asked.base.now asked.also.items) (length asked.logs.items))
+    (logs_fault (most_harts Two) (base_number asked.program) (length asked.logs.items))
     (λ content. Measures content asked) (λ content. CanMeasure content asked)

@@ -1,6 +1,6 @@
 -- What `replay` prints, and how it ends.
 use Rattle.std.specs.Prelude.{◌≡◌, ℕ, ◌+◌, ◌<◌, ◌≤◌, ⊤, false, IsFalse, IsSomeAnd, List, [], ◌∷◌, Option, Some, None}
-use Rattle.std.specs.Prelude.{Result, Ok, Err, length, slice_get}
+use Rattle.std.specs.Prelude.{◌^◌, Result, Ok, Err, if◌then◌else◌, length, nat_lt, slice_get}
 use Rattle.std.specs.Result.{result_map_both}
 use Rattle.legalpath.specs.ProgramLog.{ProgramLog}
 use Rattle.payload.specs.declared.mode.Mode.{Mode}
@@ -15,6 +15,7 @@ use Rattle.bench.specs.Replayed.{replayed}
 use Rattle.bench.specs.Report.{is_whole, report_text}
 use Rattle.bench.specs.declared.stop.Stop.{Stop}
 use Rattle.bench.specs.declared.stop.Stop.TheVariants as stop
+use Rattle.command_inputs.specs.declared.fault.Fault.TheVariants as fault
 use Rattle.command_inputs.specs.declared.words.Replay.{Replay}
 use Rattle.command_inputs.specs.FurtherPieces.{base_number}
 use Rattle.command_inputs.specs.Faults.{Path}
@@ -25,12 +26,24 @@ use Rattle.command_inputs.specs.Meaning.{writing_at_once}
 use Rattle.command_inputs.specs.Order.{logs_fault}
 use Rattle.command_inputs.specs.Printed.{First}
 use Rattle.log_commands.specs.Faults.{Fault, Meaning, Once, Printed, schedule_fault}
+use Rattle.log_commands.specs.declared.reason.LogReason.TheVariants.{LargeSchedule}
 use Rattle.log_commands.specs.Sending.{IsSetting, config_at, end_of_report}
 
--- The turns that a schedule's bytes spell for this many harts, or the fault where they are no schedule.
+-- The most bytes of a schedule.
+abbrev pub most_schedule_bytes : ℕ
+most_schedule_bytes = 2 ^ 27
+
+-- The turns that a schedule's bytes spell for this many harts, or the fault where there are too many bytes or they are
+-- no schedule.
+abbrev pub schedule_in : ℕ → List ℕ → Result (List Turn) Fault
+schedule_in harts bytes =
+    if nat_lt most_schedule_bytes (length bytes) then Err (fault.Own LargeSchedule) else
+    result_map_both (λ turns. turns) schedule_fault (schedule_of harts bytes)
+
+-- The turns of a schedule's bytes, or the fault where they are not read or spell none.
 abbrev pub schedule_at : ℕ → Result (List ℕ) Fault → Result (List Turn) Fault
 schedule_at harts (Err why) = Err why
-schedule_at harts (Ok bytes) = result_map_both (λ turns. turns) schedule_fault (schedule_of harts bytes)
+schedule_at harts (Ok bytes) = schedule_in harts bytes
 
 -- The turns of the schedule at a path are found, for this many harts.
 pub record IsSchedule (content : Content) (harts : ℕ) (path : Path) (found : Result (List Turn) Fault)
@@ -91,7 +104,7 @@ ReplaysLogs content asked logs =
 -- is no fault, the logs are replayed.
 abbrev pub Replays : Content → Replay → Printed → Type 0
 Replays content asked =
-    First (AreAskedLogs content (most_harts Two) asked.base.now asked.also.items asked.image asked.logs.items)
+    First (AreAskedLogs content (most_harts Two) asked.program asked.logs.items)
     (ReplaysLogs content asked)
 
 -- The report of a replay of these logs is written once the turns are found, and the logs may be sent.
@@ -103,11 +116,11 @@ CanReplayLogs content asked logs =
 -- `replay` writes once it has the legal logs and the turns, and the logs may be sent.
 abbrev pub CanReplay : Content → Replay → Type 0
 CanReplay content asked =
-    Once (AreAskedLogs content (most_harts Two) asked.base.now asked.also.items asked.image asked.logs.items)
+    Once (AreAskedLogs content (most_harts Two) asked.program asked.logs.items)
     (CanReplayLogs content asked)
 
 -- What `replay` means. There may be as many logs as harts of a capture of version 2.
 abbrev pub replay_meaning : Replay → Meaning
 replay_meaning asked = writing_at_once
-    (logs_fault (most_harts Two) (base_number asked.base.now asked.also.items) (length asked.logs.items))
+    (logs_fault (most_harts Two) (base_number asked.program) (length asked.logs.items))
     (λ content. Replays content asked) (λ content. CanReplay content asked)

@@ -40,8 +40,7 @@ pub fn bench<'a, F: Files + Sync, O: Write, R: Threads + Wait + Sync>(
 ) -> Result<Status, Fault<'a>>
 where
     F::Reader: Send,
-    ensures early { IfSome (logs_fault most_ports (base_number asked.now.base.now asked.now.also.items)
-        (length asked.now.logs.items))
+    ensures early { IfSome (logs_fault most_ports (base_number asked.now.program) (length asked.now.logs.items))
         (λ fault. result ≡ Err fault) }
     ensures refused { final_status result ≡ Status.Refused → out.new ≡ out.old }
     ensures untouched { result ≡ Err Fault.Memory → out.new ≡ out.old }
@@ -52,9 +51,7 @@ where
 {
     let logs = AskedLogs {
         most: MOST_PORTS,
-        base: asked.base,
-        also: &asked.also,
-        image: asked.image,
+        program: &asked.program,
         paths: &asked.logs,
         progress: asked.progress,
     };

@@ -43,8 +43,7 @@ pub fn check<'a, F: Files + Sync, O: Write, R: Threads + Sync>(
 ) -> Result<Status, Fault<'a>>
 where
     F::Reader: Send,
-    ensures early { IfSome (logs_fault (most_harts Two) (base_number asked.now.base.now asked.now.also.items)
-        (length asked.now.logs.items))
+    ensures early { IfSome (logs_fault (most_harts Two) (base_number asked.now.program) (length asked.now.logs.items))
         (λ fault. result ≡ Err fault) }
     ensures printed { PrintsUnlessDenied (Checks (F.content files.old) asked.now)
         (CanCheck (F.content files.old) asked.now) result
@@ -53,16 +52,7 @@ where
         ⊎ BeginsLines (F.content files.old) asked.now (O.contents out.old) (O.contents out.new) }
     ensures cut { IsCutOf (ChecksFirst (F.content files.old) asked.now) (O.contents out.old) (O.contents out.new) }
 {
-    let paths = asked.logs.as_slice();
-    let program = asked_program(
-        alloc,
-        files,
-        MOST_HARTS,
-        asked.base,
-        &asked.also,
-        asked.image,
-        paths,
-    )?;
+    let program = asked_program(alloc, files, MOST_HARTS, &asked.program, &asked.logs)?;
     let ended = check_all(alloc, rt, files, &program, asked, out);
     out.flush()?;
     ended

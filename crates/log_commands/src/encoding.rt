@@ -88,8 +88,7 @@ where
     F::Reader: Send,
     requires period { 1 ≤ asked.now.period }
     requires most { limit_of asked.now ≡ Ok most }
-    ensures early { IfSome (logs_fault most (base_number asked.now.base.now asked.now.also.items)
-        (length asked.now.logs.items))
+    ensures early { IfSome (logs_fault most (base_number asked.now.program) (length asked.now.logs.items))
         (λ fault. result ≡ Err fault) }
     ensures refused { final_status result ≡ Status.Refused → out.new ≡ out.old }
     ensures untouched { result ≡ Err Fault.Memory → out.new ≡ out.old }
@@ -99,16 +98,8 @@ where
     ensures cut { IsCutOf (EncodesUpTo (F.content files.old) asked.now most)
         (O.contents out.old) (O.contents out.new) }
 {
+    let program = asked_program(alloc, files, most, &asked.program, &asked.logs)?;
     let paths = asked.logs.as_slice();
-    let program = asked_program(
-        alloc,
-        files,
-        most,
-        asked.base,
-        &asked.also,
-        asked.image,
-        paths,
-    )?;
     let messages = messages_of_logs(alloc, rt, &*files, &program, asked, paths)?;
     write_messages(asked, messages.as_slice(), out)
 }

@@ -12,7 +12,7 @@ ghost use Rattle.log_commands.specs.Faults.{Once, Printed, final_status};
 ghost use Rattle.command_inputs.specs.declared.fault.Fault.TheVariants as Fault;
 
 use crate::reason::Fault;
-use command_inputs::{Files, Status, asked_program, legal_logs_of};
+use command_inputs::{Files, ProgramArgs, Status, asked_program, legal_logs_of};
 use legalpath::LegalLog;
 use retire::Event;
 use side_by_side::drop_side_by_side;
@@ -25,12 +25,8 @@ use std::thread::Threads;
 pub(crate) struct AskedLogs<'a, 'b> {
     /// The most logs that there may be.
     pub(crate) most: u16,
-    /// The address of the image's first byte, not yet read as a number.
-    pub(crate) base: &'a str,
-    /// The further pieces of the image, each as `B2=FILE`.
-    pub(crate) also: &'b Vec<&'a str>,
-    /// The path of the image.
-    pub(crate) image: &'a str,
+    /// The program that the logs are of.
+    pub(crate) program: &'b ProgramArgs<'a>,
     /// The paths of the logs.
     pub(crate) paths: &'b Vec<&'a str>,
     /// Whether it is shown how far the logs are read.
@@ -75,36 +71,21 @@ pub(crate) fn over_legal_logs<'a, F: Files + Sync, O: Write, T: OnLogs<'a>, R: T
 where
     F::Reader: Send,
     requires { (count : ℕ) → 1 ≤ count → count ≤ asked.now.most → T.Takes task.now count }
-    ensures early { IfSome (logs_fault asked.now.most (base_number asked.now.base.now asked.now.also.now.items)
-        (length asked.now.paths.now.items))
-        (λ fault. result ≡ Err fault) }
+    ensures early { IfSome (logs_fault asked.now.most (base_number asked.now.program.now)
+        (length asked.now.paths.now.items)) (λ fault. result ≡ Err fault) }
     ensures refused { final_status result ≡ Status.Refused → out.new ≡ out.old }
     ensures untouched { result ≡ Err Fault.Memory → out.new ≡ out.old }
     ensures printed { PrintsUnlessDenied
-        (First (AreAskedLogs (F.content files.old) asked.now.most asked.now.base.now asked.now.also.now.items
-        asked.now.image
-        asked.now.paths.now.items)
+        (First (AreAskedLogs (F.content files.old) asked.now.most asked.now.program.now asked.now.paths.now.items)
         (T.Prints task.now (F.content files.old)))
-        (Once (AreAskedLogs (F.content files.old) asked.now.most asked.now.base.now asked.now.also.now.items
-        asked.now.image
-        asked.now.paths.now.items)
+        (Once (AreAskedLogs (F.content files.old) asked.now.most asked.now.program.now asked.now.paths.now.items)
         (T.CanWrite task.now (F.content files.old))) result (O.contents out.old) (O.contents out.new) }
     ensures cut { IsCutOf
-        (First (AreAskedLogs (F.content files.old) asked.now.most asked.now.base.now asked.now.also.now.items
-        asked.now.image
-        asked.now.paths.now.items)
+        (First (AreAskedLogs (F.content files.old) asked.now.most asked.now.program.now asked.now.paths.now.items)
         (T.Prints task.now (F.content files.old))) (O.contents out.old) (O.contents out.new) }
 {
+    let program = asked_program(alloc, files, asked.most, asked.program, asked.paths)?;
     let paths = asked.paths.as_slice();
-    let program = asked_program(
-        alloc,
-        files,
-        asked.most,
-        asked.base,
-        asked.also,
-        asked.image,
-        paths,
-    )?;
     let logs = legal_logs_of(alloc, rt, files, &program, paths, asked.progress)?;
     let ended = task.go_on(alloc, files, logs.as_slice(), out);
     let bytes = bytes_of(logs.as_slice());

@@ -52,8 +52,7 @@ pub fn measure<'a, F: Files + Sync, O: Write, R: Threads + Sync>(
 where
     F::Reader: Send,
     requires { 1 ≤ asked.now.period }
-    ensures early { IfSome (logs_fault (most_harts Two) (base_number asked.now.base.now asked.now.also.items)
-        (length asked.now.logs.items))
+    ensures early { IfSome (logs_fault (most_harts Two) (base_number asked.now.program) (length asked.now.logs.items))
         (λ fault. result ≡ Err fault) }
     ensures refused { final_status result ≡ Status.Refused → out.new ≡ out.old }
     ensures untouched { result ≡ Err Fault.Memory → out.new ≡ out.old }
@@ -62,16 +61,8 @@ where
         (O.contents out.old) (O.contents out.new) }
     ensures cut { IsCutOf (Measures (F.content files.old) asked.now) (O.contents out.old) (O.contents out.new) }
 {
+    let program = asked_program(alloc, files, MOST_HARTS, &asked.program, &asked.logs)?;
     let paths = asked.logs.as_slice();
-    let program = asked_program(
-        alloc,
-        files,
-        MOST_HARTS,
-        asked.base,
-        &asked.also,
-        asked.image,
-        paths,
-    )?;
     let measures = measures_of_logs(alloc, rt, &*files, &program, asked, paths)?;
     write_table(measures.as_slice(), out)
 }

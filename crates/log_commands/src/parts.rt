@@ -13,7 +13,7 @@ pub(crate) fn limit_of<'a>(asked: &Encode<'a>) -> Result<u16, Fault<'a>>
     ensures { result ≡ limit_of asked.now }
 {
     check_part(asked)?;
-    base_of(asked.base, &asked.also)?;
+    base_of(&asked.program)?;
     most_logs(asked)
 }
 

@@ -17,6 +17,8 @@ pub type Fault<'a> = command_inputs::Fault<'a, LogReason>;
 pub enum LogReason {
     /// The text of the schedule is no schedule.
     Schedule(ScheduleFault),
+    /// The schedule has more than 134,217,728 bytes.
+    LargeSchedule,
     /// Nothing is sent through the funnel. A command line that `cli` reads leads to no such fault.
     Unsent(Setup),
     /// A first hart is given, and no count of all harts.
@@ -33,6 +35,7 @@ impl fmt::Display for LogReason {
     fn fmt<W: fmt::Write>(&self, f: &mut fmt::Formatter<W>) -> fmt::Result {
         match self {
             LogReason::Schedule(why) => write!(f, "schedule: {why}"),
+            LogReason::LargeSchedule => f.write_str("schedule: larger than 134217728 bytes"),
             LogReason::Unsent(why) => write!(f, "{why}"),
             LogReason::FirstAlone => f.write_str("--first needs --of"),
             LogReason::ManyHarts(most) => write!(f, "more than {most} harts"),

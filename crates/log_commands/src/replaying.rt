@@ -15,16 +15,19 @@ ghost use Rattle.log_commands.specs.Sending.{IsSetting, config_at};
 ghost use Rattle.command_inputs.specs.declared.fault.Fault.TheVariants as Fault;
 
 use crate::legal_logs::{AskedLogs, OnLogs, over_legal_logs};
-use crate::reason::{Fault, of_schedule, of_setup};
+use crate::reason::{Fault, LogReason, of_schedule, of_setup};
 use crate::reporting::end_with_report;
 use bench::{Config, Outcome};
-use command_inputs::{Files, Replay, Status, content_of};
+use command_inputs::{Files, Replay, Status, start_of};
 use funnel::{Turn, read_schedule};
 use legalpath::LegalLog;
 use message::MOST_HARTS;
 use std::alloc::Global;
 use std::io::Write;
 use std::thread::Threads;
+
+/// The most bytes of a schedule.
+const LARGEST_SCHEDULE: usize = 134_217_728;
 
 /// Sends each hart's log through the funnel as the schedule says, once all logs are found legal, and writes the report
 /// of what is received of them. All is done where each log comes back complete. A stop is printed in the report, and the status
@@ -38,8 +41,7 @@ pub fn replay<'a, F: Files + Sync, O: Write, R: Threads + Sync>(
 ) -> Result<Status, Fault<'a>>
 where
     F::Reader: Send,
-    ensures early { IfSome (logs_fault (most_harts Two) (base_number asked.now.base.now asked.now.also.items)
-        (length asked.now.logs.items))
+    ensures early { IfSome (logs_fault (most_harts Two) (base_number asked.now.program) (length asked.now.logs.items))
         (λ fault. result ≡ Err fault) }
     ensures refused { final_status result ≡ Status.Refused → out.new ≡ out.old }
     ensures untouched { result ≡ Err Fault.Memory → out.new ≡ out.old }
@@ -50,9 +52,7 @@ where
 {
     let logs = AskedLogs {
         most: MOST_HARTS,
-        base: asked.base,
-        also: &asked.also,
-        image: asked.image,
+        program: &asked.program,
         paths: &asked.logs,
         progress: asked.progress,
     };
@@ -98,7 +98,7 @@ fn replay_logs<'a, F: Files, O: Write>(
     end_with_report(&outcome, logs, out)
 }
 
-/// The turns of the schedule at a path, for this many harts.
+/// The turns of the schedule at a path, for this many harts. At most one byte past the limit is read.
 fn turns_of<'a, F: Files>(
     alloc: Global,
     files: &mut F,
@@ -109,7 +109,10 @@ fn turns_of<'a, F: Files>(
     ensures fault { IfErr result
         (λ why. (why ≡ Fault.Memory) ⊎ IsSchedule (F.content files.old) harts path.entry (Err why)) }
 {
-    let bytes = content_of(files, path)?;
+    let bytes = start_of(files, path, Some(LARGEST_SCHEDULE + 1))?;
+    if bytes.len() > LARGEST_SCHEDULE {
+        return Err(Fault::Own(LogReason::LargeSchedule));
+    }
     match read_schedule(alloc, harts, bytes.as_slice()) {
         Ok(turns) => Ok(turns),
         Err(why) => Err(of_schedule(why)),

@@ -1,5 +1,6 @@
 -- What `capture` prints, and how it ends.
-use Rattle.std.specs.Prelude.{⊤, ◌≡◌, ℕ, nat_lt, if◌then◌else◌, Bool, false, List, Option, Some, None, Result, Ok, Err}
+use Rattle.std.specs.Prelude.{⊤, ◌≡◌, ℕ, ◌^◌, nat_lt, if◌then◌else◌, Bool, false, List, Option, Some, None, Result}
+use Rattle.std.specs.Prelude.{Ok, Err}
 use Rattle.capture_lines.specs.Capture.{capture_of_text}
 use Rattle.capture_lines.specs.declared.fault.LinesFault.{LinesFault}
 use Rattle.capture_lines.specs.declared.settings.Settings.{Settings}
@@ -20,10 +21,21 @@ abbrev pub are_many : ℕ → Option ℕ → Bool
 are_many most None = false
 are_many most (Some harts) = nat_lt most harts
 
+-- How many numbers there are of so many bits, where these are given.
+abbrev pub numbers_of : Option ℕ → Option ℕ
+numbers_of None = None
+numbers_of (Some bits) = Some (2 ^ bits)
+
 -- What the capture is to be beside its messages.
 abbrev pub asked_settings : Capture → Settings
 asked_settings asked =
-    record { version = asked.version; mode = asked.mode; period = asked.period; harts = asked.harts }
+    record {
+      version = asked.version;
+      mode = asked.mode;
+      period = asked.period;
+      harts = asked.harts;
+      numbers = numbers_of asked.number_bits;
+    }
 
 -- The fault of more harts than a capture of the version has.
 abbrev pub many_harts : Capture → Fault

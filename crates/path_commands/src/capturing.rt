@@ -4,8 +4,9 @@ ghost use Rattle.std.specs.Prelude.{⊤, ◌≡◌, ◌≢◌, ◌≤◌, Err, I
 ghost use Rattle.command_inputs.specs.Begun.{IsCutOf};
 ghost use Rattle.command_inputs.specs.Printed.{PrintsUnlessDenied};
 ghost use Rattle.command_inputs.specs.declared.fault.Fault.TheVariants as Fault;
-ghost use Rattle.command_inputs.specs.Limits.{IsCountIfGiven};
-ghost use Rattle.path_commands.specs.Capturing.{CanCapture, Captures, WritesCapture, harts_fault, settings_at};
+ghost use Rattle.command_inputs.specs.Limits.{AreBitsIfGiven, IsCountIfGiven};
+ghost use Rattle.path_commands.specs.Capturing.{CanCapture, Captures, WritesCapture, harts_fault, numbers_of};
+ghost use Rattle.path_commands.specs.Capturing.{settings_at};
 ghost use Rattle.path_commands.specs.LineFaults.{final_status};
 ghost use Rattle.path_commands.specs.steps.Ready.{IsReady};
 
@@ -26,6 +27,7 @@ pub fn capture<'a, F: Files, O: Write>(
 ) -> Result<Status, Fault<'a>>
     requires period { 1 ≤ asked.now.period }
     requires harts { IsCountIfGiven asked.now.harts }
+    requires bits { AreBitsIfGiven asked.now.number_bits }
     ensures early { IfSome (harts_fault asked.now) (λ fault. result ≡ Err fault) }
     ensures refused { final_status result ≡ Status.Refused → out.new ≡ out.old }
     ensures untouched { result ≡ Err Fault.Memory → out.new ≡ out.old }
@@ -43,6 +45,7 @@ pub fn capture<'a, F: Files, O: Write>(
 fn settings_of<'a>(asked: &Capture<'a>) -> Result<Settings, Fault<'a>>
     requires period { 1 ≤ asked.now.period }
     requires harts { IsCountIfGiven asked.now.harts }
+    requires bits { AreBitsIfGiven asked.now.number_bits }
     ensures value { result ≡ settings_at asked.now }
     ensures ready { IfOk result IsReady }
 {
@@ -54,7 +57,20 @@ fn settings_of<'a>(asked: &Capture<'a>) -> Result<Settings, Fault<'a>>
             mode: asked.mode,
             period: asked.period,
             harts: asked.harts,
+            numbers: numbers_of(asked.number_bits),
         }),
+    }
+}
+
+/// How many numbers there are of so many bits, where these are given.
+fn numbers_of(bits: Option<u16>) -> Option<u64>
+    requires { AreBitsIfGiven bits }
+    ensures value { result ≡ numbers_of bits }
+    ensures some { IfSome result (λ numbers. 2 ≤ numbers) }
+{
+    match bits {
+        Some(bits) => Some(1 << bits),
+        None => None,
     }
 }
 

@@ -8,7 +8,8 @@ use payload::Mode;
 use std::alloc::AllocError;
 use std::io::Write;
 
-/// The settings: `version=1`, `mode=diff`, `period=1024` and no count of harts, unless the arguments say otherwise.
+/// The settings: `version=1`, `mode=diff`, `period=1024`, no count of harts and none of numbers, unless the arguments
+/// say otherwise.
 fn settings(case: &mut Case<'_>) -> Settings {
     let version = match case.named("version") {
         "2" => Version::Two,
@@ -22,11 +23,16 @@ fn settings(case: &mut Case<'_>) -> Settings {
         0 => None,
         harts => Some(harts),
     };
+    let numbers = match case.number("numbers", 0) {
+        0 => None,
+        numbers => Some(numbers),
+    };
     Settings {
         version,
         mode,
         period: case.small("period", 1024),
         harts,
+        numbers,
     }
 }
 
@@ -38,7 +44,8 @@ fn write_lines<W: Write>(
     sink: &mut W,
 ) -> Option<LinesFault> {
     let harts = settings.harts.unwrap_or(1);
-    if settings.period == 0 || harts == 0 || harts > settings.version.most_harts() {
+    let numbers = settings.numbers.unwrap_or(2);
+    if settings.period == 0 || harts == 0 || harts > settings.version.most_harts() || numbers < 2 {
         case.unread();
         return None;
     }
@@ -67,7 +74,8 @@ pub(crate) fn line_fault(case: &mut Case<'_>) {
         "fields" => LineFault::Fields,
         "hart-1" => LineFault::Hart(Version::One),
         "hart-2" => LineFault::Hart(Version::Two),
-        "number" => LineFault::Number,
+        "number" => LineFault::Number(None),
+        "number-256" => LineFault::Number(Some(256)),
         "bytes" => LineFault::Bytes,
         "above" => LineFault::Above,
         _ => return case.unread(),
@@ -107,7 +115,7 @@ fn add_capture(bytes: &mut Vec<u8>, lines: u64) -> Result<(), AllocError> {
 pub(crate) fn long_lines(case: &mut Case<'_>) {
     let settings = settings(case);
     let lines = case.number("lines", 0);
-    let is_numbered = case.named("numbers") == "yes";
+    let is_numbered = case.named("numbered") == "yes";
     let mut text = case.again();
     let added = add_lines(&mut text.came, lines, is_numbered);
     case.note(added);

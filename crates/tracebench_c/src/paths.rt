@@ -1,30 +1,12 @@
 //! What a path did to a capture.
 
-ghost use Rattle.ffi.specs.Audited.{ReportsAudit};
 ghost use Rattle.ffi.specs.AuditedAll.{ReportsAuditAll, compared_by};
 ghost use Rattle.ffi.specs.AuditedUnnumbered.{ReportsUnnumbered};
 
 use ffi::{
-    AlignedEnd, AlignedRow, Arrival, AuditEnd, ByteRun, HartRowNumbers, HartTally, LostRun,
-    PathEnd, SentPlace, Single,
+    AlignedEnd, AlignedRow, Arrival, ByteRun, HartRowNumbers, LostRun, PathEnd, SentPlace, Single,
 };
 use std::alloc::Global;
-
-/// Audits RECEIVED against SENT, captures in either version, and says what became of the messages of one hart of SENT.
-/// See [`ffi::tracebench_audit`].
-#[unsafe(no_mangle)]
-pub extern "C" fn tracebench_audit(
-    alloc: Global,
-    sent: &[u8],
-    received: &[u8],
-    hart: u16,
-    tally: &mut HartTally,
-    ended: &mut AuditEnd,
-) -> u32
-    ensures { ReportsAudit sent.now received.now hart result tally.old tally.new ended.old ended.new }
-{
-    ffi::tracebench_audit(alloc, sent, received, hart, tally, ended)
-}
 
 /// Audits RECEIVED against SENT, captures in either version, and reports what became of the messages of all harts of
 /// SENT: what `tracebench audit` reports. See [`ffi::tracebench_audit_all`].

@@ -4,7 +4,7 @@ ghost use Rattle.std.specs.Prelude.{◌≡◌, ◌≢◌};
 ghost use Rattle.ffi.specs.Compared.{ReportsCompare};
 ghost use Rattle.ffi.specs.Dumped.{IsDumpHandedOut};
 ghost use Rattle.ffi.specs.Explained.{ReportsExplain};
-ghost use Rattle.ffi.specs.Images.{OfPieces, judged_image};
+ghost use Rattle.ffi.specs.Images.{OfPieces};
 ghost use Rattle.ffi.specs.Listed.{ReportsList};
 ghost use Rattle.ffi.specs.Measured.{ReportsMeasure};
 ghost use Rattle.ffi.specs.Salvaged.{ReportsSalvage};
@@ -36,28 +36,6 @@ pub extern "C" fn tracebench_dump(
 #[unsafe(no_mangle)]
 pub extern "C" fn tracebench_list(
     alloc: Global,
-    base: u64,
-    image: &[u8],
-    harts: u16,
-    capture: &[u8],
-    symbols: &[u8],
-    format: u32,
-    buffer: &mut [u8],
-    wanted: &mut u64,
-    ended: &mut TextEnd,
-) -> u32
-    ensures { ReportsList (judged_image base image.now) harts capture.now symbols.now format result wanted.old
-        wanted.new ended.old ended.new buffer.old buffer.new }
-{
-    ffi::tracebench_list(
-        alloc, base, image, harts, capture, symbols, format, buffer, wanted, ended,
-    )
-}
-
-/// Writes the listing of a capture as [`tracebench_list`] does, over pieces. See [`ffi::tracebench_list_over_pieces`].
-#[unsafe(no_mangle)]
-pub extern "C" fn tracebench_list_over_pieces(
-    alloc: Global,
     pieces: &[ImagePiece<'_>],
     harts: u16,
     capture: &[u8],
@@ -70,7 +48,7 @@ pub extern "C" fn tracebench_list_over_pieces(
     ensures { OfPieces pieces.now (λ image. ReportsList image harts capture.now symbols.now format result wanted.old
         wanted.new ended.old ended.new buffer.old buffer.new) }
 {
-    ffi::tracebench_list_over_pieces(
+    ffi::tracebench_list(
         alloc, pieces, harts, capture, symbols, format, buffer, wanted, ended,
     )
 }
@@ -80,29 +58,6 @@ pub extern "C" fn tracebench_list_over_pieces(
 /// run of bytes between. See [`ffi::tracebench_list_salvaged`].
 #[unsafe(no_mangle)]
 pub extern "C" fn tracebench_list_salvaged(
-    alloc: Global,
-    base: u64,
-    image: &[u8],
-    harts: u16,
-    capture: &[u8],
-    symbols: &[u8],
-    format: u32,
-    buffer: &mut [u8],
-    wanted: &mut u64,
-    ended: &mut TextEnd,
-) -> u32
-    ensures { ReportsTreated (judged_image base image.now) harts capture.now symbols.now format result wanted.old
-        wanted.new ended.old ended.new buffer.old buffer.new }
-{
-    ffi::tracebench_list_salvaged(
-        alloc, base, image, harts, capture, symbols, format, buffer, wanted, ended,
-    )
-}
-
-/// Writes what salvaging does with each message of a capture as [`tracebench_list_salvaged`] does, over pieces. See
-/// [`ffi::tracebench_list_salvaged_over_pieces`].
-#[unsafe(no_mangle)]
-pub extern "C" fn tracebench_list_salvaged_over_pieces(
     alloc: Global,
     pieces: &[ImagePiece<'_>],
     harts: u16,
@@ -116,7 +71,7 @@ pub extern "C" fn tracebench_list_salvaged_over_pieces(
     ensures { OfPieces pieces.now (λ image. ReportsTreated image harts capture.now symbols.now format result wanted.old
         wanted.new ended.old ended.new buffer.old buffer.new) }
 {
-    ffi::tracebench_list_salvaged_over_pieces(
+    ffi::tracebench_list_salvaged(
         alloc, pieces, harts, capture, symbols, format, buffer, wanted, ended,
     )
 }
@@ -125,28 +80,6 @@ pub extern "C" fn tracebench_list_salvaged_over_pieces(
 /// prints it. See [`ffi::tracebench_salvage`].
 #[unsafe(no_mangle)]
 pub extern "C" fn tracebench_salvage(
-    alloc: Global,
-    base: u64,
-    image: &[u8],
-    harts: u16,
-    capture: &[u8],
-    format: u32,
-    buffer: &mut [u8],
-    wanted: &mut u64,
-    ended: &mut TextEnd,
-) -> u32
-    ensures { ReportsSalvage (judged_image base image.now) harts capture.now format result wanted.old wanted.new
-        ended.old ended.new buffer.old buffer.new }
-{
-    ffi::tracebench_salvage(
-        alloc, base, image, harts, capture, format, buffer, wanted, ended,
-    )
-}
-
-/// Writes what is left of the logs of a capture as [`tracebench_salvage`] does, over pieces. See
-/// [`ffi::tracebench_salvage_over_pieces`].
-#[unsafe(no_mangle)]
-pub extern "C" fn tracebench_salvage_over_pieces(
     alloc: Global,
     pieces: &[ImagePiece<'_>],
     harts: u16,
@@ -159,38 +92,13 @@ pub extern "C" fn tracebench_salvage_over_pieces(
     ensures { OfPieces pieces.now (λ image. ReportsSalvage image harts capture.now format result wanted.old wanted.new
         ended.old ended.new buffer.old buffer.new) }
 {
-    ffi::tracebench_salvage_over_pieces(
-        alloc, pieces, harts, capture, format, buffer, wanted, ended,
-    )
+    ffi::tracebench_salvage(alloc, pieces, harts, capture, format, buffer, wanted, ended)
 }
 
 /// Writes the table of what each hart's log costs to a buffer, hart 0 first, as `tracebench measure` prints it. See
 /// [`ffi::tracebench_measure`].
 #[unsafe(no_mangle)]
 pub extern "C" fn tracebench_measure(
-    alloc: Global,
-    base: u64,
-    image: &[u8],
-    logs: &[u8],
-    ends: &[u64],
-    period: u16,
-    mode: u32,
-    buffer: &mut [u8],
-    wanted: &mut u64,
-    place: &mut LogPlace,
-) -> u32
-    ensures { ReportsMeasure (judged_image base image.now) logs.now ends.now period mode result wanted.old wanted.new
-        place.old place.new buffer.old buffer.new }
-{
-    ffi::tracebench_measure(
-        alloc, base, image, logs, ends, period, mode, buffer, wanted, place,
-    )
-}
-
-/// Writes the table of what logs cost as [`tracebench_measure`] does, over pieces. See
-/// [`ffi::tracebench_measure_over_pieces`].
-#[unsafe(no_mangle)]
-pub extern "C" fn tracebench_measure_over_pieces(
     alloc: Global,
     pieces: &[ImagePiece<'_>],
     logs: &[u8],
@@ -204,7 +112,7 @@ pub extern "C" fn tracebench_measure_over_pieces(
     ensures { OfPieces pieces.now (λ image. ReportsMeasure image logs.now ends.now period mode result wanted.old
         wanted.new place.old place.new buffer.old buffer.new) }
 {
-    ffi::tracebench_measure_over_pieces(
+    ffi::tracebench_measure(
         alloc, pieces, logs, ends, period, mode, buffer, wanted, place,
     )
 }
@@ -213,30 +121,6 @@ pub extern "C" fn tracebench_measure_over_pieces(
 /// it. See [`ffi::tracebench_compare`].
 #[unsafe(no_mangle)]
 pub extern "C" fn tracebench_compare(
-    alloc: Global,
-    base: u64,
-    image: &[u8],
-    harts: u16,
-    capture: &[u8],
-    logs: &[u8],
-    ends: &[u64],
-    buffer: &mut [u8],
-    wanted: &mut u64,
-    ended: &mut TextEnd,
-    place: &mut LogPlace,
-) -> u32
-    ensures { ReportsCompare (judged_image base image.now) harts capture.now logs.now ends.now result wanted.old
-        wanted.new ended.old ended.new place.old place.new buffer.old buffer.new }
-{
-    ffi::tracebench_compare(
-        alloc, base, image, harts, capture, logs, ends, buffer, wanted, ended, place,
-    )
-}
-
-/// Compares a capture with logs as [`tracebench_compare`] does, over pieces. See
-/// [`ffi::tracebench_compare_over_pieces`].
-#[unsafe(no_mangle)]
-pub extern "C" fn tracebench_compare_over_pieces(
     alloc: Global,
     pieces: &[ImagePiece<'_>],
     harts: u16,
@@ -251,7 +135,7 @@ pub extern "C" fn tracebench_compare_over_pieces(
     ensures { OfPieces pieces.now (λ image. ReportsCompare image harts capture.now logs.now ends.now result wanted.old
         wanted.new ended.old ended.new place.old place.new buffer.old buffer.new) }
 {
-    ffi::tracebench_compare_over_pieces(
+    ffi::tracebench_compare(
         alloc, pieces, harts, capture, logs, ends, buffer, wanted, ended, place,
     )
 }
@@ -260,23 +144,6 @@ pub extern "C" fn tracebench_compare_over_pieces(
 /// them below the line of the log. See [`ffi::tracebench_explain`].
 #[unsafe(no_mangle)]
 pub extern "C" fn tracebench_explain(
-    alloc: Global,
-    base: u64,
-    image: &[u8],
-    log: &[u8],
-    buffer: &mut [u8],
-    wanted: &mut u64,
-    ended: &mut ExplainEnd,
-) -> u32
-    ensures { ReportsExplain (judged_image base image.now) log.now result wanted.old wanted.new ended.new buffer.old
-        buffer.new }
-{
-    ffi::tracebench_explain(alloc, base, image, log, buffer, wanted, ended)
-}
-
-/// Explains a log as [`tracebench_explain`] does, over pieces. See [`ffi::tracebench_explain_over_pieces`].
-#[unsafe(no_mangle)]
-pub extern "C" fn tracebench_explain_over_pieces(
     alloc: Global,
     pieces: &[ImagePiece<'_>],
     log: &[u8],
@@ -287,5 +154,5 @@ pub extern "C" fn tracebench_explain_over_pieces(
     ensures { OfPieces pieces.now (λ image. ReportsExplain image log.now result wanted.old wanted.new ended.new
         buffer.old buffer.new) }
 {
-    ffi::tracebench_explain_over_pieces(alloc, pieces, log, buffer, wanted, ended)
+    ffi::tracebench_explain(alloc, pieces, log, buffer, wanted, ended)
 }

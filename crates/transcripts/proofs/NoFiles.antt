@@ -5,6 +5,7 @@ use Rattle.command_inputs.specs.declared.words.Asked.{Asked}
 use Rattle.command_inputs.specs.declared.words.Asked.TheVariants.{Audit, Bench, Check, Decode, Dump, Encode, Listing}
 use Rattle.command_inputs.specs.declared.words.Asked.TheVariants as asked_for
 use Rattle.command_inputs.specs.declared.words.Encode.{Encode as AskedEncode}
+use Rattle.command_inputs.specs.declared.words.ProgramArgs.{ProgramArgs}
 use Rattle.command_inputs.specs.declared.words.Asked.TheVariants.{Measure, Replay, Salvage}
 use Rattle.log_commands.specs.Benching.{BenchesLogs}
 use Rattle.commands.specs.CarriedOut.{IsCarriedOut}
@@ -80,34 +81,33 @@ no_piece : {W : Type 0} (base : ℕ) (path : FilePath) → NeverFound (IsImageAt
 no_piece base path program found = no_image base path found.bytes found.read program found.made
 
 -- No program is found.
-no_program : {W : Type 0} (base : ℕ) (path : FilePath) (also : List FilePath)
-    → NeverFound (IsProgramAt {W = W} none base path also)
-no_program base path also =
-    not_after (IsImageAt none base path) (λ image. IsWithPieces none image also) (λ image is program added.
-    no_piece base path image is)
+no_program : {W : Type 0} (base : ℕ) (asked : ProgramArgs) → NeverFound (IsProgramAt {W = W} none base asked)
+no_program base asked =
+    not_after (IsImageAt none base asked.image) (λ image. IsWithPieces none image asked.also.items)
+    (λ image is program added. no_piece base asked.image image is)
 
 -- No program is found that is asked for with logs.
-no_asked : {W : Type 0} (most : ℕ) (text : List ℕ) (also : List FilePath) (image : FilePath) (paths : List FilePath)
-    → NeverFound (IsAskedProgram {W = W} none most text also image paths)
-no_asked most text also image paths =
-    not_after (IsBase text also) (λ base. After (AreFew most paths) (λ _. IsProgramAt none base image also)) (λ base is.
-    not_after (AreFew most paths) (λ _. IsProgramAt none base image also) (λ few counted. no_program base image also))
+no_asked : {W : Type 0} (most : ℕ) (asked : ProgramArgs) (paths : List FilePath)
+    → NeverFound (IsAskedProgram {W = W} none most asked paths)
+no_asked most asked paths =
+    not_after (IsBase asked) (λ base. After (AreFew most paths) (λ _. IsProgramAt none base asked)) (λ base is.
+    not_after (AreFew most paths) (λ _. IsProgramAt none base asked) (λ few counted. no_program base asked))
 
 -- No logs are found.
-no_logs : {W : Type 0} (rows most : ℕ) (text : List ℕ) (also : List FilePath) (image : FilePath) (paths : List FilePath)
-    → NeverFound (AreAskedLogsUpTo {W = W} rows none most text also image paths)
-no_logs rows most text also image paths =
-    not_after (IsAskedProgram none most text also image paths) (λ program. AreLegalLogsUpTo rows none program paths)
-    (λ program is logs legal. no_asked most text also image paths program is)
+no_logs : {W : Type 0} (rows most : ℕ) (asked : ProgramArgs) (paths : List FilePath)
+    → NeverFound (AreAskedLogsUpTo {W = W} rows none most asked paths)
+no_logs rows most asked paths =
+    not_after (IsAskedProgram none most asked paths) (λ program. AreLegalLogsUpTo rows none program paths)
+    (λ program is logs legal. no_asked most asked paths program is)
 
 -- No logs of a part are found.
 no_part : (asked : AskedEncode) → NeverFound (ArePartLogs none asked)
 no_part asked =
     let after_base = λ (base : ℕ). After (IsMostLogs asked) (AreLogsOf none asked) in
-    not_after (IsPart asked) (λ part. After (IsBase asked.base.now asked.also.items) after_base) (λ part is.
-    not_after (IsBase asked.base.now asked.also.items) after_base (λ base based.
+    not_after (IsPart asked) (λ part. After (IsBase asked.program) after_base) (λ part is.
+    not_after (IsBase asked.program) after_base (λ base based.
     not_after (IsMostLogs asked) (AreLogsOf none asked) (λ most found.
-    no_logs (most_of asked.long) most asked.base.now asked.also.items asked.image asked.logs.items)))
+    no_logs (most_of asked.long) most asked.program asked.logs.items)))
 
 -- No run ends well whose input, once found, leads to no such end.
 not_going : {W A : Type 0} (Finds : Result A (AnyFault W) → Type 0) (next : A → AnyPrinted W → Type 0)
@@ -143,10 +143,10 @@ not_ended : (asked : Asked) (status : Status) (old new : Option (List ℕ)) → 
 not_ended (Check asked) status old new done =
     let own = done.prints.own in
     let ends = ends_so Log done.text status own done.prints.is in
-    not_first (IsAskedProgram none _ asked.base.now asked.also.items asked.image asked.logs.items)
+    not_first (IsAskedProgram none _ asked.program asked.logs.items)
     (λ program. WritesLines (most_of asked.long) none asked.explain program asked.logs.items)
     own status ends
-    (λ program is lines. no_asked _ asked.base.now asked.also.items asked.image asked.logs.items program is)
+    (λ program is lines. no_asked _ asked.program asked.logs.items program is)
     done.prints.prints
 not_ended (Encode asked) status old new done =
     let own = done.prints.own in
@@ -162,32 +162,32 @@ not_ended (Dump asked) status old new done =
 not_ended (Decode asked) status old new done =
     let own = done.prints.own in
     let ends = ends_so Capture done.text status own done.prints.is in
-    not_first (IsBase asked.base.now asked.also.items) (λ base.
+    not_first (IsBase asked.program) (λ base.
     First (IsOnly asked.only) (λ range.
-    First (IsProgramAt none base asked.image asked.also.items) (λ program.
+    First (IsProgramAt none base asked.program) (λ program.
     First (IsRead none asked.capture) (WritesLogsOf asked.lossy asked.harts range program)))) own status ends
     (λ base is prints. not_first (IsOnly asked.only) (λ range.
-    First (IsProgramAt none base asked.image asked.also.items) (λ program.
+    First (IsProgramAt none base asked.program) (λ program.
     First (IsRead none asked.capture) (WritesLogsOf asked.lossy asked.harts range program))) own status ends
-    (λ range found logs. not_first (IsProgramAt none base asked.image asked.also.items) (λ program.
+    (λ range found logs. not_first (IsProgramAt none base asked.program) (λ program.
     First (IsRead none asked.capture) (WritesLogsOf asked.lossy asked.harts range program)) own status ends
-    (λ program made written. no_program base asked.image asked.also.items program made) logs) prints)
+    (λ program made written. no_program base asked.program program made) logs) prints)
     done.prints.prints
 not_ended (Replay asked) status old new done =
     let own = done.prints.own in
     let ends = ends_so Log done.text status own done.prints.is in
-    not_first (AreAskedLogsUpTo most_rows none _ asked.base.now asked.also.items asked.image asked.logs.items)
+    not_first (AreAskedLogsUpTo most_rows none _ asked.program asked.logs.items)
     (ReplaysLogs none asked)
     own status ends
-    (λ logs are report. no_logs most_rows _ asked.base.now asked.also.items asked.image asked.logs.items logs are)
+    (λ logs are report. no_logs most_rows _ asked.program asked.logs.items logs are)
     done.prints.prints
 not_ended (Bench asked) status old new done =
     let own = done.prints.own in
     let ends = ends_so Log done.text status own done.prints.is in
-    not_first (AreAskedLogsUpTo most_rows none _ asked.base.now asked.also.items asked.image asked.logs.items)
+    not_first (AreAskedLogsUpTo most_rows none _ asked.program asked.logs.items)
     (BenchesLogs asked)
     own status ends
-    (λ logs are report. no_logs most_rows _ asked.base.now asked.also.items asked.image asked.logs.items logs are)
+    (λ logs are report. no_logs most_rows _ asked.program asked.logs.items logs are)
     done.prints.prints
 not_ended (Audit asked) status old new done =
     let own = done.prints.own in
@@ -201,35 +201,33 @@ not_ended (Audit asked) status old new done =
 not_ended (Measure asked) status old new done =
     let own = done.prints.own in
     let ends = ends_so Log done.text status own done.prints.is in
-    not_first (AreAskedLogsUpTo (most_of asked.long) none _ asked.base.now asked.also.items asked.image
-    asked.logs.items)
+    not_first (AreAskedLogsUpTo (most_of asked.long) none _ asked.program asked.logs.items)
     (WritesTable asked) own status ends
-    (λ logs are table. no_logs (most_of asked.long) _ asked.base.now asked.also.items asked.image asked.logs.items logs
-    are)
+    (λ logs are table. no_logs (most_of asked.long) _ asked.program asked.logs.items logs are)
     done.prints.prints
 not_ended (Listing asked) status old new done =
     let own = done.prints.own in
     let ends = ends_so Capture done.text status own done.prints.is in
-    not_first (IsAskedBase asked.format asked.base.now asked.also.items) (λ base.
+    not_first (IsAskedBase asked.format asked.program) (λ base.
     First (IsOnly asked.only) (ListsHarts none asked base)) own status ends
     (λ base is prints. not_first (IsOnly asked.only) (ListsHarts none asked base) own status ends
-    (λ only found lists. not_first (IsProgramAt none base asked.image asked.also.items) (λ program.
+    (λ only found lists. not_first (IsProgramAt none base asked.program) (λ program.
     First (AreSymbols none asked.symbols) (λ symbols. First (IsRead none asked.capture)
     (WritesListed asked.format asked.salvage only asked.harts program symbols))) own status ends
-    (λ program made listing. no_program base asked.image asked.also.items program made) lists) prints)
+    (λ program made listing. no_program base asked.program program made) lists) prints)
     done.prints.prints
 not_ended (Salvage asked) status old new done =
     let own = done.prints.own in
     let ends = ends_so Capture done.text status own done.prints.is in
-    not_first (IsAskedBase asked.format asked.base.now asked.also.items) (λ base.
-    First (IsOnly asked.only) (λ only. First (IsProgramAt none base asked.image asked.also.items) (λ program.
+    not_first (IsAskedBase asked.format asked.program) (λ base.
+    First (IsOnly asked.only) (λ only. First (IsProgramAt none base asked.program) (λ program.
     First (IsRead none asked.capture) (SalvagesOf only asked.format asked.harts asked.summary program)))) own status ends
     (λ base is prints. not_first (IsOnly asked.only) (λ only.
-    First (IsProgramAt none base asked.image asked.also.items) (λ program.
+    First (IsProgramAt none base asked.program) (λ program.
     First (IsRead none asked.capture) (SalvagesOf only asked.format asked.harts asked.summary program))) own status ends
-    (λ only found left. not_first (IsProgramAt none base asked.image asked.also.items) (λ program.
+    (λ only found left. not_first (IsProgramAt none base asked.program) (λ program.
     First (IsRead none asked.capture) (SalvagesOf only asked.format asked.harts asked.summary program)) own status ends
-    (λ program made salvaged. no_program base asked.image asked.also.items program made) left) prints)
+    (λ program made salvaged. no_program base asked.program program made) left) prints)
     done.prints.prints
 not_ended (asked_for.Capture asked) status old new done =
     let own = done.prints.own in
@@ -241,21 +239,22 @@ not_ended (asked_for.Capture asked) status old new done =
 not_ended (asked_for.Compare asked) status old new done =
     let own = done.prints.own in
     let ends = ends_so Capture done.text status own done.prints.is in
-    not_first (IsBase asked.base.now asked.also.items) (λ base.
-    First (IsOnly asked.only) (λ range. First (IsProgramAt none base asked.image asked.also.items) (λ program.
+    not_first (IsBase asked.program) (λ base.
+    First (IsOnly asked.only) (λ range. First (IsProgramAt none base asked.program) (λ program.
     First (IsRead none asked.capture) (ComparesHarts none asked range program)))) own status ends
     (λ base is prints. not_first (IsOnly asked.only) (λ range.
-    First (IsProgramAt none base asked.image asked.also.items) (λ program.
+    First (IsProgramAt none base asked.program) (λ program.
     First (IsRead none asked.capture) (ComparesHarts none asked range program))) own status ends
-    (λ range found lines. not_first (IsProgramAt none base asked.image asked.also.items) (λ program.
+    (λ range found lines. not_first (IsProgramAt none base asked.program) (λ program.
     First (IsRead none asked.capture) (ComparesHarts none asked range program)) own status ends
-    (λ program made compared. no_program base asked.image asked.also.items program made) lines) prints)
+    (λ program made compared. no_program base asked.program program made) lines) prints)
     done.prints.prints
 
 -- No reason ends with status 0.
 reason_faulty : (why : CommandReason) → code_of (command_reason_status why) ≢ 0
 reason_faulty Words = λ is. omega arith
 reason_faulty (Log (log.Schedule why)) = λ is. omega arith
+reason_faulty (Log log.LargeSchedule) = λ is. omega arith
 reason_faulty (Log (log.Unsent why)) = λ is. omega arith
 reason_faulty (Log log.FirstAlone) = λ is. omega arith
 reason_faulty (Log (log.ManyHarts most)) = λ is. omega arith

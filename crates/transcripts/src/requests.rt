@@ -3,7 +3,7 @@
 use cases::Case;
 use command_inputs::{
     Asked, Audit, Bench, Capture, Check, Compare, Decode, Dump, Encode, Format, Listing, Measure,
-    Replay, Salvage,
+    ProgramArgs, Replay, Salvage,
 };
 use std::fmt::Debug;
 
@@ -26,21 +26,27 @@ fn put_format(text: &mut Case<'_>, format: Format) {
     });
 }
 
+/// Appends the field of a program.
+fn put_program(text: &mut Case<'_>, program: &ProgramArgs<'_>) {
+    text.put("program: ProgramArgs { ");
+    put(text, "base", program.base);
+    put(text, "also", program.also.as_slice());
+    put(text, "image", program.image);
+    text.put(" }");
+}
+
 fn put_check(text: &mut Case<'_>, asked: &Check<'_>) {
     text.put("Check(Check { ");
-    put(text, "base", asked.base);
-    put(text, "also", asked.also.as_slice());
+    put_program(text, &asked.program);
     put(text, "explain", asked.explain);
     put(text, "long", asked.long);
     put(text, "progress", asked.progress);
-    put(text, "image", asked.image);
     put(text, "logs", asked.logs.as_slice());
 }
 
 fn put_encode(text: &mut Case<'_>, asked: &Encode<'_>) {
     text.put("Encode(Encode { ");
-    put(text, "base", asked.base);
-    put(text, "also", asked.also.as_slice());
+    put_program(text, &asked.program);
     put(text, "period", asked.period);
     put(text, "mode", asked.mode);
     put(text, "version", asked.version);
@@ -49,7 +55,6 @@ fn put_encode(text: &mut Case<'_>, asked: &Encode<'_>) {
     put(text, "of", asked.of);
     put(text, "long", asked.long);
     put(text, "progress", asked.progress);
-    put(text, "image", asked.image);
     put(text, "logs", asked.logs.as_slice());
 }
 
@@ -63,38 +68,32 @@ fn put_dump(text: &mut Case<'_>, asked: &Dump<'_>) {
 
 fn put_decode(text: &mut Case<'_>, asked: &Decode<'_>) {
     text.put("Decode(Decode { ");
-    put(text, "base", asked.base);
-    put(text, "also", asked.also.as_slice());
+    put_program(text, &asked.program);
     put(text, "harts", asked.harts);
     put(text, "only", asked.only);
     put(text, "lossy", asked.lossy);
     put(text, "progress", asked.progress);
-    put(text, "image", asked.image);
     put(text, "capture", asked.capture);
 }
 
 fn put_replay(text: &mut Case<'_>, asked: &Replay<'_>) {
     text.put("Replay(Replay { ");
-    put(text, "base", asked.base);
-    put(text, "also", asked.also.as_slice());
+    put_program(text, &asked.program);
     put(text, "period", asked.period);
     put(text, "mode", asked.mode);
     put(text, "capacity", asked.capacity);
     put(text, "progress", asked.progress);
-    put(text, "image", asked.image);
     put(text, "schedule", asked.schedule);
     put(text, "logs", asked.logs.as_slice());
 }
 
 fn put_bench(text: &mut Case<'_>, asked: &Bench<'_>) {
     text.put("Bench(Bench { ");
-    put(text, "base", asked.base);
-    put(text, "also", asked.also.as_slice());
+    put_program(text, &asked.program);
     put(text, "period", asked.period);
     put(text, "mode", asked.mode);
     put(text, "capacity", asked.capacity);
     put(text, "progress", asked.progress);
-    put(text, "image", asked.image);
     put(text, "logs", asked.logs.as_slice());
 }
 
@@ -112,40 +111,34 @@ fn put_audit(text: &mut Case<'_>, asked: &Audit<'_>) {
 
 fn put_measure(text: &mut Case<'_>, asked: &Measure<'_>) {
     text.put("Measure(Measure { ");
-    put(text, "base", asked.base);
-    put(text, "also", asked.also.as_slice());
+    put_program(text, &asked.program);
     put(text, "period", asked.period);
     put(text, "mode", asked.mode);
     put(text, "long", asked.long);
     put(text, "progress", asked.progress);
-    put(text, "image", asked.image);
     put(text, "logs", asked.logs.as_slice());
 }
 
 fn put_listing(text: &mut Case<'_>, asked: &Listing<'_>) {
     text.put("Listing(Listing { ");
-    put(text, "base", asked.base);
-    put(text, "also", asked.also.as_slice());
+    put_program(text, &asked.program);
     put(text, "harts", asked.harts);
     put(text, "only", asked.only);
     put(text, "symbols", asked.symbols);
     put(text, "salvage", asked.salvage);
     put_format(text, asked.format);
     put(text, "progress", asked.progress);
-    put(text, "image", asked.image);
     put(text, "capture", asked.capture);
 }
 
 fn put_salvage(text: &mut Case<'_>, asked: &Salvage<'_>) {
     text.put("Salvage(Salvage { ");
-    put(text, "base", asked.base);
-    put(text, "also", asked.also.as_slice());
+    put_program(text, &asked.program);
     put(text, "harts", asked.harts);
     put(text, "only", asked.only);
     put(text, "summary", asked.summary);
     put_format(text, asked.format);
     put(text, "progress", asked.progress);
-    put(text, "image", asked.image);
     put(text, "capture", asked.capture);
 }
 
@@ -155,18 +148,18 @@ fn put_capture(text: &mut Case<'_>, asked: &Capture<'_>) {
     put(text, "mode", asked.mode);
     put(text, "period", asked.period);
     put(text, "harts", asked.harts);
+    put(text, "number_bits", asked.number_bits);
     put(text, "lines", asked.lines);
 }
 
 fn put_compare(text: &mut Case<'_>, asked: &Compare<'_>) {
     text.put("Compare(Compare { ");
-    put(text, "base", asked.base);
-    put(text, "also", asked.also.as_slice());
+    put_program(text, &asked.program);
     put(text, "harts", asked.harts);
     put(text, "only", asked.only);
+    put(text, "explain", asked.explain);
     put(text, "long", asked.long);
     put(text, "progress", asked.progress);
-    put(text, "image", asked.image);
     put(text, "capture", asked.capture);
     put(text, "logs", asked.logs.as_slice());
 }

@@ -18,7 +18,7 @@ limit_at (Ok part) (Some base) most = most
 -- The same of what is asked.
 abbrev pub limit_of : Encode → Result ℕ Fault
 limit_of asked =
-    limit_at (asked_part asked.version asked.first asked.of) (base_number asked.base.now asked.also.items)
+    limit_at (asked_part asked.version asked.first asked.of) (base_number asked.program)
     (most_logs asked.version asked.first asked.of)
 
 -- The bases, the count of logs, of at most so many, the image with its further pieces, and each log are looked at, and

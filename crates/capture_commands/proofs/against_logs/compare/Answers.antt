@@ -36,7 +36,7 @@ returns-in_err-base-clause-printed g c =
     let why = c.in_err-base.field-0.0 in
     let is : c.from_residual.result ≡ Err why = grind (arith, common_steps) in
     ends_silently (Compares content asked) (CanCompare content asked)
-    (IsBase asked.base.now asked.also.items (Err why)) why
+    (IsBase asked.program (Err why)) why
     c.from_residual.result (g.O.Write.contents c.args.out.now) is (inr c.in_err-base.ensures.found) (λ none. (Err why, none, refl))
 
 pub returns-in_err-only-clause-early : goal.returns-in_err-only-clause-early
@@ -44,7 +44,7 @@ returns-in_err-only-clause-early g c =
     let asked = c.args.asked.now in
     let why = c.in_err-only.field-0.0 in
     let is : c.from_residual-in_err-only.result ≡ Err why = grind (arith, common_steps) in
-    early_only (base_number asked.base.now asked.also.items) c.in_ok-base.base (asked_harts asked.only)
+    early_only (base_number asked.program) c.in_ok-base.base (asked_harts asked.only)
     c.from_residual-in_err-only.result c.in_ok-base.ensures.number why c.in_err-only.ensures.none is
 
 pub returns-in_err-only-clause-printed : goal.returns-in_err-only-clause-printed
@@ -60,19 +60,19 @@ returns-in_err-only-clause-printed g c =
 pub returns-in_err-program-clause-early : goal.returns-in_err-program-clause-early
 returns-in_err-program-clause-early g c =
     let asked = c.args.asked.now in
-    early_none (base_number asked.base.now asked.also.items) c.in_ok-base.base (asked_harts asked.only)
+    early_none (base_number asked.program) c.in_ok-base.base (asked_harts asked.only)
     c.from_residual-in_err-program.result c.in_ok-base.ensures.number c.in_ok-only.ensures.some
 
 pub returns-in_err-bytes-clause-early : goal.returns-in_err-bytes-clause-early
 returns-in_err-bytes-clause-early g c =
     let asked = c.args.asked.now in
-    early_none (base_number asked.base.now asked.also.items) c.in_ok-base.base (asked_harts asked.only)
+    early_none (base_number asked.program) c.in_ok-base.base (asked_harts asked.only)
     c.from_residual-in_err-bytes.result c.in_ok-base.ensures.number c.in_ok-only.ensures.some
 
 pub returns-clause-early : goal.returns-clause-early
 returns-clause-early g c =
     let asked = c.args.asked.now in
-    early_none (base_number asked.base.now asked.also.items) c.in_ok-base.base (asked_harts asked.only)
+    early_none (base_number asked.program) c.in_ok-base.base (asked_harts asked.only)
     c.compare_input.result c.in_ok-base.ensures.number c.in_ok-only.ensures.some
 
 pub returns-in_err-program-clause-printed : goal.returns-in_err-program-clause-printed
@@ -83,8 +83,7 @@ returns-in_err-program-clause-printed g c =
     let why = c.in_err-program.field-0.0 in
     let is : c.from_residual-in_err-program.result ≡ Err why = grind (arith, common_steps) in
     ends_silently (Compares content asked) (CanCompare content asked)
-    (IsProgramAt content base asked.image asked.also.items (Err why)) why
-    c.from_residual-in_err-program.result
+    (IsProgramAt content base asked.program (Err why)) why c.from_residual-in_err-program.result
     (g.O.Write.contents c.args.out.now) is c.in_err-program.ensures.fault
     (λ none. (
       Ok base,

@@ -18,7 +18,7 @@ returns-in_err-base-clause-early g c =
     let why = c.in_err-base.field-0.0 in
     let is : c.from_residual.result ≡ Err why = grind (arith, common_steps) in
     let asked = c.args.asked.now in
-    let number = base_number asked.base.now asked.also.items in
+    let number = base_number asked.program in
     found_ends (format_base_or_only_fault asked.format number (asked_harts asked.only)) why c.from_residual.result
     (format_base_first asked.format number (asked_harts asked.only) why c.in_err-base.ensures.none) is
 
@@ -29,7 +29,7 @@ returns-in_err-base-clause-printed g c =
     let why = c.in_err-base.field-0.0 in
     let is : c.from_residual.result ≡ Err why = grind (arith, common_steps) in
     ends_silently (Lists content asked) (CanList content asked)
-    (IsAskedBase asked.format asked.base.now asked.also.items (Err why)) why
+    (IsAskedBase asked.format asked.program (Err why)) why
     c.from_residual.result (g.O.Write.contents c.args.out.now) is (inr c.in_err-base.ensures.found)
     (λ none. (Err why, none, refl))
 
@@ -38,7 +38,7 @@ returns-in_err-only-clause-early g c =
     let why = c.in_err-only.field-0.0 in
     let is : c.from_residual-in_err-only.result ≡ Err why = grind (arith, common_steps) in
     let asked = c.args.asked.now in
-    let number = base_number asked.base.now asked.also.items in
+    let number = base_number asked.program in
     let next = only_next asked.format number (asked_harts asked.only) c.in_ok-base.ensures.number in
     found_ends (format_base_or_only_fault asked.format number (asked_harts asked.only)) why
     c.from_residual-in_err-only.result (next ∙ c.in_err-only.ensures.none) is
@@ -57,7 +57,7 @@ returns-in_err-only-clause-printed g c =
 pub returns-clause-early : goal.returns-clause-early
 returns-clause-early g c =
     let asked = c.args.asked.now in
-    let number = base_number asked.base.now asked.also.items in
+    let number = base_number asked.program in
     let next = only_next asked.format number (asked_harts asked.only) c.in_ok-base.ensures.number in
     none_ends (format_base_or_only_fault asked.format number (asked_harts asked.only)) c.list_harts.result
     (next ∙ c.in_ok-only.ensures.some)

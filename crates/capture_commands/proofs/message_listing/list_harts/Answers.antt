@@ -25,7 +25,7 @@ returns-in_err-program-clause-printed g c =
     let why = c.in_err-program.field-0.0 in
     let is : c.from_residual.result ≡ Err why = grind (arith, common_steps) in
     ends_silently (ListsHarts content asked base c.args.only) (CanListHarts content asked base c.args.only)
-    (IsProgramAt content base asked.image asked.also.items (Err why)) why
+    (IsProgramAt content base asked.program (Err why)) why
     c.from_residual.result (g.O.Write.contents c.args.out.now) is c.in_err-program.ensures.fault
     (λ none. (Err why, none, refl))
 

@@ -21,7 +21,7 @@ returns-in_err-base-clause-early g c =
     let why = c.in_err-base.field-0.0 in
     let is : c.from_residual.result ≡ Err why = grind (arith, common_steps) in
     let asked = c.args.asked.now in
-    let number = base_number asked.base.now asked.also.items in
+    let number = base_number asked.program in
     found_ends (format_base_or_only_fault asked.format number (asked_harts asked.only)) why c.from_residual.result
     (format_base_first asked.format number (asked_harts asked.only) why c.in_err-base.ensures.none) is
 
@@ -32,7 +32,7 @@ returns-in_err-base-clause-printed g c =
     let why = c.in_err-base.field-0.0 in
     let is : c.from_residual.result ≡ Err why = grind (arith, common_steps) in
     ends_silently (Salvages content asked) (CanSalvage content asked)
-    (IsAskedBase asked.format asked.base.now asked.also.items (Err why)) why
+    (IsAskedBase asked.format asked.program (Err why)) why
     c.from_residual.result (g.O.Write.contents c.args.out.now) is (inr c.in_err-base.ensures.found)
     (λ none. (Err why, none, refl))
 
@@ -41,7 +41,7 @@ returns-in_err-only-clause-early g c =
     let why = c.in_err-only.field-0.0 in
     let is : c.from_residual-in_err-only.result ≡ Err why = grind (arith, common_steps) in
     let asked = c.args.asked.now in
-    let number = base_number asked.base.now asked.also.items in
+    let number = base_number asked.program in
     let next = only_next asked.format number (asked_harts asked.only) c.in_ok-base.ensures.number in
     found_ends (format_base_or_only_fault asked.format number (asked_harts asked.only)) why
     c.from_residual-in_err-only.result (next ∙ c.in_err-only.ensures.none) is
@@ -60,7 +60,7 @@ returns-in_err-only-clause-printed g c =
 pub returns-in_err-program-clause-early : goal.returns-in_err-program-clause-early
 returns-in_err-program-clause-early g c =
     let asked = c.args.asked.now in
-    let number = base_number asked.base.now asked.also.items in
+    let number = base_number asked.program in
     let next = only_next asked.format number (asked_harts asked.only) c.in_ok-base.ensures.number in
     none_ends (format_base_or_only_fault asked.format number (asked_harts asked.only))
     c.from_residual-in_err-program.result (next ∙ c.in_ok-only.ensures.some)
@@ -74,7 +74,7 @@ returns-in_err-program-clause-printed g c =
     let why = c.in_err-program.field-0.0 in
     let is : c.from_residual-in_err-program.result ≡ Err why = grind (arith, common_steps) in
     ends_silently (Salvages content asked) (CanSalvage content asked)
-    (IsProgramAt content base asked.image asked.also.items (Err why)) why c.from_residual-in_err-program.result
+    (IsProgramAt content base asked.program (Err why)) why c.from_residual-in_err-program.result
     (g.O.Write.contents c.args.out.now) is c.in_err-program.ensures.fault
     (λ none. (
       Ok base,
@@ -85,7 +85,7 @@ returns-in_err-program-clause-printed g c =
 pub returns-in_err-bytes-clause-early : goal.returns-in_err-bytes-clause-early
 returns-in_err-bytes-clause-early g c =
     let asked = c.args.asked.now in
-    let number = base_number asked.base.now asked.also.items in
+    let number = base_number asked.program in
     let next = only_next asked.format number (asked_harts asked.only) c.in_ok-base.ensures.number in
     none_ends (format_base_or_only_fault asked.format number (asked_harts asked.only))
     c.from_residual-in_err-bytes.result (next ∙ c.in_ok-only.ensures.some)
@@ -116,7 +116,7 @@ returns-in_err-bytes-clause-printed g c =
 pub returns-clause-early : goal.returns-clause-early
 returns-clause-early g c =
     let asked = c.args.asked.now in
-    let number = base_number asked.base.now asked.also.items in
+    let number = base_number asked.program in
     let next = only_next asked.format number (asked_harts asked.only) c.in_ok-base.ensures.number in
     none_ends (format_base_or_only_fault asked.format number (asked_harts asked.only)) c.salvage_capture.result
     (next ∙ c.in_ok-only.ensures.some)

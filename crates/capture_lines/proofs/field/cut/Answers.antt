@@ -1,17 +1,22 @@
 -- The first field and those after it are a lemma on lists.
-use Rattle.std.proofs.Common.{◌+◌, ◌==◌, ◌∷◌, ◌∙◌, ap, sym, arith, take}
-use Rattle.capture_lines.specs.Line.{fields_of}
-use Rattle.capture_lines.proofs.Parts.{first_part, only_part, up_to_end}
+use Rattle.std.proofs.Common.{◌∷◌, ◌∙◌, ap, drop, take, sym}
+use Rattle.std.specs.List.{position_or_len}
+use Rattle.capture_lines.specs.declared.field.Stop.TheVariants.{End}
+use Rattle.capture_lines.specs.steps.Cutting.{after_comma, fields_left, stops, unblanked}
+use Rattle.capture_lines.proofs.Fields.{cut_fields}
+use Rattle.capture_lines.proofs.Parts.{up_to_end}
 use Rattle.capture_lines.proofs.field.cut.Goals as goal
 
-pub returns-then-blank-text : goal.returns-then-blank-text
-returns-then-blank-text c =
-    let text = c.args.text.now in
-    let place = c.first_place-blank.result in
-    first_part (λ byte. byte == 32) text place c.first_place-blank.ensures.place c.if-blank-text.true
-    ∙ ap (λ rest. take place text ∷ fields_of rest) (sym (up_to_end (place + 1) text))
-
-pub returns-else-blank-text : goal.returns-else-blank-text
-returns-else-blank-text c =
-    only_part (λ byte. byte == 32) c.args.text.now
-    (omega (arith, c.first_place-blank.ensures.place, c.first_place-blank.ensures.within, c.if-blank-text.false))
+pub returns : goal.returns
+returns c =
+    let text = c.unblanked-text.result.now in
+    let end = c.first_place-end.result in
+    let rest = sym (c.unblanked-rest.ensures ∙ ap unblanked (up_to_end end text)) in
+    cut_fields c.args.text.now
+    ∙ ap (λ text. take (position_or_len (stops End) text) text
+    ∷ fields_left (after_comma (unblanked (drop (position_or_len (stops End) text) text))))
+    (sym c.unblanked-text.ensures)
+    ∙ ap (λ end. take end text ∷ fields_left (after_comma (unblanked (drop end text))))
+    (sym c.first_place-end.ensures.place)
+    ∙ ap (λ rest. take end text ∷ fields_left (after_comma rest)) rest
+    ∙ ap (λ rest. take end text ∷ fields_left rest) (sym c.after_comma.ensures)

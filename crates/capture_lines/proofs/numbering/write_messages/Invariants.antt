@@ -4,5 +4,5 @@ use Rattle.capture_lines.proofs.numbering.write_messages.Given as goal
 
 abbrev pub invariant-loop : goal.invariant-loop
 invariant-loop g l =
-    IsSent l.settings l.form l.text l.lines l.counts l.counter (g.W.Write.contents l.fn.sink)
+    IsSent l.settings l.form l.text l.lines l.counts l.lows l.counter (g.W.Write.contents l.fn.sink)
     (g.W.Write.contents l.sink)

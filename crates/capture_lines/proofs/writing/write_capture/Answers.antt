@@ -31,12 +31,13 @@ write_checked-requires g c =
       header =
           may_start c.args.settings c.in-Ok.harts c.requires.period few c.requires.harts c.in-Ok.ensures.some
           c.in-Ok.ensures.few;
+      numbers = c.requires.numbers;
     }
 
 module _ (g : _) (c : After-write_checked g) where
   right : capture_of_text c.args.settings c.args.text.now
       ≡ Ok (start_bytes c.args.settings.version (header_with c.args.settings c.in-Ok.harts)
-      ++ capture (sent_from c.args.settings c.form_of-form.result no_counts (lines c.args.text.now)))
+      ++ capture (sent_from c.args.settings c.form_of-form.result no_counts no_counts (lines c.args.text.now)))
   right =
       accepted_text c.args.settings c.form_of-form.result c.args.text.now c.form_of-form.ensures c.in-Ok.harts
       (sym c.check.ensures.value ∙ c.in-Ok.is)

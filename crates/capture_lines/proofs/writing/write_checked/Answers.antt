@@ -11,14 +11,14 @@ use Rattle.capture_lines.proofs.writing.write_checked.Goals as goal
 pub returns-in_default-clause-begun : goal.returns-in_default-clause-begun
 returns-in_default-clause-begun g c =
     let start = start_bytes c.args.settings.now.version (header_with c.args.settings.now c.args.harts) in
-    let sent = capture (sent_from c.args.settings.now c.args.form no_counts (lines c.args.text.now)) in
+    let sent = capture (sent_from c.args.settings.now c.args.form no_counts no_counts (lines c.args.text.now)) in
     let begun = rw (c.from-harts.ensures, c.unwrap_or.ensures) at c.write_start.ensures.begun in
     begun_in_front start sent (g.W.Write.contents c.args.sink.now) (g.W.Write.contents c.write_start.new.sink) begun
 
 pub returns-in-Ok-write_messages-clause-begun : goal.returns-in-Ok-write_messages-clause-begun
 returns-in-Ok-write_messages-clause-begun g c =
     let start = start_bytes c.args.settings.now.version (header_with c.args.settings.now c.args.harts) in
-    let sent = capture (sent_from c.args.settings.now c.args.form no_counts (lines c.args.text.now)) in
+    let sent = capture (sent_from c.args.settings.now c.args.form no_counts no_counts (lines c.args.text.now)) in
     let first = rw (c.from-harts.ensures, c.unwrap_or.ensures) at c.in-Ok.ensures.written in
     begun_behind start sent (g.W.Write.contents c.args.sink.now) (g.W.Write.contents c.write_start.new.sink)
     (g.W.Write.contents c.write_messages.new.sink) first c.write_messages.ensures.begun
@@ -26,7 +26,7 @@ returns-in-Ok-write_messages-clause-begun g c =
 pub returns-in-Err-clause-begun : goal.returns-in-Err-clause-begun
 returns-in-Err-clause-begun g c =
     let start = start_bytes c.args.settings.now.version (header_with c.args.settings.now c.args.harts) in
-    let sent = capture (sent_from c.args.settings.now c.args.form no_counts (lines c.args.text.now)) in
+    let sent = capture (sent_from c.args.settings.now c.args.form no_counts no_counts (lines c.args.text.now)) in
     let first = rw (c.from-harts.ensures, c.unwrap_or.ensures) at c.in-Ok.ensures.written in
     begun_behind start sent (g.W.Write.contents c.args.sink.now) (g.W.Write.contents c.write_start.new.sink)
     (g.W.Write.contents c.write_messages.new.sink) first c.write_messages.ensures.begun

@@ -5,14 +5,12 @@ use Rattle.cli.proofs.asking.list_asked.Goals as goal
 pub returns : goal.returns
 returns c = (
   refl,
-  c.text.ensures,
-  c.in_ok-texts.ensures,
+  c.in_ok-program_args.ensures,
   c.given_harts.ensures,
   c.given_text.ensures,
   c.given_text-2.ensures,
   c.flag.ensures,
   c.format.ensures,
   c.flag-2.ensures,
-  c.text-2.ensures,
-  c.text-3.ensures,
+  c.text.ensures,
 )

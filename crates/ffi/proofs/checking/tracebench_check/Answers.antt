@@ -1,5 +1,5 @@
--- The image is judged, and the rest is said of what it makes.
+-- The pieces are judged, and the rest is said of what they make.
 use Rattle.ffi.proofs.checking.tracebench_check.Goals as goal
 
 pub returns : goal.returns
-returns c = rw (← c.judge_image-judged.ensures) c.report_check.ensures
+returns c = (c.judge_pieces-judged.result, c.judge_pieces-judged.ensures, c.report_check.ensures)

@@ -6,6 +6,6 @@ use Rattle.ffi.proofs.encoding.encode_logs.Goals as goal
 pub returns-in-Some : goal.returns-in-Some
 returns-in-Some c =
     InRange c.in-Some.mode c.in-Some.version c.in-Some.ensures.within
-    (made_of_copy _ c.copy_image-copied.result c.args.logs.now c.args.ends.now c.args.period c.in-Some.mode
-    c.in-Some.version c.capture_of_texts.result c.copy_image-copied.ensures c.capture_of_texts.ensures.made
+    (made_of_copy _ c.copy_pieces-copied.result c.args.logs.now c.args.ends.now c.args.period c.in-Some.mode
+    c.in-Some.version c.capture_of_texts.result c.copy_pieces-copied.ensures c.capture_of_texts.ensures.made
     c.capture_of_texts.ensures.memory)

@@ -1,5 +1,5 @@
--- The image is judged, and the rest is said of what it makes.
+-- The pieces are judged, and the rest is said of what they make.
 use Rattle.ffi.proofs.feeding_all.tracebench_feed_all.Goals as goal
 
 pub returns : goal.returns
-returns c = rw (← c.judge_image-judged.ensures) c.report_feed_all.ensures
+returns c = (c.judge_pieces-judged.result, c.judge_pieces-judged.ensures, c.report_feed_all.ensures)

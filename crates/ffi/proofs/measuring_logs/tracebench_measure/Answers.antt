@@ -1,7 +1,9 @@
--- What was measured is reported.
+-- The pieces are judged, and the rest is said of what they make.
 use Rattle.ffi.proofs.measuring_logs.tracebench_measure.Goals as goal
 
 pub returns : goal.returns
-returns c =
-    rw (← c.judge_image-judged.ensures)
-    (c.measure_logs-measured.result, c.measure_logs-measured.ensures, c.report_made.ensures)
+returns c = (
+  c.judge_pieces-judged.result,
+  c.judge_pieces-judged.ensures,
+  (c.measure_logs-measured.result, c.measure_logs-measured.ensures, c.report_made.ensures),
+)

@@ -1,8 +1,16 @@
--- The image is judged, and the rest is said of what it makes.
+-- The pieces are judged, and the rest is said of what they make.
 use Rattle.ffi.proofs.pushing.tracebench_finish.Goals as goal
 
-pub returns-clause-ends : goal.returns-clause-ends
-returns-clause-ends c = rw (← c.judge_image-judged.ensures) c.finish_over.ensures.ends
-
-pub returns-clause-packets : goal.returns-clause-packets
-returns-clause-packets c = rw (← c.judge_image-judged.ensures) c.finish_over.ensures.packets
+pub returns : goal.returns
+returns c = (
+  c.judge_pieces-judged.result,
+  c.judge_pieces-judged.ensures,
+  record {
+    ends = c.finish_over.ensures.ends;
+    packets = c.finish_over.ensures.packets;
+    refused = c.finish_over.ensures.refused;
+    counted = c.finish_over.ensures.counted;
+    two = c.finish_over.ensures.two;
+    few = c.finish_over.ensures.few;
+  },
+)

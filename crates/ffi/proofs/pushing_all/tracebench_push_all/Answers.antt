@@ -1,17 +1,19 @@
--- The image is judged, and the rest is said of what it makes.
+-- The pieces are judged, and the rest is said of what they make.
 use Rattle.ffi.proofs.pushing_all.tracebench_push_all.Goals as goal
 
-pub returns-clause-ends : goal.returns-clause-ends
-returns-clause-ends c = rw (← c.judge_image-judged.ensures) c.push_all_over.ensures.ends
-
-pub returns-clause-stands : goal.returns-clause-stands
-returns-clause-stands c = rw (← c.judge_image-judged.ensures) c.push_all_over.ensures.stands
-
-pub returns-clause-packets : goal.returns-clause-packets
-returns-clause-packets c = rw (← c.judge_image-judged.ensures) c.push_all_over.ensures.packets
-
-pub returns-clause-no_room : goal.returns-clause-no_room
-returns-clause-no_room c = rw (← c.judge_image-judged.ensures) c.push_all_over.ensures.no_room
-
-pub returns-clause-front : goal.returns-clause-front
-returns-clause-front c = rw (← c.judge_image-judged.ensures) c.push_all_over.ensures.front
+pub returns : goal.returns
+returns c = (
+  c.judge_pieces-judged.result,
+  c.judge_pieces-judged.ensures,
+  record {
+    ends = c.push_all_over.ensures.ends;
+    stands = c.push_all_over.ensures.stands;
+    packets = c.push_all_over.ensures.packets;
+    front = c.push_all_over.ensures.front;
+    no_room = c.push_all_over.ensures.no_room;
+    two = c.push_all_over.ensures.two;
+    fill = c.push_all_over.ensures.fill;
+    untaken = c.push_all_over.ensures.untaken;
+    again = c.push_all_over.ensures.again;
+  },
+)

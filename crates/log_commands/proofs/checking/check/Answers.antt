@@ -1,18 +1,17 @@
 -- The prover tries no chain of steps by itself: what each step found is handed to it, in order.
-use Rattle.std.proofs.Common.{◌≡◌, inr, subst, arith, Ok, Err}
+use Rattle.std.proofs.Common.{◌≡◌, inr, length, subst, arith, Ok, Err}
 use Rattle.std.proofs.lemmas.Grind.{common_steps}
 use Rattle.std.specs.Prelude.{⊤}
 use Rattle.message.specs.Version.{most_harts}
 use Rattle.message.specs.declared.header.Version.TheVariants.{Two}
 use Rattle.command_inputs.specs.FurtherPieces.{base_number}
 use Rattle.command_inputs.specs.Begun.{BeginsPrinted, IsCutOf}
-use Rattle.command_inputs.specs.Found.{IsAskedProgram}
+use Rattle.command_inputs.specs.Order.{logs_fault}
 use Rattle.command_inputs.specs.Printed.{PrintsUnlessDenied}
 use Rattle.command_inputs.specs.declared.fault.Fault.TheVariants as fault
 use Rattle.command_inputs.proofs.Beginnings.{cut_kept}
-use Rattle.command_inputs.proofs.FirstSteps.{early_ends, passes, program_ends, program_there}
+use Rattle.command_inputs.proofs.FirstSteps.{early_ends, passes, program_ends}
 use Rattle.command_inputs.proofs.Runs.{goes_on, output_failed}
-use Rattle.log_commands.specs.declared.reason.LogReason.{LogReason}
 use Rattle.log_commands.specs.Checking.{AppendsFirstLines, ChecksFirst, WritesFirstLines, CanCheck, Checks, WritesLines}
 use Rattle.log_commands.specs.Most.{most_of}
 use Rattle.log_commands.proofs.CheckedLogs.{lines_kept}
@@ -24,24 +23,21 @@ returns-in_err-program-clause-early g c =
     let asked = c.args.asked.now in
     let why = c.in_err-program.field-0.0 in
     let is : c.from_residual.result ≡ Err why = grind (arith, common_steps) in
-    early_ends (most_harts Two) (base_number asked.base.now asked.also.items) asked.logs.items
-    c.as_slice-paths.result.now c.asked_program.result why
-    c.from_residual.result c.as_slice-paths.ensures.value c.in_err-program.was is c.asked_program.ensures.early
+    early_ends (logs_fault (most_harts Two) (base_number asked.program) (length asked.logs.items))
+    c.asked_program.result why c.from_residual.result c.in_err-program.was is c.asked_program.ensures.early
 
 pub returns-in_err-flush-clause-early : goal.returns-in_err-flush-clause-early
 returns-in_err-flush-clause-early g c =
     let asked = c.args.asked.now in
-    passes (most_harts Two) (base_number asked.base.now asked.also.items) asked.logs.items c.as_slice-paths.result.now
-    c.asked_program.result
-    c.in_ok-program.program c.from_residual-in_err-flush.result c.as_slice-paths.ensures.value c.in_ok-program.was
+    passes (logs_fault (most_harts Two) (base_number asked.program) (length asked.logs.items))
+    c.asked_program.result c.in_ok-program.program c.from_residual-in_err-flush.result c.in_ok-program.was
     c.asked_program.ensures.early
 
 pub returns-clause-early : goal.returns-clause-early
 returns-clause-early g c =
     let asked = c.args.asked.now in
-    passes (most_harts Two) (base_number asked.base.now asked.also.items) asked.logs.items c.as_slice-paths.result.now
-    c.asked_program.result
-    c.in_ok-program.program c.check_all-ended.result c.as_slice-paths.ensures.value c.in_ok-program.was
+    passes (logs_fault (most_harts Two) (base_number asked.program) (length asked.logs.items))
+    c.asked_program.result c.in_ok-program.program c.check_all-ended.result c.in_ok-program.was
     c.asked_program.ensures.early
 
 pub returns-in_err-program-clause-printed : goal.returns-in_err-program-clause-printed
@@ -50,24 +46,10 @@ returns-in_err-program-clause-printed g c =
     let asked = c.args.asked.now in
     let why = c.in_err-program.field-0.0 in
     let is : c.from_residual.result ≡ Err why = grind (arith, common_steps) in
-    program_ends content (most_harts Two) asked.base.now asked.also.items asked.image asked.logs.items
-    c.as_slice-paths.result.now
-    c.as_slice-paths.ensures.value (CanCheck content asked) (g.O.Write.contents c.args.out.now) why
-    c.from_residual.result is (λ program. WritesLines (most_of asked.long) content asked.explain program
-    asked.logs.items)
+    program_ends content (most_harts Two) asked.program asked.logs.items (CanCheck content asked)
+    (g.O.Write.contents c.args.out.now) why c.from_residual.result is
+    (λ program. WritesLines (most_of asked.long) content asked.explain program asked.logs.items)
     c.in_err-program.ensures.fault
-
--- The program that was found.
-there : (g : _) (c : After-flush g) → IsAskedProgram {W = LogReason} (g.F.Files.content c.args.files.now)
-    (most_harts Two)
-    c.args.asked.now.base.now c.args.asked.now.also.items c.args.asked.now.image c.args.asked.now.logs.items
-    (Ok c.in_ok-program.program)
-there g c =
-    let asked = c.args.asked.now in
-    program_there (g.F.Files.content c.args.files.now) (most_harts Two) asked.base.now asked.also.items asked.image
-    asked.logs.items
-    c.as_slice-paths.result.now c.as_slice-paths.ensures.value (Ok c.in_ok-program.program)
-    c.in_ok-program.ensures.program
 
 pub returns-in_err-flush-clause-printed : goal.returns-in_err-flush-clause-printed
 returns-in_err-flush-clause-printed g c =
@@ -75,11 +57,8 @@ returns-in_err-flush-clause-printed g c =
     let asked = c.args.asked.now in
     let is : c.from_residual-in_err-flush.result ≡ Err fault.Output = grind (arith, common_steps) in
     output_failed (Checks content asked) (CanCheck content asked) c.from_residual-in_err-flush.result
-    (g.O.Write.contents c.args.out.now) (g.O.Write.contents c.flush.new.self) is (
-      c.in_ok-program.program,
-      there g (goal.at.returns-in_err-flush-clause-printed g c).After-flush,
-      tt,
-    )
+    (g.O.Write.contents c.args.out.now) (g.O.Write.contents c.flush.new.self) is
+    (c.in_ok-program.program, c.in_ok-program.ensures.program, tt)
 
 pub returns-clause-printed : goal.returns-clause-printed
 returns-clause-printed g c =
@@ -87,7 +66,7 @@ returns-clause-printed g c =
     let asked = c.args.asked.now in
     let content = g.F.Files.content c.args.files.now in
     let program = c.in_ok-program.program in
-    let there = there g (goal.at.returns-clause-printed g c).After-flush in
+    let there = c.in_ok-program.ensures.program in
     let ended = c.check_all-ended.result in
     let mid = contents c.check_all-ended.new.out in
     let lines = subst (λ known. PrintsUnlessDenied (WritesLines (most_of asked.long) known asked.explain program
@@ -112,7 +91,7 @@ returns-clause-begun g c = λ memory.
     c.in_ok-program.ensures.kept (c.check_all-ended.ensures.begun memory) in
     inr (
       program,
-      there g (goal.at.returns-clause-begun g c).After-flush,
+      c.in_ok-program.ensures.program,
       lines_kept (most_of asked.long) content asked.explain program asked.logs.items old mid
           (contents c.flush.new.self) lines
           c.flush.ensures.bytes,
@@ -135,7 +114,7 @@ cut g c =
     inr (cut_kept (WritesFirstLines (most_of asked.long) content asked.explain program asked.logs.items)
     (ChecksFirst content asked) old
     mid new
-    (λ printed lines. (program, there g c, lines)) lines c.flush.ensures.bytes)
+    (λ printed lines. (program, c.in_ok-program.ensures.program, lines)) lines c.flush.ensures.bytes)
 
 pub returns-in_err-flush-clause-cut : goal.returns-in_err-flush-clause-cut
 returns-in_err-flush-clause-cut g c = cut g (goal.at.returns-in_err-flush-clause-cut g c).After-flush

@@ -8,6 +8,7 @@ use Rattle.legalpath.specs.ProgramLog.{ProgramLog}
 use Rattle.message.specs.Version.{most_harts}
 use Rattle.output.specs.Begun.{AppendsBeginning}
 use Rattle.command_inputs.specs.FurtherPieces.{base_number}
+use Rattle.command_inputs.specs.Order.{logs_fault}
 use Rattle.command_inputs.specs.declared.status.Status.TheVariants.{Whole}
 use Rattle.command_inputs.proofs.Beginnings.{cut_leads, printed_begun}
 use Rattle.command_inputs.proofs.FirstSteps.{early_ends, logs_end, logs_there, no_logs, passes}
@@ -26,7 +27,7 @@ pub write_messages-requires-clause-some : goal.write_messages-requires-clause-so
 write_messages-requires-clause-some g c =
     let asked = c.args.asked.now in
     let made = c.in_ok-messages.messages.items in
-    let count = c.in_ok-messages.ensures.count in
+    let count = c.in_ok-messages.ensures.count ∙ ap length c.as_slice-paths.ensures.value in
     let some : 1 ≤ length made = omega (arith, count, c.in_ok-program.ensures.some) in
     let few : length made ≤ c.args.most = omega (arith, count, c.in_ok-program.ensures.few) in
     subst (λ (messages : List (Vec ℕ Global)). 1 ≤ all_harts asked.of (length messages)) (sym c.as_slice.ensures.value)
@@ -36,7 +37,7 @@ pub write_messages-requires-clause-few : goal.write_messages-requires-clause-few
 write_messages-requires-clause-few g c =
     let asked = c.args.asked.now in
     let made = c.in_ok-messages.messages.items in
-    let count = c.in_ok-messages.ensures.count in
+    let count = c.in_ok-messages.ensures.count ∙ ap length c.as_slice-paths.ensures.value in
     let some : 1 ≤ length made = omega (arith, count, c.in_ok-program.ensures.some) in
     let few : length made ≤ c.args.most = omega (arith, count, c.in_ok-program.ensures.few) in
     subst (λ (messages : List (Vec ℕ Global)). all_harts asked.of (length messages) ≤ most_harts asked.version)
@@ -47,9 +48,8 @@ returns-in_err-program-clause-early g c =
     let asked = c.args.asked.now in
     let why = c.in_err-program.field-0.0 in
     let is : c.from_residual.result ≡ Err why = grind (arith, common_steps) in
-    early_ends c.args.most (base_number asked.base.now asked.also.items) asked.logs.items c.as_slice-paths.result.now
-    c.asked_program.result why c.from_residual.result c.as_slice-paths.ensures.value c.in_err-program.was is
-    c.asked_program.ensures.early
+    early_ends (logs_fault c.args.most (base_number asked.program) (length asked.logs.items)) c.asked_program.result
+    why c.from_residual.result c.in_err-program.was is c.asked_program.ensures.early
 
 pub returns-in_err-program-clause-printed : goal.returns-in_err-program-clause-printed
 returns-in_err-program-clause-printed g c =
@@ -59,16 +59,14 @@ returns-in_err-program-clause-printed g c =
     let why = c.in_err-program.field-0.0 in
     let out = g.O.Write.contents c.args.out.now in
     let is : c.from_residual.result ≡ Err why = grind (arith, common_steps) in
-    no_logs (most_of asked.long) content most asked.base.now asked.also.items asked.image asked.logs.items
-    c.as_slice-paths.result.now c.as_slice-paths.ensures.value (CanEncodeUpTo content asked most) out why
+    no_logs (most_of asked.long) content most asked.program asked.logs.items (CanEncodeUpTo content asked most) out why
     c.from_residual.result is (WritesMessages asked) c.in_err-program.ensures.fault
 
 pub returns-in_err-messages-clause-early : goal.returns-in_err-messages-clause-early
 returns-in_err-messages-clause-early g c =
     let asked = c.args.asked.now in
-    passes c.args.most (base_number asked.base.now asked.also.items) asked.logs.items c.as_slice-paths.result.now
-    c.asked_program.result c.in_ok-program.program c.from_residual-in_err-messages.result c.as_slice-paths.ensures.value
-    c.in_ok-program.was c.asked_program.ensures.early
+    passes (logs_fault c.args.most (base_number asked.program) (length asked.logs.items)) c.asked_program.result
+    c.in_ok-program.program c.from_residual-in_err-messages.result c.in_ok-program.was c.asked_program.ensures.early
 
 pub returns-in_err-messages-clause-printed : goal.returns-in_err-messages-clause-printed
 returns-in_err-messages-clause-printed g c =
@@ -78,7 +76,7 @@ returns-in_err-messages-clause-printed g c =
     let why = c.in_err-messages.field-0.0 in
     let out = g.O.Write.contents c.args.out.now in
     let is : c.from_residual-in_err-messages.result ≡ Err why = grind (arith, common_steps) in
-    logs_end (most_of asked.long) content most asked.base.now asked.also.items asked.image asked.logs.items
+    logs_end (most_of asked.long) content most asked.program asked.logs.items
     c.as_slice-paths.result.now c.as_slice-paths.ensures.value (CanEncodeUpTo content asked most) out why
     c.from_residual-in_err-messages.result is (WritesMessages asked) c.in_ok-program.program
     (g.F.Files.content c.asked_program.new.files) c.in_ok-program.ensures.program c.in_ok-program.ensures.kept
@@ -87,9 +85,8 @@ returns-in_err-messages-clause-printed g c =
 pub returns-clause-early : goal.returns-clause-early
 returns-clause-early g c =
     let asked = c.args.asked.now in
-    passes c.args.most (base_number asked.base.now asked.also.items) asked.logs.items c.as_slice-paths.result.now
-    c.asked_program.result c.in_ok-program.program c.write_messages.result c.as_slice-paths.ensures.value
-    c.in_ok-program.was c.asked_program.ensures.early
+    passes (logs_fault c.args.most (base_number asked.program) (length asked.logs.items)) c.asked_program.result
+    c.in_ok-program.program c.write_messages.result c.in_ok-program.was c.asked_program.ensures.early
 
 module _ (g : _) (c : After-write_messages g) where
   -- The logs that were found.
@@ -99,8 +96,7 @@ module _ (g : _) (c : After-write_messages g) where
   there : AreLogsOf (g.F.Files.content c.args.files.now) c.args.asked.now c.args.most (Ok logs)
   there =
       let asked = c.args.asked.now in
-      logs_there (most_of asked.long) (g.F.Files.content c.args.files.now) c.args.most asked.base.now asked.also.items
-      asked.image
+      logs_there (most_of asked.long) (g.F.Files.content c.args.files.now) c.args.most asked.program
       asked.logs.items c.as_slice-paths.result.now c.as_slice-paths.ensures.value c.in_ok-program.program
       (g.F.Files.content c.asked_program.new.files) (Ok logs) c.in_ok-program.ensures.program
       c.in_ok-program.ensures.kept c.in_ok-messages.ensures.logs.legal

@@ -1,9 +1,10 @@
 -- The prover tries no chain of steps by itself: what each step found is handed to it, in order.
-use Rattle.std.proofs.Common.{◌≡◌, ◌∙◌, subst, arith, Ok, Err}
+use Rattle.std.proofs.Common.{◌≡◌, ◌∙◌, subst, arith, length, Ok, Err}
 use Rattle.std.proofs.lemmas.Grind.{common_steps}
 use Rattle.command_inputs.specs.FurtherPieces.{base_number}
 use Rattle.command_inputs.specs.Begun.{IsCutOf}
 use Rattle.command_inputs.specs.FoundLogs.{AreAskedLogs}
+use Rattle.command_inputs.specs.Order.{logs_fault}
 use Rattle.command_inputs.specs.Printed.{First, PrintsUnlessDenied}
 use Rattle.command_inputs.proofs.Beginnings.{cut_leads}
 use Rattle.command_inputs.proofs.FirstSteps.{early_ends, logs_end, logs_there, no_logs, passes}
@@ -19,9 +20,8 @@ returns-in_err-program-clause-early g c =
     let asked = c.args.asked.now in
     let why = c.in_err-program.field-0.0 in
     let is : c.from_residual.result ≡ Err why = grind (arith, common_steps) in
-    early_ends asked.most (base_number asked.base.now asked.also.now.items) asked.paths.now.items
-    c.as_slice-paths.result.now c.asked_program.result why
-    c.from_residual.result c.as_slice-paths.ensures.value c.in_err-program.was is c.asked_program.ensures.early
+    early_ends (logs_fault asked.most (base_number asked.program.now) (length asked.paths.now.items))
+    c.asked_program.result why c.from_residual.result c.in_err-program.was is c.asked_program.ensures.early
 
 pub returns-in_err-program-clause-printed : goal.returns-in_err-program-clause-printed
 returns-in_err-program-clause-printed g c =
@@ -29,10 +29,8 @@ returns-in_err-program-clause-printed g c =
     let asked = c.args.asked.now in
     let why = c.in_err-program.field-0.0 in
     let is : c.from_residual.result ≡ Err why = grind (arith, common_steps) in
-    no_logs most_rows content asked.most asked.base.now asked.also.now.items asked.image asked.paths.now.items
-    c.as_slice-paths.result.now
-    c.as_slice-paths.ensures.value
-    (Once (AreAskedLogs content asked.most asked.base.now asked.also.now.items asked.image asked.paths.now.items)
+    no_logs most_rows content asked.most asked.program.now asked.paths.now.items
+    (Once (AreAskedLogs content asked.most asked.program.now asked.paths.now.items)
     (g.T.OnLogs.CanWrite c.args.task.now content))
     (g.O.Write.contents c.args.out.now) why c.from_residual.result is
     (g.T.OnLogs.Prints c.args.task.now content) c.in_err-program.ensures.fault
@@ -40,9 +38,8 @@ returns-in_err-program-clause-printed g c =
 pub returns-in_err-logs-clause-early : goal.returns-in_err-logs-clause-early
 returns-in_err-logs-clause-early g c =
     let asked = c.args.asked.now in
-    passes asked.most (base_number asked.base.now asked.also.now.items) asked.paths.now.items
-    c.as_slice-paths.result.now c.asked_program.result
-    c.in_ok-program.program c.from_residual-in_err-logs.result c.as_slice-paths.ensures.value c.in_ok-program.was
+    passes (logs_fault asked.most (base_number asked.program.now) (length asked.paths.now.items))
+    c.asked_program.result c.in_ok-program.program c.from_residual-in_err-logs.result c.in_ok-program.was
     c.asked_program.ensures.early
 
 pub returns-in_err-logs-clause-printed : goal.returns-in_err-logs-clause-printed
@@ -51,10 +48,9 @@ returns-in_err-logs-clause-printed g c =
     let asked = c.args.asked.now in
     let why = c.in_err-logs.field-0.0 in
     let is : c.from_residual-in_err-logs.result ≡ Err why = grind (arith, common_steps) in
-    logs_end most_rows content asked.most asked.base.now asked.also.now.items asked.image asked.paths.now.items
-    c.as_slice-paths.result.now
+    logs_end most_rows content asked.most asked.program.now asked.paths.now.items c.as_slice-paths.result.now
     c.as_slice-paths.ensures.value
-    (Once (AreAskedLogs content asked.most asked.base.now asked.also.now.items asked.image asked.paths.now.items)
+    (Once (AreAskedLogs content asked.most asked.program.now asked.paths.now.items)
     (g.T.OnLogs.CanWrite c.args.task.now content))
     (g.O.Write.contents c.args.out.now) why c.from_residual-in_err-logs.result is
     (g.T.OnLogs.Prints c.args.task.now content) c.in_ok-program.program
@@ -64,21 +60,17 @@ returns-in_err-logs-clause-printed g c =
 pub returns-clause-early : goal.returns-clause-early
 returns-clause-early g c =
     let asked = c.args.asked.now in
-    passes asked.most (base_number asked.base.now asked.also.now.items) asked.paths.now.items
-    c.as_slice-paths.result.now c.asked_program.result
-    c.in_ok-program.program c.go_on-ended.result c.as_slice-paths.ensures.value c.in_ok-program.was
+    passes (logs_fault asked.most (base_number asked.program.now) (length asked.paths.now.items))
+    c.asked_program.result c.in_ok-program.program c.go_on-ended.result c.in_ok-program.was
     c.asked_program.ensures.early
 
 module _ (g : _) (c : After-go_on-ended g) where
   -- The logs that were found.
   there : AreAskedLogs {W = LogReason} (g.F.Files.content c.args.files.now) c.args.asked.now.most
-      c.args.asked.now.base.now c.args.asked.now.also.now.items
-      c.args.asked.now.image c.args.asked.now.paths.now.items (Ok c.in_ok-logs.logs.items)
+      c.args.asked.now.program.now c.args.asked.now.paths.now.items (Ok c.in_ok-logs.logs.items)
   there =
       let asked = c.args.asked.now in
-      logs_there most_rows (g.F.Files.content c.args.files.now) asked.most asked.base.now asked.also.now.items
-      asked.image
-      asked.paths.now.items
+      logs_there most_rows (g.F.Files.content c.args.files.now) asked.most asked.program.now asked.paths.now.items
       c.as_slice-paths.result.now c.as_slice-paths.ensures.value c.in_ok-program.program
       (g.F.Files.content c.asked_program.new.files) (Ok c.in_ok-logs.logs.items) c.in_ok-program.ensures.program
       c.in_ok-program.ensures.kept c.in_ok-logs.ensures.logs
@@ -89,8 +81,7 @@ returns-clause-printed g c =
     let prints = g.T.OnLogs.Prints c.args.task.now in
     let can = g.T.OnLogs.CanWrite c.args.task.now in
     let asked = c.args.asked.now in
-    let finds = AreAskedLogs {W = LogReason} content asked.most asked.base.now asked.also.now.items asked.image
-    asked.paths.now.items in
+    let finds = AreAskedLogs {W = LogReason} content asked.most asked.program.now asked.paths.now.items in
     let logs = c.in_ok-logs.logs.items in
     let slice = c.as_slice.result.now in
     let ended = c.go_on-ended.result in
@@ -108,8 +99,7 @@ returns-clause-cut g c =
     let content = g.F.Files.content c.args.files.now in
     let prints = g.T.OnLogs.Prints c.args.task.now in
     let asked = c.args.asked.now in
-    let finds = AreAskedLogs {W = LogReason} content asked.most asked.base.now asked.also.now.items asked.image
-    asked.paths.now.items in
+    let finds = AreAskedLogs {W = LogReason} content asked.most asked.program.now asked.paths.now.items in
     let logs = c.in_ok-logs.logs.items in
     let slice = c.as_slice.result.now in
     let old = g.O.Write.contents c.args.out.now in

@@ -1,5 +1,5 @@
 -- The prover tries no chain of steps by itself: what each step found is handed to it, in order.
-use Rattle.std.proofs.Common.{◌≡◌, ◌∙◌, All, ap, inr, refl, subst, sym, arith, Ok, Err, List}
+use Rattle.std.proofs.Common.{◌≡◌, ◌∙◌, All, ap, inr, length, refl, subst, sym, arith, Ok, Err, List}
 use Rattle.std.proofs.lemmas.Grind.{common_steps}
 use Rattle.std.specs.Io.KnownBytes.{Appends}
 use Rattle.std.specs.Prelude.{⊤, OnOk}
@@ -11,6 +11,7 @@ use Rattle.message.specs.declared.header.Version.TheVariants.{Two}
 use Rattle.output.specs.Begun.{AppendsBeginning}
 use Rattle.command_inputs.specs.FurtherPieces.{base_number}
 use Rattle.command_inputs.specs.FoundLogs.{AreAskedLogsUpTo}
+use Rattle.command_inputs.specs.Order.{logs_fault}
 use Rattle.command_inputs.specs.Printed.{First}
 use Rattle.command_inputs.specs.declared.status.Status.TheVariants.{Whole}
 use Rattle.command_inputs.proofs.Beginnings.{cut_leads, printed_begun}
@@ -29,9 +30,8 @@ returns-in_err-program-clause-early g c =
     let asked = c.args.asked.now in
     let why = c.in_err-program.field-0.0 in
     let is : c.from_residual.result ≡ Err why = grind (arith, common_steps) in
-    early_ends (most_harts Two) (base_number asked.base.now asked.also.items) asked.logs.items
-    c.as_slice-paths.result.now c.asked_program.result why
-    c.from_residual.result c.as_slice-paths.ensures.value c.in_err-program.was is c.asked_program.ensures.early
+    early_ends (logs_fault (most_harts Two) (base_number asked.program) (length asked.logs.items))
+    c.asked_program.result why c.from_residual.result c.in_err-program.was is c.asked_program.ensures.early
 
 pub returns-in_err-program-clause-printed : goal.returns-in_err-program-clause-printed
 returns-in_err-program-clause-printed g c =
@@ -40,19 +40,15 @@ returns-in_err-program-clause-printed g c =
     let why = c.in_err-program.field-0.0 in
     let out = g.O.Write.contents c.args.out.now in
     let is : c.from_residual.result ≡ Err why = grind (arith, common_steps) in
-    no_logs (most_of asked.long) content (most_harts Two) asked.base.now asked.also.items asked.image asked.logs.items
-    c.as_slice-paths.result.now
-    c.as_slice-paths.ensures.value
-    (Once (AreAskedLogsUpTo (most_of asked.long) content (most_harts Two) asked.base.now asked.also.items asked.image
-    asked.logs.items) (λ _. ⊤)) out why
-    c.from_residual.result is (WritesTable asked) c.in_err-program.ensures.fault
+    no_logs (most_of asked.long) content (most_harts Two) asked.program asked.logs.items
+    (Once (AreAskedLogsUpTo (most_of asked.long) content (most_harts Two) asked.program asked.logs.items) (λ _. ⊤))
+    out why c.from_residual.result is (WritesTable asked) c.in_err-program.ensures.fault
 
 pub returns-in_err-measures-clause-early : goal.returns-in_err-measures-clause-early
 returns-in_err-measures-clause-early g c =
     let asked = c.args.asked.now in
-    passes (most_harts Two) (base_number asked.base.now asked.also.items) asked.logs.items c.as_slice-paths.result.now
-    c.asked_program.result
-    c.in_ok-program.program c.from_residual-in_err-measures.result c.as_slice-paths.ensures.value c.in_ok-program.was
+    passes (logs_fault (most_harts Two) (base_number asked.program) (length asked.logs.items))
+    c.asked_program.result c.in_ok-program.program c.from_residual-in_err-measures.result c.in_ok-program.was
     c.asked_program.ensures.early
 
 pub returns-in_err-measures-clause-printed : goal.returns-in_err-measures-clause-printed
@@ -62,12 +58,10 @@ returns-in_err-measures-clause-printed g c =
     let why = c.in_err-measures.field-0.0 in
     let out = g.O.Write.contents c.args.out.now in
     let is : c.from_residual-in_err-measures.result ≡ Err why = grind (arith, common_steps) in
-    logs_end (most_of asked.long) content (most_harts Two) asked.base.now asked.also.items asked.image asked.logs.items
-    c.as_slice-paths.result.now
+    logs_end (most_of asked.long) content (most_harts Two) asked.program asked.logs.items c.as_slice-paths.result.now
     c.as_slice-paths.ensures.value
-    (Once (AreAskedLogsUpTo (most_of asked.long) content (most_harts Two) asked.base.now asked.also.items asked.image
-    asked.logs.items) (λ _. ⊤)) out why
-    c.from_residual-in_err-measures.result is (WritesTable asked) c.in_ok-program.program
+    (Once (AreAskedLogsUpTo (most_of asked.long) content (most_harts Two) asked.program asked.logs.items) (λ _. ⊤))
+    out why c.from_residual-in_err-measures.result is (WritesTable asked) c.in_ok-program.program
     (g.F.Files.content c.asked_program.new.files) c.in_ok-program.ensures.program c.in_ok-program.ensures.kept
     c.in_err-measures.ensures.fault
 
@@ -81,9 +75,8 @@ write_table-requires-clause-within g c =
 pub returns-clause-early : goal.returns-clause-early
 returns-clause-early g c =
     let asked = c.args.asked.now in
-    passes (most_harts Two) (base_number asked.base.now asked.also.items) asked.logs.items c.as_slice-paths.result.now
-    c.asked_program.result
-    c.in_ok-program.program c.write_table.result c.as_slice-paths.ensures.value c.in_ok-program.was
+    passes (logs_fault (most_harts Two) (base_number asked.program) (length asked.logs.items))
+    c.asked_program.result c.in_ok-program.program c.write_table.result c.in_ok-program.was
     c.asked_program.ensures.early
 
 module _ (g : _) (c : After-write_table g) where
@@ -92,12 +85,11 @@ module _ (g : _) (c : After-write_table g) where
   logs = c.in_ok-measures.ensures.logs.logs
 
   there : AreAskedLogsUpTo {W = LogReason} (most_of c.args.asked.now.long) (g.F.Files.content c.args.files.now)
-      (most_harts Two) c.args.asked.now.base.now c.args.asked.now.also.items
-      c.args.asked.now.image c.args.asked.now.logs.items (Ok logs)
+      (most_harts Two) c.args.asked.now.program c.args.asked.now.logs.items (Ok logs)
   there =
       let asked = c.args.asked.now in
       logs_there (most_of asked.long) (g.F.Files.content c.args.files.now)
-      (most_harts Two) asked.base.now asked.also.items asked.image asked.logs.items
+      (most_harts Two) asked.program asked.logs.items
       c.as_slice-paths.result.now c.as_slice-paths.ensures.value c.in_ok-program.program
       (g.F.Files.content c.asked_program.new.files) (Ok logs) c.in_ok-program.ensures.program
       c.in_ok-program.ensures.kept c.in_ok-measures.ensures.logs.legal
@@ -115,8 +107,7 @@ returns-clause-printed g c =
     let at = (goal.at.returns-clause-printed g c).After-write_table in
     let asked = c.args.asked.now in
     let finds = AreAskedLogsUpTo {W = LogReason} (most_of asked.long) (g.F.Files.content c.args.files.now)
-    (most_harts Two) asked.base.now asked.also.items asked.image
-    asked.logs.items in
+    (most_harts Two) asked.program asked.logs.items in
     let logs = logs g at in
     let ended = c.write_table.result in
     let old = g.O.Write.contents c.args.out.now in
@@ -132,8 +123,7 @@ returns-clause-cut g c =
     let at = (goal.at.returns-clause-cut g c).After-write_table in
     let asked = c.args.asked.now in
     let finds = AreAskedLogsUpTo {W = LogReason} (most_of asked.long) (g.F.Files.content c.args.files.now)
-    (most_harts Two) asked.base.now asked.also.items asked.image
-    asked.logs.items in
+    (most_harts Two) asked.program asked.logs.items in
     let logs = logs g at in
     let old = g.O.Write.contents c.args.out.now in
     let new = g.O.Write.contents c.write_table.new.out in

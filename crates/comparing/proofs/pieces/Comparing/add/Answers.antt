@@ -9,6 +9,7 @@ use Rattle.comparing.proofs.pieces.Comparing.add.Goals as goal
 pub returns : goal.returns
 returns c = λ before seen has next few.
     let decoded = c.args.decoded.now in
+    let alike = c.alike_with-alike.ensures before seen has next few in
     let came = c.args.self.now.events + length c.args.events.now in
     let events = has.events in
     let all = length-append seen c.args.events.now in
@@ -20,5 +21,6 @@ returns c = λ before seen has next few.
           ∙ ap (λ many. min (many + length decoded) (2 ^ 64 - 1)) has.counted
           ∙ min_add (length before) (length decoded) (2 ^ 64 - 1)
           ∙ ap (λ many. min many (2 ^ 64 - 1)) (sym (length-append before decoded));
-      alike = c.alike_with-self.ensures before seen has next few;
+      alike = alike;
+      near = c.near_with-self.ensures before seen has next few alike;
     }

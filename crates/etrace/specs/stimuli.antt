@@ -1,0 +1,7 @@
+-- What the contracts of stimulus cite.
+pub use Rattle.stimulus.specs.Mix
+pub use Rattle.stimulus.specs.Slot
+pub use Rattle.stimulus.specs.ImageBytes
+pub use Rattle.stimulus.specs.Walked
+pub use Rattle.stimulus.specs.Written
+pub use Rattle.stimulus.specs.Mixed

@@ -1,0 +1,18 @@
+-- The clauses hold for any packets before, which the search does not instantiate.
+use Rattle.rvclass.specs.Fetch.{words_of}
+use Rattle.stimulus.proofs.TraceLemmas.{closes}
+use Rattle.stimulus.proofs.sender.Tracer.close.Goals as goal
+
+pub returns-clause-given : goal.returns-clause-given
+returns-clause-given c = λ period mode given has.
+    let words = words_of c.args.program.now in
+    let kept = c.state.ensures.stands words period mode has.seen has.stands in
+    closes words period mode given c.args.self.now c.requires has c.finish.result.items
+    (c.finish.ensures.packets period mode has.seen (c.from_state.ensures.stands words period mode has.seen kept))
+
+pub returns-clause-profile : goal.returns-clause-profile
+returns-clause-profile c = λ period mode given has.
+    let words = words_of c.args.program.now in
+    let kept = c.state.ensures.stands words period mode has.seen has.stands in
+    c.finish.ensures.profile period mode has.seen (c.from_state.ensures.stands words period mode has.seen kept)
+    has.walked.passed.legal

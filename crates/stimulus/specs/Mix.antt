@@ -1,0 +1,73 @@
+-- The kinds of instructions of a mix.
+use Rattle.stimulus.specs.declared.mix.Bounds.{Bounds}
+use Rattle.stimulus.specs.declared.mix.Mix.{Mix}
+use Rattle.stimulus.specs.declared.mix.Mix.TheVariants.{Mixed, Branches, Jumps, Traps, Longest, Straight}
+
+-- Branches of 4 bytes.
+abbrev pub only_branches : Bounds
+only_branches = record {
+  short_plain = 0;
+  plain = 0;
+  branch = 256;
+  short_branch = 256;
+  jump = 256;
+  short_jump = 256;
+  computed = 256;
+  short_computed = 256;
+  mret = 256;
+  sret = 256;
+}
+
+-- Pairs of a plain instruction and a computed jump.
+abbrev pub only_jumps : Bounds
+only_jumps = record {
+  short_plain = 0;
+  plain = 0;
+  branch = 0;
+  short_branch = 0;
+  jump = 0;
+  short_jump = 0;
+  computed = 0;
+  short_computed = 256;
+  mret = 256;
+  sret = 256;
+}
+
+-- Plain instructions of both lengths.
+abbrev pub only_plain : Bounds
+only_plain = record {
+  short_plain = 128;
+  plain = 256;
+  branch = 256;
+  short_branch = 256;
+  jump = 256;
+  short_jump = 256;
+  computed = 256;
+  short_computed = 256;
+  mret = 256;
+  sret = 256;
+}
+
+-- All kinds.
+abbrev pub all_kinds : Bounds
+all_kinds = record {
+  short_plain = 56;
+  plain = 112;
+  branch = 160;
+  short_branch = 184;
+  jump = 196;
+  short_jump = 208;
+  computed = 220;
+  short_computed = 238;
+  mret = 246;
+  sret = 252;
+}
+
+-- Where each kind of instruction ends among the 256 values that choose the kind of a slot, in a program of this mix.
+abbrev pub bounds_of : Mix → Bounds
+bounds_of Mixed = all_kinds
+bounds_of Branches = only_branches
+bounds_of Jumps = only_jumps
+bounds_of Traps = all_kinds
+bounds_of Longest = all_kinds
+bounds_of Straight = only_plain

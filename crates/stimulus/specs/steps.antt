@@ -1,0 +1,3 @@
+-- What only private functions cite.
+pub mod Rows
+pub mod Sending

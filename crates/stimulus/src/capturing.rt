@@ -1,0 +1,239 @@
+//! Writing a capture in which the messages of many harts are mixed.
+
+ghost use Rattle.std.specs.Prelude.{ℕ, ◌≡◌, ◌≤◌, ◌<◌, IfErr, IfOk, List, [], OnOk, length};
+ghost use Rattle.rvclass.specs.Fetch.{words_of};
+ghost use Rattle.rvclass.specs.Image.{IsImage};
+ghost use Rattle.rvclass.specs.Words.{Words};
+ghost use Rattle.captures.specs.Versions.{MayStart};
+ghost use Rattle.message.specs.declared.message.Message.{Message as AnyMessage};
+ghost use Rattle.payload.specs.declared.mode.Mode.{Mode as AnyMode};
+ghost use Rattle.stimulus.specs.Mixed.{AppendsMixed, BeginsMixed, header_of};
+ghost use Rattle.stimulus.specs.steps.Sending.{AllBegun, AllSendMore, AreSent, IsClosed};
+
+use crate::mix::Mix;
+use crate::order::Order;
+use crate::sender::Sender;
+use crate::walk::Extent;
+use captures::write_start;
+use message::{MessageFault, Version};
+use payload::Mode;
+use retire::WriteFault;
+use rvclass::ProgramOver;
+use std::alloc::{AllocError, Allocator};
+use std::io::Write;
+
+/// What a capture is made of.
+#[derive(Clone, Copy, Debug, PartialEq, Eq)]
+pub struct Capture {
+    /// What the program does, and how the harts behave.
+    pub mix: Mix,
+    /// What all draws are decided by.
+    pub seed: u64,
+    /// How many harts there are, 1 to 1024, or to 64 in version 1.
+    pub harts: u16,
+    /// How many messages there are, but for those that close the traces.
+    pub messages: u64,
+    /// How many retirements come between two periodic synchronisations, 1 at least.
+    pub period: u16,
+    /// What the address fields hold.
+    pub mode: Mode,
+    /// The version of the format.
+    pub version: Version,
+    /// How many messages of one hart come one after another at most.
+    pub burst: u32,
+}
+
+/// Writes a capture of harts that run the program, whose messages are mixed as a path sees them: in bursts of one hart,
+/// harts of different weights, and some that close their traces before the others.
+///
+/// `messages` steps are drawn, and in each a hart sends one message; a hart with no event left sends none. When a trace
+/// closes, up to two messages come that are not counted. Memory is taken for what each hart keeps, and no list grows
+/// with the run. Where the writer fails, what was written is a prefix of a front of such a capture. The writer is not
+/// flushed.
+pub fn write_capture<A: Allocator + Copy, W: Write>(
+    alloc: A,
+    program: &ProgramOver,
+    asked: &Capture,
+    sink: &mut W,
+) -> Result<(), WriteFault>
+    requires period { 1 ≤ asked.now.period }
+    requires start { MayStart asked.now.version (header_of asked.now) }
+    ensures capture { OnOk result (AppendsMixed program.now asked.now.version (header_of asked.now)
+        (W.contents sink.old) (W.contents sink.new)) }
+    ensures begun { BeginsMixed program.now asked.now.version (header_of asked.now)
+        (W.contents sink.old) (W.contents sink.new) }
+{
+    let mut senders = senders_of(alloc, program, asked)?;
+    let mut order = Order::new(alloc, asked.seed, asked.harts, asked.burst)?;
+    match write_messages(program, asked, &mut senders, &mut order, sink) {
+        Ok(()) => Ok(()),
+        Err(_) => Err(WriteFault::Write),
+    }
+}
+
+/// The harts, none of which sent a message.
+fn senders_of<A: Allocator>(
+    alloc: A,
+    program: &ProgramOver,
+    asked: &Capture,
+) -> Result<Vec<Sender, A>, AllocError>
+    requires { 1 ≤ asked.now.period }
+    ensures senders { (words : Words) → IfOk result (λ senders.
+        AreSent words asked.now.period asked.now.mode asked.now.harts [] senders.items) }
+    ensures image { IsImage program.now }
+{
+    let extent = Extent::of(program);
+    let mut senders = Vec::new(alloc);
+    for hart in 0..asked.harts {
+        senders.push(Sender::new(extent, asked, hart))?;
+    }
+    Ok(senders)
+}
+
+/// Writes the header and the messages of harts that sent none.
+fn write_messages<A: Allocator, W: Write>(
+    program: &ProgramOver,
+    asked: &Capture,
+    senders: &mut Vec<Sender, A>,
+    order: &mut Order<A>,
+    sink: &mut W,
+) -> Result<(), MessageFault>
+    requires start { MayStart asked.now.version (header_of asked.now) }
+    requires image { IsImage program.now }
+    requires none { AreSent (words_of program.now) asked.now.period asked.now.mode asked.now.harts []
+        senders.old.items }
+    ensures capture { OnOk result (AppendsMixed program.now asked.now.version (header_of asked.now)
+        (W.contents sink.old) (W.contents sink.new)) }
+    ensures begun { BeginsMixed program.now asked.now.version (header_of asked.now)
+        (W.contents sink.old) (W.contents sink.new) }
+{
+    write_start(
+        sink,
+        asked.version,
+        asked.period,
+        asked.mode,
+        usize::from(asked.harts),
+    )?;
+    send_mixed(program, asked.messages, senders, order, sink)?;
+    finish_all(program, senders, sink)
+}
+
+/// Sends messages of harts as they are drawn, so many.
+fn send_mixed<A: Allocator, W: Write>(
+    program: &ProgramOver,
+    count: u64,
+    senders: &mut Vec<Sender, A>,
+    order: &mut Order<A>,
+    sink: &mut W,
+) -> Result<(), MessageFault>
+    ensures sent { (period : ℕ) (mode : AnyMode) (harts : ℕ) (messages : List AnyMessage)
+        → AreSent (words_of program.now) period mode harts messages senders.old.items
+        → OnOk result (AllSendMore (words_of program.now) period mode harts messages senders.new.items
+        (W.contents sink.old) (W.contents sink.new)) }
+    ensures begun { (period : ℕ) (mode : AnyMode) (harts : ℕ) (messages : List AnyMessage)
+        → AreSent (words_of program.now) period mode harts messages senders.old.items
+        → AllBegun (words_of program.now) period mode harts messages senders.new.items
+        (W.contents sink.old) (W.contents sink.new) }
+{
+    for _ in 0..count {
+        let turn = order.next();
+        finish_one(program, senders, turn.closing, sink)?;
+        send_one(program, senders, turn.hart, sink)?;
+    }
+    Ok(())
+}
+
+/// Sends a message of the hart of this number, if there is one.
+fn send_one<A: Allocator, W: Write>(
+    program: &ProgramOver,
+    senders: &mut Vec<Sender, A>,
+    hart: u16,
+    sink: &mut W,
+) -> Result<(), MessageFault>
+    ensures sent { (period : ℕ) (mode : AnyMode) (harts : ℕ) (messages : List AnyMessage)
+        → AreSent (words_of program.now) period mode harts messages senders.old.items
+        → OnOk result (AllSendMore (words_of program.now) period mode harts messages senders.new.items
+        (W.contents sink.old) (W.contents sink.new)) }
+    ensures begun { (period : ℕ) (mode : AnyMode) (harts : ℕ) (messages : List AnyMessage)
+        → AreSent (words_of program.now) period mode harts messages senders.old.items
+        → AllBegun (words_of program.now) period mode harts messages senders.new.items
+        (W.contents sink.old) (W.contents sink.new) }
+{
+    let place = usize::from(hart);
+    if place >= senders.len() {
+        return Ok(());
+    }
+    senders[place].send(program, sink)
+}
+
+/// Closes the trace of a hart, if one is given and there is such a hart.
+fn finish_one<A: Allocator, W: Write>(
+    program: &ProgramOver,
+    senders: &mut Vec<Sender, A>,
+    hart: Option<u16>,
+    sink: &mut W,
+) -> Result<(), MessageFault>
+    ensures sent { (period : ℕ) (mode : AnyMode) (harts : ℕ) (messages : List AnyMessage)
+        → AreSent (words_of program.now) period mode harts messages senders.old.items
+        → OnOk result (AllSendMore (words_of program.now) period mode harts messages senders.new.items
+        (W.contents sink.old) (W.contents sink.new)) }
+    ensures begun { (period : ℕ) (mode : AnyMode) (harts : ℕ) (messages : List AnyMessage)
+        → AreSent (words_of program.now) period mode harts messages senders.old.items
+        → AllBegun (words_of program.now) period mode harts messages senders.new.items
+        (W.contents sink.old) (W.contents sink.new) }
+{
+    let Some(hart) = hart else {
+        return Ok(());
+    };
+    let place = usize::from(hart);
+    if place >= senders.len() {
+        return Ok(());
+    }
+    finish_at(program, senders, place, sink)
+}
+
+/// Closes the trace of the hart of this number.
+fn finish_at<A: Allocator, W: Write>(
+    program: &ProgramOver,
+    senders: &mut Vec<Sender, A>,
+    place: usize,
+    sink: &mut W,
+) -> Result<(), MessageFault>
+    requires { place < length senders.old.items }
+    ensures sent { (period : ℕ) (mode : AnyMode) (harts : ℕ) (messages : List AnyMessage)
+        → AreSent (words_of program.now) period mode harts messages senders.old.items
+        → OnOk result (AllSendMore (words_of program.now) period mode harts messages senders.new.items
+        (W.contents sink.old) (W.contents sink.new)) }
+    ensures begun { (period : ℕ) (mode : AnyMode) (harts : ℕ) (messages : List AnyMessage)
+        → AreSent (words_of program.now) period mode harts messages senders.old.items
+        → AllBegun (words_of program.now) period mode harts messages senders.new.items
+        (W.contents sink.old) (W.contents sink.new) }
+    ensures closed { OnOk result (IsClosed place senders.new.items) }
+    ensures others { (other : ℕ) → IsClosed other senders.old.items → OnOk result (IsClosed other senders.new.items) }
+    ensures count { length senders.new.items ≡ length senders.old.items }
+{
+    senders[place].finish(program, sink)
+}
+
+/// Closes the traces of all harts.
+fn finish_all<A: Allocator, W: Write>(
+    program: &ProgramOver,
+    senders: &mut Vec<Sender, A>,
+    sink: &mut W,
+) -> Result<(), MessageFault>
+    ensures sent { (period : ℕ) (mode : AnyMode) (harts : ℕ) (messages : List AnyMessage)
+        → AreSent (words_of program.now) period mode harts messages senders.old.items
+        → OnOk result (AllSendMore (words_of program.now) period mode harts messages senders.new.items
+        (W.contents sink.old) (W.contents sink.new)) }
+    ensures begun { (period : ℕ) (mode : AnyMode) (harts : ℕ) (messages : List AnyMessage)
+        → AreSent (words_of program.now) period mode harts messages senders.old.items
+        → AllBegun (words_of program.now) period mode harts messages senders.new.items
+        (W.contents sink.old) (W.contents sink.new) }
+    ensures closed { (hart : ℕ) → hart < length senders.new.items
+        → OnOk result (IsClosed hart senders.new.items) }
+{
+    for place in 0..senders.len() {
+        finish_at(program, senders, place, sink)?;
+    }
+    Ok(())
+}

@@ -1,0 +1,66 @@
+//! Writing the log of a hart.
+
+ghost use Rattle.std.specs.Prelude.{[], IfOk};
+ghost use Rattle.rvclass.specs.Fetch.{words_of};
+ghost use Rattle.stimulus.specs.Walked.{HasWalked};
+ghost use Rattle.stimulus.specs.Written.{BeginsLog, WritesLog};
+ghost use Rattle.stimulus.specs.steps.Rows.{AddsRows, BeginsRows};
+
+use crate::hart::Hart;
+use crate::mix::Mix;
+use crate::walk::Extent;
+use retire::{LOG_ROOM, WriteFault, begin_log_in, end_log_in, write_rows_in};
+use rvclass::ProgramOver;
+use std::alloc::Allocator;
+use std::io::Write;
+
+/// Writes the log of the hart of this number that runs the program: the line of the header and so many rows, or fewer
+/// where [`Hart::next_event`] returns no event more. Returns how many rows were written.
+///
+/// The rows are written through a buffer of 64 kB, and no list holds the events. Where the writer fails, what was
+/// written is a prefix of the text. The writer is not flushed.
+pub fn write_log<A: Allocator, W: Write>(
+    alloc: A,
+    program: &ProgramOver,
+    mix: Mix,
+    seed: u64,
+    number: u16,
+    events: u32,
+    sink: &mut W,
+) -> Result<u32, WriteFault>
+    ensures written { IfOk result (λ count. WritesLog program.now events count
+        (W.contents sink.old) (W.contents sink.new)) }
+    ensures begun { BeginsLog program.now events (W.contents sink.old) (W.contents sink.new) }
+{
+    let extent = Extent::of(program);
+    let mut room = Vec::with_capacity(alloc, LOG_ROOM)?;
+    let mut hart = Hart::within(extent, mix, seed, number);
+    begin_log_in(&mut room)?;
+    let count = write_events(program, &mut hart, events, &mut room, sink)?;
+    end_log_in(&mut room, sink)?;
+    Ok(count)
+}
+
+/// Goes on with the rows of the hart's first events, at most so many. Returns how many there are.
+fn write_events<A: Allocator, W: Write>(
+    program: &ProgramOver,
+    hart: &mut Hart,
+    events: u32,
+    room: &mut Vec<u8, A>,
+    sink: &mut W,
+) -> Result<u32, WriteFault>
+    requires { HasWalked (words_of program.now) [] hart.old }
+    ensures rows { IfOk result (λ count. AddsRows (words_of program.now) events count room.old.items room.new.items
+        (W.contents sink.old) (W.contents sink.new)) }
+    ensures begun { BeginsRows (words_of program.now) events room.old.items (W.contents sink.old)
+        (W.contents sink.new) }
+{
+    for count in 0..events {
+        let Some(event) = hart.next_event(program) else {
+            return Ok(count);
+        };
+        let next = [event];
+        write_rows_in(room, sink, &next)?;
+    }
+    Ok(events)
+}
