@@ -17,7 +17,6 @@ mod held;
 mod instruction;
 mod laws;
 mod memory;
-mod memory_laws;
 mod offset;
 mod part;
 mod piece_fault;
@@ -31,12 +30,12 @@ pub use class::{Class, Return};
 pub use fault::ProgramFault;
 pub use fetched::Fetched;
 pub use instruction::Instruction;
-pub use laws::{cut_pieces_have_the_instructions_of_one, the_bytes_decide_the_instructions};
-pub use memory::Memory;
-pub use memory_laws::{
-    added_pieces_leave_the_others, cut_pieces_act_as_one, cut_pieces_stay_legal,
-    even_addresses_have_places, one_piece_is_an_image, pieces_are_refused_for_the_first_reason,
-    pieces_overlap_at_an_address, the_bytes_decide, the_order_of_adding_is_free,
+pub use laws::{
+    added_pieces_leave_the_others, cut_pieces_act_as_one, cut_pieces_have_the_instructions_of_one,
+    cut_pieces_stay_legal, even_addresses_have_places, one_piece_is_an_image,
+    pieces_are_refused_for_the_first_reason, pieces_overlap_at_an_address, the_bytes_decide,
+    the_bytes_decide_the_instructions, the_order_of_adding_is_free,
 };
+pub use memory::Memory;
 pub use piece_fault::PieceFault;
 pub use program::{Program, ProgramOver};

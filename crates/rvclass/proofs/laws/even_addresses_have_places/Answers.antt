@@ -1,7 +1,7 @@
 -- The places are counted by lemmas.
 use Rattle.std.proofs.Common.{arith}
 use Rattle.rvclass.proofs.HalvesLemmas.{below_halves, below_higher, halves_few, second_byte}
-use Rattle.rvclass.proofs.memory_laws.even_addresses_have_places.Goals as goal
+use Rattle.rvclass.proofs.laws.even_addresses_have_places.Goals as goal
 
 pub returns-clause-rising : goal.returns-clause-rising
 returns-clause-rising c = λ m addr other memory even also two less.
