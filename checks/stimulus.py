@@ -2,13 +2,20 @@
 
     python3 checks/stimulus.py image SEED MIX
     python3 checks/stimulus.py log SEED MIX HART EVENTS
-    python3 checks/stimulus.py kinds SEED MIX EVENTS
+    python3 checks/stimulus.py capture SEED MIX HARTS MESSAGES PERIOD full|diff BURST
     python3 checks/stimulus.py cases
+    python3 checks/stimulus.py runs
+    python3 checks/stimulus.py table
 
-The first two write images and logs at base 80000000. The third counts what comes in a log. The last writes the lines of
-crates/stimulus_vectors/data/stimuli.cases that have sums.
+The first three write images, logs and captures of version 2, at base 80000000. The fourth writes the lines of
+crates/path_vectors/data/stimuli.cases that have an answer, and the fifth the runs with an output of
+crates/transcripts/data/generate.transcript. The last writes the table of docs/FORMATS.md of what comes in the first 20,000
+events.
 """
+import itertools
 import sys
+
+import wire
 
 MASK = (1 << 64) - 1
 SLOTS = 1024
@@ -154,8 +161,8 @@ def events(mix, seed, hart, count, base=0x80000000):
 
     place, free = land(), True
     now = level(3)
-    for _ in range(count):
-        target, leads, trap = None, None, None
+    for _ in range(count) if count is not None else itertools.count():
+        target, trap = None, None
         if draw() % 65536 < (nested if free else traps):
             word = draw()
             epc = number(63) & ~1 if free and word // 256 % 2 == 0 else place
@@ -198,6 +205,174 @@ def row(event):
     return "%x,%x,%x,%x,%s\n" % (epc, itype, privilege, cause, "" if itype == 2 else "%x" % value)
 
 
+RETURNS = ("computed", "mret", "sret")
+COUNT = 20000  # how many events of a log are looked at
+KINDS_OF_PACKETS = ("support", "sync", "trap", "address", "updiscon", "notify", "map")
+
+
+class Sender:
+    """A hart that sends the packets of its trace, each as its kind and its payload, as soon as it is known."""
+
+    def __init__(self, mix, seed, hart, period, full, base=0x80000000):
+        self.at, self.period, self.full = program(mix, seed, base), period, full
+        self.events = events(mix, seed, hart, None, base)
+        self.before = self.event = None  # each an event and its class
+        self.number, self.outcomes, self.reported = -1, [], 0
+        self.has_handler = self.is_handler = self.is_explicit = False
+        self.taken = None  # how many events were taken; None before the trace is opened
+
+    def send(self):
+        """The next packet: Open, or that of the first event that has one."""
+        if self.taken is None:
+            self.taken = 0
+            return "support", wire.OPEN_FULL if self.full else wire.OPEN
+        packet = None
+        while not packet:
+            packet = self.take(next(self.events))
+        return packet
+
+    def close(self):
+        """The packets that are left, and the one that closes the trace."""
+        opened = [] if self.taken is not None else [self.send()]
+        last = [self.decide(None)] if self.event else []
+        closing = wire.ENDED_REP if self.is_explicit else wire.ENDED_NTR
+        return opened + [each for each in last if each] + [("support", closing)]
+
+    def take(self, after):
+        packet = self.decide(after) if self.event else None
+        self.taken += 1
+        self.before, self.event = self.event, after
+        self.is_handler, self.has_handler = self.has_handler, False
+        if after[1] == "trap":
+            return packet
+        self.number += 1
+        if after[1] == "branch":
+            self.outcomes.append(after[0][1] == 4)
+        return self.trap(self.before[0], after[0]) if self.is_handler else packet
+
+    def starts(self, number, before, level):
+        return not before or before[1] == "trap" or before[0][2] != level or number % self.period == 0
+
+    def decide(self, after):
+        """The packet of the last event, if it has one, where this comes after it."""
+        event, before = self.event, self.before
+        self.is_explicit = False
+        if event[1] == "trap":
+            leads = before and before[1] not in ("trap", *RETURNS)
+            self.has_handler = bool(leads and after and after[1] != "trap")
+            return None if self.has_handler else self.trap(event[0], None)
+        place, itype, level = event[0]
+        if self.is_handler:
+            return None
+        if self.starts(self.number, before, level):
+            self.outcomes, self.reported = [], place
+            return "sync", wire.spell([(2, 3), (2, 0), (1, itype != 5), (2, level), (63, place >> 1)])
+        is_cut = after and (after[1] == "trap" or self.starts(self.number + 1, event, after[0][2]))
+        if before[1] in RETURNS:
+            return self.address(place, "updiscon" if is_cut else "address")
+        if is_cut or not after:
+            self.is_explicit = True
+            return self.address(place, "address")
+        if event[1] == "jump" and self.at[place][2] <= place:
+            return self.address(place, "notify")
+        return ("map", wire.spell(self.outcomes_as(0))) if len(self.outcomes) == 31 else None
+
+    def outcomes_as(self, count):
+        """The fields of the outcomes, said to be so many. They are then reported."""
+        outcomes, self.outcomes = self.outcomes, []
+        width = next(width for width in (1, 3, 7, 15, 31) if len(outcomes) <= width)
+        return [(2, 1), (5, count), (width, sum(bit << at for at, bit in enumerate(outcomes)))]
+
+    def address(self, place, kind):
+        held, self.reported = place if self.full else place - self.reported & MASK, place
+        front = self.outcomes_as(len(self.outcomes)) if self.outcomes else [(2, 2)]
+        notify = held >> 63 ^ (kind == "notify")
+        updiscon = notify ^ (kind == "updiscon")
+        return kind, wire.spell(front + [(63, held >> 1), (1, notify), (1, updiscon), (1, updiscon)])
+
+    def trap(self, trap, handler):
+        """The packet of a trap, with the retirement of its handler or without."""
+        epc, itype, level, cause, value = trap
+        place, level, taken = (handler[0], handler[2], handler[1] == 5) if handler else (epc, level, False)
+        self.outcomes, self.reported = [], place
+        return "trap", wire.spell([(2, 3), (2, 1), (1, not taken), (2, level), (6, cause), (1, itype == 2),
+                                   (1, bool(handler)), (63, place >> 1)] + [(64, value)] * (itype == 1))
+
+
+def capture(mix, seed, harts, messages, period=1024, full=False, burst=16):
+    """The pieces of a capture, in order: its header, and its messages."""
+    senders = [Sender(mix, seed, hart, period, full) for hart in range(harts)]
+    numbers = [itertools.count() for _ in senders]
+
+    def sent(hart, packets):
+        return b"".join(wire.message(hart, next(numbers[hart]), payload) for _, payload in packets)
+
+    draw = Pcg32(seed, 0x8000).draw
+    listed = [hart for hart in range(harts) for _ in range(draw() % 4 + 1)]
+    ended, hart, left, ending = set(), 0, 0, min(max(messages // 16, 256), 0xFFFFFFFF)
+    yield wire.header(harts, period, int(full))
+    for _ in range(messages):
+        if left:
+            left -= 1
+        else:
+            if draw() % ending == 0 and set(listed) != {hart}:
+                yield sent(hart, senders[hart].close())
+                ended.add(hart)
+                listed = [other for other in listed if other != hart]
+            hart = listed[draw() % len(listed)]
+            left = draw() % burst
+        yield sent(hart, [senders[hart].send()])
+    for hart, sender in enumerate(senders):
+        if hart not in ended:
+            yield sent(hart, sender.close())
+
+
+def comes(mix, seed, period, full, count=COUNT):
+    """The kinds of the packets of the first events of hart 0, and the lengths of their payloads."""
+    sender = Sender(mix, seed, 0, period, full)
+    packets = [sender.send()]
+    for event in itertools.islice(sender.events, count):
+        packets.append(sender.take(event))
+    packets = [each for each in packets if each] + sender.close()
+    return {kind for kind, _ in packets}, {len(payload) for _, payload in packets}
+
+
+def spans(lengths):
+    """Numbers as spans: `1 to 6, 9`."""
+    said = []
+    for _, group in itertools.groupby(enumerate(sorted(lengths)), lambda each: each[1] - each[0]):
+        own = [length for _, length in group]
+        said.append(str(own[0]) if len(own) == 1 else f"{own[0]} to {own[-1]}")
+    return ", ".join(said)
+
+
+def table():
+    """For each mix a row: what comes in the first events of hart 0 of each of the seeds 1 to 5."""
+    print("| Mix | Classes and traps | Levels | Packets | Lengths of payloads, differential | full |")
+    print("|---|---|---|---|---|---|")
+    for mix in SLOTS_OF:
+        classes, levels, kinds, lengths = [], [], [], {False: [], True: []}
+        for seed in range(1, 6):
+            seen = list(events(mix, seed, 0, COUNT))
+            at = program(mix, seed, 0x80000000)
+            classes.append({{2: "interrupt", 1: "exception"}.get(event[1], name) for event, name in seen} | {
+                "call" for event, _ in seen if event[1] == 1 and (*at.get(event[0], " ")[:1], event[3]) == ("call", 8 + event[2])})
+            levels.append({"USSM"[event[2]] for event, _ in seen})
+            for full in lengths:
+                came = comes(mix, seed, 64, full)
+                kinds.append(came[0])
+                lengths[full].append(came[1])
+        cells = [", ".join(name for name in order if name in set.intersection(*found)) for order, found in (
+            (("plain", "branch", "jump", "computed", "mret", "sret", "call", "exception", "interrupt"), classes),
+            ("USM", levels), (KINDS_OF_PACKETS, kinds))]
+        cells[1] = cells[1] or "one"
+        print(f"| `{mix}` |", " | ".join(cells + [spans(set.intersection(*lengths[full])) for full in lengths]), "|")
+
+
+def answer(kinds, lengths):
+    return " ".join([kind for kind in KINDS_OF_PACKETS if kind in kinds] + [str(length) for length in sorted(lengths)])
+
+
 def sum_of(data):
     """FNV-1a of 64 bits."""
     total = 0xCBF29CE484222325
@@ -206,8 +381,8 @@ def sum_of(data):
     return "%d %d" % (len(data), total)
 
 
-def log(mix, seed, hart, count):
-    return HEADER + "".join(row(event) for event, _ in events(mix, seed, hart, count))
+def log(mix, seed, hart, count, base=0x80000000):
+    return HEADER + "".join(row(event) for event, _ in events(mix, seed, hart, count, base))
 
 
 def cases():
@@ -218,23 +393,68 @@ def cases():
         for seed in range(1, 6):
             print("log-sum", mix, seed, 0, 20000, "->", sum_of(log(mix, seed, 0, 20000).encode()))
         print("log-sum", mix, MASK, 1023, 2000, "->", sum_of(log(mix, MASK, 1023, 2000).encode()))
+    for asked in ("mixed", 6, 7, 1000), ("traps", 1234567890123, 512, 1000):
+        print("log-sum", *asked, "->", sum_of(log(*asked).encode()))
+    for mix in SLOTS_OF:
+        for seed, mode in itertools.product(range(1, 6), ("diff", "full")):
+            print("log-comes", mix, seed, COUNT, 64, mode, "->", answer(*comes(mix, seed, 64, mode == "full")))
+    captures = [(mix, seed, 4, 3000, 64, False, 16) for mix in SLOTS_OF for seed in range(1, 4)]
+    captures += [("mixed", 2, 4, 20000, 64, False, 1), ("mixed", 1, 1, 100, 1, True, 1), ("mixed", 1, 1024, 2000, 1024, True, 3), ("mixed", 1, 2, 0, 64, False, 16)]
+    captures += [("mixed", 77, 5, 6000, 1024, True, 16)]
+    for asked in captures:
+        *words, full, burst = asked
+        print("mixed-capture", *words, "full" if full else "diff", burst, "->", sum_of(b"".join(capture(*asked))))
+
+
+def runs():
+    """Runs of `generate` with what they print, in the form of transcripts."""
+    def log_run(words, mix, seed, hart, count, base=0x80000000):
+        print(f"$ tracebench generate log{words} --events {count}")
+        print("> " + log(mix, seed, hart, count, base).rstrip("\n").replace("\n", "\n> "))
+
+    def capture_run(words, mix, seed, harts, count, has_header=True, **settings):
+        print(f"$ tracebench generate capture{words} --messages {count}")
+        made = b"".join(capture(mix, seed, harts, count, **settings))
+        if has_header:
+            print(">=", made[:16].hex())
+        for _, message in wire.messages(made, 16):
+            hart, number = (int.from_bytes(part, "little") for part in (message[:2], message[2:10]))
+            print(">~", hart, number, message[11:].hex())
+
+    for seed in 1, 2, 3:
+        words = f" --seed {seed}" * (seed > 1)
+        print(f"$ tracebench generate image{words}")
+        made = image("mixed", seed)
+        for at in range(0, len(made), 64):
+            print(">=", made[at:at + 64].hex())
+        log_run(words, "mixed", seed, 0, 12)
+        capture_run(f"{words} --harts 3 --burst 4", "mixed", seed, 3, 24, burst=4)
+    for mix in SLOTS_OF:
+        log_run(f" --mix {mix} --hart 1023 --base 7ffffffffffff000", mix, 1, 1023, 4, 0x7FFFFFFFFFFFF000)
+        capture_run(f" --mix {mix} --full --period 2", mix, 1, 1, 6, period=2, full=True)
+    log_run(" --hart 5 --seed 77", "mixed", 77, 5, 3)
+    capture_run(" --harts 2", "mixed", 1, 2, 60)
+    capture_run(" --v1 --harts 64 --burst 1", "mixed", 1, 64, 3, has_header=False, burst=1)
+    capture_run(f" --seed {MASK} --harts 2 --burst 65535 --period 65535", "mixed", MASK, 2, 4, period=65535, burst=65535)
 
 
 def main(what, seed=0, mix="mixed", *rest):
     seed = int(seed)
     if what == "cases":
         return cases()
+    if what == "runs":
+        return runs()
+    if what == "table":
+        return table()
     if what == "image":
         sys.stdout.buffer.write(image(mix, seed))
     elif what == "log":
         hart, count = map(int, rest)
         sys.stdout.write(log(mix, seed, hart, count))
     else:
-        counts = {}
-        for event, name in events(mix, seed, 0, int(rest[0])):
-            for key in (name, "level %d" % event[2], "type %d" % event[1]):
-                counts[key] = counts.get(key, 0) + 1
-        print(mix, seed, dict(sorted(counts.items())))
+        harts, messages, period, mode, burst = rest
+        pieces = capture(mix, seed, int(harts), int(messages), int(period), mode == "full", int(burst))
+        sys.stdout.buffer.writelines(pieces)
     return None
 
 

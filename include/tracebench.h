@@ -4,8 +4,7 @@
  * A slice is a pointer and the number of elements from there on. What every caller owes: no pointer is null, also
  * where the slice has no element; what a call is given to write overlaps nothing else that it is given; no call is
  * made in a signal handler, or in a forked child of a process with threads. Several threads may call at once, where
- * none of them writes what another is given. A call keeps nothing: what is kept of a log or a trace is a struct of the
- * caller's.
+ * none of them writes what another is given. A call keeps nothing: the state of a log or trace is the caller's struct.
  *
  * Each call returns a status. TRACEBENCH_DONE says that an answer is written, not that it is a good one: that is in
  * `fault`, `bad`, `closed` and `whole`. With another status nothing is written but what the call names. Bytes go into
@@ -106,7 +105,8 @@ enum tracebench_status {
 #undef TRACEBENCH_NUMBER
 };
 
-/* A status as text, and "no status" for another number. The text is never null, and stays. */
+/* A status as text, and "no status" for another number. The text is never null, and stays.
+ *     if (status != TRACEBENCH_DONE) puts(tracebench_status_text(status)); */
 static inline const char *tracebench_status_text(uint32_t status) {
     switch (status) {
 #define TRACEBENCH_CASE(name, number, text) case number: return text;
@@ -116,7 +116,8 @@ static inline const char *tracebench_status_text(uint32_t status) {
     }
 }
 
-/* Writes the version of the library as text, without a 0: tracebench_version(version, sizeof version, &length). */
+/* Writes the version of the library as text, without a 0.
+ *     status = tracebench_version(version, sizeof version, &wanted); */
 uint32_t tracebench_version(uint8_t *buffer, size_t buffer_length, size_t *wanted);
 
 /* The program: pieces of its image. */
@@ -204,8 +205,7 @@ uint32_t tracebench_unpack(const uint8_t *payload, size_t payload_length, struct
 #define TRACEBENCH_TRAP_TAKEN 1u /* an exception or an interrupt was taken */
 
 /* An event as numbers. What an event of this kind does not have is 0: of a retirement the cause, the interrupt and the
- * trap value, of a trap the type. The other numbers may be any; tracebench_check_events says whether a log may have
- * them. */
+ * trap value, of a trap the type. The others may be any; tracebench_check_events says whether a log may have them. */
 struct tracebench_event {
     uint32_t kind;     /* TRACEBENCH_RETIREMENT or TRACEBENCH_TRAP_TAKEN */
     uint8_t itype;     /* of a retirement: 0 for none of the others, 3 for a return from a trap, 4 for a branch not
@@ -262,7 +262,8 @@ uint32_t tracebench_push_all(const struct tracebench_piece *pieces, size_t piece
                              size_t *taken, size_t *count);
 
 /* Takes one event as tracebench_push_all does, or with another status than TRACEBENCH_DONE writes nothing but `*count`,
- * which is 2 with TRACEBENCH_TOO_SMALL: a buffer for two packets is always large enough. */
+ * which is 2 with TRACEBENCH_TOO_SMALL: a buffer for two packets is always large enough.
+ *     status = tracebench_push(&program, 1, &state, &event, packets, 2, &count); */
 static inline uint32_t tracebench_push(const struct tracebench_piece *pieces, size_t pieces_length,
                                        struct tracebench_encoder_state *state, const struct tracebench_event *event,
                                        struct tracebench_packet *packets, size_t packets_length, size_t *count) {
@@ -310,7 +311,8 @@ static inline uint32_t tracebench_follow(const struct tracebench_piece *pieces, 
 }
 
 /* As tracebench_push, where the event is legal after the one that the state holds. Where it is not, the status says
- * why, as tracebench_follow does, and nothing is written: the next call may hand in another event. */
+ * why, as tracebench_follow does, and nothing is written: the next call may hand in another event.
+ *     status = tracebench_push_checked(&program, 1, &state, &event, packets, 2, &count); */
 static inline uint32_t tracebench_push_checked(const struct tracebench_piece *pieces, size_t pieces_length,
                                                struct tracebench_encoder_state *state,
                                                const struct tracebench_event *event,
@@ -353,7 +355,8 @@ struct tracebench_decoder_state {
     struct tracebench_event last; /* the last event */
 };
 
-/* Writes the state of a decoder before the first packet: tracebench_decoder(&state). */
+/* Writes the state of a decoder before the first packet.
+ *     tracebench_decoder(&state); */
 void tracebench_decoder(struct tracebench_decoder_state *state);
 
 /* Takes the next payloads of a trace, and writes the events that they settle, the oldest first. `payloads` holds the
@@ -420,7 +423,8 @@ static inline uint32_t tracebench_feed(const struct tracebench_piece *pieces, si
  * waits, forgets the last event, and passes over packets until a sync comes: that begins a stretch, which the caller
  * keeps apart from the events before. Addresses are read in the mode that the packet announced which opened the trace;
  * where that packet did not come, in `mode`. Else nothing has changed: TRACEBENCH_BAD_STATE, TRACEBENCH_OUT_OF_RANGE
- * where the mode is none, or for the number as tracebench_receive. */
+ * where the mode is none, or for the number as tracebench_receive.
+ *     status = tracebench_resume(&hart, number, TRACEBENCH_DIFFERENTIAL); */
 uint32_t tracebench_resume(struct tracebench_hart_state *hart, uint64_t number, uint32_t mode);
 
 /* Messages and headers: the bytes of a capture, one part at a time. */
@@ -510,7 +514,9 @@ uint32_t tracebench_encode(const struct tracebench_piece *pieces, size_t pieces_
 
 /* Writes the table of what the logs of harts cost, as `tracebench measure` prints it: how many packets of each kind
  * they give at the period and in the mode, and how many bytes. Logs, statuses and `*place` are those of
- * tracebench_encode, of 1 to 1,024 logs. */
+ * tracebench_encode, of 1 to 1,024 logs.
+ *     status = tracebench_measure(&program, 1, logs, logs_length, ends, 2, 1024, TRACEBENCH_DIFFERENTIAL, text,
+ *                                 sizeof text, &wanted, &place); */
 uint32_t tracebench_measure(const struct tracebench_piece *pieces, size_t pieces_length, const uint8_t *logs,
                             size_t logs_length, const size_t *ends, size_t ends_length, uint16_t period,
                             uint32_t mode, uint8_t *buffer, size_t buffer_length, size_t *wanted,
@@ -560,8 +566,7 @@ struct tracebench_decode_all_end {
  * them. `ends` says of each hart where its text ends. The harts are those that the capture's header counts, or without
  * a header those below `harts`. TRACEBENCH_TOO_SMALL comes where `buffer` has fewer than `*wanted` bytes or `ends`
  * fewer than `ended->harts` elements; then neither is written to, but `*ended` is.
- *     status = tracebench_decode_all(&program, 1, 1, capture, length, text, text_length, &wanted, ends, 1024, &ended);
- */
+ *     status = tracebench_decode_all(&program, 1, 1, capture, length, text, room, &wanted, ends, 1024, &ended); */
 uint32_t tracebench_decode_all(const struct tracebench_piece *pieces, size_t pieces_length, uint16_t harts,
                                const uint8_t *capture, size_t capture_length, uint8_t *buffer, size_t buffer_length,
                                size_t *wanted, struct tracebench_hart_end *ends, size_t ends_length,
@@ -583,9 +588,10 @@ struct tracebench_text_end {
 
 /* Writes the listing of a capture, as `tracebench list` prints it: a line for each message, with its packet and the
  * events that it settles. Places are named by the symbols, which are lines as nm prints them, if there are any. The
- * harts are those of tracebench_decode_all. `*ended` is written, unless the status is TRACEBENCH_OUT_OF_RANGE where
- * the format is none, TRACEBENCH_MEMORY, what is wrong with the pieces, TRACEBENCH_NO_SYMBOL or
- * TRACEBENCH_SYMBOLS_TOO_LARGE. */
+ * harts are those of tracebench_decode_all. `*ended` is written, unless the status is TRACEBENCH_OUT_OF_RANGE for the
+ * format, TRACEBENCH_MEMORY, what is wrong with the pieces, TRACEBENCH_NO_SYMBOL or TRACEBENCH_SYMBOLS_TOO_LARGE.
+ *     status = tracebench_list(&program, 1, 1, capture, length, symbols, symbols_length, TRACEBENCH_TEXT, text,
+ *                              sizeof text, &wanted, &ended); */
 uint32_t tracebench_list(const struct tracebench_piece *pieces, size_t pieces_length, uint16_t harts,
                          const uint8_t *capture, size_t capture_length, const uint8_t *symbols, size_t symbols_length,
                          uint32_t format, uint8_t *buffer, size_t buffer_length, size_t *wanted,
@@ -600,7 +606,9 @@ uint32_t tracebench_list(const struct tracebench_piece *pieces, size_t pieces_le
  * the highest hart of a message, hart 0 at least. Statuses are those of tracebench_list. In `*ended` `place` is 0, and
  * `fault` is TRACEBENCH_SHORT or TRACEBENCH_BAD_HEADER where the capture begins as one of version 2 does and its
  * header is cut short or bad. `whole` is 1 if and only if `fault` is 0, each hart is closed, no number is missing,
- * bad, doubtful or alone, no message is of another hart, and each byte belongs to a message. */
+ * bad, doubtful or alone, no message is of another hart, and each byte belongs to a message.
+ *     status = tracebench_salvage(&program, 1, TRACEBENCH_HARTS_SHOWN, capture, length, TRACEBENCH_SUMMARY, text,
+ *                                 sizeof text, &wanted, &ended); */
 uint32_t tracebench_salvage(const struct tracebench_piece *pieces, size_t pieces_length, uint16_t harts,
                             const uint8_t *capture, size_t capture_length, uint32_t format, uint8_t *buffer,
                             size_t buffer_length, size_t *wanted, struct tracebench_text_end *ended);
@@ -608,7 +616,9 @@ uint32_t tracebench_salvage(const struct tracebench_piece *pieces, size_t pieces
 /* Writes what tracebench_salvage does with each message of a capture, as `tracebench list --salvage` prints it: where
  * the message is, what it says, and whether it adds events, is passed over, a copy, doubtful, alone, bad or a
  * stranger; and where bytes belong to no message. Symbols, formats and statuses are those of tracebench_list,
- * messages, `harts` and `*ended` those of tracebench_salvage. The messages are worked through twice. */
+ * messages, `harts` and `*ended` those of tracebench_salvage. The messages are worked through twice.
+ *     status = tracebench_list_salvaged(&program, 1, TRACEBENCH_HARTS_SHOWN, capture, length, symbols, 0,
+ *                                       TRACEBENCH_CSV, text, sizeof text, &wanted, &ended); */
 uint32_t tracebench_list_salvaged(const struct tracebench_piece *pieces, size_t pieces_length, uint16_t harts,
                                   const uint8_t *capture, size_t capture_length, const uint8_t *symbols,
                                   size_t symbols_length, uint32_t format, uint8_t *buffer, size_t buffer_length,
@@ -618,7 +628,9 @@ uint32_t tracebench_list_salvaged(const struct tracebench_piece *pieces, size_t 
  * a hart's line. `logs` and `ends` are those of tracebench_encode, and the harts those of tracebench_decode_all.
  * `*ended` is written; or `*place` where the status is TRACEBENCH_UNEQUAL_COUNTS, as there is not a log for each hart,
  * TRACEBENCH_MEMORY, says what is wrong with the pieces, or is of the first log that is no legal log, as with
- * tracebench_encode. */
+ * tracebench_encode.
+ *     status = tracebench_compare(&program, 1, 2, capture, length, logs, logs_length, ends, 2, text, sizeof text,
+ *                                 &wanted, &ended, &place); */
 uint32_t tracebench_compare(const struct tracebench_piece *pieces, size_t pieces_length, uint16_t harts,
                             const uint8_t *capture, size_t capture_length, const uint8_t *logs, size_t logs_length,
                             const size_t *ends, size_t ends_length, uint8_t *buffer, size_t buffer_length,
@@ -655,6 +667,8 @@ struct tracebench_hart_row {
     uint64_t runs;                 /* in how many longest runs its lost numbers are */
     uint64_t longest;              /* how many numbers the longest of these runs has; 0 where none is lost */
     uint64_t latest;               /* the most by which a message of the hart is late; 0 where none is */
+    uint64_t exchanged;            /* how many that are not true are another hart's: 8 at least, most of them; or 0 */
+    uint64_t exchanged_hart;       /* the other hart; 0 where there is none */
 };
 
 /* A message of RECEIVED that is taken, and what became of it. Its place is that in the array, from 0 on. */

@@ -33,7 +33,7 @@ static_assert(sizeof(struct tracebench_decoder_state) == 72, "the bits of decode
 static_assert(sizeof(struct tracebench_hart_state) == 80, "the bits of hart_state_t");
 static_assert(sizeof(struct tracebench_message) == 40, "the bits of message_t");
 static_assert(sizeof(struct tracebench_header) == 8, "the bits of header_t");
-static_assert(sizeof(struct tracebench_hart_row) == 88, "the bits of hart_row_t");
+static_assert(sizeof(struct tracebench_hart_row) == 104, "the bits of hart_row_t");
 static_assert(sizeof(struct tracebench_arrival) == 32, "the bits of arrival_t");
 static_assert(sizeof(struct tracebench_lost_run) == 24, "the bits of lost_run_t");
 static_assert(sizeof(struct tracebench_byte_run) == 16, "the bits of byte_run_t");

@@ -21,7 +21,8 @@ def for_bash(subcommands):
     values = sorted({each.spelled().split()[0] for one in subcommands for each in one.options()
                      if each.value and not each.is_file()})
     options = "".join(
-        f"    {one.name}) options=\"{' '.join([f'--{each.name}' for each in one.options()] + ['--help'])}\" ;;\n"
+        f"    {one.name}) options=\"{' '.join([f'--{each.name}' for each in one.options()] + ['--help'])}\""
+        + "".join(f" words=\"{' '.join(each.words())}\"" for each in one.files() if each.words()) + " ;;\n"
         for one in subcommands)
     return f"""# shellcheck shell=bash
 # Completion of tracebench for bash, {MADE}.
@@ -33,7 +34,7 @@ _tracebench_files() {{
 
 _tracebench() {{
     local current=${{COMP_WORDS[COMP_CWORD]}} previous=${{COMP_WORDS[COMP_CWORD - 1]}}
-    local subcommands="{names}" options=""
+    local subcommands="{names}" options="" words=""
     if ((COMP_CWORD == 1)); then
         mapfile -t COMPREPLY < <(compgen -W "$subcommands help --help --version" -- "$current")
         return
@@ -56,7 +57,13 @@ _tracebench() {{
     esac
     case $current in
     -*) mapfile -t COMPREPLY < <(compgen -W "$options" -- "$current") ;;
-    *) _tracebench_files "$current" ;;
+    *)
+        if [[ $words ]]; then
+            mapfile -t COMPREPLY < <(compgen -W "$words" -- "$current")
+        else
+            _tracebench_files "$current"
+        fi
+        ;;
     esac
 }}
 
@@ -67,7 +74,8 @@ complete -F _tracebench tracebench
 def zsh_argument(argument, place):
     """The form of `_arguments` for an argument, the file at this place."""
     if not argument.is_option:
-        return quoted(f"{'*' if argument.is_many else place}:{argument.name}:_files")
+        action = f"({' '.join(argument.words())})" if argument.words() else "_files"
+        return quoted(f"{'*' if argument.is_many else place}:{argument.name}:{action}")
     about = re.sub(r"([\[\]:\\])", r"\\\1", argument.about)
     action = ":_files" if argument.is_file() else ": "
     if not argument.value:
@@ -132,7 +140,8 @@ def for_fish(subcommands):
     lines += [f"{first} -a help -d {quoted(HELP_OF)}", f"{start} -n '__tracebench_given help' -a '{names}'"]
     for one in subcommands:
         given = f"{start} -n '__tracebench_given {one.name}'"
-        lines += ["", f"{given} -F"]
+        words = [word for each in one.files() for word in each.words()]
+        lines += ["", f"{given} -f -a '{' '.join(words)}'" if words else f"{given} -F"]
         for each in one.options():
             value = "" if not each.value else " -r -F" if each.is_file() else " -x"
             lines.append(f"{given} -l {each.name}{value} -d {quoted(each.about)}")

@@ -11,7 +11,7 @@ GRAMMAR = "crates/cli/src/grammar.rt"
 RULES = "crates/cli/src/rules.rt"
 TEXT = r'"((?:[^"\\]|\\.)*)"'
 # The form that an argument begins with, and what may be asked of it.
-FORM = re.compile(rf"(flag|file|option|count_of_harts)\(\s*alloc, {TEXT}(?:, {TEXT})?,?\s*\)")
+FORM = re.compile(rf"(flag|file|option|count_of_harts|hart)\(\s*alloc, {TEXT}(?:, {TEXT})?,?\s*\)")
 ASKED = re.compile(rf"\.(required\(true\)|action\(ArgAction::(?:Append|Set)\)|default_value\({TEXT}\)|num_args\(1\.\.\)|"
                    r"value_parser\(.*\))", re.DOTALL)
 ROW = re.compile(rf"^    Subcommand \{{\s+name: {TEXT},\s+about: {TEXT},\s+example: [A-Z_]+,\s+arguments: &\[(.*?)\],\s+\}},",
@@ -37,7 +37,11 @@ class Argument:
 
     def is_file(self):
         """Whether a path is wanted, for the argument or as the option's value."""
-        return not self.is_option or self.value == "FILE"
+        return self.value == "FILE" if self.is_option else not self.words()
+
+    def words(self):
+        """The words one of which the argument WHAT is, as its help lists them."""
+        return re.findall(r"\w+(?=,| or |$)", self.about.partition(": ")[2]) if self.name == "WHAT" else []
 
 
 class Subcommand:
@@ -70,7 +74,7 @@ def arms(name):
     """The arms of a function of the rules that is one `match` over the arguments, by the arguments' names."""
     text = content(RULES)
     body = re.search(rf"^fn {name}\b.*?^    match argument \{{\n(.*?)^    \}}", text, re.MULTILINE | re.DOTALL)
-    found = re.findall(r"^        (Argument::\w+(?: \| Argument::\w+)*) =>\s+(.*?),\n(?=        Argument|\Z)", body[1],
+    found = re.findall(r"^        (Argument::\w+(?:\s+\| Argument::\w+)*) =>\s+(.*?),\n(?=        Argument|\Z)", body[1],
                        re.MULTILINE | re.DOTALL)
     return {each: arm for names, arm in found for each in re.findall(r"Argument::(\w+)", names)}
 
@@ -85,7 +89,7 @@ def argument(name, rule, about):
     if not form or not text or rest:
         raise Unread(f"{RULES}: {name} has a form that checks/documents/grammar.py does not read")
     kind, default = form[1], re.search(rf"\.default_value\({TEXT}\)", asked)
-    return Argument(form[2], text[1], "N" if kind == "count_of_harts" else form[3], default and default[1], kind != "file",
+    return Argument(form[2], text[1], {"count_of_harts": "N", "hart": "H"}.get(kind, form[3]), default and default[1], kind != "file",
                     kind == "file" or ".required(true)" in asked, ".action(ArgAction::Append)" in asked)
 
 

@@ -1,11 +1,12 @@
-"""Whether the headers of the library for C have the version, the statuses and the texts that the crates have, and
-whether the library exports each call of `ffi` with its contract.
+"""Whether the headers of the library for C have the version, the statuses and the texts that the crates have, and the
+parameters and fields, in their order, and whether the library exports each call of `ffi` with its contract.
 
 The text of a status is what a definition of the program has for the fault with this status, up to what is filled in. A
 status that is of no fault, or of one that only the library has, has its comment in the crate as its text.
 """
 import glob
 import re
+from itertools import zip_longest
 
 import calls
 from documents import grammar
@@ -21,6 +22,14 @@ OF_LIBRARY = {"crates/ffi/src/version.rt": r'VERSION: \[u8; \d+\] = \*b"(.*)";',
               "crates/ffi/specs/VersionText.antt": r'^version_text = codes "(.*)"$'}
 # A call of `ffi` and its export: the name, and all between that and the body.
 CALL = re.compile(r'^pub (?:extern "C" )?fn (tracebench_\w+)(.*?)^\{$', re.MULTILINE | re.DOTALL)
+# The structs and the prototypes of the header, and the structs that cross to C; a field or parameter of either.
+OF_C = re.compile(r"^struct tracebench_(\w+) \{\n(.*?)^\};", re.MULTILINE | re.DOTALL)
+PROTOTYPE = re.compile(r"^(?:uint32_t|void) (tracebench_\w+)\(([^{]*?)\);", re.MULTILINE | re.DOTALL)
+OF_RUST = re.compile(r"^#\[repr\(C\)\](?:\n#[^\n]*)*\npub struct (\w+)(?:<.*?>)? \{\n(.*?)^\}", re.MULTILINE | re.DOTALL)
+IN_C = re.compile(r"(const )?(?:struct tracebench_)?(\w+?)(?:_t)? (\*)?(\w+)(?:\[(\d+)\])?")
+IN_RUST = re.compile(r"(\w+): (&(?:'\w+ )?(?:mut )?)?(\[)?(\w+)(?:<'\w+>)?(?:; (\w+))?\]?")
+NUMBERS = {"u8": "uint8", "u16": "uint16", "u32": "uint32", "u64": "uint64", "size": "uint64"}
+MOST_BYTES = "18"  # of a payload
 # What the program says before the name of a fault of a payload.
 BEFORE = {"pack": "bad packet: "}
 # What has faults of an image beside its own, which keep the texts of an image.
@@ -143,5 +152,56 @@ def of_exports():
             yield f"crates/tracebench_c: {name} is not as in crates/ffi"
 
 
+def in_c(text):
+    """The parameters or fields of a text of C: how each is lent and how many there are, its name, and its type."""
+    before = None
+    for fixed, of, pointer, name, count in IN_C.findall(re.sub(r"/\*.*?\*/", "", text, flags=re.DOTALL)):
+        is_length = before and name in ("length", f"{before}_length")
+        yield fixed + pointer + count, "length" if is_length else name, NUMBERS.get(of, of)
+        before = pointer and name
+
+
+def in_rust(text):
+    """The same of a text of Rust. A slice is a pointer and a length, and an allocator is nothing."""
+    for name, lent, many, of, count in IN_RUST.findall(re.sub(r"///.*", "", text)):
+        if of != "Global":
+            how = ("*" if "mut" in lent else "const *") if lent else count.replace("MOST_BYTES", MOST_BYTES)
+            yield how, name, NUMBERS.get(of, of)
+        if lent and many:
+            yield "", "length", "uint64"
+
+
+def differing(both, pairs):
+    """The calls or structs whose parameters or fields differ. Two structs at the same place are taken as one, which is
+    noted in `pairs`; as a parameter they may have two names."""
+    for name, (wanted, told) in sorted(both.items()):
+        for mine, theirs in zip_longest(wanted, told, fillvalue=("no", "more", "")):
+            of_structs = not {mine[2], theirs[2]} & {*NUMBERS.values()}
+            if of_structs:
+                pairs.add((mine[2], theirs[2]))
+            parts = slice(0, (2 if name.startswith("struct") else 1) if of_structs else 3)
+            if mine[parts] != theirs[parts]:
+                yield f"{HEADER}: {name}: {' '.join(theirs).strip()}, and crates/ffi has {' '.join(mine).strip()}"
+
+
+def of_layout():
+    """Whether calls and structs of the header have the parameters and the fields of `ffi`, in their order."""
+    texts = "".join(grammar.content(f"crates/ffi/src/{name}") for name in calls.sources("ffi"))
+    header, pairs, done = grammar.content(HEADER), set(), set()
+    of_calls = {name: (list(in_rust(rest[:rest.index(")")])), []) for name, rest in CALL.findall(texts)}
+    for name, text in PROTOTYPE.findall(header):
+        of_calls.setdefault(name, ([], []))[1].extend(in_c(text))
+    yield from differing(of_calls, pairs)
+    mine = {name: list(in_rust(body)) for name, body in OF_RUST.findall(texts)}
+    theirs = {name: list(in_c(body)) for name, body in OF_C.findall(header)}
+    while left := pairs - done:  # a struct in a struct is met by way of the other
+        done |= left
+        yield from differing({f"struct tracebench_{pair[1]}": (mine.get(pair[0], []), theirs.get(pair[1], []))
+                              for pair in left}, pairs)
+    for name in sorted({*mine, *theirs}):
+        if sum(name in pair for pair in pairs) != 1:
+            yield f"{HEADER}: {name} is not one struct here and one in crates/ffi"
+
+
 def check():
-    return [*of_exports(), *of_version(), *of_statuses(), *of_texts(), *of_cpp(), *of_package()]
+    return [*of_layout(), *of_exports(), *of_version(), *of_statuses(), *of_texts(), *of_cpp(), *of_package()]

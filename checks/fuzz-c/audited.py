@@ -42,14 +42,15 @@ def numbered(found, sent, received, summary):
     spans += [(run.offset, f"bytes: {run.count} at {run.offset:08x}\n") for run in found.runs]
     single = "".join(line for _, line in sorted(spans))
     rows = [(hart, {name: getattr(row if name == "strange" else row.tally, name) for name in audits.NAMES}, row.tally.whole,
-             row.runs, row.longest, row.latest) for hart, row in enumerate(found.rows)]
+             row.runs, row.longest, row.latest, row.exchanged and (row.exchanged_hart, row.exchanged))
+            for hart, row in enumerate(found.rows)]
     return text_of(None if summary else single, found, rows, audits.NAMES, (found.ended.bytes, found.ended.byte_runs))
 
 
 def aligned(found, summary):
     """The text of `audit --unnumbered`."""
     single = "".join(map(single_line, found.singles))
-    rows = [(hart, {name: getattr(row, name) for name in alignments.NAMES}, row.whole, row.runs, row.longest, 0)
+    rows = [(hart, {name: getattr(row, name) for name in alignments.NAMES}, row.whole, row.runs, row.longest, 0, None)
             for hart, row in enumerate(found.rows)]
     return text_of(None if summary else single, found, rows, alignments.NAMES, (0, 0))
 

@@ -141,14 +141,17 @@ def lost_lines(hart, runs):
 
 def row_lines(rows, names):
     """The lines of harts, and of all of them together. Each is a hart, its counts, whether it is whole, how many runs of
-    numbers it lost, the longest of these, and by how much a message of it is late at most."""
+    numbers it lost, the longest of these, by how much a message of it is late at most, and the hart that most of its
+    messages are of that are not true, with how many they are."""
     text = ""
-    for hart, row, is_whole, count, longest, latest in rows:
+    for hart, row, is_whole, count, longest, latest, other in rows:
         text += f"hart {hart}: {counts(row, names, is_whole)}"
         if count:
             text += f"hart {hart}: lost in {count} runs, the longest of {longest}\n"
         if latest:
             text += f"hart {hart}: late by at most {latest}\n"
+        if other:
+            text += f"hart {hart}: {other[1]} of what came is hart {other[0]}'s\n"
     if len(rows) > 1:
         total = {name: sum(row[name] for _, row, *_ in rows) for name in names}
         text += f"all: {counts(total, names, all(is_whole for _, _, is_whole, *_ in rows))}"
@@ -204,6 +207,22 @@ def row_of(sent, hart, mine, fates):
     return row, same, lost_runs(lost), max((far for what, far in fates if what == "late"), default=0)
 
 
+def owner_of(sent, message):
+    """The hart of which SENT has the number and the payload of a message, if it is of one alone."""
+    owners = [hart for hart in range(len(sent.own)) if sent.is_true((hart, *message[1:]))]
+    return owners[0] if len(owners) == 1 else None
+
+
+def exchanged(sent, mine):
+    """The hart of which most of a hart's messages are that are not true, and how many they are: 8 at least, and more than
+    half."""
+    owners = [owner_of(sent, message) for message in mine if not sent.is_true(message)]
+    known = [owner for owner in owners if owner is not None]
+    other = max(sorted(set(known)), key=known.count, default=None)
+    count = known.count(other)
+    return (other, count) if count >= 8 and 2 * count > len(owners) else None
+
+
 def audit(sent, received, summary=False, packets=False, only=None):
     """The status, the text and the error of an audit of the harts that are chosen."""
     try:
@@ -230,7 +249,7 @@ def audit(sent, received, summary=False, packets=False, only=None):
             continue
         row, same, lost, latest = row_of(sent, hart, [it for it, _ in its], [it for _, it in its])
         single += lost_lines(hart, lost)
-        rows.append((hart, row, same, *of_runs(lost), latest))
+        rows.append((hart, row, same, *of_runs(lost), latest, exchanged(sent, [it for it, _ in its])))
     text = ("" if summary else single) + row_lines(rows, NAMES)
     strangers = [what for what, _ in fates].count("stranger")
     unlike = bool(header) if fault else bool(header and other and header != other)
@@ -241,7 +260,8 @@ def audit(sent, received, summary=False, packets=False, only=None):
 
 def kind_of(text):
     """What an audit found, without numbers: the fates, what was lost, and the result."""
-    looked_for = ("bytes:", "stranger\n", "changed, sent", "repeat\n", "late by", "skips", " lost\n", "headers differ\n")
+    looked_for = ("bytes:", "stranger\n", "changed, sent", "repeat\n", "late by", "skips", " lost\n", "of what came is hart",
+                  "headers differ\n")
     return ", ".join(word.strip() for word in (*(it for it in looked_for if it in text), text.splitlines()[-1]))
 
 
@@ -283,6 +303,13 @@ def damaged(random, made, harts):
     return made
 
 
+def renamed(random, made, harts):
+    """The messages under another hart: two harts are exchanged, or come as one."""
+    one, other = random.randrange(harts + 1), random.randrange(harts)
+    names = random.choice(({one: other, other: one}, {one: other}))
+    return [(names.get(hart, hart), number, payload) for hart, number, payload in made]
+
+
 def respelt(random, message):
     """A message whose payload is spelt in more bytes or in fewer, where that may be one packet."""
     hart, number, payload = message
@@ -303,7 +330,7 @@ def spoiled(random, capture):
 def pair(random):
     """A capture that was sent and one that was received."""
     harts = random.choice((0, 1, 1, 2, 2, 3, 5))
-    counts = [random.choice((0, 1, 1, 2, 3, 8)) for _ in range(harts)]
+    counts = [random.choice((0, 1, 1, 2, 3, 8, 12)) for _ in range(harts)]
     queues = [
         [(hart, number, random.choice((b"\1", b"\2", b"\x1f", b"\x89\xfd", random.randbytes(random.randint(1, 18))))) for number in range(count)]
         for hart, count in enumerate(counts)
@@ -315,6 +342,8 @@ def pair(random):
     received = damaged(random, mixed(random, queues), harts)
     if random.random() < 0.1:
         sent = damaged(random, sent, harts)
+    if random.random() < 0.2 and harts:
+        received = renamed(random, received, harts)
     if random.random() < 0.3:
         received = [respelt(random, message) if random.random() < 0.5 else message for message in received]
     texts = [start + b"".join(cases.message(*it) for it in made) for start, made in ((sent_header, sent), (received_header, received))]

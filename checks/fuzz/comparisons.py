@@ -9,6 +9,7 @@ import re
 
 import audits
 import cases
+import lists
 import reading
 
 CAPTURE = "capture"
@@ -58,17 +59,78 @@ def verdict(log, decoded, is_closed):
     return "beginning" if row == len(decoded) + 1 else f"differs at row {row}"
 
 
-def rows_of(hart, log, decoded, explain):
+def named_row(events, at, symbols):
+    """A row as `decode` prints it, and the name of its place, or that there is none."""
+    if at >= len(events):
+        return "end"
+    event = events[at]
+    name = lists.place_text(event[1], symbols).partition(b" ")[2]
+    return reading.row_text(event).rstrip("\n") + (" " + name.decode(errors="surrogateescape") if name else "")
+
+
+def rows_of(hart, log, decoded, explain, symbols):
     """The lines below the one of a hart: the first row in which its log and what is decoded differ, as both have it, and
     the up to three rows before it, which both have."""
-    row = next((row for row, (own, other) in enumerate(zip(log, decoded)) if own != other), min(len(log), len(decoded)))
+    row = first_other(log, decoded)
     before = range(max(row - 3, 0), row) if explain else ()
     said = [(at, "both", decoded) for at in before] + [(row, "log", log), (row, "decoded", decoded)]
-    texts = ((at, name, reading.row_text(events[at]).rstrip("\n") if at < len(events) else "end") for at, name, events in said)
-    return [f"hart {hart}: row {at + 1}: {name} {text}\n" for at, name, text in texts]
+    return [f"hart {hart}: row {at + 1}: {name} {named_row(events, at, symbols)}\n" for at, name, events in said]
 
 
-def compare(program, harts, capture, logs, only=None, explain=False):
+def first_other(log, decoded):
+    """How many rows a log and what is decoded have alike before the first that differs."""
+    return next((row for row, (own, other) in enumerate(zip(log, decoded)) if own != other), min(len(log), len(decoded)))
+
+
+def steps_of(program, harts, capture, stop):
+    """Each complete message of a capture up to the one at which decoding stops, of whatever hart, as text, its hart and
+    number; and of each one before that, how many rows its hart has then, how many it adds, and its packet."""
+    try:
+        header, at = reading.start(capture)
+    except reading.NoHeader:
+        return []
+    place_of_stop = re.match(r"message (\d+): ", stop)
+    decoders = {hart: reading.Decoder(program) for hart in range(header[2] if header else harts)}
+    steps = []
+    for place, message in enumerate(reading.messages(capture, at)):
+        if isinstance(message, str):
+            break
+        hart, number, payload = message
+        said = f"message {place}, number {number} at {at:08x}"
+        if place_of_stop and place == int(place_of_stop[1]):
+            return [*steps, (said, hart, number, None, None, None)]
+        at += 11 + len(payload)
+        if hart in decoders:
+            rows = len(decoders[hart].events)
+            try:
+                packet = reading.unpack(payload)
+                decoders[hart].feed(packet)
+            except reading.Refused:
+                continue  # of a hart that is not chosen
+            steps.append((said, hart, number, len(decoders[hart].events), len(decoders[hart].events) - rows, packet))
+    return steps
+
+
+def source_of(steps, hart, row, stop):
+    """Where a row of a hart comes from, or why it is not decoded."""
+    own = [step for step in steps if step[1] == hart]
+    waits = [step[5] is not None and step[5][0] == "address" and step[5][3] == "plain" for step in own]
+    for place, (said, _, _, rows, added, packet) in enumerate(own):
+        waited = f", number {own[place - 1][2]} waited" if place and waits[place - 1] else ""
+        if packet is None:
+            if place and own[place - 1][5][0].startswith("ended"):
+                break
+            return f"{said}, stops: {re.sub(r'^message [0-9]+: ', '', stop)}{waited}"
+        if rows >= row:
+            return f"{said}, settles rows {rows - added + 1} to {rows}{waited}"
+    own = [step for step in own if step[5] is not None]
+    if own and own[-1][5][0].startswith("ended"):
+        return f"{own[-1][0]}, closes"
+    stopped = "" if stop == "decoded" else f", stopped: {stop}"
+    return (own[-1][0] + ", is the last" + ", waits" * waits[len(own) - 1] if own else "no message") + stopped
+
+
+def compare(program, harts, capture, logs, only=None, explain=False, symbols=()):
     """The status, the text and the error of a comparison of the harts that are chosen with their logs."""
     stop, decoders = reading.decode(program, harts or DEFAULT_HARTS, capture, only)
     chosen = [hart for hart in range(len(decoders)) if reading.is_chosen(only, hart)]
@@ -81,14 +143,16 @@ def compare(program, harts, capture, logs, only=None, explain=False):
     for hart, _, payload in taken(capture, stop):
         if hart in came:
             came[hart].append(payload)
-    lines, verdicts = [], []
+    lines, verdicts, steps = [], [], steps_of(program, harts or DEFAULT_HARTS, capture, stop)
     for text, (hart, own) in zip(logs, came.items()):
         events, decoder = events_of(text), decoders[hart]
         verdicts.append(verdict(events, decoder.events, decoder.closed))
         counts = f"{len(events)} events, {len(own)} packets, {sum(map(len, own))} payload bytes"
         lines.append(f"hart {hart}: {counts}, decoded {len(decoder.events)}, {verdicts[-1]}\n")
         if verdicts[-1] != "whole":
-            lines += rows_of(hart, events, decoder.events, explain)
+            row = first_other(events, decoder.events) + 1
+            lines += rows_of(hart, events, decoder.events, explain, symbols)
+            lines.append(f"hart {hart}: row {row}: {source_of(steps, hart, row, stop)}\n")
     is_whole = stop == "decoded" and set(verdicts) == {"whole"}
     lines.append("result: whole\n" if is_whole else "result: not whole\n")
     return (0 if is_whole else 1), "".join(lines), None if stop == "decoded" else stop
@@ -117,6 +181,7 @@ def same_bytes(section, log):
 
 
 ROW = re.compile(r"^hart \d+: row (\d+): (log|decoded|both) (.*)\n", re.MULTILINE)
+SOURCE = re.compile(r"^hart \d+: row \d+: (no )?message.*\n", re.MULTILINE)
 
 
 def rows_against(text, section, log):
@@ -140,7 +205,7 @@ def against_decode(decoded, text, logs):
     status, printed = decoded
     sections = re.split(rb"^hart \d+\n", printed, flags=re.MULTILINE)[1:]
     below = [re.sub(r"^.*\n", "", part) for part in re.split(r"^(?=hart \d+: \d+ events, )", text, flags=re.MULTILINE)[1:]]
-    *lines, result = ROW.sub("", text).splitlines()
+    *lines, result = SOURCE.sub("", ROW.sub("", text)).splitlines()
     if len(sections) != len(lines) or len(sections) != len(logs):
         return f"decode has {len(sections)} harts"
     if (result == "result: whole") != (status == 0 and sections == logs):

@@ -3,7 +3,7 @@
 import reading
 
 MOST_RANGES = 4
-ELF = "  the image looks like an ELF file: give it the raw bytes (objcopy -O binary)\n"
+ELF = "  the image looks like an ELF file: give it the raw bytes (tools/image, or objcopy -O binary)\n"
 CLASSES = {
     "plain": "a plain word", "jump": "a jump", "branch": "a branch", "uninferable": "an uninferable jump", "mret": "MRET",
     "sret": "SRET",

@@ -14,7 +14,7 @@ FLAGS = {
     "logs": (*FORMS, *PERIODS),
     "audits": ("--packets", "--summary"),
     "measures": ("--hex", "--full", "--period 2", *PERIODS),
-    "lists": (*FEW_HARTS, "--symbols symbols", "--format csv"),
+    "lists": (*FEW_HARTS, "--symbols symbols", "--rows", "--format csv"),
     "salvages": (*FEW_HARTS, "--summary", "--lossy", "--format csv"),
     "treated": (*FEW_HARTS, "--salvage", "--format csv"),
     "lines": ("--v1", "--full", "--period 7", *(f"--harts {count}" for count in (1, 2, 64, 65, 1024))),

@@ -9,7 +9,7 @@ from csv_tables import NotTheText, rows_of
 COLUMNS = (
     "kind", "place", "offset", "hart", "number", "packet", "addr", "diff", "priv", "branch", "trap", "cause", "tval",
     "handler", "epc", "map", "report", "mode", "ended", "bad", "waits", "closed", "treatment", "reason", "late", "bytes",
-    "added", "first", "last", "first_symbol", "first_distance", "last_symbol", "last_distance")
+    "added", "first_row", "last_row", "first", "last", "first_symbol", "first_distance", "last_symbol", "last_distance")
 UNUSED = {"stranger", "copy", "doubtful", "alone", "passed"}
 
 
@@ -40,9 +40,11 @@ def place(row, which):
     return f"{at} <{name}+{distance}>" if distance else at
 
 
-def effect(row):
-    """What a row says that the message does."""
-    added = row.pop("added")
+def effect(row, rows=None):
+    """What a row says that the message does. So many rows come before of its hart, where that is known."""
+    added, first, last = row.pop("added"), row.pop("first_row"), row.pop("last_row")
+    if rows is not None and (first, last) != ((str(rows + 1), str(rows + int(added))) if added != "0" else ("", "")):
+        raise NotTheText(f"rows {first} to {last} after {rows}")
     made = "nothing"
     if added != "0":
         first, last = place(row, "first"), place(row, "last")
@@ -70,25 +72,30 @@ def word(row):
     return made + flag(row, "late", ", late")
 
 
-def line(row, is_salvaged):
-    """The line that says what a row says."""
+def line(row, is_salvaged, rows):
+    """The line that says what a row says. `rows` has how many rows came of each hart, where these come in order."""
     kind, offset = row.pop("kind"), row.pop("offset")
     if kind == "incomplete":
         return offset
     if kind == "bytes":
         return f"{offset} bytes: {row.pop('bytes')}"
-    head = f"{offset} {row.pop('hart')} {row.pop('number')} {packet(row)}"
+    hart = row.pop("hart")
+    head = f"{offset} {hart} {row.pop('number')} {packet(row)}"
     if kind == "refused":
         return head
     if kind != "message":
         raise NotTheText(f"kind {kind}")
-    return f"{head} => {word(row) if is_salvaged else effect(row)}"
+    if is_salvaged:
+        return f"{head} => {word(row)}"
+    before = rows.get(hart, 0)
+    rows[hart] = before + int(row["added"])
+    return f"{head} => {effect(row, before)}"
 
 
 def text_of(table, is_salvaged, places=None):
     """The lines of a table, which is bytes; the line of the header is none of them. `places` has the place of the message
     at each offset, where rows may be missing."""
-    made, count = [], 0
+    made, count, rows = [], 0, {}
     for row in rows_of(table, COLUMNS):
         if row["kind"] != "bytes":
             wanted = places.get(int(row["offset"], 16)) if places is not None else count
@@ -96,7 +103,7 @@ def text_of(table, is_salvaged, places=None):
                 raise NotTheText(f"place {wanted} is lacking")
             count += 1
         try:
-            made.append(line(row, is_salvaged) + "\n")
+            made.append(line(row, is_salvaged, rows) + "\n")
         except KeyError as why:
             raise NotTheText(f"a field says {why}") from None
         if left := {name: field for name, field in row.items() if field}:

@@ -28,8 +28,9 @@ def place_text(address, symbols):
     return b"%x <%s+%x>" % (address, symbols[max(below)], address - max(below))
 
 
-def effect(events, packet, symbols):
-    """What a message does: the events that it adds, and whether its packet waits or closes its hart."""
+def effect(events, packet, symbols, row=None):
+    """What a message does: the events that it adds, the last of which is this row of its hart, if that is to be said; and
+    whether its packet waits or closes its hart."""
     if not events:
         made = b"nothing"
     elif len(events) == 1:
@@ -37,12 +38,14 @@ def effect(events, packet, symbols):
     else:
         first, last = (place_text(event[1], symbols) for event in (events[0], events[-1]))
         made = b"%d events, %s to %s" % (len(events), first, last)
+    if row is not None and events:
+        made += b", row %d" % row if len(events) == 1 else b", rows %d to %d" % (row - len(events) + 1, row)
     if packet[0] == "address" and packet[3] == "plain":
         made += b", waits"
     return made + b", closed" * packet[0].startswith("ended")
 
 
-def listing(program, harts, capture, symbols, only=None):
+def listing(program, harts, capture, symbols, only=None, says_rows=False):
     """The status, the text and the error of a list of the harts that are chosen."""
     stop, decoders = reading.decode(program, harts, capture, only)
     try:
@@ -68,7 +71,8 @@ def listing(program, harts, capture, symbols, only=None):
         decoder, packet = decoders[message[0]], reading.unpack(message[2])
         before = len(decoder.events)
         decoder.feed(packet)
-        text += b" %s => %s\n" % (line, effect(decoder.events[before:], packet, symbols))
+        row = len(decoder.events) if says_rows else None
+        text += b" %s => %s\n" % (line, effect(decoder.events[before:], packet, symbols, row))
         at += 11 + len(message[2])
     chosen = (hart for hart in range(harts) if reading.is_chosen(only, hart))
     left = next((hart for hart in chosen if not decoders[hart].closed), None)

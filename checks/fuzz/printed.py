@@ -83,11 +83,11 @@ def salvaged(program, harts, capture, is_summary, only=None):
     return salvages.salvage(program, harts, capture, is_summary, only)
 
 
-def listed(program, harts, capture, symbols, only=None):
+def listed(program, harts, capture, symbols, only=None, says_rows=False):
     """The status, the text and the error of `list`."""
     if why := no_hart(only, counted(capture, harts)):
         return 1, b"", why
-    return lists.listing(program, harts, capture, symbols, only)
+    return lists.listing(program, harts, capture, symbols, only, says_rows)
 
 
 def places_of(capture, is_salvaged):

@@ -212,7 +212,7 @@ def stretches(random, count):
 def of_listed(maker, harts, case, only=None, asked=()):
     """What `list` prints of a capture."""
     yield from of_lists(maker, case, ["list", "--harts", str(harts)], only, asked,
-                        lambda capture, known: printed.listed(maker.program, harts, capture, known, only))
+                        lambda capture, known, rows=False: printed.listed(maker.program, harts, capture, known, only, rows))
 
 
 def of_treated(maker, harts, case, only=None, asked=()):
@@ -233,8 +233,11 @@ def of_lists(maker, case, words, only, asked, found_of):
     found = (2, b"", f"{lists.SYMBOLS}: {lists.NO_SYMBOL}")
     if symbols is None or known:
         found = found_of(capture, known)
+    is_salvaged, is_read = "--salvage" in words, symbols is None or known
     yield texts(words, found)
-    words, is_salvaged = [*words, "--format", "csv"], "--salvage" in words
+    if not is_salvaged and len(capture) % 4 == 1:
+        yield texts([*words, "--rows"], found_of(capture, known, True) if is_read else found)
+    words = [*words, "--format", "csv"]
     if found[0] == 2 or (found[2] or "").startswith("no hart of"):
         yield texts(words, (found[0], b"", found[2]))
         return

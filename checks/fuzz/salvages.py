@@ -108,6 +108,7 @@ class Salvage:
 
     def __init__(self, program, mode, came):
         self.used, self.doubtful, self.copies = sorted_out(came)
+        self.of_doubtful = len({it for it in came if it[0] in self.doubtful})
         opening = packet_or_fault(self.used[0][0])[0] if 0 in self.used else None
         self.mode = opening[1] if opening and opening[0] == "open" else mode
         first = Taken(program, self.mode, self.used, self.doubtful)
@@ -151,6 +152,15 @@ class Salvage:
     def is_whole(self):
         return self.closed and all(part[0] == "stretch" for part in self.parts)
 
+    def totals(self):
+        """What the last line counts of the hart, by name."""
+        events = [len(part[1]) for part in self.parts if part[0] == "stretch"]
+        taken = {"bad": len(self.bad), "alone": len(self.alone), "decoded": len(self.added)}
+        return {
+            "rows": sum(events), **taken, "passed": len(self.used) - sum(taken.values()), "far": 0,
+            "doubtful": self.of_doubtful, "copies": self.copies, "late": self.late,
+        }
+
     def text(self, offsets, header_mode=None, is_summary=False):
         """The lines of a hart whose messages are at these offsets."""
         lines = "".join(self.part_text(part, offsets, is_summary) for part in self.parts)
@@ -186,6 +196,21 @@ def harts_of(found, header, harts):
     return max((hart for _, (hart, *_) in found), default=0) + 1
 
 
+TOTALS = (
+    "rows", "decoded", "passed", "far", "bad", "alone", "doubtful", "copies", "strangers", "late", "bytes",
+)
+
+
+def totals_line(left, strangers, runs):
+    """The last line: what is counted of all harts that are printed. Each message is counted once among those from
+    `decoded` to `strangers`."""
+    own = [it.totals() for it in left]
+    count = {name: sum(it.get(name, 0) for it in own) for name in TOTALS} | {"strangers": strangers, "bytes": sum(runs)}
+    kinds = TOTALS[1:9]
+    front = f"all: {count['rows']} rows of {len(own)} harts, {sum(count[it] for it in kinds)} messages: "
+    return front + ", ".join(f"{count[it]} {it}" for it in kinds) + f"; {count['late']} late, {count['bytes']} bytes\n"
+
+
 def salvage(program, harts, capture, is_summary=False, only=None):
     """The status, the text and the error of salvaging the chosen harts of a capture; `harts` is the count that is asked
     for, or None."""
@@ -204,6 +229,7 @@ def salvage(program, harts, capture, is_summary=False, only=None):
         left[hart] = it
     text += "".join(f"bytes: {size} at {offset:08x}\n" for offset, size in runs)
     text += counted("strangers", len(found) - len(own))
+    text += totals_line(left.values(), len(found) - len(own), [size for _, size in runs])
     open_harts = (f"hart {hart}: no closing packet" for hart, it in left.items() if not it.closed)
     error = fault or next(open_harts, None)
     is_good = not error and not runs and len(found) == len(own) and all(it.is_whole() for it in left.values())
@@ -231,6 +257,10 @@ def rows_of(text, harts):
             hart = line.removeprefix("hart ")
             mode, closed = harts[int(hart)]
             said = {"kind": "hart", "mode": mode, "closed": "yes" if closed else "no"}
+        elif line.startswith("all: "):
+            rows += [dict.fromkeys(COLUMNS, "") | {"kind": "all", "count": count, "reason": name}
+                     for count, name in re.findall(r"(\d+) (\w+)", line) if name in TOTALS]
+            continue
         else:
             found, names = next((found, names) for form, names in LINES if (found := form.fullmatch(line)))
             said = dict(zip(names, found.groups()))

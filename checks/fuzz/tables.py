@@ -10,7 +10,8 @@ import csv_tables
 
 COLUMNS = (
     "kind", "place", "offset", "hart", "number", "last", "fate", "by", "sent_payload", "came_payload", "sent", "came",
-    "lost", "repeated", "late", "changed", "strange", "runs", "longest_run", "most_late", "verdict")
+    "lost", "repeated", "late", "changed", "strange", "runs", "longest_run", "most_late", "verdict",
+    "missing")
 COUNTS = ("sent", "came", "lost", "repeated", "late", "changed", "strange")
 
 MESSAGE = re.compile(r"message (\d+): hart (\d+)(?: number (\d+))?: (.*)")
@@ -20,6 +21,7 @@ LOST = re.compile(r"hart (\d+): numbers? (\d+)(?: to (\d+))? lost")
 COUNTED = re.compile(r"(?:hart (\d+)|all): (\d+ sent, .*)")
 RUNS = re.compile(r"hart (\d+): lost in (\d+) runs, the longest of (\d+)")
 LATE = re.compile(r"hart (\d+): late by at most (\d+)")
+EXCHANGED = re.compile(r"hart (\d+): (\d+) of what came is hart (\d+)'s")
 
 
 def row(kind, **fields):
@@ -42,19 +44,24 @@ def counts(words):
     # What is extra is strange: SENT does not have it.
     if "extra" in found:
         found["strange"] = found.pop("extra")
-    return {**found, "verdict": verdict}
+    return {**found, **missing(found), "verdict": verdict}
+
+
+def missing(found):
+    """The column of what is lost and did not come changed, where these counts have both."""
+    return {"missing": max(int(found["lost"]) - int(found["changed"]), 0)} if "changed" in found else {}
 
 
 def total(harts, names):
     """The row of all harts, whose counts have these names."""
     sums = {name: sum(int(it[name]) for it in harts) for name in names}
     whole = all(it["verdict"] == "whole" for it in harts)
-    return row("all", **sums, verdict="whole" if whole else "not whole")
+    return row("all", **sums, **missing(sums), verdict="whole" if whole else "not whole")
 
 
 def rows_of(text, unnumbered, messages):
     """The rows of the lines of a text, where so many messages of RECEIVED are taken."""
-    single, harts = [], []
+    single, harts, others = [], [], {}
     result = {"place": messages, "strange": 0} | ({} if unnumbered else {"by": 0, "runs": 0})
     for line in text.splitlines():
         if found := MESSAGE.fullmatch(line):
@@ -67,6 +74,8 @@ def rows_of(text, unnumbered, messages):
             harts[int(found[1])].update(runs=found[2], longest_run=found[3])
         elif found := LATE.fullmatch(line):
             harts[int(found[1])].update(most_late=found[2])
+        elif found := EXCHANGED.fullmatch(line):
+            others[len(harts)] = row("exchanged", hart=found[1], by=found[2], number=found[3])
         elif found := COUNTED.fullmatch(line):
             if found[1] is not None:
                 none = {"runs": 0, "longest_run": 0} | ({} if unnumbered else {"most_late": 0})
@@ -82,7 +91,8 @@ def rows_of(text, unnumbered, messages):
         else:
             result["verdict"] = line.removeprefix("result: ")
     names = [name for name in COUNTS if not unnumbered or name in ("sent", "came", "lost", "strange")]
-    return [*single, *harts, total(harts, names), row("result", **result)]
+    of_harts = [it for place, hart in enumerate(harts, 1) for it in (hart, others.get(place)) if it]
+    return [*single, *of_harts, total(harts, names), row("result", **result)]
 
 
 def taken(text):

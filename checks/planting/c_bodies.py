@@ -1,5 +1,7 @@
 """Wrong bodies of the calls for C."""
 
+JUDGED = "    let judged = judge_pieces(alloc, pieces);\n"
+
 BODIES = [
     ("a new decoder that has announced full mode", "ffi", "feeding.rt",
         "    *state = numbers_of_state(&Decoder::new().state());\n",
@@ -119,6 +121,24 @@ BODIES = [
         for where, test in (
             ("past 64 harts", "outcome.harts.len() > 64"),
             ("past 65,536 bytes", "capture.len() > 65_536"),
+        )),
+    *((f"{call} MEMORY past three pieces", "ffi", file, line,
+        f"    if pieces.len() > 3 {{\n        return crate::status::MEMORY;\n    }}\n{line}")
+        for call, file, line in (
+            ("tracebench_check", "checking.rt", JUDGED + "    report_check(alloc, "),
+            ("tracebench_check_events", "checking.rt", JUDGED + "    report_check_events("),
+            ("tracebench_explain", "explaining_log.rt", JUDGED),
+            ("tracebench_encode", "encoding.rt", "    let made = encode_logs(alloc, pieces, "),
+            ("tracebench_measure", "measuring_logs.rt", JUDGED),
+            ("tracebench_decode_all", "decoding.rt", JUDGED),
+            ("tracebench_list", "listing_capture.rt", JUDGED),
+            ("tracebench_salvage", "salvaging_capture.rt", JUDGED),
+            ("tracebench_list_salvaged", "listing_salvaged.rt", JUDGED),
+            ("tracebench_compare", "comparing_logs.rt", JUDGED),
+            ("tracebench_push_all", "pushing_all.rt", JUDGED),
+            ("tracebench_finish", "pushing.rt", JUDGED),
+            ("tracebench_feed_all", "feeding_all.rt", JUDGED),
+            ("tracebench_receive", "receiving.rt", JUDGED),
         )),
     ("tracebench_explain MEMORY past 65,536 events", "ffi", "explaining_log.rt",
         "    match explain_events(alloc, program, events.as_slice()) {\n",

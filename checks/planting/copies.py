@@ -13,7 +13,7 @@ from concurrent.futures import wait
 from checkout import copied
 from crate_list import TOP, content
 from planting.bodies import Unjudged
-from planting.crates import played
+from planting.crates import PROGRAM, played
 from planting.switches import number_at, switched
 
 ASKED = "planted_body"
@@ -170,7 +170,7 @@ def built(copy, tests):
     os.makedirs(f"{own}/c", exist_ok=True)
     with open(f"{own}/c/{ASKED}.c", "w", encoding="utf-8") as file:
         file.write(CODE)
-    functions = [] if played(tests) else ["--test"]
+    functions = [] if tests == PROGRAM or played(tests) else ["--test"]
     return kept_program(own, f"{copy}-{tests}", *functions, "--seconds", "1", RT_ALLOW_C=tests)
 
 

@@ -4,7 +4,10 @@ import os
 import crate_list
 
 # The crates that play files of cases, and those of test functions, small ones before large ones.
-FIRST = ("path_vectors", "channel_vectors", "vectors", "channel_tests", "trace_tests", "ffi_vectors")
+FIRST = ("channel_vectors", "path_vectors", "vectors", "channel_tests", "trace_tests", "ffi_vectors")
+
+# The program, which `checks/second-runs` runs. These runs are for its own crate: `transcripts` plays all below it.
+PROGRAM = "tracebench"
 
 
 class Crates:
@@ -19,7 +22,9 @@ class Crates:
 
     def tests_of(self, crate):
         """The crates with tests that use a crate, or are it."""
-        return [tests for tests in self.with_tests if crate in self.whole[tests]]
+        if crate == PROGRAM:
+            return [PROGRAM]
+        return [tests for tests in self.with_tests if tests != PROGRAM and crate in self.whole[tests]]
 
     def sum_of(self, tests):
         """A sum of all code that the tests of a crate are made of."""
@@ -29,7 +34,7 @@ class Crates:
 
 
 def has_tests(crate):
-    return bool(played(crate)) or any(
+    return crate == PROGRAM or bool(played(crate)) or any(
         "#[test]" in crate_list.content(file) for file in crate_list.files(crate, "src"))
 
 

@@ -42,6 +42,27 @@ BODIES = [
     ("feed always Memory", "decoder", "feeding.rt",
         "        if log.reserve(settled.left() + of_packet.left()).is_err() {",
         "        if log.reserve(settled.left() + of_packet.left()).is_err() || log.len() < 1 << 40 {"),
+    ("a decoder in full mode for which each packet is at a wrong place", "decoder", "feeding.rt",
+        "            log.truncate(count);\n            return Err(fault);\n",
+        "            log.truncate(count);\n            if self.mode == payload::Mode::Full {\n"
+        "                return Err(DecodeFault::WrongPlace);\n            }\n            return Err(fault);\n"),
+    ("salvaging in full mode for which each packet is at a wrong place", "salvaging", "trail.rt",
+        "            Some(why) => self.take_bad(alloc, mode, message.number, place, why),\n",
+        "            Some(Reason::Decode(_)) if mode == Mode::Full => {\n"
+        "                let why = Reason::Decode(DecodeFault::WrongPlace);\n"
+        "                self.take_bad(alloc, mode, message.number, place, why)\n            }\n"
+        "            Some(why) => self.take_bad(alloc, mode, message.number, place, why),\n"),
+    ("treatments in full mode for which each packet is at a wrong place", "salvaging", "sharing.rt",
+        "            Ok(Treatment::Bad(why))\n",
+        "            if mode == Mode::Full && matches!(why, crate::reason::Reason::Decode(_)) {\n"
+        "                let why = crate::reason::Reason::Decode(decoder::DecodeFault::WrongPlace);\n"
+        "                return Ok(Treatment::Bad(why));\n            }\n            Ok(Treatment::Bad(why))\n"),
+    ("salvaging in full mode that calls a missed notify a branch", "salvaging", "trail.rt",
+        "            Some(why) => self.take_bad(alloc, mode, message.number, place, why),\n",
+        "            Some(Reason::Decode(DecodeFault::MissedNotify)) if mode == Mode::Full => {\n"
+        "                let why = Reason::Decode(DecodeFault::Branches);\n"
+        "                self.take_bad(alloc, mode, message.number, place, why)\n            }\n"
+        "            Some(why) => self.take_bad(alloc, mode, message.number, place, why),\n"),
     ("read_schedule always Memory", "funnel", "reading.rt",
         "    Ok(turns)\n", "    drop(turns);\n    Err(ScheduleFault::Memory)\n"),
     ("collect_lossy always Memory", "losses", "collecting.rt",
@@ -106,10 +127,10 @@ BODIES = [
         *unless("place > 1 << 32", "WriteFault::Write", "    match symbols.at(place) {\n")),
     ("explain Write past row 3", "explaining", "writing.rt",
         *unless("fault.row > 3", "WriteFault::Write", "    let Some(event) = at_row(log, fault.row) else {\n")),
-    ("write_measures Write at period 60,000", "measuring", "table.rt",
+    ("write_measures Write at period 60,000", "captures", "measure_table.rt",
         *unless("period == 60_000", "WriteFault::Write",
                 "    write_table(&Logged { logs, period, mode }, sink)\n")),
-    ("write_measures Write in full mode", "measuring", "table.rt",
+    ("write_measures Write in full mode", "captures", "measure_table.rt",
         *unless("mode == Mode::Full", "WriteFault::Write",
                 "    write_table(&Logged { logs, period, mode }, sink)\n")),
     ("Audit::new Memory past 2,048 messages", "auditing", "audit.rt",
@@ -168,7 +189,7 @@ BODIES = [
         )
     ),
     *(
-        ("write_capture Write " + where, "capture_lines", "writing.rt",
+        ("write_capture Write " + where, "captures", "line_writing.rt",
             *unless(test, "LinesFault::Write", "    let form = form_of(&settings, text);\n"))
         for where, test in (
             ("in full mode", "matches!(settings.mode, payload::Mode::Full)"),
@@ -176,13 +197,13 @@ BODIES = [
             ("past 65,536 bytes of text", "text.len() > 65_536"),
         )
     ),
-    ("aligned Memory past 256 payloads", "path_match", "aligning.rt",
+    ("aligned Memory past 256 payloads", "auditing", "aligning.rt",
         *unless("sent.len() > 256", "AllocError", "    let count = beginning(sent, came);\n")),
-    ("aligned Memory past 65,536 payloads", "path_match", "aligning.rt",
+    ("aligned Memory past 65,536 payloads", "auditing", "aligning.rt",
         *unless("came.len() > 65_536", "AllocError", "    let count = beginning(sent, came);\n")),
-    ("aligned_harts Memory past 2 harts", "path_match", "harts.rt",
+    ("aligned_harts Memory past 2 harts", "auditing", "sent_payloads.rt",
         *unless("harts > 2", "AllocError", "    let own = SentPayloads::new(alloc, harts, by, sent)?;\n")),
-    ("arrival_lines Memory past 100 messages", "path_match", "arrivals.rt",
+    ("arrival_lines Memory past 100 messages", "auditing", "arrivals.rt",
         *unless("messages.len() > 100", "AllocError", "    let mut cursors = cursors(alloc, all)?;\n")),
     ("Audit::with Memory by packets", "auditing", "audit.rt",
         *unless("matches!(by, By::Packets)", "SentFault::Memory", "        Audit::by_header(alloc, bytes, by)\n")),

@@ -1,4 +1,4 @@
-"""Wrong bodies of the program's crates. The program `transcripts` fails with each."""
+"""Wrong bodies of the program's crates. The program `transcripts` fails with each, and `checks/second-runs` with those of `main`."""
 
 
 def memory_first(line, condition):
@@ -50,7 +50,7 @@ BODIES = [
         "    if row.fault.row > 3 {\n        return Err(Fault::Output);\n    }\n"
         "    match explaining::explain_row(program, row.before, &row.event, row.fault, out) {\n"),
     ("list Memory past 4,096 bytes", "capture_commands", "message_listing.rt",
-        *memory_first("    write_listing(alloc, progress, asked.format, harts, input, out)\n", "input.bytes.len() > 4096")),
+        *memory_first("    write_listing(alloc, progress, asked, harts, input, out)\n", "input.bytes.len() > 4096")),
     ("the salvage of the program Memory past 3 harts", "capture_commands", "salvaging_capture.rt",
         *memory_first("    hart_below(only, count.max(1))?;\n", "count > 3")),
     ("list --salvage Memory past 2 harts", "capture_commands", "salvaged_listing.rt",
@@ -62,6 +62,30 @@ BODIES = [
     ("audit Memory past 1 MiB", "path_commands", "comparing.rt",
         *memory_first("    let mut path = match Audit::with(alloc, sent.as_slice(), by_packets(asked.packets)) {\n",
                       "sent.len() > 1 << 20")),
+    *((f"audit --format csv Memory past {words}", "path_commands", "comparing.rt",
+        *memory_first("    write_audit(&progress, &mut path, asked, harts, received.as_slice(), out)\n",
+                      f"matches!(asked.format, command_inputs::Format::Csv) && {test}"))
+        for words, test in (("1 MiB", "received.len() > 1 << 20"), ("3 harts", "path.harts() > 3"))),
+    *((f"audit --unnumbered Memory past {words}", "path_commands", "matching.rt",
+        *memory_first("    let progress = MessageProgress::new(&*files, asked.progress);\n", test))
+        for words, test in (("1 MiB", "received.len() > 1 << 20"), ("3 harts", "sent.payloads.harts() > 3"))),
+    *((f"salvage --format csv Memory past {words}", "capture_commands", "salvaging_capture.rt",
+        *memory_first("    let layout = layout_of(asked.format, asked.summary);\n",
+                      f"matches!(asked.format, Format::Csv) && {test}"))
+        for words, test in (("1 MiB", "input.bytes.len() > 1 << 20"), ("3 harts", "found.salvaged.harts.len() > 3"))),
+    # Logs of more than 100,000 rows, as only `--long` allows for.
+    ("check --long Memory past 100,000 rows", "log_commands", "checking.rt",
+        *memory_first("    let status = match write_logs(program, paths, verdicts.as_slice(), asked.explain, out) {\n",
+                      "asked.long && matches!(verdicts.get(0), Some(Ok(count)) if *count > 100_000)")),
+    *((f"encode --long Memory past 1 MiB{words}", "log_commands", "encoding.rt",
+        *memory_first("    write_messages(asked, messages.as_slice(), out)\n",
+                      f"asked.long && {test}asked.hex && messages.as_slice()[0].len() > 1 << 20"))
+        for words, test in (("", "!"), (" of lines", ""))),
+    ("measure --long Memory past 100,000 rows", "log_commands", "measures.rt",
+        *memory_first(TABLE, "asked.long && measures.as_slice()[0].events > 100_000")),
+    ("compare --long Memory past 1 MiB", "capture_commands", "against_logs.rt",
+        *memory_first("    let lines = lines_of_logs(alloc, rt, files, asked, input, &found)?;\n",
+                      "asked.long && input.bytes.len() > 1 << 20")),
     ("capture Memory past 4,096 bytes", "path_commands", "capturing.rt",
         *memory_first("    write_lines(settings, asked.lines, text.as_slice(), out)\n", "text.len() > 4096")),
     ("symbols_of Memory past 4,096 bytes", "capture_commands", "symbols_input.rt",
@@ -161,6 +185,11 @@ BODIES = [
     ("a file that is read whole ends after 64 KiB", "commands", "machine.rt",
         "        left: most,\n",
         "        left: most.min(65_536),\n"),
+    ("the program always succeeds", "tracebench", "main.rt",
+        "    ExitCode::from(commands::run(&rt, &mut files, &mut err))\n",
+        "    let _ = commands::run(&rt, &mut files, &mut err);\n    ExitCode::SUCCESS\n"),
+    ("errors go to standard output", "tracebench", "main.rt",
+        "    let mut err = rt.stderr();\n", "    let mut err = std::io::writer(&rt);\n"),
     ("each path is that of a regular file", "commands", "machine.rt",
         "            Ok(about) => about.is_file(),\n            Err(_) => false,\n",
         "            Ok(_) => true,\n            Err(_) => true,\n"),

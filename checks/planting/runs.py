@@ -1,5 +1,6 @@
-"""Runs of a program of tests, a process a test: a test function, or a file of cases that the program plays."""
+"""Runs of a program of tests, a process a test: a test function, a file of cases that the program plays, or the second runs."""
 import os
+import shlex
 import shutil
 import struct
 import subprocess
@@ -7,7 +8,8 @@ import tempfile
 import time
 from dataclasses import dataclass, field
 
-from planting.copies import kit
+from built import TOP
+from planting.copies import kit, script
 
 # As many seconds as a test has at least.
 SECONDS = 60
@@ -37,13 +39,17 @@ class Tests:
             played = names_in(listed.stdout)
         self.tests = [Test(name) for name in played]
 
+    def command(self, test, _):
+        """What runs a test, in a folder."""
+        return [*self.words, test.name]
+
     def passes(self, test, **chosen):
         """Whether a test passes, in as many seconds as it has."""
         with tempfile.TemporaryDirectory() as folder:
             if self.data:
                 shutil.copytree(self.data, folder, dirs_exist_ok=True)
             try:
-                done = subprocess.run([*self.words, test.name], cwd=folder, env=chosen, stdin=subprocess.DEVNULL,
+                done = subprocess.run(self.command(test, folder), cwd=folder, env=chosen, stdin=subprocess.DEVNULL,
                                       stdout=subprocess.DEVNULL, stderr=subprocess.DEVNULL, timeout=test.limit())
             except subprocess.TimeoutExpired:
                 return False
@@ -69,6 +75,18 @@ class Tests:
         """The first of these tests that fails, the short ones before the long ones, or None."""
         ordered = sorted(tests, key=lambda test: test.seconds)
         return next((test.name for test in ordered if not self.passes(test, **chosen)), None)
+
+
+class SecondRuns(Tests):
+    """The runs of the program that `checks/second-runs` makes, as one test."""
+
+    def __init__(self, program):
+        super().__init__(program, ["second-runs"])
+
+    def command(self, test, folder):
+        path = f"{folder}/program"
+        script(path, f'#!/bin/sh\nexec {shlex.join(self.words)} "$@"\n')
+        return [f"{TOP}/checks/{test.name}", path]
 
 
 def names_in(listed):

@@ -289,6 +289,9 @@ BODIES = [
     ("send HandedBack at the 100,000th message", "funnel", "port.rt", "        let closing = payload.is_closing();\n",
         "        if self.count == 99_999 {\n            return Err(SendFault::HandedBack(payload));\n        }\n"
         "        let closing = payload.is_closing();\n"),
+    ("send HandedBack from the 100,002nd message on", "funnel", "port.rt", "        let closing = payload.is_closing();\n",
+        "        if self.count > 100_000 {\n            return Err(SendFault::HandedBack(payload));\n        }\n"
+        "        let closing = payload.is_closing();\n"),
     # A port that no one calls looks for room again after 10 ms: these bodies change when ports go on, and not what is
     # sent.
     ("no port is called", "funnel", "low_water.rt", WAITS + CALLS_ONE, "",

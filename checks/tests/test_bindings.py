@@ -8,13 +8,15 @@ import subprocess
 import sys
 import tempfile
 import unittest
+from unittest import mock
 
 from common import BASE, CHECKS, LIBRARY, NOP, TOP, image_of
 
 EXAMPLES = os.path.join(TOP, "examples/python")
 INCLUDE = os.path.join(TOP, "include")
-sys.path.append(EXAMPLES)
+sys.path += [EXAMPLES, os.path.join(TOP, "examples/cocotb")]
 
+import scoreboard
 import tracebench
 
 try:
@@ -64,6 +66,47 @@ class Lent(unittest.TestCase):
         self.assertEqual((str(event), ctypes.sizeof(event)), (wanted, 24))
 
 
+class Scoreboard(unittest.TestCase):
+    """The scoreboard of examples/cocotb, over a library whose payloads settle the instructions at their bytes."""
+
+    def setUp(self):
+        library = mock.Mock()
+        library.decoder.return_value = tracebench.DecoderState()
+        library.feed = lambda program, state, payload: [tracebench.Event(address=at, privilege=3) for at in payload]
+        self.board = scoreboard.Scoreboard(library, None)
+        for address in 0, 4, 8:
+            self.board.retired(address, 0, 3)
+
+    def test_what_is_sent_in_order(self):
+        self.board.sent(b"\0\4")
+        self.board.sent(b"\10")
+        with self.assertRaisesRegex(scoreboard.Wrong, "after payload 2: phase 0, 0 not decoded"):
+            self.board.ended()
+        self.board.decoder.phase = scoreboard.CLOSED
+        self.board.ended()
+
+    def test_what_is_wrong(self):
+        with self.assertRaisesRegex(scoreboard.Wrong, "payload 1: decoded .* address: 8, .* retired .* address: 4, "):
+            self.board.sent(b"\0\10")
+        with self.assertRaisesRegex(scoreboard.Wrong, "payload 2: decoded .* address: 12, .* retired None"):
+            self.board.sent(b"\10\14")
+
+    def test_what_is_left(self):
+        self.board.sent(b"\0")
+        self.board.decoder.phase = scoreboard.CLOSED
+        with self.assertRaisesRegex(scoreboard.Wrong, "after payload 1: phase 3, 2 not decoded"):
+            self.board.ended()
+
+    def test_a_payload_of_no_log(self):
+        self.board.library.feed = mock.Mock(side_effect=tracebench.Refused(115))
+        with self.assertRaisesRegex(scoreboard.Wrong, "payload 1: status 115"):
+            self.board.sent(b"\0")
+
+    def test_a_program_as_a_simulator_reads_it(self):
+        program = scoreboard.program_at(os.path.join(TOP, "examples/verilator/image.hex"), 0x80000000)
+        self.assertEqual((program.count, program.array[0].base, program.array[0].length), (1, 0x80000000, 48))
+
+
 class Hints(unittest.TestCase):
     @unittest.skipUnless(MYPY, "no mypy")
     def test_the_type_hints_hold(self):
@@ -99,17 +142,18 @@ class Calls(unittest.TestCase):
 
     def setUp(self):
         self.log = [tracebench.Event(privilege=3, address=BASE + 4 * place) for place in range(COUNT)]
+        self.program = tracebench.Program((BASE, IMAGE))
         self.encoder, self.opening = self.library.encoder(1024, tracebench.DIFFERENTIAL)
 
     def fed(self, feed, packets):
         decoder = self.library.decoder()
-        return [feed(BASE, IMAGE, decoder, self.library.pack(packet)) for packet in packets]
+        return [feed(self.program, decoder, self.library.pack(packet)) for packet in packets]
 
     def test_more_events_than_the_first_array_has(self):
         packets = [self.opening]
         for event in self.log:
-            packets += self.library.push(BASE, IMAGE, self.encoder, event)
-        packets += self.library.finish(BASE, IMAGE, self.encoder)
+            packets += self.library.push(self.program, self.encoder, event)
+        packets += self.library.finish(self.program, self.encoder)
         settled = self.fed(self.library.feed, packets)
         self.assertEqual([len(events) for events in settled], [0, 1, 0, COUNT - 1])
         self.assertEqual([bytes(event) for events in settled for event in events], [*map(bytes, self.log)])
@@ -117,16 +161,16 @@ class Calls(unittest.TestCase):
     def test_an_event_that_is_refused_changes_nothing(self):
         before = bytes(self.encoder)
         with self.assertRaises(tracebench.Refused) as raised:
-            self.library.push(BASE, IMAGE, self.encoder, tracebench.Event(kind=2))
+            self.library.push(self.program, self.encoder, tracebench.Event(kind=2))
         self.assertEqual((raised.exception.status, bytes(self.encoder)), (129, before))
 
     def test_an_encode_of_other_lenders_than_bytes(self):
         text = b"addr,itype,priv,cause,tval\n80000000,0,3,,\n"
         logs = bytearray(text), memoryview(text)
-        capture = self.library.encode(BASE, IMAGE, logs, 1024, tracebench.FULL, tracebench.VERSION_TWO)
-        self.assertEqual(self.library.decode(BASE, IMAGE, 1, capture, 1)[0], text)
+        capture = self.library.encode(self.program, logs, 1024, tracebench.FULL, tracebench.VERSION_TWO)
+        self.assertEqual(self.library.decode_all(self.program, 2, capture)[0], [text, text])
         with self.assertRaises(tracebench.Refused) as raised:
-            self.library.encode(BASE, IMAGE, [text, text[:-1] + b"4"], 1024, tracebench.FULL, tracebench.VERSION_TWO)
+            self.library.encode(self.program, [text, text[:-1] + b"4"], 1024, tracebench.FULL, tracebench.VERSION_TWO)
         self.assertEqual((raised.exception.log, raised.exception.row), (1, 1))
 
     def test_messages_and_headers(self):
@@ -190,9 +234,9 @@ class Calls(unittest.TestCase):
     def test_arrays(self):
         events = numpy.array([tuple(getattr(event, name) for name in arrays.EVENT.names) for event in self.log],
                              arrays.EVENT)
-        made = arrays.push(self.library, BASE, IMAGE, self.encoder, events)
+        made = arrays.push(self.library, self.program, self.encoder, events)
         packets = [self.opening, *(tracebench.Packet.from_buffer_copy(row.tobytes()) for row in made),
-                   *self.library.finish(BASE, IMAGE, self.encoder)]
+                   *self.library.finish(self.program, self.encoder)]
         settled = self.fed(lambda *words: arrays.feed(self.library, *words), packets)
         self.assertTrue(numpy.array_equal(numpy.concatenate(settled), events))
 
@@ -201,10 +245,10 @@ class Calls(unittest.TestCase):
         events, before = numpy.zeros(3, arrays.EVENT), bytes(self.encoder)
         events["kind"][2] = 2
         with self.assertRaises(tracebench.Refused) as raised:
-            arrays.push(self.library, BASE, IMAGE, self.encoder, events)
+            arrays.push(self.library, self.program, self.encoder, events)
         self.assertEqual((raised.exception.status, raised.exception.row, bytes(self.encoder)), (129, 3, before))
         with self.assertRaises(TypeError):
-            arrays.push(self.library, BASE, IMAGE, self.encoder, numpy.zeros(3))
+            arrays.push(self.library, self.program, self.encoder, numpy.zeros(3))
 
 
 if __name__ == "__main__":

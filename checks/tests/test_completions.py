@@ -131,13 +131,15 @@ def long_options(one):
 def lines_of(one):
     """Command lines of a subcommand, and what each shell has to offer behind them."""
     start = f"tracebench {one.name} "
+    first = [word for each in one.files() for word in each.words()] or FILES
+    some = [word for word in first if word.startswith("im")]
     lines = {f"tracebench {one.name[:-1]}": [name for name in NAMES if name.startswith(one.name[:-1])],
              f"tracebench help {one.name}": [one.name],
-             start: FILES, f"{start}im": FILES, f"{start}--": long_options(one)}
+             start: first, f"{start}im": some, f"{start}--": long_options(one)}
     for each in one.options():
         part = f"--{each.name[:-1]}"
         lines[start + part] = [name for name in long_options(one) if name.startswith(part)]
-        lines[f"{start}--{each.name} im"] = FILES if each.is_file() or not each.value else []
+        lines[f"{start}--{each.name} im"] = FILES if each.is_file() else some if not each.value else []
         if each.value:
             lines |= {f"{start}--{each.name}={typed}": FILES if each.is_file() else [] for typed in ("", "im")}
     if one.files()[-1].is_many:

@@ -222,7 +222,7 @@ class Facts(unittest.TestCase):
         self.assertEqual({limit: facts.number_of(limit) for limit in limits}, limits)
 
     def test_the_tables_have_rows(self):
-        counts = {"Exit statuses": 4, "Limits": 16, "What of E-Trace is left out": 12}
+        counts = {"Exit statuses": 4, "Limits": 19, "What of E-Trace is left out": 12}
         self.assertEqual({title: len(facts.rows(title)) for title in counts}, counts)
         self.assertEqual(facts.rows("Exit statuses")[0], ["0", "All is written, and all is good"])
 

@@ -41,8 +41,9 @@ static void print_row(const struct tracebench_hart_row *it) {
            tally->sent, tally->came, tally->lost, tally->repeated);
     printf(", late: %" PRIu64 ", changed: %" PRIu64 ", whole: %" PRIu32 " }", tally->late, tally->changed,
            tally->whole);
-    printf(", strange: %" PRIu64 ", runs: %" PRIu64 ", longest: %" PRIu64 ", latest: %" PRIu64 " }\n", it->strange,
-           it->runs, it->longest, it->latest);
+    printf(", strange: %" PRIu64 ", runs: %" PRIu64 ", longest: %" PRIu64 ", latest: %" PRIu64, it->strange, it->runs,
+           it->longest, it->latest);
+    printf(", exchanged: %" PRIu64 ", exchanged_hart: %" PRIu64 " }\n", it->exchanged, it->exchanged_hart);
 }
 
 static void print_arrival(const struct tracebench_arrival *it) {

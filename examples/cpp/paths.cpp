@@ -68,7 +68,8 @@ std::ostream &operator<<(std::ostream &out, const tracebench::tally &it) {
 
 std::ostream &operator<<(std::ostream &out, const tracebench::hart_row &it) {
     return out << "HartRow { tally: " << it.tally << ", strange: " << it.strange << ", runs: " << it.runs
-               << ", longest: " << it.longest << ", latest: " << it.latest << " }";
+               << ", longest: " << it.longest << ", latest: " << it.latest << ", exchanged: " << it.exchanged
+               << ", exchanged_hart: " << it.exchanged_hart << " }";
 }
 
 std::ostream &operator<<(std::ostream &out, const tracebench::arrival &it) {

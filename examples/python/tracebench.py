@@ -182,6 +182,8 @@ class HartRow(Struct):
     runs: U64
     longest: U64
     latest: U64
+    exchanged: U64
+    exchanged_hart: U64
 
 
 @of_hints

@@ -243,6 +243,8 @@ pub struct HartRow {
     pub runs: u64,
     pub longest: u64,
     pub latest: u64,
+    pub exchanged: u64,
+    pub exchanged_hart: u64,
 }
 
 /// A message of RECEIVED that is taken, and what became of it, `struct tracebench_arrival`.

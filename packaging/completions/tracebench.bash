@@ -8,7 +8,7 @@ _tracebench_files() {
 
 _tracebench() {
     local current=${COMP_WORDS[COMP_CWORD]} previous=${COMP_WORDS[COMP_CWORD - 1]}
-    local subcommands="check encode dump decode replay bench audit measure list salvage capture compare" options=""
+    local subcommands="check encode dump decode replay bench audit measure list salvage capture compare generate" options="" words=""
     if ((COMP_CWORD == 1)); then
         mapfile -t COMPREPLY < <(compgen -W "$subcommands help --help --version" -- "$current")
         return
@@ -22,10 +22,11 @@ _tracebench() {
     bench) options="--base --also --period --full --capacity --progress --help" ;;
     audit) options="--packets --unnumbered --only --summary --format --progress --help" ;;
     measure) options="--base --also --period --full --long --progress --help" ;;
-    list) options="--base --also --harts --only --symbols --salvage --format --progress --help" ;;
-    salvage) options="--base --also --harts --only --summary --format --progress --help" ;;
+    list) options="--base --also --harts --only --symbols --rows --salvage --format --progress --help" ;;
+    salvage) options="--base --also --harts --only --symbols --summary --format --progress --help" ;;
     capture) options="--v1 --full --period --harts --number-bits --help" ;;
-    compare) options="--base --also --harts --only --explain --long --progress --help" ;;
+    compare) options="--base --also --harts --only --explain --symbols --long --progress --help" ;;
+    generate) options="--seed --mix --base --hart --events --harts --messages --period --full --v1 --burst --help" words="image log capture" ;;
     help)
         mapfile -t COMPREPLY < <(compgen -W "$subcommands" -- "$current")
         return
@@ -39,11 +40,17 @@ _tracebench() {
         previous=${COMP_WORDS[COMP_CWORD - 2]}
     fi
     case $previous in
-    --also | --base | --capacity | --first | --format | --harts | --number-bits | --of | --only | --period) return ;;
+    --also | --base | --burst | --capacity | --events | --first | --format | --hart | --harts | --messages | --mix | --number-bits | --of | --only | --period | --seed) return ;;
     esac
     case $current in
     -*) mapfile -t COMPREPLY < <(compgen -W "$options" -- "$current") ;;
-    *) _tracebench_files "$current" ;;
+    *)
+        if [[ $words ]]; then
+            mapfile -t COMPREPLY < <(compgen -W "$words" -- "$current")
+        else
+            _tracebench_files "$current"
+        fi
+        ;;
     esac
 }
 

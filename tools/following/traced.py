@@ -58,5 +58,19 @@ class Traced:
         if self.is_shown(stack, stack.frames, self.first):
             self.slice("i", stack.hart, stack.rows, s="t", name=text)
 
+    def messages(self, listed):
+        """Writes a track of each hart for its messages: a slice for the rows that each settles, by a table of `list`."""
+        self.write({"ph": "M", "pid": 1, "name": "process_name", "args": {"name": "messages"}})
+        named = set()
+        for hart, name, first, last in listed:
+            begin, end = max(first - 1, self.first), last if self.last is None else min(last, self.last + 1)
+            if begin >= end:
+                continue
+            if hart not in named:
+                named.add(hart)
+                self.write({"ph": "M", "pid": 1, "tid": hart, "name": "thread_name", "args": {"name": f"hart {hart}"}})
+            self.write({"ph": "B", "pid": 1, "tid": hart, "ts": begin, "name": name, "cat": "message"})
+            self.write({"ph": "E", "pid": 1, "tid": hart, "ts": end})
+
     def close(self):
         self.file.write("\n]}\n")

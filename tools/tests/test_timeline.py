@@ -24,7 +24,7 @@ EVENT = {
     "required": ["ph", "pid", "name"],
     "properties": {
         "ph": {"enum": ["B", "E", "i", "M"]}, "pid": {"type": "integer"}, "tid": {"type": "integer"},
-        "ts": {"type": "integer", "minimum": 0}, "name": {"type": "string"}, "cat": {"enum": ["function", "trap"]},
+        "ts": {"type": "integer", "minimum": 0}, "name": {"type": "string"}, "cat": {"enum": ["function", "trap", "message"]},
         "s": {"const": "t"}, "args": {"type": "object"}},
     "additionalProperties": False,
 }
@@ -178,6 +178,42 @@ class Stacks(unittest.TestCase):
     def test_a_stack_has_an_end(self):
         stacks = self.run_of({8: jal(0)}, [8] * (MOST_FRAMES + 100))
         self.assertEqual(len(stacks[-1].split()), MOST_FRAMES)
+
+
+class Messages(unittest.TestCase):
+    """The messages of a capture over the rows, by a table of `list`."""
+
+    LOG = "addr,itype,priv,cause,tval\n80000000,0,3,,\n80000004,0,3,,\n80000008,0,3,,\n8000000c,0,3,,\n"
+    TABLE = ("place,hart,number,packet,added,first_row,last_row,first,last\n0,0,0,open,0,,,,\n1,0,1,sync,1,1,1,80000000,80000000\n"
+             "2,0,2,address,0,,,,\n3,0,3,close,3,2,4,80000004,8000000c\n")
+
+    def ran(self, option, table, *words):
+        with tempfile.TemporaryDirectory() as folder:
+            for name, content in (("image", NOP.to_bytes(4, "little") * 4), ("log", self.LOG.encode()), ("table", table.encode())):
+                with open(os.path.join(folder, name), "wb") as file:
+                    file.write(content)
+            ran = subprocess.run([sys.executable, os.path.join(TOOLS, "timeline"), option, "out", "--list", "table", *words, f"{BASE:x}",
+                                  "image", "log"], capture_output=True, text=True, cwd=folder)
+            if ran.returncode:
+                return ran.returncode, ran.stderr
+            with open(os.path.join(folder, "out")) as file:
+                return json.load(file)["traceEvents"]
+
+    def shown(self, *words):
+        events = self.ran("--trace", self.TABLE, *words)
+        return [(event["ph"], event["ts"], event.get("name")) for event in events if event["pid"] == 1 and event["ph"] != "M"]
+
+    def test_each_is_a_slice_of_the_rows_that_it_settles(self):
+        self.assertEqual(self.shown(), [("B", 0, "sync 1"), ("E", 1, None), ("B", 1, "close 3"), ("E", 4, None)])
+
+    def test_some_rows_alone(self):
+        self.assertEqual(self.shown("--rows", "1-2"), [("B", 1, "close 3"), ("E", 3, None)])
+
+    def test_what_cannot_be_used(self):
+        for said, table in (("line 1: no table of `list --format csv` with columns of rows", "place,hart\n"),
+                            ("line 2: no row of `list --format csv`", "hart,number,packet,first_row,last_row\n0,x,sync,1,1\n")):
+            self.assertEqual(self.ran("--trace", table), (2, f"timeline: table: {said}\n"))
+        self.assertEqual(self.ran("--folded", self.TABLE)[0], 2)
 
 
 @unittest.skipUnless(HAS_ELF, "pyelftools is not there")

@@ -12,6 +12,7 @@ use Rattle.message.specs.Numbered.{messages_from}
 use Rattle.message.specs.OfHart.{of_hart}
 use Rattle.message.specs.declared.header.Header.{Header}
 use Rattle.message.specs.declared.message.Message.{Message}
+use Rattle.auditing.specs.Exchanged.{the_only}
 use Rattle.auditing.specs.Known.{known_all, known_one}
 use Rattle.auditing.specs.Ledger.{HartLedger, Ledger, known_ledger, known_own}
 use Rattle.auditing.specs.Sent.{AreInTurn, harts_in, harts_of, misplaced, misplaced_at, next_number}
@@ -20,7 +21,9 @@ use Rattle.auditing.specs.declared.fate.Fate.TheVariants as fate
 use Rattle.auditing.specs.declared.finding.Finding.{Finding}
 use Rattle.auditing.specs.steps.Indexing.{AreIndexed, fresh, payloads_of}
 use Rattle.auditing.specs.steps.Taking.{fate_by, fate_found, fate_from, fate_in, finding_at, finding_found, finding_from}
-use Rattle.auditing.specs.steps.Taking.{first_after, hart_after, harts_found, ledger_after, one_more, strangers_after}
+use Rattle.auditing.specs.steps.Moving.{has_in, harts_that, is_payload, is_untrue, moves_if, owner_in}
+use Rattle.auditing.specs.steps.Taking.{first_after, hart_after, harts_after, harts_found, ledger_after, one_more}
+use Rattle.auditing.specs.steps.Taking.{strangers_after}
 
 -- By bytes, messages are themselves.
 pub known-bytes : (messages : List Message) → known_all by.Bytes messages ≡ messages
@@ -203,6 +206,31 @@ module _ (ledger : Ledger) (message : Message) where
           (after-known how own message.number its
           ∙ ap (hart_after (known_own how own) message.number) (fate-known how own message.number message.payload))
 
+  -- The only hart that has the number and the payload.
+  has-known : (own : HartLedger)
+      → has_in how message.number message.payload own ≡ has_in by.Bytes known.number known.payload (known_own how own)
+  has-known own =
+      go (slice_get own.payloads message.number)
+      ∙ ap (is_payload by.Bytes known.payload) (sym (slice_get-map (known_by how) own.payloads message.number))
+    where
+      go : (o : Option (List ℕ)) → is_payload how message.payload o
+          ≡ is_payload by.Bytes known.payload (option_map (known_by how) o)
+      go None = refl
+      go (Some sent) = refl
+
+  that-known : (from : ℕ) (harts : List HartLedger)
+      → harts_that (has_in how message.number message.payload) from harts
+      ≡ harts_that (has_in by.Bytes known.number known.payload) from (map (known_own how) harts)
+  that-known from [] = refl
+  that-known from (own ∷ harts) = λ i. cond (has-known own i) (from ∷ that-known (from + 1) harts i)
+      (that-known (from + 1) harts i)
+
+  owner-known : owner_in how (harts_after how ledger message) message.number message.payload
+      ≡ owner_in by.Bytes (harts_after by.Bytes (known_ledger ledger) known) known.number known.payload
+  owner-known =
+      ap the_only (that-known 0 (harts_after how ledger message))
+      ∙ ap (λ harts. owner_in by.Bytes harts known.number known.payload) harts-known
+
   -- What is kept after the message is known as what is kept after the known one.
   pub ledger-known : known_ledger (ledger_after how ledger message)
       ≡ ledger_after by.Bytes (known_ledger ledger) known
@@ -213,4 +241,5 @@ module _ (ledger : Ledger) (message : Message) where
     strangers = strangers_after ledger.strangers (fate_from-known i);
     taken = one_more ledger.taken;
     first = first_after ledger.first ledger.taken (finding_from-known i);
+    moves = moves_if (is_untrue (fate_from-known i)) ledger.moves message.hart (owner-known i);
   }

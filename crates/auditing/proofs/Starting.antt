@@ -18,6 +18,7 @@ use Rattle.auditing.specs.Sent.{AreInTurn, BeginsMisplaced, IsSent, IsSentFault,
 use Rattle.auditing.specs.Sent.{known_harts}
 use Rattle.auditing.specs.declared.fault.SentFault.{SentFault}
 use Rattle.auditing.specs.declared.fault.SentFault.TheVariants as fault
+use Rattle.auditing.specs.steps.Moving.{none_moved}
 use Rattle.auditing.specs.steps.Indexing.{AreIndexed, HasCounted, IsCountFault, harts_by}
 
 -- The messages of these bytes are audited.
@@ -34,7 +35,7 @@ counts_harts (Some header) highest sent is = refl
 
 -- Messages that were counted and indexed are audited.
 pub started : (how : By) (header : Option Header) (harts count highest number : ℕ) (bytes counts : List ℕ)
-    (index : List HartLedger) → harts ≡ known_harts header → HasCounted harts bytes [] counts highest number
+    (index : List HartLedger) (moves : List (List ℕ)) → moves ≡ none_moved count → harts ≡ known_harts header → HasCounted harts bytes [] counts highest number
     → count ≡ harts_by header highest
     → ((messages : List Message) → All IsMessage messages → bytes ≡ capture messages
     → AreIndexed count messages index)
@@ -45,8 +46,9 @@ pub started : (how : By) (header : Option Header) (harts count highest number : 
       strangers = 0;
       taken = 0;
       first = None;
+      moves = moves;
     })
-started how header harts count highest number bytes counts index harts_is has count_is indexed =
+started how header harts count highest number bytes counts index moves none harts_is has count_is indexed =
     let sent = has.messages in
     let whole : bytes ≡ capture sent = has.whole ∙ append-nil (capture sent) in
     let turn : AreInTurn (known_harts header) [] sent = subst (λ h. AreInTurn h [] sent) harts_is has.in_turn in
@@ -55,7 +57,18 @@ started how header harts count highest number bytes counts index harts_is has co
       has.ranges,
       whole,
       has.in_turn,
-      starts_known how header sent index turn (subst (λ c. AreIndexed c sent index) counted (indexed sent has.ranges whole)),
+      subst
+          (λ its. Audits sent [] (record {
+            by = how;
+            header = header;
+            harts = index;
+            strangers = 0;
+            taken = 0;
+            first = None;
+            moves = its;
+          })) (sym (none ∙ ap none_moved (sym (indexed sent has.ranges whole).count)))
+          (starts_known how header sent index turn
+          (subst (λ c. AreIndexed c sent index) counted (indexed sent has.ranges whole))),
     )
 
 -- What stands behind a header, or without one, makes SENT whole.

@@ -12,9 +12,10 @@ use Rattle.payload.specs.declared.by.By.{By}
 use Rattle.payload.specs.declared.by.By.TheVariants as by
 use Rattle.auditing.proofs.CountLemmas.{capped_more, strangers-next}
 use Rattle.auditing.proofs.FindingLemmas.{first-next, found_by_past}
+use Rattle.auditing.proofs.Moves.{moves_next, owner_is, untrue_is}
 use Rattle.auditing.proofs.OwnMessages.{any_of_hart}
 use Rattle.auditing.proofs.TakingLemmas.{chosen, fate_is, of_its_hart, takes, takes_other}
-use Rattle.auditing.specs.Audits.{AuditsBytes, AuditsHart, capped}
+use Rattle.auditing.specs.Audits.{AuditsBytes, AuditsHart, all_moved, capped}
 use Rattle.auditing.specs.Fates.{fate_of, has_greater, has_number, is_numbered, is_true, true_ones}
 use Rattle.auditing.specs.Findings.{fate_of_finding, finding_by, finding_of, greatest_number}
 use Rattle.auditing.specs.Judged.{strangers_in}
@@ -22,7 +23,8 @@ use Rattle.auditing.specs.Ledger.{HartLedger, Ledger}
 use Rattle.auditing.specs.declared.fate.Fate.{Fate}
 use Rattle.auditing.specs.declared.fate.Fate.TheVariants as fate
 use Rattle.auditing.specs.steps.Taking.{fate_found, fate_from, fate_in, finding_at, finding_found, finding_from, first_after}
-use Rattle.auditing.specs.steps.Taking.{hart_after, harts_found, ledger_after, one_more, strangers_after}
+use Rattle.auditing.specs.steps.Moving.{is_untrue, moves_if}
+use Rattle.auditing.specs.steps.Taking.{hart_after, harts_after, harts_found, ledger_after, one_more, strangers_after}
 
 -- Where nothing is found, the hart is none of SENT's.
 pub beyond_end : (harts : List HartLedger) (hart : ℕ) → slice_get harts hart ≡ None → length harts ≤ hart
@@ -119,6 +121,12 @@ module _ (sent received : List Message) (ledger : Ledger) (audits : AuditsBytes 
             ∙ capped_more (length received) (length more) (length_push received message);
         first = (λ i. first_after (audits.first i) (audits.taken i) (finding_is_from i))
             ∙ first-next sent received message;
+        moves = (λ i. moves_if ((ap is_untrue fate_is_from ∙ untrue_is sent received message) i) (audits.moves i)
+            message.hart
+            (owner_is sent more (harts_after by.Bytes ledger message) message (each_of o refl)
+            (λ hart past. let count = as_many o in audits.others hart (omega (arith, past, count))) i))
+            ∙ moves_next sent received message (length ledger.harts)
+            ∙ ap (all_moved sent more) (sym (as_many o));
       }
 
 -- The fate in what is found.

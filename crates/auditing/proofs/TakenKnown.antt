@@ -1,7 +1,7 @@
 -- One more message of RECEIVED, by what payloads are compared by.
 use Rattle.std.proofs.Common.{◌≡◌, ◌≢◌, ◌⊎◌, inl, inr, ℕ, ◌≤◌, List, [], ◌∷◌, ◌++◌, Option, Some, None, length, map, slice_get}
 use Rattle.std.proofs.Common.{refl, sym, ap, subst, ◌∙◌, arith}
-use Rattle.std.proofs.lemmas.List.{length-set}
+use Rattle.std.proofs.lemmas.List.{length-map, length-set}
 use Rattle.payload.specs.declared.by.By.{By}
 use Rattle.message.proofs.AcceptedLemmas.{slice_get-set}
 use Rattle.message.specs.Numbered.{messages_from}
@@ -20,6 +20,7 @@ use Rattle.auditing.specs.Known.{known_all, known_one}
 use Rattle.auditing.specs.Ledger.{HartLedger, Ledger, known_ledger, known_own}
 use Rattle.auditing.specs.Sent.{AreInTurn, harts_of, known_harts}
 use Rattle.auditing.specs.steps.Indexing.{AreIndexed, fresh, payloads_of}
+use Rattle.auditing.specs.steps.Moving.{none_moved}
 use Rattle.auditing.specs.steps.Taking.{fate_from, fate_in, finding_from, hart_after, harts_found, ledger_after}
 
 module _ (sent received : List Message) (ledger : Ledger) (audits : Audits sent received ledger) (message : Message) where
@@ -84,7 +85,15 @@ module _ (sent received : List Message) (ledger : Ledger) (audits : Audits sent 
 -- What is kept before the first message.
 pub starts_known : (how : By) (header : Option Header) (sent : List Message) (index : List HartLedger)
     → AreInTurn (known_harts header) [] sent → AreIndexed (harts_of header sent) sent index
-    → Audits sent [] (record { by = how; header = header; harts = index; strangers = 0; taken = 0; first = None })
+    → Audits sent [] (record {
+      by = how;
+      header = header;
+      harts = index;
+      strangers = 0;
+      taken = 0;
+      first = None;
+      moves = none_moved (length index);
+    })
 starts_known how header sent index turn indexed = record {
   payloads = λ hart own is.
       numbered (known_harts header) hart [] sent turn
@@ -92,8 +101,18 @@ starts_known how header sent index turn indexed = record {
   others = λ hart beyond. others_none header sent turn hart (let count = indexed.count in omega (arith, count, beyond));
   count = indexed.count;
   known =
-      starts how header (known_all how sent) (map (known_own how) index)
+      subst
+      (λ count. AuditsBytes (known_all how sent) [] (record {
+        by = how;
+        header = header;
+        harts = map (known_own how) index;
+        strangers = 0;
+        taken = 0;
+        first = None;
+        moves = none_moved count;
+      })) (length-map index (known_own how))
+      (starts how header (known_all how sent) (map (known_own how) index)
       (known-turn how (known_harts header) [] sent turn)
       (subst (λ n. AreIndexed n (known_all how sent) (map (known_own how) index)) (sym (known-harts how header sent))
-      (known-indexed how (harts_of header sent) sent index indexed));
+      (known-indexed how (harts_of header sent) sent index indexed)));
 }

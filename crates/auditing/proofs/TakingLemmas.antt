@@ -66,7 +66,7 @@ module _ (sent received : List Message) (message : Message) (own : HartLedger)
       ∙ ap (list_any (is_numbered hart number)) stands.payloads
       ∙ numbered_in hart 0 own.payloads number number (zero-add number)
 
-  same : is_true sent message ≡ fits message.payload found
+  pub same : is_true sent message ≡ fits message.payload found
   same =
       any_of_hart hart (is_same message)
       (λ other is. of_its_hart hart number other (has_its_number message other is)) sent

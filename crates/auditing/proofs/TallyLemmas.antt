@@ -10,6 +10,7 @@ use Rattle.message.specs.OfHart.{of_hart}
 use Rattle.message.specs.declared.header.Header.{Header}
 use Rattle.message.specs.declared.message.Message.{Message}
 use Rattle.payload.specs.declared.by.By.{By}
+use Rattle.auditing.proofs.Moves.{moves_start}
 use Rattle.auditing.proofs.OwnMessages.{flags}
 use Rattle.auditing.proofs.SentLemmas.{none_above, none_beyond, numbered}
 use Rattle.auditing.specs.Audits.{AuditsBytes, AuditsHart, capped}
@@ -21,6 +22,7 @@ use Rattle.auditing.specs.Sent.{AreInTurn, harts_of, known_harts}
 use Rattle.auditing.specs.declared.fate.Fate.{Fate}
 use Rattle.auditing.specs.declared.fate.Fate.TheVariants as fate
 use Rattle.auditing.specs.steps.Indexing.{AreIndexed, fresh, payloads_of}
+use Rattle.auditing.specs.steps.Moving.{none_moved}
 use Rattle.auditing.specs.Unset.{lost_in}
 
 -- No flag is set.
@@ -50,7 +52,15 @@ others_none (Some header) sent turn hart beyond = none_beyond header.harts hart 
 -- What is kept of all harts then.
 pub starts : (how : By) (header : Option Header) (sent : List Message) (index : List HartLedger)
     → AreInTurn (known_harts header) [] sent → AreIndexed (harts_of header sent) sent index
-    → AuditsBytes sent [] (record { by = how; header = header; harts = index; strangers = 0; taken = 0; first = None })
+    → AuditsBytes sent [] (record {
+      by = how;
+      header = header;
+      harts = index;
+      strangers = 0;
+      taken = 0;
+      first = None;
+      moves = none_moved (length index);
+    })
 starts how header sent index turn indexed = record {
   count = indexed.count;
   each = λ hart own is. subst (AuditsHart sent [] hart) (sym (indexed.each hart own is))
@@ -59,6 +69,7 @@ starts how header sent index turn indexed = record {
   strangers = refl;
   taken = refl;
   first = refl;
+  moves = moves_start sent (length index);
 }
 
 -- The numbers that are lost are those whose flags are not set.

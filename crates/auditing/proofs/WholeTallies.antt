@@ -1,9 +1,9 @@
 -- Whether a hart is whole, as an audit counts it.
-use Rattle.std.proofs.Common.{◌≡◌, ℕ, ◌+◌, ◌^◌, ◌<◌, Bool, true, false, cond, eqb, List, [], ◌∷◌}
+use Rattle.std.proofs.Common.{◌≡◌, ℕ, ◌+◌, ◌^◌, ◌<◌, ◌≤◌, map, Bool, true, false, cond, eqb, List, [], ◌∷◌}
 use Rattle.std.proofs.Common.{length, refl, sym, ap, ◌∙◌, arith}
 use Rattle.std.specs.Bool.{Decides}
 use Rattle.std.specs.Prelude.{◌&&◌, not}
-use Rattle.std.specs.List.{count_by, list_any}
+use Rattle.std.specs.List.{count_by, list_any, range_with_len}
 use Rattle.std.specs.Str.{bytes_eq}
 use Rattle.std.proofs.lemmas.Bool.{and_from, and_parts, eq-eqb, eqb-true, or_from, or_parts, true≢false}
 use Rattle.std.proofs.lemmas.Bool.Decides.{same_from_decides}
@@ -12,9 +12,11 @@ use Rattle.std.proofs.lemmas.List.Sums.{sum_by-cons}
 use Rattle.std.proofs.lemmas.Slice.Eq.{bytes_eq-Decides, slice_eq-Decides}
 use Rattle.message.specs.OfHart.{of_hart}
 use Rattle.message.specs.declared.message.Message.{Message}
+use Rattle.auditing.proofs.Moves.{exchanged_is}
 use Rattle.auditing.proofs.TallyLemmas.{came_exact, fates_exact, lost_counted, runs_are}
 use Rattle.auditing.proofs.WholeLemmas.{same_again, untouched}
-use Rattle.auditing.specs.Audits.{AuditsHart, counts_of}
+use Rattle.auditing.specs.Audits.{AuditsHart, capped, counts_of}
+use Rattle.auditing.specs.Exchanged.{first_exchanged, moved}
 use Rattle.auditing.specs.Fates.{is_same}
 use Rattle.auditing.specs.HartRows.{longest_of, row_of}
 use Rattle.auditing.specs.Judged.{Judged, fates_counted, is_fate, judged}
@@ -202,12 +204,18 @@ module _ (sent received : List Message) (hart : ℕ) (own : HartLedger) (stands 
       sent_is : length own.came ≡ length (of_hart hart sent)
       sent_is = ap length stands.came ∙ length-map (of_hart hart sent) _
 
-  -- The row is the one of the definition.
-  pub row_is : row_in own ≡ row_of sent received hart
-  row_is = λ i. record {
+  -- The row is the one of the definition, by the counts that are kept.
+  pub row_is : (harts : ℕ) → ((other : ℕ) → harts ≤ other → of_hart other sent ≡ [])
+      → row_in own (map (λ other. capped (moved sent received hart other)) (range_with_len 0 harts))
+      ≡ row_of sent received hart
+  row_is harts others = λ i. record {
     tally = tally_is i;
     strange = strange_is i;
     runs = length (runs_are sent received hart own stands i);
     longest = longest_of (runs_are sent received hart own stands i);
     latest = stands.latest i;
+    exchanged =
+        ((λ j. first_exchanged 0 (changed_is j + strange_is j)
+        (map (λ other. capped (moved sent received hart other)) (range_with_len 0 harts)))
+        ∙ exchanged_is sent received hart harts others few) i;
   }

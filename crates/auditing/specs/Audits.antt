@@ -1,8 +1,10 @@
 -- What an audit of messages keeps.
 use Rattle.std.specs.Prelude.{ℕ, ◌≡◌, ◌+◌, ◌-◌, ◌^◌, ◌≤◌, nat_lt, List, [], Option, Some, None, length, map, min, slice_get}
+use Rattle.std.specs.List.{range_with_len}
 use Rattle.message.specs.Numbered.{messages_from}
 use Rattle.message.specs.OfHart.{of_hart}
 use Rattle.message.specs.declared.message.Message.{Message}
+use Rattle.auditing.specs.Exchanged.{moved}
 use Rattle.auditing.specs.Fates.{has_greater, has_number, true_ones}
 use Rattle.auditing.specs.Findings.{first_found, greatest_number, latest}
 use Rattle.auditing.specs.Judged.{fates_counted, strangers_in}
@@ -49,9 +51,15 @@ pub record AuditsHart (sent received : List Message) (hart : ℕ) (own : HartLed
   pub latest : own.latest ≡ latest sent received hart
   pub counts : own.counts ≡ counts_of sent received hart
 
+-- Of each of so many harts how many of its messages are of each of them, which are not true.
+abbrev pub all_moved : List Message → List Message → ℕ → List (List ℕ)
+all_moved sent received harts =
+    map (λ hart. map (λ other. capped (moved sent received hart other)) (range_with_len 0 harts)) (range_with_len 0 harts)
+
 -- An audit of SENT that took the messages of RECEIVED, and that compares payloads by their bytes, keeps this: of each hart what its messages make it; how many
 -- strangers came; how many messages came; and the place of the first that is not in order or skips a number, if there is
--- one. The harts are those of SENT; it has no message of another.
+-- one. The harts are those of SENT; it has no message of another. Of each pair of harts it keeps how many messages of the
+-- one are of the other.
 pub record AuditsBytes (sent received : List Message) (ledger : Ledger) : Type 0 where
   pub count : length ledger.harts ≡ harts_of ledger.header sent
   pub each : (hart : ℕ) (own : HartLedger) → slice_get ledger.harts hart ≡ Some own
@@ -60,6 +68,7 @@ pub record AuditsBytes (sent received : List Message) (ledger : Ledger) : Type 0
   pub strangers : ledger.strangers ≡ capped (strangers_in sent received)
   pub taken : ledger.taken ≡ capped (length received)
   pub first : ledger.first ≡ capped_place (first_found sent received)
+  pub moves : ledger.moves ≡ all_moved sent received (length ledger.harts)
 
 -- An audit of SENT that took the messages of RECEIVED keeps the payloads of SENT, of as many harts as SENT has. Where each
 -- payload is what it is known by, the rest is what such an audit by bytes keeps.

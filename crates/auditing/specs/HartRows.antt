@@ -2,6 +2,7 @@
 use Rattle.std.specs.Prelude.{ℕ, ◌+◌, ◌-◌, nat_lt, Bool, false, List, [], ◌∷◌, Option, Some, None, length, max}
 use Rattle.std.specs.List.{filter}
 use Rattle.message.specs.declared.message.Message.{Message}
+use Rattle.auditing.specs.Exchanged.{exchanged}
 use Rattle.auditing.specs.Fates.{true_ones}
 use Rattle.auditing.specs.Findings.{greatest_number, latest}
 use Rattle.auditing.specs.Judged.{fates_counted}
@@ -28,6 +29,7 @@ row_of sent received hart = record {
   runs = length (lost_runs sent received hart);
   longest = longest_of (lost_runs sent received hart);
   latest = latest sent received hart;
+  exchanged = exchanged sent received hart;
 }
 
 -- A number is below another one, if there is one.

@@ -15,7 +15,8 @@ pub record HartLedger : Type 0 where
   pub counts : Counts
 
 -- By what payloads are compared; SENT's header, if it has one; what is kept of each hart; how many strangers came; how many messages came; and the
--- place of the first that was not in order or skipped a number, if there was one.
+-- place of the first that was not in order or skipped a number, if there was one; and of each hart how many of its messages
+-- are of each hart, which are not true.
 pub record Ledger : Type 0 where
   pub by : By
   pub header : Option Header
@@ -23,6 +24,7 @@ pub record Ledger : Type 0 where
   pub strangers : ℕ
   pub taken : ℕ
   pub first : Option ℕ
+  pub moves : List (List ℕ)
 
 -- What is kept of a hart, where each payload is what it is known by.
 abbrev pub known_own : By → HartLedger → HartLedger

@@ -1,3 +1,9 @@
+pub mod Aligned
+pub mod Arrivals
+pub mod Counted
+pub mod Cursor
+pub mod Split
+pub mod Matches
 pub mod Known
 pub mod Fates
 pub mod FateText
@@ -7,6 +13,7 @@ pub mod Unset
 pub mod Findings
 pub mod SentPayload
 pub mod Tallies
+pub mod Exchanged
 pub mod HartRows
 pub mod Ledger
 pub mod Audits

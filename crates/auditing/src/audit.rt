@@ -1,6 +1,6 @@
 //! The audit of a path.
 
-ghost use Rattle.std.specs.Prelude.{◌≡◌, ◌<◌, ◌^◌, ◌++◌, All, List, [], ◌∷◌, IfErr, IfOk, Option, length, option_map};
+ghost use Rattle.std.specs.Prelude.{◌≡◌, ◌<◌, ◌^◌, ◌++◌, All, List, [], ◌∷◌, IfErr, IfOk, Option, length, map, option_map};
 ghost use Rattle.message.specs.Capture.{capture};
 ghost use Rattle.message.specs.Cut.{IsMessage};
 ghost use Rattle.message.specs.declared.header.Header.{Header as AnyHeader};
@@ -18,9 +18,11 @@ ghost use Rattle.auditing.specs.SentPayload.{payload_sent};
 ghost use Rattle.auditing.specs.Sent.{AreInTurn, IsSent, IsSentFault, known_harts};
 ghost use Rattle.auditing.specs.Tallies.{tally_of};
 ghost use Rattle.auditing.specs.steps.Indexing.{IsCountFault, harts_by};
+ghost use Rattle.auditing.specs.steps.Moving.{moves_by, owner_in};
 ghost use Rattle.auditing.specs.steps.Seeing.{sight_in};
 ghost use Rattle.auditing.specs.steps.Taking.{finding_from, first_after, ledger_after};
 
+use crate::exchange::{count_moved, none_moved, owner};
 use crate::fate::Fate;
 use crate::fault::SentFault;
 use crate::finding::Finding;
@@ -56,6 +58,8 @@ pub struct Audit<'a, A: Allocator = Global> {
     taken: u64,
     /// The place of the first message that was not in order or skipped a number, if there was one.
     first: Option<u64>,
+    /// Of each hart how many of its messages that are not true are of each hart.
+    moves: Vec<Vec<u64, A>, A>,
 }
 
 impl<'a, A: Allocator> Model for Audit<'a, A> {
@@ -68,6 +72,7 @@ impl<'a, A: Allocator> Model for Audit<'a, A> {
       strangers = a.strangers;
       taken = a.taken;
       first = a.first;
+      moves = map (λ counts. counts.items) a.moves.items;
     } };
 }
 
@@ -80,8 +85,8 @@ impl<'a, A: Allocator + Copy> Audit<'a, A> {
     /// that is not so. A stranger is tested before a repeat, and a repeat before a gap. Payloads are compared by their
     /// bytes, and never unpacked.
     ///
-    /// No other fault comes but [`SentFault::Memory`]. At most 17 bytes are taken for each message, and 150 for each
-    /// hart that may come.
+    /// No other fault comes but [`SentFault::Memory`]. At most 17 bytes are taken for each message, 150 for each hart that
+    /// may come, and 8 for each pair of harts.
     pub fn new(alloc: A, bytes: &'a [u8]) -> Result<Audit<'a, A>, SentFault>
         ensures audits { IfOk result (λ audit. (sent : List AnyMessage) × IsSent bytes.entry.now audit.header sent
             × Audits sent [] audit) }
@@ -146,6 +151,7 @@ impl<'a, A: Allocator + Copy> Audit<'a, A> {
         let counted = count_messages(alloc, harts, Messages::new(bytes))?;
         let count = count_of_harts(header, counted.highest);
         let index = index_messages(alloc, counted.counts.as_slice(), count, bytes)?;
+        let moves = none_moved(alloc, usize::from(count))?;
         Ok(Audit {
             by,
             header,
@@ -153,6 +159,7 @@ impl<'a, A: Allocator + Copy> Audit<'a, A> {
             strangers: 0,
             taken: 0,
             first: None,
+            moves,
         })
     }
 }
@@ -249,7 +256,25 @@ impl<'a, A: Allocator> Audit<'a, A> {
         }
         self.first = first_after(self.first, self.taken, finding);
         self.taken = self.taken.saturating_add(1);
+        if matches!(finding, Finding::Stranger | Finding::Changed) {
+            self.find_owner(message);
+        }
         finding
+    }
+
+    /// Counts a message that is not true for the hart whose it is, if there is just one.
+    #[inline(never)]
+    fn find_owner(&mut self, message: BorrowedMessage<'_>)
+        ensures { self.new ≡ record self.old {
+          moves = moves_by self.old.moves (message_of message.entry).hart
+              (owner_in self.old.by self.old.harts (message_of message.entry).number (message_of message.entry).payload);
+        } }
+    {
+        let by = self.by;
+        let owner = owner(self.harts.as_slice(), message.number, message.payload, by);
+        if let Some(owner) = owner {
+            count_moved(&mut self.moves, usize::from(message.hart), owner);
+        }
     }
 
     /// The payload that SENT has with this hart and this number; `None` where it has none. Takes no memory.
@@ -283,15 +308,19 @@ impl<'a, A: Allocator> Audit<'a, A> {
         LostRuns::new(own.came.as_slice())
     }
 
-    /// What is found of a hart of SENT: what became of its messages, its strangers, the runs of its lost numbers, and the
-    /// most by which one is late. No count is above 2^64 - 1. Takes no memory.
+    /// What is found of a hart of SENT: what became of its messages, its strangers, the runs of its lost numbers, the most
+    /// by which one is late, and whose most of its messages are that are not true. No count is above 2^64 - 1. Takes no
+    /// memory.
     pub fn row(&self, hart: usize) -> HartRow
         requires known { hart < length self.now.harts }
         ensures { (sent received : List AnyMessage) → Audits sent received self.now → length received < 2 ^ 64
             → result ≡ row_of (known_all self.now.by sent) (known_all self.now.by received) hart }
     {
         let own = &self.harts[hart];
-        own.row()
+        match self.moves.get(hart) {
+            Some(moved) => own.row(moved.as_slice()),
+            None => own.row(&[]),
+        }
     }
 
     /// The place of the first message of RECEIVED that is not in order or skips a number, counted from 0; `None` where

@@ -4,8 +4,10 @@ ghost use Rattle.std.specs.Prelude.{◌≡◌, [], IfOk, OnOk, length, map, opti
 ghost use Rattle.auditing.specs.Ledger.{HartLedger};
 ghost use Rattle.auditing.specs.Seen.{sight_by};
 ghost use Rattle.auditing.specs.steps.Indexing.{fresh, longer};
+ghost use Rattle.auditing.specs.steps.Moving.{has_in};
 ghost use Rattle.auditing.specs.steps.Taking.{counted, fate_in, finding_in, hart_after, row_in, tally_in};
 
+use crate::exchange::first_exchanged;
 use crate::fate::Fate;
 use crate::finding::{Finding, finding_at, lateness};
 use crate::lost::run_lengths;
@@ -138,17 +140,29 @@ impl<'a, A: Allocator> HartAudit<'a, A> {
         self.payloads.get(number as usize).copied()
     }
 
-    /// What is found of the hart.
-    pub(crate) fn row(&self) -> HartRow
-        ensures { result ≡ row_in self.now }
+    /// Whether the hart has a message with this number and this payload.
+    pub(crate) fn has(&self, number: u64, payload: &[u8], by: By) -> bool
+        ensures { result ≡ has_in by number payload.now self.now }
+    {
+        match self.payloads.get(number as usize) {
+            None => false,
+            Some(own) => same(own, payload, by),
+        }
+    }
+
+    /// What is found of the hart, where so many of its messages that are not true are of each hart.
+    pub(crate) fn row(&self, moved: &[u64]) -> HartRow
+        ensures { result ≡ row_in self.now moved.now }
     {
         let lengths = run_lengths(self.came.as_slice());
+        let untrue = u128::from(self.counts.changed) + u128::from(self.counts.strange);
         HartRow {
             tally: self.tally(),
             strange: self.counts.strange,
             runs: lengths.runs,
             longest: lengths.longest,
             latest: self.latest,
+            exchanged: first_exchanged(moved, untrue),
         }
     }
 

@@ -1,4 +1,4 @@
-//! What the definitions of an audit promise.
+//! What the definitions of an audit promise, with numbers and without.
 
 ghost use Rattle.std.specs.Prelude.{ℕ, ◌+◌, ◌-◌, length, ◌≡◌, ◌↔◌, Bool, true, None, List, [], Option};
 ghost use Rattle.retire.specs.declared.event.Event.{Event};
@@ -28,6 +28,9 @@ ghost use Rattle.auditing.specs.DecodedAgain.{AreAllWhole, AreDecodedAgain};
 ghost use Rattle.auditing.specs.Sent.{AreInTurn, IsSent};
 ghost use Rattle.auditing.specs.Tallies.{is_whole};
 ghost use Rattle.auditing.specs.Untouched.{IsUntouched};
+ghost use Rattle.auditing.specs.Matches.{Flags};
+ghost use Rattle.auditing.specs.Aligned.{IsAligned, known_payloads};
+ghost use Rattle.auditing.specs.Counted.{counts_of, is_whole as is_whole_aligned};
 
 /// A hart is whole if and only if no number of it is lost, and none of its messages is repeated, late, changed or a
 /// stranger. This is so if and only if the list of its messages that came is the list that was sent.
@@ -103,4 +106,19 @@ pub fn harts_are_received_alone()
         ↔ IsNotReceived words harts announced (of_hart message.hart messages) message why }
     ensures packets { (hart : ℕ) (messages : List Message)
         → packets_of hart (of_hart hart messages) ≡ packets_of hart messages }
+{}
+
+/// The counts of a hart add up: what was sent and is not lost is what came and is not extra.
+pub fn counts_add_up()
+    ensures { (by : By) (sent received : List Message) (hart : ℕ) (flags : Flags)
+        → IsAligned by sent received hart flags
+        → (counts_of flags).sent - (counts_of flags).lost ≡ (counts_of flags).came - (counts_of flags).extra }
+{}
+
+/// A hart is whole, so nothing of it is lost and nothing is extra, if and only if what came of it is what was sent of it:
+/// its payloads are known by the same bytes, in the same order.
+pub fn whole_is_equal()
+    ensures { (by : By) (sent received : List Message) (hart : ℕ) (flags : Flags)
+        → IsAligned by sent received hart flags
+        → (is_whole_aligned flags ≡ true) ↔ (known_payloads by hart sent ≡ known_payloads by hart received) }
 {}

@@ -1,5 +1,6 @@
 //! What an audit finds of a hart.
 
+use crate::exchange::Exchanged;
 use crate::tally::Tally;
 
 /// What an audit finds of a hart.
@@ -15,4 +16,7 @@ pub struct HartRow {
     pub longest: u64,
     /// The most by which a message of the hart is late, 0 where none is.
     pub latest: u64,
+    /// The hart of SENT that the messages of the hart are of which are not true, if at least 8 of them and more than half
+    /// are of one.
+    pub exchanged: Option<Exchanged>,
 }

@@ -7,7 +7,7 @@ use Rattle.comparing.specs.Compared.{HasCompared}
 use Rattle.comparing.specs.declared.pieces.Comparing.{Comparing}
 use Rattle.capture_commands.specs.declared.beside.Beside.{Beside}
 use Rattle.capture_commands.specs.steps.Beside.{IsBeside, IsDecodedTo, IsRefilled}
-use Rattle.capture_index.specs.Left.{HasLeft}
+use Rattle.parallel_decode.specs.Left.{HasLeft}
 
 -- Nothing is left of a list after its end.
 pub drop_over : {A : Type 0} (n : ℕ) (items : List A) → length items ≤ n → drop n items ≡ []

@@ -1,5 +1,5 @@
 -- What `compare` prints, from what was found.
-use Rattle.std.proofs.Common.{◌≡◌, ◌∙◌, ◌⊎◌, ap, inr, refl, Bool, ℕ, List, Option, Result, Ok, Err, length}
+use Rattle.std.proofs.Common.{◌≡◌, ◌∙◌, ◌⊎◌, ap, inr, refl, subst, sym, Bool, ℕ, List, Option, Result, Ok, Err, length}
 use Rattle.std.proofs.lemmas.Bool.{eqb-true}
 use Rattle.std.specs.Prelude.{⊤, ◌≢◌, ◌==◌, if◌then◌else◌, is_none, true, false}
 use Rattle.command_inputs.specs.Faults.{Path}
@@ -7,10 +7,12 @@ use Rattle.capture_commands.specs.declared.reason.CaptureReason.TheVariants.{Log
 use Rattle.output.specs.Begun.{AppendsBeginning}
 use Rattle.bench.specs.Got.{Got}
 use Rattle.captures.specs.declared.outcome.CaptureFault.{CaptureFault}
-use Rattle.comparing.proofs.LineTexts.{harts_whole_of, harts_written_of}
+use Rattle.comparing.proofs.LineTexts.{harts_numbered, sourced_whole}
 use Rattle.comparing.specs.Compared.{AreGotOf, is_compared_whole}
-use Rattle.comparing.specs.Explained.{are_whole_harts, explained_text, explained_text_of}
+use Rattle.comparing.specs.Explained.{are_whole_sourced, explained_harts, explained_text}
+use Rattle.comparing.specs.Sourced.{AreNumbered, AreSourced}
 use Rattle.comparing.specs.declared.explained.ExplainedHart.{ExplainedHart}
+use Rattle.comparing.specs.declared.sourcing.SourcedHart.{SourcedHart}
 use Rattle.message.specs.declared.range.HartRange.{HartRange}
 use Rattle.rvclass.specs.Fetch.{words_of}
 use Rattle.rvclass.specs.Image.{Image}
@@ -31,6 +33,7 @@ use Rattle.capture_commands.specs.declared.reason.CaptureReason.{CaptureReason}
 use Rattle.capture_commands.specs.Comparing.{CanCompare, CanCompareCapture, CanCompareHarts, Compares, ComparesCapture}
 use Rattle.capture_commands.specs.Comparing.{ComparesHarts}
 use Rattle.capture_commands.specs.Comparison.{AreAsMany, comparison_end, end_of_stop, rows_of}
+use Rattle.capture_commands.specs.Symbols.{AreSymbols}
 use Rattle.capture_commands.specs.steps.Lines.{AreLinesOfLogs, WritesLines}
 
 -- There are as many logs as harts.
@@ -42,75 +45,85 @@ as_many harts paths u are = go (length paths == harts) refl are
     go true is found = eqb-true (length paths) harts is
     go false is found = cc
 
-module _ (content : Content) (asked : Compare) (base : ℕ) (range : HartRange) (program : Image) (bytes : List ℕ)
+-- What is said of harts whose logs are legal has their numbers in order.
+pub lines_numbered : (rows : ℕ) (content : Content) (program : Image) (paths : List Path) (hart : ℕ) (gots : List Got)
+    (lines : List ExplainedHart) → AreLinesOfLogs rows content program paths hart gots lines → AreNumbered hart lines
+lines_numbered rows content program paths hart gots lines are =
+    subst (AreNumbered hart) (sym are.each) (harts_numbered hart gots are.logs)
+
+module _ (content : Content) (asked : Compare) (base : ℕ) (range : HartRange) (program : Image)
+    (symbols : Option (List ℕ)) (bytes : List ℕ)
     (based : IsBase {W = CaptureReason} asked.program (Ok base))
     (chosen : IsOnly {W = CaptureReason} asked.only (Ok range))
     (found : IsProgramAt {W = CaptureReason} content base asked.program (Ok program))
+    (named : AreSymbols content asked.symbols (Ok symbols))
     (read : IsRead {W = CaptureReason} content asked.capture (Ok bytes)) where
   -- What is written of the harts is what `compare` prints.
-  harts_lead : (printed : Printed) → ComparesHarts content asked range program bytes printed
+  harts_lead : (printed : Printed) → ComparesHarts content asked range program symbols bytes printed
       → Compares content asked printed
-  harts_lead printed writes = (Ok base, based, (Ok range, chosen, (Ok program, found, (Ok bytes, read, writes))))
+  harts_lead printed writes =
+      (Ok base, based, (Ok range, chosen, (Ok program, found, (Ok symbols, named, (Ok bytes, read, writes)))))
 
   -- And once that can be written, `compare` writes.
   can_lead : CanCompareHarts content asked range program bytes → CanCompare content asked
-  can_lead can = (base, based, (range, chosen, (program, found, (bytes, read, can))))
+  can_lead can = (base, based, (range, chosen, (program, found, (symbols, named, (bytes, read, can)))))
 
   -- What is printed of the harts is what `compare` prints.
   pub harts_printed : (ended : Result Status Fault) (old new : Option (List ℕ))
-      → PrintsUnlessDenied (ComparesHarts content asked range program bytes)
+      → PrintsUnlessDenied (ComparesHarts content asked range program symbols bytes)
       (CanCompareHarts content asked range program bytes) ended old new
       → PrintsUnlessDenied (Compares content asked) (CanCompare content asked) ended old new
   harts_printed ended old new =
-      leads_on (ComparesHarts content asked range program bytes) (Compares content asked)
+      leads_on (ComparesHarts content asked range program symbols bytes) (Compares content asked)
       (CanCompareHarts content asked range program bytes) (CanCompare content asked) ended old new harts_lead can_lead
 
   -- And a cut of it is one of that.
-  pub harts_cut : (old new : Option (List ℕ)) → IsCutOf (ComparesHarts content asked range program bytes) old new
+  pub harts_cut : (old new : Option (List ℕ)) → IsCutOf (ComparesHarts content asked range program symbols bytes) old new
       → IsCutOf (Compares content asked) old new
   harts_cut old new =
-      cut_leads (ComparesHarts content asked range program bytes) (Compares content asked) old new harts_lead
+      cut_leads (ComparesHarts content asked range program symbols bytes) (Compares content asked) old new harts_lead
 
-module _ (content : Content) (asked : Compare) (range : HartRange) (program : Image) (bytes : List ℕ) where
+module _ (content : Content) (asked : Compare) (range : HartRange) (program : Image) (symbols : Option (List ℕ))
+    (bytes : List ℕ) where
   -- The capture has none of the harts.
   pub no_hart_ends : (why : Fault) (ended : Result Status Fault) (old : Option (List ℕ)) → ended ≡ Err why
       → HasHartBelow asked.harts range bytes (Err why)
-      → PrintsUnlessDenied (ComparesHarts content asked range program bytes)
+      → PrintsUnlessDenied (ComparesHarts content asked range program symbols bytes)
       (CanCompareHarts content asked range program bytes) ended old old
   no_hart_ends why ended old is none =
-      ends_silently (ComparesHarts content asked range program bytes)
+      ends_silently (ComparesHarts content asked range program symbols bytes)
       (CanCompareHarts content asked range program bytes) (HasHartBelow asked.harts range bytes (Err why)) why ended old is
       (inr none) (λ none. (Err why, none, refl))
 
   module _ (u : Unit {0}) (has : HasHartBelow asked.harts range bytes (Ok u)) where
-    leads_through : (printed : Printed) → ComparesCapture content asked range program bytes printed
-        → ComparesHarts content asked range program bytes printed
+    leads_through : (printed : Printed) → ComparesCapture content asked range program symbols bytes printed
+        → ComparesHarts content asked range program symbols bytes printed
     leads_through printed writes = (Ok u, has, writes)
 
     -- It has one of them: what is printed of the capture is what is printed of the harts.
     pub capture_printed : (ended : Result Status Fault) (old new : Option (List ℕ))
-        → PrintsUnlessDenied (ComparesCapture content asked range program bytes)
+        → PrintsUnlessDenied (ComparesCapture content asked range program symbols bytes)
         (CanCompareCapture content asked range program bytes) ended old new
-        → PrintsUnlessDenied (ComparesHarts content asked range program bytes)
+        → PrintsUnlessDenied (ComparesHarts content asked range program symbols bytes)
         (CanCompareHarts content asked range program bytes) ended old new
     capture_printed ended old new =
-        leads_on (ComparesCapture content asked range program bytes) (ComparesHarts content asked range program bytes)
+        leads_on (ComparesCapture content asked range program symbols bytes) (ComparesHarts content asked range program symbols bytes)
         (CanCompareCapture content asked range program bytes) (CanCompareHarts content asked range program bytes) ended
         old new leads_through (λ can. (u, has, can))
 
     -- And a cut of it is one of that.
-    pub capture_cut : (old new : Option (List ℕ)) → IsCutOf (ComparesCapture content asked range program bytes) old new
-        → IsCutOf (ComparesHarts content asked range program bytes) old new
+    pub capture_cut : (old new : Option (List ℕ)) → IsCutOf (ComparesCapture content asked range program symbols bytes) old new
+        → IsCutOf (ComparesHarts content asked range program symbols bytes) old new
     capture_cut old new =
-        cut_leads (ComparesCapture content asked range program bytes) (ComparesHarts content asked range program bytes)
+        cut_leads (ComparesCapture content asked range program symbols bytes) (ComparesHarts content asked range program symbols bytes)
         old new leads_through
 
-module _ (content : Content) (asked : Compare) (range : HartRange) (program : Image) (bytes : List ℕ)
-    (gots : List Got) (stop : Option (ℕ × CaptureFault))
+module _ (content : Content) (asked : Compare) (range : HartRange) (program : Image) (symbols : Option (List ℕ))
+    (bytes : List ℕ) (gots : List Got) (stop : Option (ℕ × CaptureFault))
     (got : AreGotOf range (words_of program) asked.harts bytes gots stop)
     (no_memory : end_of_stop stop ≢ Err fault.Memory) where
   abbrev Prints : Printed → Type 0
-  Prints = ComparesCapture content asked range program bytes
+  Prints = ComparesCapture content asked range program symbols bytes
 
   abbrev Can : Type 0
   Can = CanCompareCapture content asked range program bytes
@@ -144,20 +157,16 @@ module _ (content : Content) (asked : Compare) (range : HartRange) (program : Im
           prints = (Err why, (Ok u, many, refused), refl);
         })
 
-    module _ (lines : List ExplainedHart)
-        (are : AreLinesOfLogs (rows_of asked.long) content program asked.logs.items range.first gots lines) where
-      text_is : explained_text asked.explain (is_none stop) lines
-          ≡ explained_text_of asked.explain range.first stop gots are.logs
-      text_is =
-          ap (explained_text asked.explain (is_none stop)) are.each
-          ∙ harts_written_of asked.explain range.first stop gots are.logs are.many
+    module _ (lines : List ExplainedHart) (harts : List SourcedHart)
+        (are : AreLinesOfLogs (rows_of asked.long) content program asked.logs.items range.first gots lines)
+        (sourced : AreSourced (words_of program) bytes stop lines harts) where
+      of_logs : AreSourced (words_of program) bytes stop (explained_harts range.first gots are.logs) harts
+      of_logs = subst (λ lines. AreSourced (words_of program) bytes stop lines harts) are.each sourced
 
-      whole_is : are_whole_harts (is_none stop) lines ≡ is_compared_whole stop gots are.logs
-      whole_is =
-          ap (are_whole_harts (is_none stop)) are.each
-          ∙ harts_whole_of asked.explain range.first stop gots are.logs are.many
+      whole_is : are_whole_sourced (is_none stop) harts ≡ is_compared_whole stop gots are.logs
+      whole_is = sourced_whole (words_of program) bytes range.first stop gots are.logs harts are.many of_logs
 
-      leads : (printed : Printed) → WritesLines asked.explain stop lines printed → Prints printed
+      leads : (printed : Printed) → WritesLines asked.explain symbols stop harts printed → Prints printed
       leads printed writes = record {
         gots = gots;
         stop = stop;
@@ -166,24 +175,24 @@ module _ (content : Content) (asked : Compare) (range : HartRange) (program : Im
         prints = (
           Ok are.logs,
           (Ok u, many, are.legal),
-          writes
-              ∙ ap (λ text. record {
-                text = text;
-                ended = comparison_end (end_of_stop stop) (are_whole_harts (is_none stop) lines);
-              }) text_is
-              ∙ ap (λ whole. record {
-                text = explained_text_of asked.explain range.first stop gots are.logs;
-                ended = comparison_end (end_of_stop stop) whole;
-              }) whole_is,
+          record {
+            harts = harts;
+            sourced = of_logs;
+            is = writes
+                ∙ ap (λ whole. record {
+                  text = explained_text asked.explain symbols stop harts;
+                  ended = comparison_end (end_of_stop stop) whole;
+                }) whole_is;
+          },
         );
       }
 
       -- The report is what is printed.
       pub report_printed : (ended : Result Status Fault) (old new : Option (List ℕ))
-          → PrintsUnlessDenied (WritesLines asked.explain stop lines) ⊤ ended old new
+          → PrintsUnlessDenied (WritesLines asked.explain symbols stop harts) ⊤ ended old new
           → PrintsUnlessDenied Prints Can ended old new
       report_printed ended old new =
-          leads_on (WritesLines asked.explain stop lines) Prints ⊤ Can ended old new leads
+          leads_on (WritesLines asked.explain symbols stop harts) Prints ⊤ Can ended old new leads
           (λ there. record {
             gots = gots;
             stop = stop;
@@ -194,7 +203,7 @@ module _ (content : Content) (asked : Compare) (range : HartRange) (program : Im
 
       -- Or a prefix of it.
       pub report_cut : (old new : Option (List ℕ))
-          → AppendsBeginning (explained_text asked.explain (is_none stop) lines) old new → IsCutOf Prints old new
+          → AppendsBeginning (explained_text asked.explain symbols stop harts) old new → IsCutOf Prints old new
       report_cut old new begun =
-          inr (printed_begun Prints (explained_text asked.explain (is_none stop) lines)
-          (comparison_end (end_of_stop stop) (are_whole_harts (is_none stop) lines)) old new (leads _ refl) begun)
+          inr (printed_begun Prints (explained_text asked.explain symbols stop harts)
+          (comparison_end (end_of_stop stop) (are_whole_sourced (is_none stop) harts)) old new (leads _ refl) begun)

@@ -16,7 +16,7 @@ use Rattle.command_inputs.specs.Printed.{PrintsUnlessDenied}
 use Rattle.capture_commands.specs.CountedHarts.{HasHartBelow}
 use Rattle.capture_commands.specs.Faults.{Fault, Printed}
 use Rattle.command_inputs.specs.declared.status.Status.{Status}
-use Rattle.capture_index.specs.HartsText.{harts_text_of}
+use Rattle.parallel_decode.specs.HartsText.{harts_text_of}
 use Rattle.captures.specs.OfHarts.{IsDecodedOf}
 use Rattle.capture_commands.specs.Decoded.{CanDecode, CanWriteLogs, CanWriteLogsOf, Decodes, WritesDecoded}
 use Rattle.capture_commands.specs.Decoded.{WritesLogs, WritesLogsOf}

@@ -11,7 +11,7 @@ use Rattle.comparing.proofs.SomeHarts.{of_same}
 use Rattle.comparing.specs.Compared.{of_harts}
 use Rattle.comparing.specs.steps.Held.{count_in}
 use Rattle.message.specs.declared.range.HartRange.{HartRange}
-use Rattle.capture_index.specs.Surveyed.{NeverMemory}
+use Rattle.parallel_decode.specs.Surveyed.{NeverMemory}
 use Rattle.retire.specs.declared.event.Event.{Event}
 use Rattle.rvclass.specs.Words.{Words}
 use Rattle.capture_commands.specs.Comparison.{end_of_stop}

@@ -15,7 +15,7 @@ use Rattle.comparing.specs.Explained.{explained_hart, explained_harts}
 use Rattle.comparing.specs.declared.hart_count.HartCount.{HartCount}
 use Rattle.comparing.specs.declared.explained.ExplainedHart.{ExplainedHart}
 use Rattle.log_streams.specs.Known.{Content}
-use Rattle.capture_index.specs.Placed.{ArePlacedLogs, IsPlacedLog}
+use Rattle.parallel_decode.specs.Placed.{ArePlacedLogs, IsPlacedLog}
 use Rattle.legalpath.specs.ProgramLog.{ProgramLog, program_log}
 use Rattle.log_streams.specs.Made.{AreMade, IsMadeOf}
 use Rattle.message.proofs.Elements.{slice_get-some}

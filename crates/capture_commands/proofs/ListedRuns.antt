@@ -45,10 +45,10 @@ module _ (content : Content) (asked : Listing) (base : ℕ) (only : HartRange) (
     (named : AreSymbols content asked.symbols (Ok symbols))
     (read : IsRead {W = CaptureReason} content asked.capture (Ok bytes)) where
   abbrev Own : Printed → Type 0
-  Own = WritesListed asked.format asked.salvage only asked.harts program symbols bytes
+  Own = WritesListed asked.format asked.rows asked.salvage only asked.harts program symbols bytes
 
   abbrev OwnPart : Printed → Type 0
-  OwnPart = WritesListedPart asked.format asked.salvage only asked.harts program symbols bytes
+  OwnPart = WritesListedPart asked.format asked.rows asked.salvage only asked.harts program symbols bytes
 
   -- What is written of the capture is what `list` prints.
   list_leads : (printed : Printed) → Own printed → ListsHarts content asked base only printed
@@ -78,24 +78,24 @@ module _ (content : Content) (asked : Listing) (base : ℕ) (only : HartRange) (
   list_cut old new = cut_leads OwnPart (ListsHartsInPart content asked base only) old new part_leads
 
 -- Where salvaging is not asked for.
-module _ (format : Format) (salvage : Bool) (only : HartRange) (given : Option ℕ) (program : Image)
+module _ (format : Format) (rows : Bool) (salvage : Bool) (only : HartRange) (given : Option ℕ) (program : Image)
     (symbols : Option (List ℕ)) (bytes : List ℕ) (not : salvage ≡ false) (harts : ℕ) (are : harts ≡ harts_or_one given)
   where
-    by_harts : (printed : Printed) → ListsBelow format only harts program symbols bytes printed
-        → WritesListed format salvage only given program symbols bytes printed
+    by_harts : (printed : Printed) → ListsBelow format rows only harts program symbols bytes printed
+        → WritesListed format rows salvage only given program symbols bytes printed
     by_harts printed is =
-        subst (λ b. WritesListed format b only given program symbols bytes printed) (sym not)
-        (subst (λ n. ListsBelow format only n program symbols bytes printed) are is)
+        subst (λ b. WritesListed format rows b only given program symbols bytes printed) (sym not)
+        (subst (λ n. ListsBelow format rows only n program symbols bytes printed) are is)
 
     -- The capture has none of the harts.
     pub lists_nothing : (why : Fault) → HasHartBelow harts only bytes (Err why)
-        → WritesListed format salvage only given program symbols bytes (silent why)
+        → WritesListed format rows salvage only given program symbols bytes (silent why)
     lists_nothing why none = by_harts (silent why) (Err why, none, refl)
 
     module _ (u : Unit {0}) (has : HasHartBelow harts only bytes (Ok u)) where
       -- It has one of them: its listing is what is listed.
-      pub lists : (printed : Printed) → WritesListing format only harts program symbols bytes printed
-          → WritesListed format salvage only given program symbols bytes printed
+      pub lists : (printed : Printed) → WritesListing format rows only harts program symbols bytes printed
+          → WritesListed format rows salvage only given program symbols bytes printed
       lists printed writes = by_harts printed (Ok u, has, writes)
 
       pub can_lists : ⊤ → CanWriteListed salvage only given bytes
@@ -104,18 +104,18 @@ module _ (format : Format) (salvage : Bool) (only : HartRange) (given : Option �
           (subst (λ n. CanListBelow only n bytes) are (u, has, tt))
 
       -- And a part of it is a part of that.
-      pub lists_part : (printed : Printed) → WritesPart format only harts program symbols bytes printed
-          → WritesListedPart format salvage only given program symbols bytes printed
+      pub lists_part : (printed : Printed) → WritesPart format rows only harts program symbols bytes printed
+          → WritesListedPart format rows salvage only given program symbols bytes printed
       lists_part printed part =
-          subst (λ b. WritesListedPart format b only given program symbols bytes printed) (sym not)
-          (subst (λ n. ListsPartBelow format only n program symbols bytes printed) are (u, has, part))
+          subst (λ b. WritesListedPart format rows b only given program symbols bytes printed) (sym not)
+          (subst (λ n. ListsPartBelow format rows only n program symbols bytes printed) are (u, has, part))
 
-module _ (format : Format) (only : HartRange) (harts : ℕ) (program : Image) (symbols : Option (List ℕ))
+module _ (format : Format) (rows : Bool) (only : HartRange) (harts : ℕ) (program : Image) (symbols : Option (List ℕ))
     (bytes : List ℕ) where
   -- The beginning of a part of a listing was written.
   pub part_cut : (old new : Option (List ℕ))
-      → BeginsPart (IsPartListedIn format (words_of program) only harts symbols bytes) old new
-      → IsCutOf (WritesPart format only harts program symbols bytes) old new
+      → BeginsPart (IsPartListedIn format rows (words_of program) only harts symbols bytes) old new
+      → IsCutOf (WritesPart format rows only harts program symbols bytes) old new
   part_cut old new begins = inr (record {
     printed = record { text = begins.text; ended = Err fault.Output };
     prints = begins.part;
@@ -123,10 +123,10 @@ module _ (format : Format) (only : HartRange) (harts : ℕ) (program : Image) (s
   })
 
   module _ (closed : List _) (stop : Option (ℕ × CaptureFault)) (old mid new : Option (List ℕ))
-      (appends : AppendsListing (IsListedIn format (words_of program) only harts symbols bytes) closed stop old mid)
+      (appends : AppendsListing (IsListedIn format rows (words_of program) only harts symbols bytes) closed stop old mid)
       (kept : Keeps mid new) where
     -- The whole listing was written, and then nothing more.
-    pub whole_cut : IsCutOf (WritesPart format only harts program symbols bytes) old new
+    pub whole_cut : IsCutOf (WritesPart format rows only harts program symbols bytes) old new
     whole_cut = inr (record {
       printed = record { text = appends.text; ended = end_of_capture_of only stop closed };
       prints = OfAll closed stop appends.listed;
@@ -135,7 +135,7 @@ module _ (format : Format) (only : HartRange) (harts : ℕ) (program : Image) (s
 
     -- And the run ends as decoding does.
     pub whole_printed : (ended : Result Status Fault) → ended ≡ end_of_capture_of only stop closed
-        → IsPrinted (WritesListing format only harts program symbols bytes) ended old new
+        → IsPrinted (WritesListing format rows only harts program symbols bytes) ended old new
     whole_printed ended is = record {
       text = appends.text;
       prints = record { closed = closed; stop = stop; listing = appends.listed; ended = is };

@@ -28,24 +28,25 @@ use Rattle.capture_commands.specs.Faults.{Fault, Printed}
 use Rattle.command_inputs.specs.declared.status.Status.{Status}
 use Rattle.capture_commands.specs.SalvagedFormats.{layout_of, salvaged_in}
 use Rattle.capture_commands.specs.Salvaging.{CanSalvage, CanSalvageOf, Salvages, SalvagesOf, end_of_salvage_of}
+use Rattle.capture_commands.specs.Symbols.{AreSymbols}
 use Rattle.capture_commands.specs.steps.Reading.{IsFoundOf}
 use Rattle.capture_commands.specs.declared.reason.CaptureReason.{CaptureReason}
 
-module _ (only : HartRange) (format : Format) (asked : Option ℕ) (summary : Bool) (program : Image) (bytes : List ℕ)
-    (found : Found) (is : IsFoundOf only asked program bytes found) where
+module _ (only : HartRange) (format : Format) (asked : Option ℕ) (summary : Bool) (program : Image)
+    (symbols : Option (List ℕ)) (bytes : List ℕ) (found : Found) (is : IsFoundOf only asked program bytes found) where
   abbrev spans : List Span
   spans = spans_of found.header bytes
 
   abbrev text : List ℕ
-  text = salvaged_in format summary only found.header spans found.salvaged
+  text = salvaged_in format summary symbols only found.header spans found.salvaged
 
-  pub text_same : found_as (layout_of format summary) found bytes ≡ text
-  text_same = same_texts only asked program bytes found is.is (layout_of format summary)
+  pub text_same : found_as (layout_of format summary) symbols found bytes ≡ text
+  text_same = same_texts only asked program bytes found is.is (layout_of format summary) symbols
 
   -- What is salvaged is printed, and the end is that of salvaging.
   pub salvaged_printed : (ended : Result Status Fault)
       → ended ≡ end_of_salvage_of found.only found.fault found.frames.runs found.salvaged
-      → SalvagesOf only format asked summary program bytes (record { text = text; ended = ended })
+      → SalvagesOf only format asked summary program symbols bytes (record { text = text; ended = ended })
   salvaged_printed ended end = (
     Ok tt,
     is.has,
@@ -63,25 +64,29 @@ module _ (only : HartRange) (format : Format) (asked : Option ℕ) (summary : Bo
   )
 
   -- A beginning of it was written, and then nothing more.
-  pub salvaged_cut : (old mid new : Option (List ℕ)) → AppendsBeginning (found_as (layout_of format summary) found bytes) old mid
-      → Keeps mid new → IsCutOf (SalvagesOf only format asked summary program bytes) old new
+  pub salvaged_cut : (old mid new : Option (List ℕ))
+      → AppendsBeginning (found_as (layout_of format summary) symbols found bytes) old mid
+      → Keeps mid new → IsCutOf (SalvagesOf only format asked summary program symbols bytes) old new
   salvaged_cut old mid new begun kept =
       let ended = end_of_salvage_of found.only found.fault found.frames.runs found.salvaged in
-      inr (printed_begun (SalvagesOf only format asked summary program bytes) text ended old new
+      inr (printed_begun (SalvagesOf only format asked summary program symbols bytes) text ended old new
       (salvaged_printed ended refl)
       (begun_kept text old mid new (subst (λ l. AppendsBeginning l old mid) text_same begun) kept))
 
-module _ (content : Content) (asked : Salvage) (base : ℕ) (only : HartRange) (program : Image) (bytes : List ℕ)
+module _ (content : Content) (asked : Salvage) (base : ℕ) (only : HartRange) (program : Image)
+    (symbols : Option (List ℕ)) (bytes : List ℕ)
     (based : IsAskedBase {W = CaptureReason} asked.format asked.program (Ok base))
     (ranged : IsOnly {W = CaptureReason} asked.only (Ok only))
     (found : IsProgramAt {W = CaptureReason} content base asked.program (Ok program))
+    (named : AreSymbols content asked.symbols (Ok symbols))
     (read : IsRead {W = CaptureReason} content asked.capture (Ok bytes)) where
   abbrev Own : Printed → Type 0
-  Own = SalvagesOf only asked.format asked.harts asked.summary program bytes
+  Own = SalvagesOf only asked.format asked.harts asked.summary program symbols bytes
 
   -- What is written of the capture is what `salvage` prints.
   capture_leads : (printed : Printed) → Own printed → Salvages content asked printed
-  capture_leads printed writes = (Ok base, based, (Ok only, ranged, (Ok program, found, (Ok bytes, read, writes))))
+  capture_leads printed writes =
+      (Ok base, based, (Ok only, ranged, (Ok program, found, (Ok symbols, named, (Ok bytes, read, writes)))))
 
   -- What is printed of the capture is what `salvage` prints.
   pub capture_printed : (ended : Result Status Fault) (old new : Option (List ℕ))
@@ -89,7 +94,7 @@ module _ (content : Content) (asked : Salvage) (base : ℕ) (only : HartRange) (
       → PrintsUnlessDenied (Salvages content asked) (CanSalvage content asked) ended old new
   capture_printed ended old new =
       leads_on Own (Salvages content asked) (CanSalvageOf only asked.harts bytes) (CanSalvage content asked) ended
-      old new capture_leads (λ can. (base, based, (only, ranged, (program, found, (bytes, read, can)))))
+      old new capture_leads (λ can. (base, based, (only, ranged, (program, found, (symbols, named, (bytes, read, can))))))
 
   -- And a cut of it is one of that.
   pub capture_cut : (old new : Option (List ℕ)) → IsCutOf Own old new → IsCutOf (Salvages content asked) old new

@@ -1,5 +1,5 @@
 -- What `list --salvage` prints, from what was found.
-use Rattle.std.proofs.Common.{◌≡◌, ◌∙◌, inr, refl, ℕ, ap, List, Ok, Option, Result}
+use Rattle.std.proofs.Common.{◌≡◌, ◌∙◌, inr, refl, ℕ, ap, Bool, List, Ok, Option, Result}
 use Rattle.std.specs.Io.KnownBytes.{Keeps}
 use Rattle.output.proofs.Beginnings.{begun_kept}
 use Rattle.output.specs.Begun.{AppendsBeginning}
@@ -19,16 +19,16 @@ use Rattle.capture_commands.specs.Salvaging.{end_of_salvage_of}
 use Rattle.capture_commands.specs.steps.Reading.{IsFoundOf}
 use Rattle.salvage_reports.specs.declared.found.Found.{Found}
 
-module _ (format : Format) (only : HartRange) (asked : Option ℕ) (program : Image) (symbols : Option (List ℕ))
+module _ (format : Format) (rows : Bool) (only : HartRange) (asked : Option ℕ) (program : Image) (symbols : Option (List ℕ))
     (bytes : List ℕ) (found : Found) (is : IsFoundOf only asked program bytes found) (treated : List Treated)
     (done : AreTreatedIn only asked program found.header bytes treated) where
   abbrev text : List ℕ
-  text = treated_in format only symbols found.header bytes treated
+  text = treated_in format rows only symbols found.header bytes treated
 
   -- What is done with each message is printed, and the end is that of salvaging.
   pub treated_printed : (ended : Result Status Fault)
       → ended ≡ end_of_salvage_of found.only found.fault found.frames.runs found.salvaged
-      → TreatsHarts format only asked program symbols bytes (record { text = text; ended = ended })
+      → TreatsHarts format rows only asked program symbols bytes (record { text = text; ended = ended })
   treated_printed ended end = (
     Ok tt,
     is.has,
@@ -49,8 +49,8 @@ module _ (format : Format) (only : HartRange) (asked : Option ℕ) (program : Im
 
   -- A beginning of it was written, and then nothing more.
   pub treated_cut : (old mid new : Option (List ℕ)) → AppendsBeginning text old mid → Keeps mid new
-      → IsCutOf (TreatsHarts format only asked program symbols bytes) old new
+      → IsCutOf (TreatsHarts format rows only asked program symbols bytes) old new
   treated_cut old mid new begun kept =
       let ended = end_of_salvage_of found.only found.fault found.frames.runs found.salvaged in
-      inr (printed_begun (TreatsHarts format only asked program symbols bytes) text ended old new
+      inr (printed_begun (TreatsHarts format rows only asked program symbols bytes) text ended old new
       (treated_printed ended refl) (begun_kept text old mid new begun kept))

@@ -13,8 +13,8 @@ use Rattle.retire.specs.declared.fault.WriteFault.TheVariants as write
 use Rattle.rvclass.specs.Fetch.{words_of}
 use Rattle.rvclass.specs.Image.{Image}
 use Rattle.captures.specs.OfHarts.{IsDecodedOf}
-use Rattle.capture_index.specs.Surveyed.{NeverMemory}
-use Rattle.capture_index.specs.Written.{BeginsHartsOf}
+use Rattle.parallel_decode.specs.Surveyed.{NeverMemory}
+use Rattle.parallel_decode.specs.Written.{BeginsHartsOf}
 use Rattle.command_inputs.specs.Begun.{IsCutOf}
 use Rattle.command_inputs.specs.Faults.{write_fault}
 use Rattle.command_inputs.specs.Printed.{IsPrintingDenied}

@@ -3,12 +3,15 @@ use Rattle.std.specs.Prelude.{⊤, ℕ, ◌≡◌, ◌≢◌, Bool, List, Option
 use Rattle.bench.specs.Got.{Got}
 use Rattle.captures.specs.declared.outcome.CaptureFault.{CaptureFault}
 use Rattle.comparing.specs.Compared.{AreGotOf, is_compared_whole}
-use Rattle.comparing.specs.Explained.{explained_text_of}
+use Rattle.comparing.specs.Explained.{explained_harts, explained_text}
+use Rattle.comparing.specs.Sourced.{AreSourced}
+use Rattle.comparing.specs.declared.sourcing.SourcedHart.{SourcedHart}
 use Rattle.log_streams.specs.Known.{Content}
 use Rattle.message.specs.declared.range.HartRange.{HartRange}
 use Rattle.legalpath.specs.ProgramLog.{ProgramLog}
 use Rattle.rvclass.specs.Fetch.{words_of}
 use Rattle.rvclass.specs.Image.{Image}
+use Rattle.rvclass.specs.Words.{Words}
 use Rattle.command_inputs.specs.declared.words.Compare.{Compare}
 use Rattle.command_inputs.specs.Found.{IsBase, IsProgramAt, IsRead}
 use Rattle.command_inputs.specs.FurtherPieces.{base_number}
@@ -20,40 +23,46 @@ use Rattle.command_inputs.specs.declared.fault.Fault.TheVariants as fault
 use Rattle.capture_commands.specs.CountedHarts.{HasHartBelow}
 use Rattle.capture_commands.specs.Faults.{Meaning, Once, Printed}
 use Rattle.capture_commands.specs.Comparison.{AreLogsOfHarts, comparison_end, end_of_stop, rows_of}
+use Rattle.capture_commands.specs.Symbols.{AreSymbols}
 
--- The report of a comparison that says where logs differ is written, whose first hart has this number, and the run ends
--- as that says. The rows before the first difference are written if they are wanted.
-abbrev pub WritesComparison : Bool → ℕ → Option (ℕ × CaptureFault) → List Got → List ProgramLog → Printed → Type 0
-WritesComparison before hart stop gots logs printed = printed ≡ record {
-  text = explained_text_of before hart stop gots logs;
-  ended = comparison_end (end_of_stop stop) (is_compared_whole stop gots logs);
-}
+-- The report of a comparison that says where logs differ, and which messages of the capture the rows come from, is written,
+-- whose first hart has this number, and the run ends as that says. The rows before the first difference are written if they
+-- are wanted, and places are named by the symbols.
+pub record WritesComparison (before : Bool) (symbols : Option (List ℕ)) (words : Words) (bytes : List ℕ) (hart : ℕ)
+    (stop : Option (ℕ × CaptureFault)) (gots : List Got) (logs : List ProgramLog) (printed : Printed) : Type 0 where
+  pub harts : List SourcedHart
+  pub sourced : AreSourced words bytes stop (explained_harts hart gots logs) harts
+  pub is : printed ≡ record {
+    text = explained_text before symbols stop harts;
+    ended = comparison_end (end_of_stop stop) (is_compared_whole stop gots logs);
+  }
 
 -- The bytes of a capture decode to something of each of these harts that it has, and decoding does not stop for want of
 -- memory. The logs of as many harts are found, and compared with that.
-pub record ComparesCapture (content : Content) (asked : Compare) (range : HartRange) (program : Image) (bytes : List ℕ)
-    (printed : Printed) : Type 0 where
+pub record ComparesCapture (content : Content) (asked : Compare) (range : HartRange) (program : Image)
+    (symbols : Option (List ℕ)) (bytes : List ℕ) (printed : Printed) : Type 0 where
   pub gots : List Got
   pub stop : Option (ℕ × CaptureFault)
   pub got : AreGotOf range (words_of program) asked.harts bytes gots stop
   pub no_memory : end_of_stop stop ≢ Err fault.Memory
   pub prints : First
       (AreLogsOfHarts (rows_of asked.long) content program asked.logs.items (length gots))
-      (WritesComparison asked.explain range.first stop gots) printed
+      (WritesComparison asked.explain symbols (words_of program) bytes range.first stop gots) printed
 
 -- The capture is compared where it has one of these harts.
-abbrev pub ComparesHarts : Content → Compare → HartRange → Image → List ℕ → Printed → Type 0
-ComparesHarts content asked range program bytes =
-    First (HasHartBelow asked.harts range bytes) (λ _. ComparesCapture content asked range program bytes)
+abbrev pub ComparesHarts : Content → Compare → HartRange → Image → Option (List ℕ) → List ℕ → Printed → Type 0
+ComparesHarts content asked range program symbols bytes =
+    First (HasHartBelow asked.harts range bytes) (λ _. ComparesCapture content asked range program symbols bytes)
 
--- The bases are looked at first, then the harts that are asked for, then the image with its further pieces, and the
--- capture. Where there is no fault, what the capture has of these harts is compared.
+-- The bases are looked at first, then the harts that are asked for, then the image with its further pieces, the symbols, if
+-- they are given, and the capture. Where there is no fault, what the capture has of these harts is compared.
 abbrev pub Compares : Content → Compare → Printed → Type 0
 Compares content asked =
     First (IsBase asked.program) (λ base.
     First (IsOnly asked.only) (λ range.
     First (IsProgramAt content base asked.program) (λ program.
-    First (IsRead content asked.capture) (ComparesHarts content asked range program))))
+    First (AreSymbols content asked.symbols) (λ symbols.
+    First (IsRead content asked.capture) (ComparesHarts content asked range program symbols)))))
 
 -- A capture's bytes decode to something of each of these harts without want of memory, and the logs of as many harts
 -- are found.
@@ -76,7 +85,8 @@ CanCompare content asked =
     Once (IsBase asked.program) (λ base.
     Once (IsOnly asked.only) (λ range.
     Once (IsProgramAt content base asked.program) (λ program.
-    Once (IsRead content asked.capture) (CanCompareHarts content asked range program))))
+    Once (AreSymbols content asked.symbols) (λ _.
+    Once (IsRead content asked.capture) (CanCompareHarts content asked range program)))))
 
 -- What `compare` means. Where allocation fails, it wrote nothing.
 abbrev pub compare_meaning : Compare → Meaning

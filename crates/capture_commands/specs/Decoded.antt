@@ -17,7 +17,7 @@ use Rattle.command_inputs.specs.Printed.{First}
 use Rattle.capture_commands.specs.CountedHarts.{HasHartBelow}
 use Rattle.capture_commands.specs.Faults.{Meaning, Once, Printed}
 use Rattle.capture_commands.specs.Decoding.{end_of_capture_of}
-use Rattle.capture_index.specs.HartsText.{harts_text_of}
+use Rattle.parallel_decode.specs.HartsText.{harts_text_of}
 use Rattle.captures.specs.OfHarts.{IsDecodedOf}
 use Rattle.capture_commands.specs.Pieces.{HasPieces, WritesPieces}
 

@@ -24,17 +24,17 @@ use Rattle.capture_commands.specs.ListedFormats.{IsListedIn, IsPartListedIn}
 use Rattle.capture_commands.specs.ListedSalvaged.{TreatsHarts}
 
 -- The listing of these harts of a capture is written in a format, and the run ends as their decoding does.
-pub record WritesListing (format : Format) (only : HartRange) (harts : ℕ) (program : Image)
+pub record WritesListing (format : Format) (rows : Bool) (only : HartRange) (harts : ℕ) (program : Image)
     (symbols : Option (List ℕ)) (bytes : List ℕ) (printed : Printed) : Type 0 where
   pub closed : List Bool
   pub stop : Option (ℕ × CaptureFault)
-  pub listing : IsListedIn format (words_of program) only harts symbols bytes closed stop printed.text
+  pub listing : IsListedIn format rows (words_of program) only harts symbols bytes closed stop printed.text
   pub ended : printed.ended ≡ end_of_capture_of only stop closed
 
 -- The same, where the capture has one of these harts.
-abbrev pub ListsBelow : Format → HartRange → ℕ → Image → Option (List ℕ) → List ℕ → Printed → Type 0
-ListsBelow format only harts program symbols bytes =
-    First (HasHartBelow harts only bytes) (λ _. WritesListing format only harts program symbols bytes)
+abbrev pub ListsBelow : Format → Bool → HartRange → ℕ → Image → Option (List ℕ) → List ℕ → Printed → Type 0
+ListsBelow format rows only harts program symbols bytes =
+    First (HasHartBelow harts only bytes) (λ _. WritesListing format rows only harts program symbols bytes)
 
 -- A capture with no header has one hart where no count is given.
 abbrev pub harts_or_one : Option ℕ → ℕ
@@ -42,10 +42,10 @@ harts_or_one given = unwrap_or given 1
 
 -- What is listed of these harts of a capture is written, where it has one of them: what salvaging does with each of
 -- their messages, where that is asked for, and else the listing; each in a format.
-abbrev pub WritesListed : Format → Bool → HartRange → Option ℕ → Image → Option (List ℕ) → List ℕ → Printed → Type 0
-WritesListed format true only harts program symbols bytes = TreatsHarts format only harts program symbols bytes
-WritesListed format false only harts program symbols bytes =
-    ListsBelow format only (harts_or_one harts) program symbols bytes
+abbrev pub WritesListed : Format → Bool → Bool → HartRange → Option ℕ → Image → Option (List ℕ) → List ℕ → Printed → Type 0
+WritesListed format rows true only harts program symbols bytes = TreatsHarts format rows only harts program symbols bytes
+WritesListed format rows false only harts program symbols bytes =
+    ListsBelow format rows only (harts_or_one harts) program symbols bytes
 
 -- The image with its further pieces is looked at, the symbols, if they are given, and then the capture. Where there is
 -- no fault, what is listed of these harts of the capture is written.
@@ -53,7 +53,7 @@ abbrev pub ListsHarts : Content → Listing → ℕ → HartRange → Printed �
 ListsHarts content asked base only =
     First (IsProgramAt content base asked.program) (λ program.
     First (AreSymbols content asked.symbols) (λ symbols.
-    First (IsRead content asked.capture) (WritesListed asked.format asked.salvage only asked.harts program symbols)))
+    First (IsRead content asked.capture) (WritesListed asked.format asked.rows asked.salvage only asked.harts program symbols)))
 
 -- The format is looked at first, then the bases, and then the harts that are asked for. Where there is no fault, what
 -- is listed of these harts is written.
@@ -92,26 +92,26 @@ CanList content asked =
 
 -- A part of the listing of these harts of a capture, which has one of them, is written in a format, however the run
 -- ends.
-abbrev pub WritesPart : Format → HartRange → ℕ → Image → Option (List ℕ) → List ℕ → Printed → Type 0
-WritesPart format only harts program symbols bytes printed =
-    IsPartListedIn format (words_of program) only harts symbols bytes printed.text
+abbrev pub WritesPart : Format → Bool → HartRange → ℕ → Image → Option (List ℕ) → List ℕ → Printed → Type 0
+WritesPart format rows only harts program symbols bytes printed =
+    IsPartListedIn format rows (words_of program) only harts symbols bytes printed.text
 
-abbrev pub ListsPartBelow : Format → HartRange → ℕ → Image → Option (List ℕ) → List ℕ → Printed → Type 0
-ListsPartBelow format only harts program symbols bytes printed =
-    Once (HasHartBelow harts only bytes) (λ _. WritesPart format only harts program symbols bytes printed)
+abbrev pub ListsPartBelow : Format → Bool → HartRange → ℕ → Image → Option (List ℕ) → List ℕ → Printed → Type 0
+ListsPartBelow format rows only harts program symbols bytes printed =
+    Once (HasHartBelow harts only bytes) (λ _. WritesPart format rows only harts program symbols bytes printed)
 
 -- A part of what is listed is written: of what salvaging does with each message all, and of a listing a part.
-abbrev pub WritesListedPart : Format → Bool → HartRange → Option ℕ → Image → Option (List ℕ) → List ℕ → Printed
+abbrev pub WritesListedPart : Format → Bool → Bool → HartRange → Option ℕ → Image → Option (List ℕ) → List ℕ → Printed
     → Type 0
-WritesListedPart format true only harts program symbols bytes = TreatsHarts format only harts program symbols bytes
-WritesListedPart format false only harts program symbols bytes =
-    ListsPartBelow format only (harts_or_one harts) program symbols bytes
+WritesListedPart format rows true only harts program symbols bytes = TreatsHarts format rows only harts program symbols bytes
+WritesListedPart format rows false only harts program symbols bytes =
+    ListsPartBelow format rows only (harts_or_one harts) program symbols bytes
 
 -- The program, the symbols and the capture were found, and a part of what is listed of these harts is written.
 abbrev pub ListsHartsInPart : Content → Listing → ℕ → HartRange → Printed → Type 0
 ListsHartsInPart content asked base only printed =
     OnceListed content asked base
-    (λ program symbols bytes. WritesListedPart asked.format asked.salvage only asked.harts program symbols bytes printed)
+    (λ program symbols bytes. WritesListedPart asked.format asked.rows asked.salvage only asked.harts program symbols bytes printed)
 
 abbrev pub ListsInPart : Content → Listing → Printed → Type 0
 ListsInPart content asked printed =

@@ -13,22 +13,23 @@ use Rattle.command_inputs.specs.declared.words.Format.{Format}
 use Rattle.command_inputs.specs.declared.words.Format.TheVariants.{Csv}
 use Rattle.salvage_reports.specs.TreatedText.{treated_text_of}
 
--- How messages are written in a format.
-abbrev pub form_of : Format → Form
-form_of Csv = Table
-form_of _ = Lines
+-- How messages are written in a format, where lines say which rows a message settles or do not.
+abbrev pub form_of : Format → Bool → Form
+form_of Csv rows = Table
+form_of _ rows = Lines rows
 
 -- The text is the listing of these harts of a capture, as a table or in lines.
-abbrev pub IsListedIn : Format → Words → HartRange → ℕ → Option (List ℕ) → List ℕ → List Bool
+abbrev pub IsListedIn : Format → Bool → Words → HartRange → ℕ → Option (List ℕ) → List ℕ → List Bool
     → Option (ℕ × CaptureFault) → List ℕ → Type 0
-IsListedIn format words only harts symbols bytes = IsListing words (form_of format) only harts symbols bytes
+IsListedIn format rows words only harts symbols bytes =
+    IsListing words (form_of format rows) only harts symbols bytes
 
 -- The text is the listing of these harts of a capture or of a front of it, as a table or in lines.
-abbrev pub IsPartListedIn : Format → Words → HartRange → ℕ → Option (List ℕ) → List ℕ → List ℕ → Type 0
-IsPartListedIn format words only harts symbols bytes =
-    IsPartOfListing words (form_of format) only harts symbols bytes
+abbrev pub IsPartListedIn : Format → Bool → Words → HartRange → ℕ → Option (List ℕ) → List ℕ → List ℕ → Type 0
+IsPartListedIn format rows words only harts symbols bytes =
+    IsPartOfListing words (form_of format rows) only harts symbols bytes
 
 -- What salvaging does with each message of these harts, as a table or in lines.
-abbrev pub treated_in : Format → HartRange → Option (List ℕ) → Option Header → List ℕ → List Treated → List ℕ
-treated_in format only symbols header bytes treated =
-    treated_text_of (form_of format) only symbols header bytes treated
+abbrev pub treated_in : Format → Bool → HartRange → Option (List ℕ) → Option Header → List ℕ → List Treated → List ℕ
+treated_in format rows only symbols header bytes treated =
+    treated_text_of (form_of format rows) only symbols header bytes treated

@@ -1,5 +1,5 @@
 -- What `list --salvage` prints, and how it ends.
-use Rattle.std.specs.Prelude.{◌≡◌, ℕ, List, Option}
+use Rattle.std.specs.Prelude.{◌≡◌, ℕ, Bool, List, Option}
 use Rattle.std.specs.List.{list_any}
 use Rattle.std.specs.declared.alloc.Global.{Global}
 use Rattle.message.specs.Range.{selected}
@@ -32,7 +32,7 @@ AreTreatedIn only asked program header bytes treated =
 
 -- What salvaging does with each message of these harts of a capture is written in a format, and the run ends as one of
 -- `salvage` does: by the capture's header and by what is salvaged of them.
-pub record WritesTreated (format : Format) (only : HartRange) (asked : Option ℕ) (program : Image)
+pub record WritesTreated (format : Format) (rows : Bool) (only : HartRange) (asked : Option ℕ) (program : Image)
     (symbols : Option (List ℕ)) (bytes : List ℕ) (printed : Printed) : Type 0 where
   pub header : Option Header
   pub why : Option MessageFault
@@ -40,10 +40,10 @@ pub record WritesTreated (format : Format) (only : HartRange) (asked : Option �
   pub found : IsSalvagedOf only asked program bytes header why salvaged
   pub treated : List Treated
   pub done : AreTreatedIn only asked program header bytes treated
-  pub text : printed.text ≡ treated_in format only symbols header bytes treated
+  pub text : printed.text ≡ treated_in format rows only symbols header bytes treated
   pub ended : printed.ended ≡ end_of_salvage_of only why (list_any is_run (spans_of header bytes)) salvaged
 
 -- The same, where the capture has one of these harts.
-abbrev pub TreatsHarts : Format → HartRange → Option ℕ → Image → Option (List ℕ) → List ℕ → Printed → Type 0
-TreatsHarts format only asked program symbols bytes =
-    First (HasHartFound asked only bytes) (λ _. WritesTreated format only asked program symbols bytes)
+abbrev pub TreatsHarts : Format → Bool → HartRange → Option ℕ → Image → Option (List ℕ) → List ℕ → Printed → Type 0
+TreatsHarts format rows only asked program symbols bytes =
+    First (HasHartFound asked only bytes) (λ _. WritesTreated format rows only asked program symbols bytes)

@@ -26,7 +26,7 @@ use Rattle.salvage_reports.specs.HartItems.{items_of}
 use Rattle.salvage_reports.specs.MessagesLine.{messages_line}
 use Rattle.frames.specs.Search.{mode_of}
 use Rattle.capture_commands.specs.Placed.{placed_fault}
-use Rattle.capture_index.specs.EachHart.{each_hart}
+use Rattle.parallel_decode.specs.EachHart.{each_hart}
 
 -- The line of a gap, with how many numbers are missing; or the line of a stretch, with how many events it has, and the
 -- text of their log.

@@ -17,7 +17,9 @@ layout_of Csv summary = Table
 layout_of _ true = Summary
 layout_of _ false = Text
 
--- The table of these harts, or their lines and, where no summary is asked for, the rows of their logs.
-abbrev pub salvaged_in : Format → Bool → HartRange → Option Header → List Span → Salvaged Global → List ℕ
-salvaged_in format summary only header spans salvaged =
-    salvaged_as (layout_of format summary) only header spans salvaged
+-- The table of these harts, or their lines and, where no summary is asked for, the rows of their logs. The places of a
+-- stretch are named by the symbols of a file, if there is one.
+abbrev pub salvaged_in : Format → Bool → Option (List ℕ) → HartRange → Option Header → List Span → Salvaged Global
+    → List ℕ
+salvaged_in format summary symbols only header spans salvaged =
+    salvaged_as (layout_of format summary) symbols only header spans salvaged

@@ -29,6 +29,7 @@ use Rattle.capture_commands.specs.Decoding.{end_of_harts}
 use Rattle.capture_commands.specs.HartsFound.{HasHartFound}
 use Rattle.capture_commands.specs.Pieces.{end_with_gaps}
 use Rattle.capture_commands.specs.SalvagedFormats.{salvaged_in}
+use Rattle.capture_commands.specs.Symbols.{AreSymbols}
 
 -- The fault of a header that is cut short or not valid, if there is one: it comes before the first message. Else the
 -- fault names the first hart that is not closed, of these harts, from this one on. If all are closed, the end is by
@@ -51,39 +52,42 @@ end_of_salvage_of only why runs salvaged =
 -- capture's header and by what is salvaged of them. Places, and bytes that belong to no frame, are those of the
 -- capture.
 pub record WritesSalvaged (only : HartRange) (format : Format) (asked : Option ℕ) (summary : Bool) (program : Image)
-    (bytes : List ℕ) (printed : Printed) : Type 0 where
+    (symbols : Option (List ℕ)) (bytes : List ℕ) (printed : Printed) : Type 0 where
   pub header : Option Header
   pub why : Option MessageFault
   pub salvaged : Salvaged Global
   pub found : IsSalvagedOf only asked program bytes header why salvaged
-  pub text : printed.text ≡ salvaged_in format summary only header (spans_of header bytes) salvaged
+  pub text : printed.text ≡ salvaged_in format summary symbols only header (spans_of header bytes) salvaged
   pub ended : printed.ended ≡ end_of_salvage_of only why (list_any is_run (spans_of header bytes)) salvaged
 
 -- The same, where the capture has one of these harts.
-abbrev pub SalvagesOf : HartRange → Format → Option ℕ → Bool → Image → List ℕ → Printed → Type 0
-SalvagesOf only format asked summary program bytes =
-    First (HasHartFound asked only bytes) (λ _. WritesSalvaged only format asked summary program bytes)
+abbrev pub SalvagesOf : HartRange → Format → Option ℕ → Bool → Image → Option (List ℕ) → List ℕ → Printed → Type 0
+SalvagesOf only format asked summary program symbols bytes =
+    First (HasHartFound asked only bytes) (λ _. WritesSalvaged only format asked summary program symbols bytes)
 
--- The format is looked at first, then the bases, the harts that are asked for, the image with its further pieces, and
--- the capture. Where there is no fault, what is salvaged of these harts of the capture is written in that format.
+-- The format is looked at first, then the bases, the harts that are asked for, the image with its further pieces, the
+-- symbols, if they are given, and the capture. Where there is no fault, what is salvaged of these harts of the capture is
+-- written in that format.
 abbrev pub Salvages : Content → Salvage → Printed → Type 0
 Salvages content asked =
     First (IsAskedBase asked.format asked.program) (λ base.
     First (IsOnly asked.only) (λ only.
     First (IsProgramAt content base asked.program) (λ program.
-    First (IsRead content asked.capture) (SalvagesOf only asked.format asked.harts asked.summary program))))
+    First (AreSymbols content asked.symbols) (λ symbols.
+    First (IsRead content asked.capture) (SalvagesOf only asked.format asked.harts asked.summary program symbols)))))
 
 -- What is salvaged is written once the capture has one of these harts.
 abbrev pub CanSalvageOf : HartRange → Option ℕ → List ℕ → Type 0
 CanSalvageOf only asked bytes = Once (HasHartFound asked only bytes) (λ _. ⊤)
 
--- `salvage` writes once it has the program and the capture, and that has one of the harts.
+-- `salvage` writes once it has the program, the symbols and the capture, and that has one of the harts.
 abbrev pub CanSalvage : Content → Salvage → Type 0
 CanSalvage content asked =
     Once (IsAskedBase asked.format asked.program) (λ base.
     Once (IsOnly asked.only) (λ only.
     Once (IsProgramAt content base asked.program) (λ program.
-    Once (IsRead content asked.capture) (CanSalvageOf only asked.harts))))
+    Once (AreSymbols content asked.symbols) (λ symbols.
+    Once (IsRead content asked.capture) (CanSalvageOf only asked.harts)))))
 
 -- What `salvage` means.
 abbrev pub salvage_meaning : Salvage → Meaning

@@ -1,6 +1,6 @@
 //! The subcommand `compare`.
 
-ghost use Rattle.std.specs.Prelude.{◌≡◌, Err, IfSome};
+ghost use Rattle.std.specs.Prelude.{◌≡◌, Err, IfErr, IfOk, IfSome};
 ghost use Rattle.command_inputs.specs.Begun.{IsCutOf};
 ghost use Rattle.command_inputs.specs.FurtherPieces.{base_number};
 ghost use Rattle.command_inputs.specs.OnlyHarts.{asked_harts};
@@ -9,6 +9,9 @@ ghost use Rattle.command_inputs.specs.Printed.{PrintsUnlessDenied};
 ghost use Rattle.command_inputs.specs.declared.fault.Fault.TheVariants as Fault;
 ghost use Rattle.capture_commands.specs.Faults.{final_status};
 ghost use Rattle.capture_commands.specs.Comparing.{CanCompare, CanCompareHarts, Compares, ComparesHarts};
+ghost use Rattle.capture_commands.specs.steps.Names.{names_in};
+ghost use Rattle.comparing.specs.Sourced.{AreNumbered, AreSourced};
+ghost use Rattle.rvclass.specs.Fetch.{words_of};
 
 use crate::hart_check::check_harts_below;
 use crate::hart_lines::{check_count, lines_of_logs};
@@ -16,9 +19,12 @@ use crate::input::Input;
 use crate::reason::Fault;
 use crate::report::write_report;
 use crate::surveyed::{harts_below, surveyed_of};
+use crate::symbols_input::symbols_of;
+use captures::CaptureFault;
 use command_inputs::{
     Compare, MessageProgress, Status, base_of, content_of, harts_asked, program_of,
 };
+use comparing::{ExplainedHart, Explaining, SourcedHart, sources_of};
 use log_streams::Files;
 use std::alloc::Global;
 use std::io::Write;
@@ -26,7 +32,9 @@ use std::thread::Threads;
 
 /// Writes a line for each hart, which says how what the capture decodes to compares with the hart's log, and a line for
 /// the result. Below the line of a hart whose log did not come back whole is the first row in which both differ: the
-/// log's, and the decoded one. Where that is asked for, the up to three rows before it come first.
+/// log's, and the decoded one, and then the message of the capture that the row comes from, or why it is not decoded.
+/// Where that is asked for, the up to three rows before it come first. Places are named by the symbols, if they are
+/// given.
 ///
 /// Returns that all is done where the capture decodes without a fault to just these logs and each hart is closed, and
 /// else that a log is not whole. Where the capture has a fault, that is the fault, behind the lines.
@@ -62,10 +70,11 @@ where
     let base = base_of(&asked.program)?;
     let only = harts_asked(asked.only)?;
     let program = program_of(alloc, files, base, &asked.program)?;
+    let symbols = symbols_of(alloc, files, asked.symbols)?;
     let bytes = content_of(files, asked.capture)?;
     let input = Input {
         program: &program,
-        symbols: None,
+        symbols: symbols.as_ref(),
         bytes: bytes.as_slice(),
         only,
     };
@@ -87,12 +96,13 @@ where
     ensures refused { final_status result ≡ Status.Refused → out.new ≡ out.old }
     ensures untouched { result ≡ Err Fault.Memory → out.new ≡ out.old }
     ensures printed { PrintsUnlessDenied
-        (ComparesHarts (F.content files.now) asked.now input.now.only input.now.program.now input.now.bytes.now)
+        (ComparesHarts (F.content files.now) asked.now input.now.only input.now.program.now (names_in input.now)
+        input.now.bytes.now)
         (CanCompareHarts (F.content files.now) asked.now input.now.only input.now.program.now input.now.bytes.now) result
         (O.contents out.old) (O.contents out.new) }
     ensures cut { IsCutOf
-        (ComparesHarts (F.content files.now) asked.now input.now.only input.now.program.now input.now.bytes.now)
-        (O.contents out.old) (O.contents out.new) }
+        (ComparesHarts (F.content files.now) asked.now input.now.only input.now.program.now (names_in input.now)
+        input.now.bytes.now) (O.contents out.old) (O.contents out.new) }
 {
     check_harts_below(asked.harts, input.only, input.bytes)?;
     let progress = MessageProgress::new(files, asked.progress);
@@ -100,5 +110,33 @@ where
     let paths = asked.logs.as_slice();
     check_count(harts_below(input.only, found.places.len()), paths)?;
     let lines = lines_of_logs(alloc, rt, files, asked, input, &found)?;
-    write_report(lines.as_slice(), asked.explain, found.stop, out)
+    let said = lines.as_slice();
+    let sourced = sourced_lines(alloc, input, found.stop, said)?;
+    let harts = sourced.as_slice();
+    let how = Explaining {
+        before: asked.explain,
+        symbols: input.symbols,
+        stop: found.stop,
+    };
+    write_report(&how, harts, out)
+}
+
+/// What is said of the harts of an input, with the messages that their rows come from. The only fault is that an
+/// allocation failed.
+fn sourced_lines<'a>(
+    alloc: Global,
+    input: &Input,
+    stop: Option<(u64, CaptureFault)>,
+    lines: &[ExplainedHart],
+) -> Result<Vec<SourcedHart>, Fault<'a>>
+    requires { AreNumbered input.now.only.first lines.now }
+    ensures sourced { IfOk result (λ sourced. AreSourced (words_of input.now.program.now) input.now.bytes.now stop lines.now
+        sourced.items) }
+    ensures fault { IfErr result (λ fault. fault ≡ Fault.Memory) }
+{
+    let first = usize::from(input.only.first);
+    match sources_of(alloc, input.program, input.bytes, stop, first, lines) {
+        Ok(sourced) => Ok(sourced),
+        Err(_) => Err(Fault::Memory),
+    }
 }

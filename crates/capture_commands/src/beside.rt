@@ -2,14 +2,14 @@
 
 ghost use Rattle.std.specs.Prelude.{◌≡◌, ◌≤◌, ◌<◌, ◌++◌, [], List, IfOk, false, length, take, true};
 ghost use Rattle.comparing.specs.Compared.{HasCompared};
-ghost use Rattle.capture_index.specs.Placed.{IsPlacedLog};
+ghost use Rattle.parallel_decode.specs.Placed.{IsPlacedLog};
 ghost use Rattle.capture_commands.specs.steps.Beside.{IsBeside, IsDecodedTo, IsRefilled};
 ghost use Rattle.retire.specs.Log.{most_long_rows};
 ghost use Rattle.retire.specs.declared.event.Event.{Event as AnyEvent};
 ghost use Rattle.rvclass.specs.Fetch.{words_of};
 
-use capture_index::HartEvents;
 use comparing::Comparing;
+use parallel_decode::HartEvents;
 use retire::Event;
 use rvclass::ProgramOver;
 use std::alloc::{AllocError, Global};

@@ -18,11 +18,10 @@ use crate::input::Input;
 use crate::lossy_decoding::decode_lossy;
 use crate::reason::Fault;
 use crate::survey_progress::SurveyProgress;
-use capture_index::Selection;
 use command_inputs::{
     Decode, Files, MessageProgress, Status, base_of, content_of, harts_asked, program_of,
 };
-use parallel_decode::{Sharing, write_decoded_side_by_side};
+use parallel_decode::{Selection, Sharing, write_decoded_side_by_side};
 use std::alloc::Global;
 use std::io::Write;
 use std::thread::Threads;

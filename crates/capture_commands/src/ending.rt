@@ -7,10 +7,10 @@ ghost use Rattle.capture_commands.specs.Decoding.{end_of_capture_of};
 
 use crate::reason::{CaptureReason, Fault};
 use crate::stopping::capture_fault;
-use capture_index::selects_hart;
 use captures::CaptureFault;
 use command_inputs::Status;
 use message::HartRange;
+use parallel_decode::selects_hart;
 
 /// How decoding of the harts in a range ended: at its fault, if there is one, or at the first of these harts whose
 /// closing packet did not come.

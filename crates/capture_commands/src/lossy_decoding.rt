@@ -12,7 +12,7 @@ ghost use Rattle.command_inputs.specs.Begun.{IsCutOf};
 ghost use Rattle.command_inputs.specs.Printed.{IsPrintingDenied, PrintsUnlessDenied};
 ghost use Rattle.capture_commands.specs.Faults.{final_status, status_of};
 ghost use Rattle.capture_commands.specs.Decoding.{end_of_harts};
-ghost use Rattle.capture_index.specs.EachHart.{each_hart};
+ghost use Rattle.parallel_decode.specs.EachHart.{each_hart};
 ghost use Rattle.capture_commands.specs.Pieces.{ArePiecesOf, HasPieces, WritesPieces, closed_of, end_of_pieces_from};
 ghost use Rattle.capture_commands.specs.Pieces.{harts_counted, have_gaps, is_gap, part_text, parts_of};
 ghost use Rattle.capture_commands.specs.Pieces.{parts_text};

@@ -22,11 +22,10 @@ use crate::ending::ended_of;
 use crate::hart_check::check_harts_below;
 use crate::input::Input;
 use crate::reason::Fault;
-use crate::salvaged_listing::list_salvaged;
+use crate::salvaged_listing::{form_of, list_salvaged};
 use crate::symbols_input::symbols_of;
 use command_inputs::{
-    Files, Format, Listing, MessageProgress, Status, asked_base, content_of, harts_asked,
-    program_of,
+    Files, Listing, MessageProgress, Status, asked_base, content_of, harts_asked, program_of,
 };
 use listing::{Form, ListInput, Listed, list_capture};
 use message::HartRange;
@@ -35,7 +34,8 @@ use std::alloc::Global;
 use std::io::Write;
 
 /// Writes the line of a capture's header, if it has one, and a line for each message: its offset in the file, its
-/// packet, and the events that it settles. Places are named by the symbols, if they are given. Returns that all is done
+/// packet, and the events that it settles, with their rows where these are asked for. Places are named by the symbols,
+/// if they are given. Returns that all is done
 /// if the capture is decoded to its end and each hart's closing packet came.
 ///
 /// The listing ends where the decoding of the capture does, at the same fault. A message that is refused has a line
@@ -118,14 +118,14 @@ fn write_listed<'a, F: Files, O: Write>(
 ) -> Result<Status, Fault<'a>>
     ensures never_refused { final_status result ≢ Status.Refused }
     ensures untouched { asked.now.salvage ≡ true → result ≡ Err Fault.Memory → out.new ≡ out.old }
-    ensures printed { PrintsUnlessDenied (WritesListed asked.now.format asked.now.salvage input.now.only asked.now.harts
+    ensures printed { PrintsUnlessDenied (WritesListed asked.now.format asked.now.rows asked.now.salvage input.now.only asked.now.harts
         input.now.program.now (names_in input.now) input.now.bytes.now)
         (CanWriteListed asked.now.salvage input.now.only asked.now.harts input.now.bytes.now) result
         (O.contents out.old) (O.contents out.new) }
     ensures begun { result ≡ Err Fault.Memory → ListsUpToMemory
-        (WritesListed asked.now.format asked.now.salvage input.now.only asked.now.harts input.now.program.now
+        (WritesListed asked.now.format asked.now.rows asked.now.salvage input.now.only asked.now.harts input.now.program.now
         (names_in input.now) input.now.bytes.now) (O.contents out.old) (O.contents out.new) }
-    ensures cut { IsCutOf (WritesListedPart asked.now.format asked.now.salvage input.now.only asked.now.harts
+    ensures cut { IsCutOf (WritesListedPart asked.now.format asked.now.rows asked.now.salvage input.now.only asked.now.harts
         input.now.program.now (names_in input.now) input.now.bytes.now) (O.contents out.old) (O.contents out.new) }
 {
     if asked.salvage {
@@ -133,7 +133,7 @@ fn write_listed<'a, F: Files, O: Write>(
     }
     let harts = harts_or_one(asked.harts);
     check_harts_below(harts, input.only, input.bytes)?;
-    write_listing(alloc, progress, asked.format, harts, input, out)
+    write_listing(alloc, progress, asked, harts, input, out)
 }
 
 /// The count of harts of a capture with no header: one where none is given.
@@ -147,23 +147,23 @@ fn harts_or_one(given: Option<u16>) -> u16
 fn write_listing<'a, F: Files, O: Write>(
     alloc: Global,
     progress: &MessageProgress<'_, F>,
-    format: Format,
+    asked: &Listing<'_>,
     harts: u16,
     input: &Input,
     out: &mut O,
 ) -> Result<Status, Fault<'a>>
     ensures never_refused { final_status result ≢ Status.Refused }
     ensures printed { PrintsUnlessDenied
-        (WritesListing format input.now.only harts input.now.program.now (names_in input.now) input.now.bytes.now) ⊤ result
+        (WritesListing asked.now.format asked.now.rows input.now.only harts input.now.program.now (names_in input.now) input.now.bytes.now) ⊤ result
         (O.contents out.old) (O.contents out.new) }
     ensures begun { result ≡ Err Fault.Memory → ListsUpToMemory
-        (WritesListing format input.now.only harts input.now.program.now (names_in input.now) input.now.bytes.now)
+        (WritesListing asked.now.format asked.now.rows input.now.only harts input.now.program.now (names_in input.now) input.now.bytes.now)
         (O.contents out.old) (O.contents out.new) }
     ensures cut { IsCutOf
-        (WritesPart format input.now.only harts input.now.program.now (names_in input.now) input.now.bytes.now)
+        (WritesPart asked.now.format asked.now.rows input.now.only harts input.now.program.now (names_in input.now) input.now.bytes.now)
         (O.contents out.old) (O.contents out.new) }
 {
-    let listed = show_listing(alloc, progress, format, harts, input, out)?;
+    let listed = show_listing(alloc, progress, asked, harts, input, out)?;
     out.flush()?;
     ended_of(input.only, listed.fault, listed.closed.as_slice())
 }
@@ -173,24 +173,22 @@ fn write_listing<'a, F: Files, O: Write>(
 fn show_listing<F: Files, O: Write>(
     alloc: Global,
     progress: &MessageProgress<'_, F>,
-    format: Format,
+    asked: &Listing<'_>,
     harts: u16,
     input: &Input,
     out: &mut O,
 ) -> Result<Listed, WriteFault>
     ensures listed { IfOk result (λ listed. AppendsListing
-        (IsListedIn format (words_of input.now.program.now) input.now.only harts (names_in input.now) input.now.bytes.now)
+        (IsListedIn asked.now.format asked.now.rows (words_of input.now.program.now) input.now.only harts (names_in input.now) input.now.bytes.now)
         listed.closed.items listed.fault (O.contents out.old) (O.contents out.new)) }
     ensures begun { OnErr result (BeginsPart
-        (IsPartListedIn format (words_of input.now.program.now) input.now.only harts (names_in input.now)
+        (IsPartListedIn asked.now.format asked.now.rows (words_of input.now.program.now) input.now.only harts (names_in input.now)
         input.now.bytes.now) (O.contents out.old) (O.contents out.new)) }
     ensures memory { result ≡ Err WriteFault.Memory → out.new ≡ out.old }
 {
     begin_messages(progress, input.bytes);
-    let listed = match format {
-        Format::Csv => list_in(alloc, progress, Form::Table, harts, input, out),
-        Format::Text | Format::Other => list_in(alloc, progress, Form::Lines, harts, input, out),
-    };
+    let form = form_of(asked.format, asked.rows);
+    let listed = list_in(alloc, progress, form, harts, input, out);
     progress.end();
     listed
 }

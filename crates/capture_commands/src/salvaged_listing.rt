@@ -44,32 +44,32 @@ pub(crate) fn list_salvaged<'a, F: Files, O: Write>(
 ) -> Result<Status, Fault<'a>>
     ensures never_refused { final_status result ≢ Status.Refused }
     ensures untouched { result ≡ Err Fault.Memory → out.new ≡ out.old }
-    ensures printed { PrintsUnlessDenied (TreatsHarts asked.now.format input.now.only asked.now.harts
+    ensures printed { PrintsUnlessDenied (TreatsHarts asked.now.format asked.now.rows input.now.only asked.now.harts
         input.now.program.now (names_in input.now) input.now.bytes.now)
         (CanTreat input.now.only asked.now.harts input.now.bytes.now) result
         (O.contents out.old) (O.contents out.new) }
-    ensures cut { IsCutOf (TreatsHarts asked.now.format input.now.only asked.now.harts
+    ensures cut { IsCutOf (TreatsHarts asked.now.format asked.now.rows input.now.only asked.now.harts
         input.now.program.now (names_in input.now) input.now.bytes.now) (O.contents out.old) (O.contents out.new) }
 {
     let found = find(alloc, progress, 2, asked.harts, input)?;
     let treated = treat_found(alloc, progress, asked.harts, input, &found)?;
-    write_treated_in(asked.format, input, found.header, treated.as_slice(), out)?;
+    write_treated_in(asked, input, found.header, treated.as_slice(), out)?;
     out.flush()?;
     ended(&found)
 }
 
 /// Writes what salvaging does with each message of an input in a format.
 fn write_treated_in<O: Write>(
-    format: Format,
+    asked: &Listing<'_>,
     input: &Input,
     header: Option<Header>,
     treated: &[Treated],
     sink: &mut O,
 ) -> Result<(), WriteFault>
     ensures text { OnOk result (Appends (O.contents sink.old) (O.contents sink.new)
-        (treated_in format input.now.only (names_in input.now) header input.now.bytes.now treated.now)) }
+        (treated_in asked.now.format asked.now.rows input.now.only (names_in input.now) header input.now.bytes.now treated.now)) }
     ensures begun { AppendsBeginning
-        (treated_in format input.now.only (names_in input.now) header input.now.bytes.now treated.now)
+        (treated_in asked.now.format asked.now.rows input.now.only (names_in input.now) header input.now.bytes.now treated.now)
         (O.contents sink.old) (O.contents sink.new) }
     ensures fault { IfErr result (λ fault. fault ≡ WriteFault.Write) }
 {
@@ -79,16 +79,21 @@ fn write_treated_in<O: Write>(
         bytes: input.bytes,
         treated,
     };
-    write_treated(form_of(format), input.symbols, capture, sink)
+    write_treated(
+        form_of(asked.format, asked.rows),
+        input.symbols,
+        capture,
+        sink,
+    )
 }
 
-/// How messages are written in a format.
-fn form_of(format: Format) -> Form
-    ensures { result ≡ form_of format }
+/// How messages are written in a format, where lines say which rows a message settles or do not.
+pub(crate) fn form_of(format: Format, rows: bool) -> Form
+    ensures { result ≡ form_of format rows }
 {
     match format {
         Format::Csv => Form::Table,
-        Format::Text | Format::Other => Form::Lines,
+        Format::Text | Format::Other => Form::Lines { rows },
     }
 }
 

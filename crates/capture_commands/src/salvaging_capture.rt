@@ -14,6 +14,7 @@ ghost use Rattle.capture_commands.specs.HartsFound.{HasHartFound};
 ghost use Rattle.capture_commands.specs.Salvaging.{CanSalvage, CanSalvageOf, Salvages, SalvagesOf};
 ghost use Rattle.capture_commands.specs.Salvaging.{end_of_salvage_of};
 ghost use Rattle.capture_commands.specs.SalvagedFormats.{layout_of};
+ghost use Rattle.capture_commands.specs.steps.Names.{names_in};
 ghost use Rattle.capture_commands.specs.steps.Reading.{IsFoundOf};
 ghost use Rattle.command_inputs.specs.declared.fault.Fault.TheVariants as Fault;
 
@@ -22,6 +23,7 @@ use crate::input::Input;
 use crate::reason::{CaptureReason, Fault};
 use crate::salvage_progress::SalvageProgress;
 use crate::stopping::capture_fault;
+use crate::symbols_input::symbols_of;
 use captures::CaptureFault;
 use command_inputs::{
     Files, Format, MessageProgress, Salvage, Status, asked_base, content_of, harts_asked,
@@ -36,6 +38,8 @@ use std::io::Write;
 /// frames among its bytes, after a valid header, and without one from the first byte on. Returns that all is done if
 /// each hart is closed, no number is missing, bad, doubtful or alone, there is no stranger, and all bytes belong to
 /// frames. Copies, late messages and a hart's own mode do not change this status.
+///
+/// Where symbols are asked for, the line of each stretch ends with its first place and its last, and what they are named.
 ///
 /// Where some harts are asked for, messages of all other harts are passed over: what is written, and this status, are
 /// those of these harts, of strangers among them, and of the bytes that belong to no frame. Where the capture has none
@@ -61,11 +65,12 @@ pub fn salvage<'a, F: Files, O: Write>(
     let base = asked_base(asked.format, &asked.program)?;
     let only = harts_asked(asked.only)?;
     let program = program_of(alloc, files, base, &asked.program)?;
+    let symbols = symbols_of(alloc, files, asked.symbols)?;
     let bytes = content_of(files, asked.capture)?;
     let progress = MessageProgress::new(&*files, asked.progress);
     let input = Input {
         program: &program,
-        symbols: None,
+        symbols: symbols.as_ref(),
         bytes: bytes.as_slice(),
         only,
     };
@@ -83,15 +88,15 @@ fn salvage_capture<'a, F: Files, O: Write>(
     ensures never_refused { final_status result ≢ Status.Refused }
     ensures untouched { result ≡ Err Fault.Memory → out.new ≡ out.old }
     ensures printed { PrintsUnlessDenied (SalvagesOf input.now.only asked.now.format asked.now.harts asked.now.summary
-        input.now.program.now input.now.bytes.now)
+        input.now.program.now (names_in input.now) input.now.bytes.now)
         (CanSalvageOf input.now.only asked.now.harts input.now.bytes.now) result
         (O.contents out.old) (O.contents out.new) }
     ensures cut { IsCutOf (SalvagesOf input.now.only asked.now.format asked.now.harts asked.now.summary
-        input.now.program.now input.now.bytes.now) (O.contents out.old) (O.contents out.new) }
+        input.now.program.now (names_in input.now) input.now.bytes.now) (O.contents out.old) (O.contents out.new) }
 {
     let found = find(alloc, progress, 1, asked.harts, input)?;
     let layout = layout_of(asked.format, asked.summary);
-    write_found(alloc, layout, &found, input.bytes, out)?;
+    write_found(alloc, layout, input.symbols, &found, input.bytes, out)?;
     out.flush()?;
     ended(&found)
 }

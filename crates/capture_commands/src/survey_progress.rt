@@ -1,8 +1,8 @@
 //! Showing how far the first pass over a capture's messages is.
 
-use capture_index::WatchSurvey;
 use command_inputs::{Files, MessageProgress};
 use message::ProgressSink;
+use parallel_decode::WatchSurvey;
 
 /// Shows how far the first pass over a capture's messages is, where that is asked for, and ends that with the pass.
 #[derive(Drop)]

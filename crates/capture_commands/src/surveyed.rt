@@ -2,7 +2,7 @@
 
 ghost use Rattle.std.specs.Prelude.{◌+◌, ◌-◌, ◌^◌, ◌<◌, ◌≡◌, ◌≢◌, Err, IfErr, IfOk, min};
 ghost use Rattle.command_inputs.specs.declared.fault.Fault.TheVariants as Fault;
-ghost use Rattle.capture_index.specs.CaptureSurveyed.{IsCaptureSurvey};
+ghost use Rattle.parallel_decode.specs.CaptureSurveyed.{IsCaptureSurvey};
 ghost use Rattle.capture_commands.specs.Faults.{status_of};
 ghost use Rattle.capture_commands.specs.Comparison.{end_of_stop};
 ghost use Rattle.capture_commands.specs.steps.Surveyed.{IsSurveyed};
@@ -12,11 +12,11 @@ use crate::counting::begin_messages;
 use crate::input::Input;
 use crate::reason::Fault;
 use crate::stopping::capture_fault;
-use capture_index::{CaptureSurvey, Selection, survey_capture};
 use captures::CaptureFault;
 use command_inputs::{Files, MessageProgress, Status};
 use comparing::{HartCount, counts_of};
 use message::HartRange;
+use parallel_decode::{CaptureSurvey, Selection, survey_capture};
 use std::alloc::{AllocError, Global};
 
 /// Where the messages of each hart of a capture are, and where decoding stops.

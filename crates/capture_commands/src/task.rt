@@ -4,7 +4,7 @@ ghost use Rattle.std.specs.Prelude.{◌≡◌, [], false, get_or, List};
 ghost use Rattle.comparing.specs.Explained.{explained_hart};
 ghost use Rattle.comparing.specs.Compared.{got_by};
 ghost use Rattle.comparing.specs.steps.Held.{count_in};
-ghost use Rattle.capture_index.specs.Placed.{IsPlacedLog};
+ghost use Rattle.parallel_decode.specs.Placed.{IsPlacedLog};
 ghost use Rattle.legalpath.specs.ProgramLog.{program_log};
 ghost use Rattle.retire.specs.declared.event.Event.{Event as AnyEvent};
 ghost use Rattle.rvclass.specs.Fetch.{words_of};

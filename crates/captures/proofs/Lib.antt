@@ -19,3 +19,21 @@ pub mod HeaderDumps
 pub mod WholeCaptures
 mod AddedPackets
 mod EncodedEvents
+pub mod CountedTogether
+pub mod Within
+pub mod PacketsInPieces
+pub mod LogsInPieces
+pub mod RowsInTurn
+pub mod WorkedRows
+mod Parts
+mod Numbers
+mod Fields
+mod Lowest
+mod Sending
+mod Known
+mod Counts
+mod Whole
+mod HexLineRead
+mod SentMessages
+mod HexTextRead
+mod Recovering

@@ -13,3 +13,15 @@ pub mod Offsets
 pub mod Dump
 pub mod steps
 pub mod HasEncoded
+pub mod Kinds
+pub mod Measures
+pub mod Bounds
+pub mod HasCounted
+pub mod Table
+pub mod Line
+pub mod Number
+pub mod Lines
+pub mod Capture
+pub mod ReadBack
+pub mod Recovered
+pub mod LineFaultText

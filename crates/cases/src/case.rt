@@ -2,17 +2,26 @@
 
 use std::alloc::{AllocError, Global};
 use std::fmt::{Debug, Display};
+use std::mem;
 
 /// A case: its arguments that are not read yet, and what came.
 ///
 /// Where an argument is not read or allocation fails, the case notes it, and fails at its end. So what reads arguments
 /// and appends what comes has no result.
+///
+/// A case may be answered in several ways, all of which have to give the same: [`Case::end_first_way`] comes after the
+/// first of them, and [`Case::end_way`] after each other one.
 #[derive(Drop)]
 pub struct Case<'a> {
     pub alloc: Global,
     /// The arguments that are not read yet.
     pub text: &'a str,
+    /// What came since a way ended.
     pub came: String,
+    /// What came before that, with what other ways gave otherwise.
+    before: String,
+    /// What came in the first way.
+    first: String,
     is_unread: bool,
     wants_memory: bool,
     sets: bool,
@@ -30,6 +39,8 @@ impl<'a> Case<'a> {
             alloc,
             text,
             came: String::new(alloc),
+            before: String::new(alloc),
+            first: String::new(alloc),
             is_unread: false,
             wants_memory: false,
             sets: false,
@@ -63,12 +74,14 @@ impl<'a> Case<'a> {
         self.sets
     }
 
-    /// Ends the case: appends that an argument was not read.
+    /// Ends the case: joins what came, and appends that an argument was not read.
     pub(crate) fn end(&mut self) -> Result<(), AllocError> {
-        if self.is_read()? {
-            return Ok(());
+        self.keep();
+        if !self.is_read()? {
+            self.before.push_str(", and its arguments are not read")?;
         }
-        self.came.push_str(", and its arguments are not read")
+        mem::swap(&mut self.came, &mut self.before);
+        Ok(())
     }
 
     /// Whether an argument was not read, or allocation failed.
@@ -93,6 +106,34 @@ impl<'a> Case<'a> {
     pub fn join(&mut self, other: &Case<'_>) {
         self.is_unread = self.is_unread || other.is_unread;
         self.wants_memory = self.wants_memory || other.wants_memory;
+    }
+
+    /// Keeps what came, so that it belongs to no way.
+    pub fn keep(&mut self) {
+        let done = self.before.push_str(self.came.as_str());
+        self.note(done);
+        self.came.clear();
+    }
+
+    /// Ends the first way: what came is what each other way has to give.
+    pub fn end_first_way(&mut self) {
+        let done = self.before.push_str(self.came.as_str());
+        self.note(done);
+        self.end_hidden_way();
+    }
+
+    /// The same, where only that is shown what other ways give otherwise.
+    pub fn end_hidden_way(&mut self) {
+        self.first = mem::replace(&mut self.came, String::new(self.alloc));
+    }
+
+    /// Ends another way: what came is shown under its name where it is not what came in the first one.
+    pub fn end_way(&mut self, way: &str) {
+        if self.came.as_str() != self.first.as_str() {
+            let done = write!(self.before, ", {way}: {}", self.came);
+            self.note(done);
+        }
+        self.came.clear();
     }
 
     /// Appends what came in one way.
@@ -251,6 +292,18 @@ impl<'a> Case<'a> {
         self.note(done);
     }
 
+    /// Appends a text with a number in place of each `#`.
+    pub fn put_filled(&mut self, text: &str, numbers: &[u64]) {
+        let mut rest = text;
+        for number in numbers {
+            let (before, after) = cut(rest, '#');
+            self.put(before);
+            self.put_shown(*number);
+            rest = after;
+        }
+        self.put(rest);
+    }
+
     /// Appends what has a text.
     pub fn put_shown<D: Display + Drop>(&mut self, shown: D) {
         let done = write!(self.came, "{shown}");
@@ -269,6 +322,14 @@ impl<'a> Case<'a> {
             self.put(" ");
         }
         self.put_shown(word);
+    }
+
+    /// Appends a text in a line of its own.
+    pub(crate) fn put_line(&mut self, line: &str) {
+        if !self.came.is_empty() {
+            self.put("\n");
+        }
+        self.put(line);
     }
 
     /// Appends a part, with a comma before it where there is one before.

@@ -104,29 +104,32 @@ fn run_of(events: &[Event], first: &Event, step: u64) -> usize {
     events.len()
 }
 
+/// Appends numbers in hexadecimal, with a comma before each.
+fn put_numbers(case: &mut Case<'_>, numbers: &[u64]) {
+    for number in numbers {
+        case.put(",");
+        case.put_hex(*number);
+    }
+}
+
 /// Appends the fields of an event's row after the address.
 fn put_fields(case: &mut Case<'_>, event: &Event) {
-    let came = &mut case.came;
-    let done = match *event {
-        Event::Retire {
-            itype,
-            privilege,
-            ..
-        } => write!(came, ",{itype:x},{privilege:x},,"),
+    let (itype, cause, tval) = match *event {
+        Event::Retire { itype, .. } => (itype, None, None),
         Event::Trap {
-            privilege,
             interrupt: true,
             cause,
             ..
-        } => write!(came, ",2,{privilege:x},{cause:x},"),
-        Event::Trap {
-            privilege,
-            cause,
-            tval,
-            ..
-        } => write!(came, ",1,{privilege:x},{cause:x},{tval:x}"),
+        } => (2, Some(u64::from(cause)), None),
+        Event::Trap { cause, tval, .. } => (1, Some(u64::from(cause)), Some(tval)),
     };
-    case.note(done);
+    put_numbers(case, &[u64::from(itype), u64::from(event.privilege())]);
+    for field in [cause, tval] {
+        match field {
+            Some(number) => put_numbers(case, &[number]),
+            None => case.put(","),
+        }
+    }
 }
 
 /// Appends the first of these events, or as many as make a run of three or more, as a word. Returns how many they are.

@@ -1,4 +1,4 @@
-//! Cases of tests as lines of data files, which a program plays.
+//! What tests share: cases as lines of data files, which a program plays, and what refuses memory or fails.
 //!
 //! A file of cases has a case a line, `VERB ARGUMENTS -> WANTED`. Where a line has no ` -> `, nothing is wanted. Lines
 //! that begin with `> ` after it are further lines that are wanted. A line that begins with `< ` goes on with the case
@@ -21,25 +21,41 @@
 //! - An event is a row of a log, `ADDR,ITYPE,PRIV,CAUSE,TVAL`; a packet is written as `dump` does.
 //! - A text is between double quotes. In it `\n`, `\r` and `\t` are as in Rust, `\xHH` is a byte, `\{N*TEXT}` a text so
 //!   often, `\[N*LINE]` a line so often, and `\(N*FIRST+STEP,TEXT)` lines that begin with rising hexadecimal numbers.
+//!
+//! Tests also have an allocator that refuses one request for memory or holds it back, and a reader and a writer that
+//! fail at one call. Each is made with a number, which says which request is refused or which call fails; all others are
+//! granted. A test goes over the numbers from 0 on, with a [`Refusing`], a [`FailingReader`] or a [`FailingWriter`] for
+//! each, until nothing is refused and nothing fails. So each request that a call makes is refused once, or each of its
+//! calls of the device fails once.
 #![tactic(auto)]
 
 mod bytes;
 mod case;
+mod count;
 mod events;
 mod files;
+mod heap;
+mod hold;
 mod lines;
 mod packets;
 mod playing;
+mod quoted;
+mod reader;
 mod repeats;
 mod tally;
+mod writer;
 
 pub use bytes::{bytes_of, piece_of, text_of};
 pub use case::{Case, cut};
 pub use events::{events_of, moved, put_rows};
 pub use files::{DataFile, data_files};
+pub use heap::Refusing;
 pub use lines::{Line, lines_of};
 pub use packets::{
     add_message, message_of, messages_of, mode_of, outcomes_of, packet_of, payload_of,
 };
 pub use playing::{Verbs, play};
+pub use quoted::put_quoted;
+pub use reader::FailingReader;
 pub use tally::Tally;
+pub use writer::FailingWriter;

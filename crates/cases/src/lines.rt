@@ -1,5 +1,6 @@
 //! The lines of files of cases.
 
+use crate::case::Case;
 use crate::files::DataFile;
 use std::alloc::{AllocError, Global};
 
@@ -32,43 +33,41 @@ impl<'a> Line<'a> {
     }
 
     /// Appends what is wanted.
-    pub(crate) fn add_wanted(&self, wanted: &mut String) -> Result<(), AllocError> {
-        wanted.push_str(self.parts().1)?;
+    pub(crate) fn put_wanted(&self, wanted: &mut Case<'_>) {
+        wanted.put(self.parts().1);
         for line in self.text.lines().skip(1) {
             if let Some(further) = line.strip_prefix("> ") {
-                if !wanted.is_empty() {
-                    wanted.push('\n')?;
-                }
-                wanted.push_str(further)?;
+                wanted.put_line(further);
             } else if begins_case(line) {
-                return Ok(());
+                return;
             }
         }
-        Ok(())
     }
 }
 
 /// Adds the lines of a file at which cases begin.
-fn add_lines<'a>(lines: &mut Vec<Line<'a>>, file: &'a DataFile) -> Result<(), AllocError> {
+fn add_lines<'a>(notes: &mut Case<'_>, lines: &mut Vec<Line<'a>>, file: &'a DataFile) {
     let mut offset: usize = 0;
     for (place, line) in file.text.split('\n').enumerate() {
         if begins_case(line) {
-            lines.push(Line {
+            let case = Line {
                 file: file.name.as_str(),
                 number: file.numbers.get(place).copied().unwrap_or(0),
                 text: file.text.get(offset..).unwrap_or(line),
-            })?;
+            };
+            notes.push(lines, case);
         }
         offset = offset.saturating_add(line.len()).saturating_add(1);
     }
-    Ok(())
 }
 
 /// The lines of files at which cases begin.
 pub fn lines_of<'a>(alloc: Global, files: &'a [DataFile]) -> Result<Vec<Line<'a>>, AllocError> {
+    let mut notes = Case::new(alloc, "");
     let mut lines = Vec::new(alloc);
     for file in files {
-        add_lines(&mut lines, file)?;
+        add_lines(&mut notes, &mut lines, file);
     }
+    notes.is_read()?;
     Ok(lines)
 }

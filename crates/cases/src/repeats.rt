@@ -1,14 +1,13 @@
 //! Lines of files that come by a rule, and lines that go on.
 
-use std::alloc::{AllocError, Global};
-
-/// How deep blocks that are repeated lie in one another at most.
-const DEEPEST: usize = 2;
+use crate::case::{Case, cut};
+use std::alloc::Global;
 
 /// A text, and for each of its lines the number that it has in the file.
 #[derive(Drop)]
 pub(crate) struct Numbered {
-    pub(crate) text: String,
+    /// The text came in this case, which notes where allocation failed.
+    pub(crate) lines: Case<'static>,
     pub(crate) numbers: Vec<usize>,
 }
 
@@ -57,92 +56,96 @@ fn number_by(form: Form, field: &str, time: u64) -> u64 {
 }
 
 /// Appends the number of a field by this time.
-fn add_field(text: &mut String, field: &str, time: u64) -> Result<(), AllocError> {
+fn put_field(lines: &mut Case<'_>, field: &str, time: u64) {
     let (form, field) = form_of(field);
     let number = number_by(form, field, time);
-    let bytes = match form {
-        Form::Decimal => return write!(text, "{number}"),
-        Form::Hex => return write!(text, "{number:x}"),
-        Form::HighFirst(_) => number.to_be_bytes(),
-        Form::LowFirst(_) => number.to_le_bytes(),
-    };
-    let part = match form {
-        Form::HighFirst(count) => bytes.as_slice().get(8usize.saturating_sub(count)..),
-        Form::LowFirst(count) => bytes.as_slice().get(..count),
-        _ => None,
-    };
-    for byte in part.unwrap_or(&[]) {
-        write!(text, "{byte:02x}")?;
+    match form {
+        Form::Decimal => lines.put_shown(number),
+        Form::Hex => lines.put_hex(number),
+        Form::HighFirst(count) => {
+            let from = 8usize.saturating_sub(count);
+            lines.put_digits(number.to_be_bytes().get(from..).unwrap_or(&[]));
+        }
+        Form::LowFirst(count) => {
+            lines.put_digits(number.to_le_bytes().get(..count).unwrap_or(&[]));
+        }
     }
-    Ok(())
+}
+
+/// Appends what begins with a field, after its `{`, up to the text after it, which is returned.
+fn put_begun<'t>(lines: &mut Case<'_>, text: &'t str, time: u64) -> &'t str {
+    if let Some(inner) = text.strip_prefix('{') {
+        lines.put("{");
+        return inner;
+    }
+    let (field, after) = cut(text, '}');
+    put_field(lines, field, time);
+    after
 }
 
 /// Appends a line with the numbers of its fields by this time.
-fn add_fields(text: &mut String, line: &str, time: u64) -> Result<(), AllocError> {
+fn put_line(lines: &mut Case<'_>, line: &str, time: u64) {
     let mut rest = line;
     for _ in 0..line.len() {
-        let Some((plain, field)) = rest.split_once('{') else {
+        let Some((plain, begun)) = rest.split_once('{') else {
             break;
         };
-        text.push_str(plain)?;
-        if let Some(inner) = field.strip_prefix('{') {
-            text.push('{')?;
-            rest = inner;
-        } else {
-            let (field, after) = field.split_once('}').unwrap_or((field, ""));
-            add_field(text, field, time)?;
-            rest = after;
-        }
+        lines.put(plain);
+        rest = put_begun(lines, begun, time);
     }
-    text.push_str(rest)
+    lines.put(rest);
 }
 
 impl Numbered {
     /// No line.
     fn new(alloc: Global) -> Numbered {
         Numbered {
-            text: String::new(alloc),
+            lines: Case::new(alloc, ""),
             numbers: Vec::new(alloc),
         }
     }
 
     /// Begins a line with this number.
-    fn begin(&mut self, number: usize) -> Result<(), AllocError> {
+    fn begin(&mut self, number: usize) {
         if !self.numbers.is_empty() {
-            self.text.push('\n')?;
+            self.lines.put("\n");
         }
-        self.numbers.push(number)?;
-        Ok(())
+        self.lines.push(&mut self.numbers, number);
     }
 
-    /// Adds a line with this number.
-    fn add_line(&mut self, line: &str, number: usize) -> Result<(), AllocError> {
-        self.begin(number)?;
-        self.text.push_str(line)
+    /// Adds a line.
+    fn add_line(&mut self, line: Line<'_>) {
+        self.begin(line.number);
+        self.lines.put(line.text);
     }
 
-    /// Adds a line with this number. Where it begins with `< ` it goes on in the last line after a space, and where with
-    /// `>> `, at once.
-    fn join_line(&mut self, line: &str, number: usize) -> Result<(), AllocError> {
-        if let Some(further) = line.strip_prefix(">> ") {
-            return self.text.push_str(further);
+    /// Adds a line. Where it begins with `< ` it goes on in the last line after a space, and where with `>> `, at once.
+    fn join_line(&mut self, line: Line<'_>) {
+        if let Some(further) = line.text.strip_prefix(">> ") {
+            return self.lines.put(further);
         }
-        match line.strip_prefix("< ") {
+        match line.text.strip_prefix("< ") {
             Some(further) => {
-                self.text.push(' ')?;
-                self.text.push_str(further)
+                self.lines.put(" ");
+                self.lines.put(further);
             }
-            None => self.add_line(line, number),
+            None => self.add_line(line),
         }
     }
 
     /// Adds lines with the numbers of their fields by this time.
-    fn add_block(&mut self, lines: &[Line<'_>], time: u64) -> Result<(), AllocError> {
+    fn add_block(&mut self, lines: &[Line<'_>], time: u64) {
         for line in lines {
-            self.begin(line.number)?;
-            add_fields(&mut self.text, line.text, time)?;
+            self.begin(line.number);
+            put_line(&mut self.lines, line.text, time);
         }
-        Ok(())
+    }
+
+    /// Adds lines so often.
+    fn add_times(&mut self, lines: &[Line<'_>], times: &str) {
+        for time in 0..times.parse::<u64>().unwrap_or(0) {
+            self.add_block(lines, time);
+        }
     }
 }
 
@@ -169,56 +172,72 @@ fn end_of(lines: &[Line<'_>], from: usize) -> usize {
     lines.len()
 }
 
+/// Adds the line at a place, or the block that begins there so often as it says. Returns the place of its last line.
+fn add_at(all: &mut Numbered, lines: &[Line<'_>], place: usize) -> usize {
+    let Some(line) = lines.get(place) else {
+        return place;
+    };
+    match line.text.strip_prefix("repeat ") {
+        Some(count) => {
+            let end = end_of(lines, place);
+            let first = place.saturating_add(1);
+            all.add_times(lines.get(first..end).unwrap_or(&[]), count);
+            end
+        }
+        None => {
+            all.add_line(*line);
+            place
+        }
+    }
+}
+
 /// The lines, with those in each outermost block so often as it says.
-fn unrolled(alloc: Global, lines: &[Line<'_>]) -> Result<Numbered, AllocError> {
+fn unrolled(alloc: Global, before: &Numbered) -> Numbered {
     let mut all = Numbered::new(alloc);
+    let lines = lines_in(&mut all.lines, before);
     let mut place: usize = 0;
     for _ in 0..lines.len() {
-        let Some(line) = lines.get(place) else {
-            return Ok(all);
-        };
-        match line.text.strip_prefix("repeat ") {
-            Some(count) => {
-                let first = place.saturating_add(1);
-                place = end_of(lines, place);
-                let block = lines.get(first..place).unwrap_or(&[]);
-                for time in 0..count.parse::<u64>().unwrap_or(0) {
-                    all.add_block(block, time)?;
-                }
-            }
-            None => all.add_line(line.text, line.number)?,
-        }
-        place = place.saturating_add(1);
+        place = add_at(&mut all, lines.as_slice(), place).saturating_add(1);
     }
-    Ok(all)
+    all
 }
 
-/// The lines of a text with their numbers.
-fn lines_in<'t>(alloc: Global, numbered: &'t Numbered) -> Result<Vec<Line<'t>>, AllocError> {
-    let mut lines = Vec::new(alloc);
-    for (number, text) in numbered.numbers.iter().zip(numbered.text.as_str().lines()) {
-        lines.push(Line {
+/// The lines of a text with their numbers. What was noted of the text is taken over.
+fn lines_in<'t>(notes: &mut Case<'_>, before: &'t Numbered) -> Vec<Line<'t>> {
+    notes.join(&before.lines);
+    let mut lines = Vec::new(notes.alloc);
+    for (number, text) in before.numbers.iter().zip(before.lines.came.lines()) {
+        let line = Line {
             number: *number,
             text,
-        })?;
+        };
+        notes.push(&mut lines, line);
     }
-    Ok(lines)
+    lines
 }
 
-/// The text of a file with all its lines written out: those between `repeat N` and `end` come N times, and those that go on
-/// are in one with the line before them.
-pub(crate) fn written_out(alloc: Global, text: &str) -> Result<Numbered, AllocError> {
+/// The lines of a text, numbered from 1.
+fn lines_of_text(alloc: Global, text: &str) -> Numbered {
     let mut all = Numbered::new(alloc);
-    for (before, line) in text.lines().enumerate() {
-        all.add_line(line, before.saturating_add(1))?;
+    for (before, text) in text.lines().enumerate() {
+        let number = before.saturating_add(1);
+        all.add_line(Line { number, text });
     }
-    for _ in 0..DEEPEST {
-        let next = unrolled(alloc, lines_in(alloc, &all)?.as_slice())?;
-        all = next;
+    all
+}
+
+/// The lines, of which those that go on are in one with the line before them.
+fn joined(alloc: Global, before: &Numbered) -> Numbered {
+    let mut all = Numbered::new(alloc);
+    for line in &lines_in(&mut all.lines, before) {
+        all.join_line(*line);
     }
-    let mut joined = Numbered::new(alloc);
-    for line in &lines_in(alloc, &all)? {
-        joined.join_line(line.text, line.number)?;
-    }
-    Ok(joined)
+    all
+}
+
+/// The text of a file with all its lines written out: those between `repeat N` and `end` come N times, where a block may be
+/// in another one; and those that go on are in one with the line before them.
+pub(crate) fn written_out(alloc: Global, text: &str) -> Numbered {
+    let once = unrolled(alloc, &lines_of_text(alloc, text));
+    joined(alloc, &unrolled(alloc, &once))
 }

@@ -44,14 +44,15 @@ impl Tally {
         line: &Line<'_>,
         case: &mut Case<'_>,
     ) -> io::Result<()> {
-        let mut wanted = String::new(rt.alloc());
-        line.add_wanted(&mut wanted)?;
+        let mut wanted = Case::new(rt.alloc(), "");
+        line.put_wanted(&mut wanted);
+        wanted.is_read()?;
         case.end()?;
         let came = case.came.trim_end_matches('\n');
-        if case.is_setting() && wanted.as_str() == came {
+        if case.is_setting() && wanted.came.as_str() == came {
             return Ok(());
         }
-        self.count(rt, (line.file, line.number), wanted.as_str(), came)
+        self.count(rt, (line.file, line.number), wanted.came.as_str(), came)
     }
 
     /// Counts a case, at this line of a file; its lines are counted from 1. Where what came is not what was wanted, both

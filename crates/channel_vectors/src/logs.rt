@@ -1,8 +1,7 @@
 //! A program of five instructions, the logs of harts that run it, and how they are sent.
 
 use bench::Config;
-use cases::{Case, events_of, mode_of, piece_of};
-use fault_injection::Refusing;
+use cases::{Case, Refusing, events_of, mode_of, piece_of};
 use legalpath::LegalLog;
 use rvclass::Program;
 use std::alloc::Global;

@@ -1,7 +1,6 @@
 //! Memory of which one request fails, or is held back while threads go on.
 
-use cases::Case;
-use fault_injection::Refusing;
+use cases::{Case, Refusing};
 use std::alloc::Global;
 use std::sync::Arc;
 use std::sync::atomic::AtomicU64;

@@ -3,8 +3,7 @@
 use crate::logs::logs_of;
 use crate::outcomes::put_outcome;
 use bench::{HartOutcome, Outcome, Stop, report};
-use cases::{Case, events_of};
-use fault_injection::{FailingWriter, Refusing};
+use cases::{Case, FailingWriter, Refusing, events_of};
 use legalpath::LegalLog;
 use retire::WriteFault;
 use rvclass::Program;

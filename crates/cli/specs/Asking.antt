@@ -1,5 +1,5 @@
 -- What arguments ask for, by what clap finds in them.
-use Rattle.std.specs.Prelude.{◌≡◌, ◌≢◌, ◌≤◌, ℕ, codes, Bool, true, false, List, [], Option, map}
+use Rattle.std.specs.Prelude.{◌≡◌, ◌≢◌, ◌≤◌, ◌<◌, ◌^◌, ℕ, codes, Bool, true, false, List, [], Option, map}
 use Rattle.std.specs.Str.Parse.{IsNumeral, digits_value, without_leading_plus}
 use Rattle.std.specs.Prelude.{Some, None, IfSome, option_map, unwrap_or}
 use Rattle.clap.specs.Words.{Row, Text, all_of, fault_of, first_of, one_of, subcommand_of}
@@ -10,15 +10,19 @@ use Rattle.message.specs.declared.header.Version.{Version}
 use Rattle.message.specs.declared.header.Version.TheVariants.{One, Two}
 use Rattle.payload.specs.declared.mode.Mode.{Mode}
 use Rattle.payload.specs.declared.mode.Mode.TheVariants.{Differential, Full}
-use Rattle.command_inputs.specs.Kind.{IsCheck}
-use Rattle.command_inputs.specs.Limits.{AreBitsIfGiven, fewest_number_bits, greatest_first, longest_period}
-use Rattle.command_inputs.specs.Limits.{most_number_bits}
+use Rattle.command_inputs.specs.Kind.{IsCheck, IsGenerate}
+use Rattle.command_inputs.specs.Limits.{AreBitsIfGiven, IsUpToIfGiven, fewest_number_bits, greatest_first}
+use Rattle.command_inputs.specs.Limits.{longest_burst, longest_period, most_messages, most_number_bits}
+use Rattle.retire.specs.Log.{most_long_rows}
+use Rattle.stimulus.specs.Mix.{IsNamed}
 use Rattle.command_inputs.specs.declared.words.Asked.{Asked}
 use Rattle.command_inputs.specs.declared.words.Format.{Format}
 use Rattle.command_inputs.specs.declared.words.Format.TheVariants as format
+use Rattle.command_inputs.specs.declared.words.Product.{Product}
+use Rattle.command_inputs.specs.declared.words.Product.TheVariants as product
 use Rattle.command_inputs.specs.declared.words.ProgramArgs.{ProgramArgs}
 use Rattle.command_inputs.specs.declared.words.Asked.TheVariants.{Audit, Bench, Capture, Check, Decode, Dump, Encode}
-use Rattle.command_inputs.specs.declared.words.Asked.TheVariants.{Compare, Listing, Measure, Replay, Salvage}
+use Rattle.command_inputs.specs.declared.words.Asked.TheVariants.{Compare, Generate, Listing, Measure, Replay, Salvage}
 
 -- The first value of an argument, or no text where it has none.
 abbrev pub text_of : Text → List Row → Text
@@ -90,12 +94,28 @@ IsGivenFirst value given = (value ≡ None → given ≡ None)
     × ((text : Text) → value ≡ Some text → IsNumeral 10 (without_leading_plus text) → decimal text ≤ greatest_first
     → given ≡ Some (decimal text))
 
--- A count of harts is there only where the argument has a value, and is 1 to 1024. Where the argument's text spells
--- such a number, it is that one.
+-- A count is there only where the argument has a value, and is 1 to `most`. Where the argument's text spells such a
+-- number, it is that one.
+abbrev pub IsGivenUpTo : ℕ → Option Text → Option ℕ → Type 0
+IsGivenUpTo most value given = (value ≡ None → given ≡ None)
+    × IsUpToIfGiven most given
+    × ((text : Text) → value ≡ Some text → IsDecimalUpTo most text → given ≡ Some (decimal text))
+
+-- A count of harts that may be left out is 1 to 1024.
 abbrev pub IsGivenHarts : Option Text → Option ℕ → Type 0
-IsGivenHarts value given = (value ≡ None → given ≡ None)
-    × IfSome given (λ harts. (1 ≤ harts) × (harts ≤ most_harts Two))
-    × ((text : Text) → value ≡ Some text → IsDecimalUpTo (most_harts Two) text → given ≡ Some (decimal text))
+IsGivenHarts = IsGivenUpTo (most_harts Two)
+
+-- The seed is the number of 64 bits that the argument's text spells in decimal.
+abbrev pub IsSeed : Option Text → ℕ → Type 0
+IsSeed value seed = (text : Text) → value ≡ Some text → IsNumeral 10 (without_leading_plus text)
+    → decimal text < 2 ^ 64 → seed ≡ decimal text
+
+-- What is made is what has this name, or something else where the name is that of none.
+pub record IsProduct (name : Text) (its : Product) : Type 0 where
+  pub image : name ≡ codes "image" → its ≡ product.Image
+  pub log : name ≡ codes "log" → its ≡ product.Log
+  pub capture : name ≡ codes "capture" → its ≡ product.Capture
+  pub other : name ≢ codes "image" → name ≢ codes "log" → name ≢ codes "capture" → its ≡ product.Other
 
 -- The program that is asked for has the base, the further pieces and the image that these rows have for them.
 abbrev pub AsksProgram : List Row → ProgramArgs → Type 0
@@ -162,6 +182,7 @@ Asks name rows (Listing asked) = (name ≡ codes "list") × AsksProgram rows ask
     × IsGivenHarts (one_of (codes "harts") rows) asked.harts
     × (option_map (λ text. text.now) asked.only ≡ first_of (codes "only") rows)
     × (option_map (λ path. path.now) asked.symbols ≡ first_of (codes "symbols") rows)
+    × IsFlag (one_of (codes "rows") rows) asked.rows
     × IsFlag (one_of (codes "salvage") rows) asked.salvage
     × IsFormat (text_of (codes "format") rows) asked.format
     × IsFlag (one_of (codes "progress") rows) asked.progress
@@ -169,6 +190,7 @@ Asks name rows (Listing asked) = (name ≡ codes "list") × AsksProgram rows ask
 Asks name rows (Salvage asked) = (name ≡ codes "salvage") × AsksProgram rows asked.program
     × IsGivenHarts (one_of (codes "harts") rows) asked.harts
     × (option_map (λ text. text.now) asked.only ≡ first_of (codes "only") rows)
+    × (option_map (λ path. path.now) asked.symbols ≡ first_of (codes "symbols") rows)
     × IsFlag (one_of (codes "summary") rows) asked.summary
     × IsFormat (text_of (codes "format") rows) asked.format × IsFlag (one_of (codes "progress") rows) asked.progress
     × (asked.capture.now ≡ text_of (codes "CAPTURE") rows)
@@ -182,9 +204,19 @@ Asks name rows (Compare asked) = (name ≡ codes "compare") × AsksProgram rows 
     × IsHarts (one_of (codes "harts") rows) asked.harts
     × (option_map (λ text. text.now) asked.only ≡ first_of (codes "only") rows)
     × IsFlag (one_of (codes "explain") rows) asked.explain
+    × (option_map (λ path. path.now) asked.symbols ≡ first_of (codes "symbols") rows)
     × IsFlag (one_of (codes "long") rows) asked.long × IsFlag (one_of (codes "progress") rows) asked.progress
     × (asked.capture.now ≡ text_of (codes "CAPTURE") rows)
     × (map (λ log. log.now) asked.logs.items ≡ texts_of (codes "LOG") rows)
+Asks name rows (Generate asked) = (name ≡ codes "generate") × IsProduct (text_of (codes "WHAT") rows) asked.product
+    × IsSeed (one_of (codes "seed") rows) asked.seed × IsNamed (text_of (codes "mix") rows) asked.mix
+    × (asked.base.now ≡ text_of (codes "base") rows) × IsGivenFirst (one_of (codes "hart") rows) asked.hart
+    × IsGivenUpTo most_long_rows (one_of (codes "events") rows) asked.events
+    × IsGivenHarts (one_of (codes "harts") rows) asked.harts
+    × IsGivenUpTo most_messages (one_of (codes "messages") rows) asked.messages
+    × IsGivenUpTo longest_period (one_of (codes "period") rows) asked.period
+    × IsMode (one_of (codes "full") rows) asked.mode × IsVersion (one_of (codes "v1") rows) asked.version
+    × IsGivenUpTo longest_burst (one_of (codes "burst") rows) asked.burst
 
 -- A subcommand with its rows was found, and it is what is asked.
 abbrev pub AsksFound : Option (Text × List Row) → Asked → Type 0
@@ -198,6 +230,10 @@ WordsAsk words = AsksFound (subcommand_of program_app words)
 -- The arguments ask for no run of `check`.
 abbrev pub AskNoCheck : List Text → Type 0
 AskNoCheck words = (asked : Asked) → WordsAsk words asked → ¬ IsCheck asked
+
+-- The arguments ask for a run of `generate`.
+abbrev pub AskGenerate : List Text → Type 0
+AskGenerate words = (asked : Asked) × WordsAsk words asked × IsGenerate asked
 
 -- `clap` finds a fault in the arguments; a call for help or for the version is one.
 abbrev pub AreRefused : List Text → Type 0

@@ -7,12 +7,13 @@ use Rattle.clap.specs.Simple.{on_top}
 use Rattle.clap.specs.declared.builder.command.Command.{Command}
 use Rattle.clap.specs.declared.builder.command.Command.TheViews.{out-Command as fields_of}
 use Rattle.cli.specs.declared.rules.Argument.{Argument}
-use Rattle.cli.specs.declared.rules.Argument.TheVariants.{Also, Base, Capacity, Capture, CaptureProgress}
-use Rattle.cli.specs.declared.rules.Argument.TheVariants.{CountedHarts, Explain, ExplainRow, First, Format, Full, Harts}
+use Rattle.cli.specs.declared.rules.Argument.TheVariants.{Also, Base, Burst, Capacity, Capture, CaptureProgress}
+use Rattle.cli.specs.declared.rules.Argument.TheVariants.{CountedHarts, Events, Explain, ExplainRow, First, Format, Full, Harts}
+use Rattle.cli.specs.declared.rules.Argument.TheVariants.{GivenBase, GivenPeriod, Hart, Messages, Mix, MixedHarts, Seed, What}
 use Rattle.cli.specs.declared.rules.Argument.TheVariants.{HeadedFull, HeadedPeriod, Headless, Hex, Image, Lines}
 use Rattle.cli.specs.declared.rules.Argument.TheVariants.{ListedHarts, Logs, Long, Lossy, NumberBits, Of, Only, Packets}
 use Rattle.cli.specs.declared.rules.Argument.TheVariants.{Period}
-use Rattle.cli.specs.declared.rules.Argument.TheVariants.{Progress, Received, Salvaged, SalvagedHarts, Schedule}
+use Rattle.cli.specs.declared.rules.Argument.TheVariants.{Progress, Received, Rows, Salvaged, SalvagedHarts, Schedule}
 use Rattle.cli.specs.declared.rules.Argument.TheVariants.{Search, Sent, Summary, Symbols, Unnumbered, VersionOne}
 use Rattle.cli.specs.declared.rules.Argument.TheVariants.{WithoutLogs}
 use Rattle.cli.specs.Rules.{argument_rule}
@@ -39,13 +40,15 @@ all_apps =
     with_arguments (codes "audit") (Packets ∷ Unnumbered ∷ Only ∷ Summary ∷ Format ∷ CaptureProgress ∷ Sent ∷ Received
     ∷ []) ∷
     with_arguments (codes "measure") (Base ∷ Also ∷ Period ∷ Full ∷ Long ∷ Progress ∷ Image ∷ Logs ∷ []) ∷
-    with_arguments (codes "list") (Base ∷ Also ∷ ListedHarts ∷ Only ∷ Symbols ∷ Salvaged ∷ Format ∷ CaptureProgress ∷
-    Image ∷ Capture ∷ []) ∷
-    with_arguments (codes "salvage") (Base ∷ Also ∷ SalvagedHarts ∷ Only ∷ WithoutLogs ∷ Format ∷ CaptureProgress ∷
-    Image ∷ Capture ∷ []) ∷
+    with_arguments (codes "list") (Base ∷ Also ∷ ListedHarts ∷ Only ∷ Symbols ∷ Rows ∷ Salvaged ∷ Format ∷
+    CaptureProgress ∷ Image ∷ Capture ∷ []) ∷
+    with_arguments (codes "salvage") (Base ∷ Also ∷ SalvagedHarts ∷ Only ∷ Symbols ∷ WithoutLogs ∷ Format ∷
+    CaptureProgress ∷ Image ∷ Capture ∷ []) ∷
     with_arguments (codes "capture") (Headless ∷ HeadedFull ∷ HeadedPeriod ∷ CountedHarts ∷ NumberBits ∷ Lines ∷ []) ∷
-    with_arguments (codes "compare") (Base ∷ Also ∷ Harts ∷ Only ∷ ExplainRow ∷ Long ∷ Progress ∷ Image ∷ Capture ∷
-    Logs ∷ []) ∷ []
+    with_arguments (codes "compare") (Base ∷ Also ∷ Harts ∷ Only ∷ ExplainRow ∷ Symbols ∷ Long ∷ Progress ∷ Image ∷
+    Capture ∷ Logs ∷ []) ∷
+    with_arguments (codes "generate") (What ∷ Seed ∷ Mix ∷ GivenBase ∷ Hart ∷ Events ∷ MixedHarts ∷ Messages ∷
+    GivenPeriod ∷ Full ∷ Headless ∷ Burst ∷ []) ∷ []
 
 -- The program without its subcommands, one of which has to be there. It has a version.
 abbrev pub bare_program : App

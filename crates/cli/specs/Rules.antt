@@ -1,16 +1,18 @@
 -- The arguments that the program's subcommands take, in clap's own terms.
-use Rattle.std.specs.Prelude.{◌≡◌, codes, pos, [], ◌∷◌, Some, true, false}
+use Rattle.std.specs.Prelude.{◌≡◌, ◌^◌, ◌-◌, ℕ, codes, pos, [], ◌∷◌, Some, true, false}
 use Rattle.clap.specs.Words.{Rule, Text, new_rule, rule_of}
 use Rattle.clap.specs.Lexer.{usize_max}
 use Rattle.clap.specs.declared.builder.arg.Arg.{Arg}
 use Rattle.clap.specs.declared.builder.action.ArgAction.TheVariants.{Append, Set, SetTrue}
 use Rattle.clap.specs.declared.builder.range.ValueRange.{ValueRange}
 use Rattle.clap.specs.declared.builder.value_parser.ValueParser.{ValueParser}
-use Rattle.clap.specs.declared.builder.value_parser.ValueParser.TheVariants.{Signed}
+use Rattle.clap.specs.declared.builder.value_parser.ValueParser.TheVariants.{Signed, Unsigned}
 use Rattle.message.specs.Capacity.{most_capacity}
 use Rattle.message.specs.Version.{most_harts}
+use Rattle.retire.specs.Log.{most_long_rows}
 use Rattle.message.specs.declared.header.Version.TheVariants.{Two}
-use Rattle.command_inputs.specs.Limits.{fewest_number_bits, greatest_first, longest_period, most_number_bits}
+use Rattle.command_inputs.specs.Limits.{fewest_number_bits, greatest_first, longest_burst, longest_period}
+use Rattle.command_inputs.specs.Limits.{most_messages, most_number_bits}
 use Rattle.cli.specs.declared.rules.Argument.{Argument}
 use Rattle.cli.specs.declared.rules.Argument.TheVariants as argument
 
@@ -50,6 +52,22 @@ first_parser = Signed (pos 0) (pos greatest_first)
 abbrev pub bits_parser : ValueParser
 bits_parser = Signed (pos fewest_number_bits) (pos most_number_bits)
 
+-- A number from 1 to 65535.
+abbrev pub burst_parser : ValueParser
+burst_parser = Signed (pos 1) (pos longest_burst)
+
+-- A number of 64 bits, from 1 to this one.
+abbrev pub long_parser : ℕ → ValueParser
+long_parser most = Unsigned 1 most
+
+-- Any number of 64 bits.
+abbrev pub seed_parser : ValueParser
+seed_parser = Unsigned 0 18446744073709551615
+
+-- `--name H`, a hart, which may be left out.
+abbrev pub hart_rule : Text → Rule
+hart_rule name = number_rule name first_parser
+
 -- `--name N`, a count of harts, which may be left out.
 abbrev pub count_rule : Text → Rule
 count_rule name = number_rule name harts_parser
@@ -62,15 +80,20 @@ one_or_more = record { start_inclusive = 1; end_inclusive = usize_max }
 abbrev pub argument_rule : Argument → Rule
 argument_rule argument.Also = record (option_rule (codes "also")) { action = Some Append }
 argument_rule argument.Base = record (option_rule (codes "base")) { required = true }
+argument_rule argument.Burst = number_rule (codes "burst") burst_parser
 argument_rule argument.Capacity = record (number_rule (codes "capacity") capacity_parser) { defaults = codes "16" ∷ [] }
 argument_rule argument.Capture = file_rule (codes "CAPTURE")
 argument_rule argument.CaptureProgress = flag_rule (codes "progress")
 argument_rule argument.CountedHarts = count_rule (codes "harts")
+argument_rule argument.Events = number_rule (codes "events") (long_parser most_long_rows)
 argument_rule argument.Explain = flag_rule (codes "explain")
 argument_rule argument.ExplainRow = flag_rule (codes "explain")
-argument_rule argument.First = number_rule (codes "first") first_parser
+argument_rule argument.First = hart_rule (codes "first")
 argument_rule argument.Format = record (option_rule (codes "format")) { defaults = codes "text" ∷ [] }
 argument_rule argument.Full = flag_rule (codes "full")
+argument_rule argument.GivenBase = record (option_rule (codes "base")) { defaults = codes "80000000" ∷ [] }
+argument_rule argument.GivenPeriod = number_rule (codes "period") period_parser
+argument_rule argument.Hart = hart_rule (codes "hart")
 argument_rule argument.Harts = record (count_rule (codes "harts")) { defaults = codes "1" ∷ [] }
 argument_rule argument.HeadedFull = flag_rule (codes "full")
 argument_rule argument.HeadedPeriod = record (number_rule (codes "period") period_parser) { defaults = codes "1024" ∷ [] }
@@ -82,6 +105,9 @@ argument_rule argument.ListedHarts = count_rule (codes "harts")
 argument_rule argument.Logs = record (file_rule (codes "LOG")) { action = Some Append; range = Some one_or_more }
 argument_rule argument.Long = flag_rule (codes "long")
 argument_rule argument.Lossy = flag_rule (codes "lossy")
+argument_rule argument.Messages = number_rule (codes "messages") (long_parser most_messages)
+argument_rule argument.Mix = record (option_rule (codes "mix")) { defaults = codes "mixed" ∷ [] }
+argument_rule argument.MixedHarts = count_rule (codes "harts")
 argument_rule argument.NumberBits = number_rule (codes "number-bits") bits_parser
 argument_rule argument.Of = count_rule (codes "of")
 argument_rule argument.Only = option_rule (codes "only")
@@ -89,15 +115,18 @@ argument_rule argument.Packets = flag_rule (codes "packets")
 argument_rule argument.Period = record (number_rule (codes "period") period_parser) { defaults = codes "1024" ∷ [] }
 argument_rule argument.Progress = flag_rule (codes "progress")
 argument_rule argument.Received = file_rule (codes "RECEIVED")
+argument_rule argument.Rows = flag_rule (codes "rows")
 argument_rule argument.Salvaged = flag_rule (codes "salvage")
 argument_rule argument.SalvagedHarts = count_rule (codes "harts")
 argument_rule argument.Schedule = file_rule (codes "SCHEDULE")
 argument_rule argument.Search = flag_rule (codes "search")
+argument_rule argument.Seed = record (number_rule (codes "seed") seed_parser) { defaults = codes "1" ∷ [] }
 argument_rule argument.Sent = file_rule (codes "SENT")
 argument_rule argument.Summary = flag_rule (codes "summary")
 argument_rule argument.Symbols = option_rule (codes "symbols")
 argument_rule argument.Unnumbered = flag_rule (codes "unnumbered")
 argument_rule argument.VersionOne = flag_rule (codes "v1")
+argument_rule argument.What = file_rule (codes "WHAT")
 argument_rule argument.WithoutLogs = flag_rule (codes "summary")
 
 -- The argument is read by this rule, and by its own subcommand alone.

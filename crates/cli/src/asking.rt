@@ -1,10 +1,10 @@
 //! What the arguments of a command line ask for.
 
-ghost use Rattle.std.specs.Prelude.{◌≡◌, ◌⊎◌, IfErr, IfOk, [], codes, map, option_map, string_bytes, unwrap_or};
+ghost use Rattle.std.specs.Prelude.{◌≡◌, ◌≤◌, ◌⊎◌, IfErr, IfOk, [], codes, map, option_map, string_bytes, unwrap_or};
 ghost use Rattle.clap.specs.Words.{FailsBy, fault_of, first_of, first_value, found_of, kind_of, one_of, rows_of};
 ghost use Rattle.clap.specs.declared.error.kind.ErrorKind.TheVariants as kind;
 ghost use Rattle.cli.specs.Asking.{AreGivenBits, AreRefused, Asks, AsksProgram, IsCapacity, IsFlag, IsFormat};
-ghost use Rattle.cli.specs.Asking.{IsGivenFirst, IsGivenHarts, IsHarts, IsMode, IsPeriod, IsVersion};
+ghost use Rattle.cli.specs.Asking.{IsGivenFirst, IsGivenUpTo, IsHarts, IsMode, IsPeriod, IsProduct, IsSeed, IsVersion};
 ghost use Rattle.cli.specs.Asking.{WordsAsk, text_of, texts_of};
 ghost use Rattle.cli.specs.Grammar.{IsSubcommand, program_app};
 ghost use Rattle.command_inputs.specs.Limits.{IsWithinLimits};
@@ -13,18 +13,24 @@ use crate::grammar::program;
 use clap::{ArgMatches, Error};
 use command_inputs::{
     Asked, Audit, Bench, Capture, Check, Compare, Decode, Dump, Encode, FEWEST_NUMBER_BITS, Format,
-    GREATEST_FIRST, Listing, MOST_NUMBER_BITS, Measure, ProgramArgs, Replay, SHORTEST_PERIOD,
-    SMALLEST_CAPACITY, Salvage,
+    GREATEST_FIRST, Generate, LONGEST_BURST, LONGEST_PERIOD, Listing, MOST_MESSAGES,
+    MOST_NUMBER_BITS, Measure, Product, ProgramArgs, Replay, SHORTEST_PERIOD, SMALLEST_CAPACITY,
+    Salvage,
 };
 use message::{MOST_CAPACITY, MOST_HARTS, Version};
 use payload::Mode;
+use retire::MOST_LONG_ROWS;
 use std::alloc::{AllocError, Global};
+use stimulus::Mix;
 
 /// The period where the arguments give none.
 const DEFAULT_PERIOD: u16 = 1024;
 
 /// The capacity where the arguments give none.
 const DEFAULT_CAPACITY: u32 = 16;
+
+/// The seed where the arguments give none.
+const DEFAULT_SEED: u64 = 1;
 
 /// The count of harts where the arguments give none.
 const DEFAULT_HARTS: u16 = 1;
@@ -134,8 +140,8 @@ fn encode_asked<'a>(alloc: Global, given: &ArgMatches<'a>) -> Result<Asked<'a>, 
         mode: mode(given),
         version: version(given),
         hex: flag(given, "hex"),
-        first: given_first(given),
-        of: given_harts(given, "of"),
+        first: given_first(given, "first"),
+        of: given_up_to(given, "of", MOST_HARTS),
         long: flag(given, "long"),
         progress: flag(given, "progress"),
         logs: texts(alloc, given, "LOG")?,
@@ -164,21 +170,33 @@ fn harts<'a>(given: &ArgMatches<'a>) -> u16
         .clamp(1, MOST_HARTS)
 }
 
-/// A count of harts, where this argument is given, 1 to 1024 by the range that `clap` keeps.
-fn given_harts<'a>(given: &ArgMatches<'a>, id: &str) -> Option<u16>
-    ensures { IsGivenHarts (one_of id.now (rows_of (found_of given.now))) result }
+/// A count, where this argument is given, 1 to `most` by the range that `clap` keeps.
+fn given_up_to<'a>(given: &ArgMatches<'a>, id: &str, most: u16) -> Option<u16>
+    requires { 1 ≤ most }
+    ensures { IsGivenUpTo most (one_of id.now (rows_of (found_of given.now))) result }
 {
     match given.get_one::<u16>(id) {
-        Some(harts) => Some(harts.clamp(1, MOST_HARTS)),
+        Some(count) => Some(count.clamp(1, most)),
         None => None,
     }
 }
 
-/// The hart of the first log, where it is given, 0 to 1023 by the range that `clap` keeps.
-fn given_first<'a>(given: &ArgMatches<'a>) -> Option<u16>
-    ensures { IsGivenFirst (one_of (codes "first") (rows_of (found_of given.now))) result }
+/// The same of a count of 64 bits.
+fn given_long<'a>(given: &ArgMatches<'a>, id: &str, most: u64) -> Option<u64>
+    requires { 1 ≤ most }
+    ensures { IsGivenUpTo most (one_of id.now (rows_of (found_of given.now))) result }
 {
-    match given.get_one::<u16>("first") {
+    match given.get_one::<u64>(id) {
+        Some(long) => Some(long.clamp(1, most)),
+        None => None,
+    }
+}
+
+/// A hart, where this argument is given, 0 to 1023 by the range that `clap` keeps.
+fn given_first<'a>(given: &ArgMatches<'a>, id: &str) -> Option<u16>
+    ensures { IsGivenFirst (one_of id.now (rows_of (found_of given.now))) result }
+{
+    match given.get_one::<u16>(id) {
         Some(first) => Some(first.min(GREATEST_FIRST)),
         None => None,
     }
@@ -284,9 +302,10 @@ fn list_asked<'a>(alloc: Global, given: &ArgMatches<'a>) -> Result<Asked<'a>, Al
 {
     Ok(Asked::Listing(Listing {
         program: program_args(alloc, given)?,
-        harts: given_harts(given, "harts"),
+        harts: given_up_to(given, "harts", MOST_HARTS),
         only: given_text(given, "only"),
         symbols: given_text(given, "symbols"),
+        rows: flag(given, "rows"),
         salvage: flag(given, "salvage"),
         format: format(given),
         progress: flag(given, "progress"),
@@ -300,8 +319,9 @@ fn salvage_asked<'a>(alloc: Global, given: &ArgMatches<'a>) -> Result<Asked<'a>,
 {
     Ok(Asked::Salvage(Salvage {
         program: program_args(alloc, given)?,
-        harts: given_harts(given, "harts"),
+        harts: given_up_to(given, "harts", MOST_HARTS),
         only: given_text(given, "only"),
+        symbols: given_text(given, "symbols"),
         summary: flag(given, "summary"),
         format: format(given),
         progress: flag(given, "progress"),
@@ -327,7 +347,7 @@ fn capture_asked<'a>(given: &ArgMatches<'a>) -> Asked<'a>
         version: version(given),
         mode: mode(given),
         period: period(given),
-        harts: given_harts(given, "harts"),
+        harts: given_up_to(given, "harts", MOST_HARTS),
         number_bits: given_bits(given),
         lines: text(given, "LINES"),
     })
@@ -342,11 +362,51 @@ fn compare_asked<'a>(alloc: Global, given: &ArgMatches<'a>) -> Result<Asked<'a>,
         harts: harts(given),
         only: given_text(given, "only"),
         explain: flag(given, "explain"),
+        symbols: given_text(given, "symbols"),
         long: flag(given, "long"),
         progress: flag(given, "progress"),
         capture: text(given, "CAPTURE"),
         logs: texts(alloc, given, "LOG")?,
     }))
+}
+
+/// What `generate` makes.
+fn product<'a>(given: &ArgMatches<'a>) -> Product
+    ensures { IsProduct (text_of (codes "WHAT") (rows_of (found_of given.now))) result }
+{
+    match text(given, "WHAT") {
+        "image" => Product::Image,
+        "log" => Product::Log,
+        "capture" => Product::Capture,
+        _ => Product::Other,
+    }
+}
+
+/// The seed, any number of 64 bits.
+fn seed<'a>(given: &ArgMatches<'a>) -> u64
+    ensures { IsSeed (one_of (codes "seed") (rows_of (found_of given.now))) result }
+{
+    given.get_one::<u64>("seed").unwrap_or(DEFAULT_SEED)
+}
+
+/// What was asked of `generate`.
+fn generate_asked<'a>(given: &ArgMatches<'a>) -> Asked<'a>
+    ensures { Asks (codes "generate") (rows_of (found_of given.now)) result }
+{
+    Asked::Generate(Generate {
+        product: product(given),
+        seed: seed(given),
+        mix: Mix::named(text(given, "mix")),
+        base: text(given, "base"),
+        hart: given_first(given, "hart"),
+        events: given_long(given, "events", u64::from(MOST_LONG_ROWS)),
+        harts: given_up_to(given, "harts", MOST_HARTS),
+        messages: given_long(given, "messages", MOST_MESSAGES),
+        period: given_up_to(given, "period", LONGEST_PERIOD),
+        mode: mode(given),
+        version: version(given),
+        burst: given_up_to(given, "burst", LONGEST_BURST),
+    })
 }
 
 /// What was asked of the subcommand with this name.
@@ -367,6 +427,7 @@ fn asked_of<'a>(alloc: Global, name: &str, given: &ArgMatches<'a>) -> Result<Ask
         "salvage" => salvage_asked(alloc, given),
         "capture" => Ok(capture_asked(given)),
         "compare" => compare_asked(alloc, given),
+        "generate" => Ok(generate_asked(given)),
         _ => unreachable!("clap knows no other subcommand"),
     }
 }
@@ -376,9 +437,10 @@ fn asked_of<'a>(alloc: Global, name: &str, given: &ArgMatches<'a>) -> Result<Ask
 /// `Ok` comes where `clap` finds no fault in them by the program's grammar. It holds the texts of the subcommand's
 /// arguments as they are given: a base is not yet a number, and no file was looked at. A period is a number from 1 to
 /// 65535, a count of harts one from 1 to 1024, a first hart one from 0 to 1023, a capacity one from 1 to 65536, and a
-/// count of low bits one from 4 to 32. Where no such number is given, a period is 1024, the count of harts of `decode`
-/// and `compare` 1, and a capacity 16; other counts and a first hart are none then. A capture is of version 1 with
-/// `--v1`, and else of version 2.
+/// count of low bits one from 4 to 32; a seed is any number of 64 bits, a count of events one from 1 to 4294967295, and
+/// one of messages from 1 to 2^40. Where no such number is given, a period is 1024, the count of harts of `decode` and
+/// `compare` 1, a capacity 16, and a seed 1; other counts, a first hart and all numbers of `generate` but the seed are
+/// none then. A capture is of version 1 with `--v1`, and else of version 2.
 ///
 /// An error is `clap`'s own. A call for help or for the version is one. Its `Display` is the text for the user, and its
 /// kind is `ErrorKind::OutOfMemory` where an allocation failed.

@@ -7,14 +7,15 @@ ghost use Rattle.cli.specs.steps.Subcommands.{app_of_subcommand, with_row};
 
 use crate::help::{
     AUDIT_EXAMPLE, BENCH_EXAMPLE, CAPTURE_EXAMPLE, CHECK_EXAMPLE, COMPARE_EXAMPLE, DECODE_EXAMPLE,
-    DUMP_EXAMPLE, ENCODE_EXAMPLE, EXIT_STATUSES, LIST_EXAMPLE, MEASURE_EXAMPLE, REPLAY_EXAMPLE,
-    SALVAGE_EXAMPLE, VERSION,
+    DUMP_EXAMPLE, ENCODE_EXAMPLE, EXIT_STATUSES, GENERATE_EXAMPLE, LIST_EXAMPLE, MEASURE_EXAMPLE,
+    REPLAY_EXAMPLE, SALVAGE_EXAMPLE, VERSION,
 };
 use crate::rules::Argument::{
-    Also, Base, Capacity, Capture, CaptureProgress, CountedHarts, Explain, ExplainRow, First,
-    Format, Full, Harts, HeadedFull, HeadedPeriod, Headless, Hex, Image, Lines, ListedHarts, Logs,
-    Long, Lossy, NumberBits, Of, Only, Packets, Period, Progress, Received, Salvaged,
-    SalvagedHarts, Schedule, Search, Sent, Summary, Symbols, Unnumbered, VersionOne, WithoutLogs,
+    Also, Base, Burst, Capacity, Capture, CaptureProgress, CountedHarts, Events, Explain,
+    ExplainRow, First, Format, Full, GivenBase, GivenPeriod, Hart, Harts, HeadedFull, HeadedPeriod,
+    Headless, Hex, Image, Lines, ListedHarts, Logs, Long, Lossy, Messages, Mix, MixedHarts,
+    NumberBits, Of, Only, Packets, Period, Progress, Received, Rows, Salvaged, SalvagedHarts,
+    Schedule, Search, Seed, Sent, Summary, Symbols, Unnumbered, VersionOne, What, WithoutLogs,
 };
 use crate::rules::{Argument, arg_of};
 use clap::Command;
@@ -30,7 +31,7 @@ pub(crate) struct Subcommand {
 }
 
 /// The program's subcommands, in the order in which help lists them.
-const SUBCOMMANDS: [Subcommand; 12] = [
+const SUBCOMMANDS: [Subcommand; 13] = [
     Subcommand {
         name: "check",
         about: "Check whether logs are legal",
@@ -111,6 +112,7 @@ const SUBCOMMANDS: [Subcommand; 12] = [
             ListedHarts,
             Only,
             Symbols,
+            Rows,
             Salvaged,
             Format,
             CaptureProgress,
@@ -127,6 +129,7 @@ const SUBCOMMANDS: [Subcommand; 12] = [
             Also,
             SalvagedHarts,
             Only,
+            Symbols,
             WithoutLogs,
             Format,
             CaptureProgress,
@@ -152,7 +155,26 @@ const SUBCOMMANDS: [Subcommand; 12] = [
         about: "Say whether a capture describes just these logs",
         example: COMPARE_EXAMPLE,
         arguments: &[
-            Base, Also, Harts, Only, ExplainRow, Long, Progress, Image, Capture, Logs,
+            Base, Also, Harts, Only, ExplainRow, Symbols, Long, Progress, Image, Capture, Logs,
+        ],
+    },
+    Subcommand {
+        name: "generate",
+        about: "Make an image, a log or a capture from a seed, for a path without a core",
+        example: GENERATE_EXAMPLE,
+        arguments: &[
+            What,
+            Seed,
+            Mix,
+            GivenBase,
+            Hart,
+            Events,
+            MixedHarts,
+            Messages,
+            GivenPeriod,
+            Full,
+            Headless,
+            Burst,
         ],
     },
 ];

@@ -72,6 +72,11 @@ pub(crate) const COMPARE_EXAMPLE: &str = "\
 Example:
   tracebench compare --base 80000000 examples/loop/image.bin examples/loop/log.capture examples/loop/log.csv";
 
+/// What the help of `generate` ends with.
+pub(crate) const GENERATE_EXAMPLE: &str = "\
+Example:
+  tracebench generate capture --harts 4 --messages 1000 >sent.capture";
+
 /// What the help of `salvage` ends with.
 pub(crate) const SALVAGE_EXAMPLE: &str = "\
 Example:

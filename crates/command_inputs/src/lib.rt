@@ -29,8 +29,8 @@ pub use inputs::{
 };
 pub use legal_logs::legal_logs_of;
 pub use limits::{
-    FEWEST_NUMBER_BITS, GREATEST_FIRST, LONGEST_PERIOD, MOST_NUMBER_BITS, SHORTEST_PERIOD,
-    SMALLEST_CAPACITY,
+    FEWEST_NUMBER_BITS, GREATEST_FIRST, LONGEST_BURST, LONGEST_PERIOD, MOST_MESSAGES,
+    MOST_NUMBER_BITS, SHORTEST_PERIOD, SMALLEST_CAPACITY,
 };
 pub use log_streams::{FileFault, FileReader, Files};
 pub use only_harts::harts_asked;
@@ -38,6 +38,6 @@ pub use progress::{MessageProgress, begin_progress};
 pub use reason::Reason;
 pub use status::Status;
 pub use words::{
-    Asked, Audit, Bench, Capture, Check, Compare, Decode, Dump, Encode, Format, Listing, Measure,
-    ProgramArgs, Replay, Salvage,
+    Asked, Audit, Bench, Capture, Check, Compare, Decode, Dump, Encode, Format, Generate, Listing,
+    Measure, Product, ProgramArgs, Replay, Salvage,
 };

@@ -15,6 +15,12 @@ pub const FEWEST_NUMBER_BITS: u16 = 4;
 /// The most low bits of a number that lines may have, where they have not the number itself.
 pub const MOST_NUMBER_BITS: u16 = 32;
 
+/// The most messages that a capture may be asked to have, but for those that close the traces.
+pub const MOST_MESSAGES: u64 = 1 << 40;
+
+/// The most messages of one hart that may be asked to come one after another.
+pub const LONGEST_BURST: u16 = 65535;
+
 /// The most bytes of an image, or of a further piece of one.
 pub(crate) const LARGEST_PIECE: usize = 16_777_216;
 

@@ -2,6 +2,7 @@
 
 use message::Version;
 use payload::Mode;
+use stimulus::Mix;
 
 /// `--base B [--also B2=FILE]... IMAGE`: a program, as the bytes of an image and of its further pieces.
 #[derive(Drop)]
@@ -176,8 +177,8 @@ pub struct Measure<'a> {
     pub logs: Vec<&'a str>,
 }
 
-/// `list --base B [--also B2=FILE]... [--harts N] [--only A-B] [--symbols FILE] [--salvage] [--format FORMAT] [--progress]
-/// IMAGE CAPTURE`: what each message of a capture says and settles.
+/// `list --base B [--also B2=FILE]... [--harts N] [--only A-B] [--symbols FILE] [--rows] [--salvage] [--format FORMAT]
+/// [--progress] IMAGE CAPTURE`: what each message of a capture says and settles.
 #[derive(Drop)]
 pub struct Listing<'a> {
     /// The program.
@@ -188,6 +189,8 @@ pub struct Listing<'a> {
     pub only: Option<&'a str>,
     /// The path of the program's symbols, where they are given.
     pub symbols: Option<&'a str>,
+    /// Whether lines of text say which rows each message settles. A table without salvaging says it always.
+    pub rows: bool,
     /// Whether every message that is found is wanted, and what `salvage` does with it.
     pub salvage: bool,
     /// Whether lines of text or a table are wanted.
@@ -198,8 +201,8 @@ pub struct Listing<'a> {
     pub capture: &'a str,
 }
 
-/// `salvage --base B [--also B2=FILE]... [--harts N] [--only A-B] [--summary] [--format FORMAT] [--progress] IMAGE
-/// CAPTURE`: what is left of the log of each hart after any damage to a capture.
+/// `salvage --base B [--also B2=FILE]... [--harts N] [--only A-B] [--symbols FILE] [--summary] [--format FORMAT]
+/// [--progress] IMAGE CAPTURE`: what is left of the log of each hart after any damage to a capture.
 #[derive(Drop)]
 pub struct Salvage<'a> {
     /// The program.
@@ -208,6 +211,8 @@ pub struct Salvage<'a> {
     pub harts: Option<u16>,
     /// The harts whose messages are wanted, not yet read as `A-B` or `A`, where not all are.
     pub only: Option<&'a str>,
+    /// The path of the program's symbols, where they are given.
+    pub symbols: Option<&'a str>,
     /// Whether the texts of the logs are left out.
     pub summary: bool,
     /// Whether lines of text or a table are wanted.
@@ -237,8 +242,8 @@ pub struct Capture<'a> {
     pub lines: &'a str,
 }
 
-/// `compare --base B [--also B2=FILE]... [--harts N] [--only A-B] [--explain] [--long] [--progress] IMAGE CAPTURE
-/// LOG...`: whether a capture describes just these logs.
+/// `compare --base B [--also B2=FILE]... [--harts N] [--only A-B] [--explain] [--symbols FILE] [--long] [--progress]
+/// IMAGE CAPTURE LOG...`: whether a capture describes just these logs.
 #[derive(Drop)]
 pub struct Compare<'a> {
     /// The program.
@@ -249,6 +254,8 @@ pub struct Compare<'a> {
     pub only: Option<&'a str>,
     /// Whether the rows before the first difference are wanted.
     pub explain: bool,
+    /// The path of the program's symbols, where they are given.
+    pub symbols: Option<&'a str>,
     /// Whether a log may have up to 4,294,967,295 rows. Where this is false, it may have up to 16,777,216.
     pub long: bool,
     /// Whether a terminal is shown how far the capture is worked through and the logs are read.
@@ -257,6 +264,51 @@ pub struct Compare<'a> {
     pub capture: &'a str,
     /// The paths of the logs, at least one, in the order of the arguments.
     pub logs: Vec<&'a str>,
+}
+
+/// What `generate` makes.
+#[derive(Clone, Copy)]
+pub enum Product {
+    /// The image of a program.
+    Image,
+    /// The log of a hart that runs it.
+    Log,
+    /// A capture of harts that run it.
+    Capture,
+    /// The argument is the name of none.
+    Other,
+}
+
+/// `generate WHAT [--seed S] [--mix MIX] [--base B] [--hart H] [--events N] [--harts N] [--messages N] [--period N]
+/// [--full] [--v1] [--burst N]`: an image, a log or a capture that a seed decides.
+///
+/// `hart` and `events` go with a log alone, and all from `harts` on with a capture alone.
+#[derive(Drop)]
+pub struct Generate<'a> {
+    /// WHAT: what is made.
+    pub product: Product,
+    /// The number that decides all draws.
+    pub seed: u64,
+    /// What the program does, where the argument names it.
+    pub mix: Option<Mix>,
+    /// The address of the image's first byte, not yet read as a number.
+    pub base: &'a str,
+    /// The hart whose log is made, 0 to 1023, where it is given.
+    pub hart: Option<u16>,
+    /// How many rows the log has, 1 to 4,294,967,295, where that is given.
+    pub events: Option<u64>,
+    /// How many harts the capture has, 1 to 1024, where that is given.
+    pub harts: Option<u16>,
+    /// How many messages the capture has, but for those that close the traces, 1 to 2^40, where that is given.
+    pub messages: Option<u64>,
+    /// How many retirements there are from one periodic synchronisation to the next, 1 to 65535, where that is given.
+    pub period: Option<u16>,
+    /// Whether packets name addresses by differences or in full.
+    pub mode: Mode,
+    /// The version of the capture. It limits the count of harts.
+    pub version: Version,
+    /// How many messages of one hart come one after another at most, 1 to 65535, where that is given.
+    pub burst: Option<u16>,
 }
 
 /// A subcommand with its files and options, as texts of the arguments.
@@ -286,4 +338,6 @@ pub enum Asked<'a> {
     Capture(Capture<'a>),
     /// A run of `compare`.
     Compare(Compare<'a>),
+    /// A run of `generate`.
+    Generate(Generate<'a>),
 }

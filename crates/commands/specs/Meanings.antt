@@ -1,10 +1,11 @@
 -- What each subcommand means.
 use Rattle.command_inputs.specs.declared.words.Asked.{Asked}
 use Rattle.command_inputs.specs.declared.words.Asked.TheVariants.{Audit, Bench, Capture, Check, Decode, Dump, Encode}
-use Rattle.command_inputs.specs.declared.words.Asked.TheVariants.{Compare, Listing, Measure, Replay, Salvage}
+use Rattle.command_inputs.specs.declared.words.Asked.TheVariants.{Compare, Generate, Listing, Measure, Replay, Salvage}
 use Rattle.log_commands.specs.Benching.{bench_meaning}
 use Rattle.log_commands.specs.Checking.{check_meaning}
 use Rattle.log_commands.specs.Encoding.{encode_meaning}
+use Rattle.log_commands.specs.Generating.{generate_meaning}
 use Rattle.log_commands.specs.Measuring.{measure_meaning}
 use Rattle.log_commands.specs.Replaying.{replay_meaning}
 use Rattle.capture_commands.specs.Decoded.{decode_meaning}
@@ -32,3 +33,4 @@ meaning_of (Listing asked) = joined reason.Capture (list_meaning asked)
 meaning_of (Salvage asked) = joined reason.Capture (salvage_meaning asked)
 meaning_of (Capture asked) = joined reason.Line (capture_meaning asked)
 meaning_of (Compare asked) = joined reason.Capture (compare_meaning asked)
+meaning_of (Generate asked) = joined reason.Log (generate_meaning asked)

@@ -12,7 +12,7 @@ ghost use Rattle.commands.specs.steps.Running.{IsRun};
 
 use crate::capture_runs::{run_audit, run_compare, run_decode, run_dump, run_list, run_salvage};
 use crate::line_runs::run_capture;
-use crate::log_runs::{run_bench, run_check, run_encode, run_measure, run_replay};
+use crate::log_runs::{run_bench, run_check, run_encode, run_generate, run_measure, run_replay};
 use crate::reason::Fault;
 use command_inputs::{Asked, Files, Status};
 use std::alloc::Global;
@@ -23,7 +23,8 @@ use std::thread::Threads;
 /// Does what is asked, and returns how that ended: with a status, or at the first fault in the order base, bases of
 /// further pieces, count of logs or harts, image, further pieces, symbols, each log in turn, schedule, capture or
 /// lines; of `compare` bases, harts that are asked for, image, further pieces, capture and whether it has one of these
-/// harts, count of logs, each log in turn.
+/// harts, count of logs, each log in turn; of `generate` what is made, mix, options that do not go with it, base, count
+/// of harts, image.
 ///
 /// Illegal logs are no fault of `check`, which has a line for each log on `out`.
 pub fn carry_out<'a, F: Files + Sync, O: Write, R: Threads + Wait + Sync>(
@@ -77,5 +78,6 @@ where
         Asked::Salvage(asked) => run_salvage(alloc, files, asked, out),
         Asked::Capture(asked) => run_capture(files, asked, out),
         Asked::Compare(asked) => run_compare(alloc, rt, files, asked, out),
+        Asked::Generate(asked) => run_generate(alloc, &*files, asked, out),
     }
 }

@@ -1,13 +1,14 @@
-//! Runs of the subcommands that read logs, with their reasons to stop among those of all.
+//! Runs of the subcommands that read or make logs, with their reasons to stop among those of all.
 
 ghost use Rattle.std.specs.Prelude.{◌≤◌};
 ghost use Rattle.commands.specs.steps.Running.{IsRun};
+ghost use Rattle.command_inputs.specs.Limits.{IsGenerateWithin};
 ghost use Rattle.command_inputs.specs.declared.words.Asked.TheVariants as Asked;
 
 use crate::joining::joined_end;
 use crate::reason::Fault;
-use command_inputs::{Bench, Check, Encode, Files, Measure, Replay, Status};
-use log_commands::{bench, check, encode, measure, replay};
+use command_inputs::{Bench, Check, Encode, Files, Generate, Measure, Replay, Status};
+use log_commands::{bench, check, encode, generate, measure, replay};
 use std::alloc::Global;
 use std::io::Write;
 use std::sync::Wait;
@@ -88,4 +89,18 @@ where
     ensures { IsRun (F.content files.old) (Asked.Bench asked.now) O.contents result out.old out.new }
 {
     joined_end(bench(alloc, rt, files, asked, out))
+}
+
+/// A run of `generate`. It reads no file.
+pub(crate) fn run_generate<'a, F: Files, O: Write>(
+    alloc: Global,
+    files: &F,
+    asked: &Generate<'a>,
+    out: &mut O,
+) -> Result<Status, Fault<'a>>
+    requires { IsGenerateWithin asked.now }
+    ensures { IsRun (F.content files.now) (Asked.Generate asked.now) O.contents result out.old out.new }
+{
+    let _ = files;
+    joined_end(generate(alloc, asked, out))
 }

@@ -5,9 +5,12 @@ pub mod CountedMessages
 pub mod CountedFronts
 pub mod DecodedHarts
 pub mod EqualLogs
+pub mod FollowedHarts
+pub mod FollowedMessages
 pub mod HeldHarts
 pub mod LineTexts
 pub mod MessageBounds
 pub mod SomeHarts
+pub mod SourcedHarts
 pub mod EqualHarts
 pub mod AgreeingRows

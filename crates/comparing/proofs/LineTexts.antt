@@ -1,12 +1,12 @@
 -- Lines that are written one after the other, and what they are of.
-use Rattle.std.proofs.Common.{◌≡◌, ◌∙◌, ℕ, ◌+◌, ◌<◌, List, [], ◌∷◌, ◌++◌, Bool, Option, ap, append-nil, drop, get_or, length}
+use Rattle.std.proofs.Common.{◌≡◌, ◌∙◌, ℕ, ◌+◌, ◌<◌, List, [], ◌∷◌, ◌++◌, Bool, true, false, true≢false, Option, None, Some, ap, append-nil, drop, get_or, length}
 use Rattle.std.proofs.Common.{arith, refl, subst, sym, take, take-append-drop}
 use Rattle.std.proofs.KnownBytes.{Appends-trans}
 use Rattle.std.proofs.lemmas.Grind.{flat_map-append}
 use Rattle.std.proofs.lemmas.List.{take_more}
 use Rattle.std.specs.Io.KnownBytes.{Appends}
 use Rattle.std.specs.List.{flat_map, list_all}
-use Rattle.std.specs.Prelude.{◌&&◌, is_none}
+use Rattle.std.specs.Prelude.{◌&&◌, is_none, is_some, not}
 use Rattle.output.specs.Begun.{AppendsBeginning}
 use Rattle.output.proofs.Beginnings.{begun_behind, begun_in_front}
 use Rattle.bench.specs.Got.{Got}
@@ -15,10 +15,12 @@ use Rattle.bench.specs.Verdict.{verdict}
 use Rattle.captures.specs.declared.outcome.CaptureFault.{CaptureFault}
 use Rattle.legalpath.specs.ProgramLog.{ProgramLog}
 use Rattle.comparing.specs.Compared.{comparison_text, comparison_text_of, is_compared_whole}
-use Rattle.comparing.specs.Explained.{are_whole_harts, explained_harts, explained_text, explained_text_of, hart_lines}
-use Rattle.comparing.specs.Explained.{is_whole_hart}
+use Rattle.comparing.specs.Explained.{are_whole_sourced, explained_harts, is_whole_hart, is_whole_sourced}
+use Rattle.comparing.specs.Sourced.{AreNumbered, AreSourced}
 use Rattle.comparing.specs.Lines.{are_whole_lines, is_whole_line, line_of, line_text, lines_of, lines_text}
-use Rattle.comparing.specs.declared.hart_line.ComparedHart.{ComparedHart}
+use Rattle.comparing.specs.declared.explained.ExplainedHart.{ExplainedHart}
+use Rattle.comparing.specs.declared.sourcing.SourcedHart.{SourcedHart}
+use Rattle.rvclass.specs.Words.{Words}
 
 module _ {X : Type 0} (text_of : X → List ℕ) (all : List X) (i : ℕ) (one : X) (within : i < length all)
     (is : one ≡ get_or all i one) (old mid new : Option (List ℕ))
@@ -56,6 +58,22 @@ pub report_begun : (ended whole all : Bool) (lines : List ℕ) (old mid new : Op
 report_begun ended whole all lines old mid new is text begun =
     begun_behind lines (result_line (ended && all)) old mid new text
     (subst (λ whole. AppendsBeginning (result_line (ended && whole)) mid new) is begun)
+
+-- Whether there is no stop, told by whether there is one.
+pub none_is : (stop : Option (ℕ × CaptureFault)) (none : Bool) → is_some stop ≡ not none → none ≡ is_none stop
+none_is None true is = refl
+none_is None false is = absurd (true≢false (sym is))
+none_is (Some at) true is = absurd (true≢false is)
+none_is (Some at) false is = refl
+
+-- The same where decoding stops there, or comes to the end.
+pub ended_begun : (stop : Option (ℕ × CaptureFault)) (ended whole all : Bool) (lines : List ℕ)
+    (old mid new : Option (List ℕ)) → is_some stop ≡ not ended → whole ≡ all → Appends old mid lines
+    → AppendsBeginning (result_line (ended && whole)) mid new
+    → AppendsBeginning (lines ++ result_line (is_none stop && all)) old new
+ended_begun stop ended whole all lines old mid new is same text begun =
+    subst (λ ended. AppendsBeginning (lines ++ result_line (ended && all)) old new) (none_is stop ended is)
+    (report_begun ended whole all lines old mid new same text begun)
 
 -- The texts of the lines of harts are those of a report.
 texts_of_lines : (hart : ℕ) (gots : List Got) (logs : List ProgramLog)
@@ -105,14 +123,29 @@ whole_of_harts hart (got ∷ gots) (log ∷ logs) same =
     ap (λ rest. is_whole_verdict (verdict got.closed got.decoded log.events) && rest)
     (whole_of_harts (hart + 1) gots logs (omega (arith, same)))
 
-module _ (before : Bool) (hart : ℕ) (stop : Option (ℕ × CaptureFault)) (gots : List Got) (logs : List ProgramLog)
-    (same : length logs ≡ length gots) where
-  pub harts_whole_of : are_whole_harts (is_none stop) (explained_harts hart gots logs)
-      ≡ is_compared_whole stop gots logs
-  harts_whole_of = ap (λ whole. is_none stop && whole) (whole_of_harts hart gots logs same)
+-- It is the same with the messages that rows come from.
+whole_of_sourced : (words : Words) (bytes : List ℕ) (stop : Option (ℕ × CaptureFault)) (harts : List ExplainedHart)
+    (sourced : List SourcedHart) → AreSourced words bytes stop harts sourced
+    → list_all is_whole_sourced sourced ≡ list_all is_whole_hart harts
+whole_of_sourced words bytes stop [] [] are = refl
+whole_of_sourced words bytes stop [] (one ∷ sourced) are = elim are [ ]
+whole_of_sourced words bytes stop (hart ∷ harts) [] are = elim are [ ]
+whole_of_sourced words bytes stop (hart ∷ harts) (one ∷ sourced) are =
+    ap (λ (hart : ExplainedHart). is_whole_hart hart && list_all is_whole_sourced sourced) are.0.hart_is
+    ∙ ap (λ rest. is_whole_hart hart && rest) (whole_of_sourced words bytes stop harts sourced are.1)
 
-  -- What is written of them is the report that says where logs differ.
-  pub harts_written_of : explained_text before (is_none stop) (explained_harts hart gots logs)
-      ≡ explained_text_of before hart stop gots logs
-  harts_written_of =
-      ap (λ whole. flat_map (hart_lines before) (explained_harts hart gots logs) ++ result_line whole) harts_whole_of
+-- The harts that are written are whole where the comparison is.
+pub sourced_whole : (words : Words) (bytes : List ℕ) (hart : ℕ) (stop : Option (ℕ × CaptureFault)) (gots : List Got)
+    (logs : List ProgramLog) (sourced : List SourcedHart) → length logs ≡ length gots
+    → AreSourced words bytes stop (explained_harts hart gots logs) sourced
+    → are_whole_sourced (is_none stop) sourced ≡ is_compared_whole stop gots logs
+sourced_whole words bytes hart stop gots logs sourced same are =
+    ap (λ whole. is_none stop && whole)
+    (whole_of_sourced words bytes stop (explained_harts hart gots logs) sourced are ∙ whole_of_harts hart gots logs same)
+
+-- What is said of harts has their numbers in order.
+pub harts_numbered : (hart : ℕ) (gots : List Got) (logs : List ProgramLog)
+    → AreNumbered hart (explained_harts hart gots logs)
+harts_numbered hart [] logs = tt
+harts_numbered hart (got ∷ gots) [] = tt
+harts_numbered hart (got ∷ gots) (log ∷ logs) = (refl, harts_numbered (hart + 1) gots logs)

@@ -3,7 +3,10 @@ pub mod Verdicts
 pub mod RowsAbout
 pub mod Agreeing
 pub mod Lines
+pub mod Sources
+pub mod SourceTexts
 pub mod Compared
 pub mod Explained
+pub mod Sourced
 pub mod Whole
 pub mod steps

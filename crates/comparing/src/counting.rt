@@ -73,7 +73,7 @@ fn count_before<A: Allocator>(
 }
 
 /// Whether the message with this number comes before the one at which decoding stops.
-fn comes_before(stop: Option<(u64, CaptureFault)>, number: u64) -> bool
+pub(crate) fn comes_before(stop: Option<(u64, CaptureFault)>, number: u64) -> bool
     ensures { result ≡ comes_before stop number }
 {
     match stop {

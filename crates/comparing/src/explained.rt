@@ -1,8 +1,7 @@
-//! What is written of a hart whose log was compared, with the rows about the first difference.
+//! What is said of a hart whose log was compared, with the rows about the first difference.
 
 ghost use Rattle.std.specs.Prelude.{Some};
-ghost use Rattle.comparing.specs.Explained.{below_text, both_line, both_lines, event_text, hart_lines};
-ghost use Rattle.comparing.specs.Explained.{row_text};
+ghost use Rattle.comparing.specs.Explained.{event_text, row_start, row_text};
 
 use crate::hart_line::ComparedHart;
 use crate::near::NearRows;
@@ -79,111 +78,42 @@ impl fmt::Display for RowText {
     }
 }
 
-/// The line of a row that both a log and the decoded events have, if there is such a row.
+/// The line of a row of a hart, up to what the row's place is named: what it is a row of, and its text.
 #[derive(Clone, Copy)]
-struct BothLine {
-    hart: usize,
-    row: usize,
-    event: Option<Event>,
+pub(crate) struct RowStart {
+    pub(crate) hart: usize,
+    pub(crate) row: usize,
+    /// What it is a row of.
+    pub(crate) kind: RowKind,
+    pub(crate) event: Option<Event>,
 }
 
-impl fmt::Display for BothLine {
-    ghost output = { λ line. Some (both_line line.hart line.row line.event) };
+/// What a row is one of.
+#[derive(Clone, Copy)]
+pub(crate) enum RowKind {
+    /// The log and the decoded events.
+    Both,
+    /// The log.
+    Log,
+    /// The decoded events.
+    Decoded,
+}
+
+impl fmt::Display for RowStart {
+    ghost output = { λ start. Some (row_start start.hart start.row start.kind start.event) };
 
     fn fmt<W: fmt::Write>(&self, f: &mut fmt::Formatter<W>) -> fmt::Result {
-        let hart = self.hart;
-        let row = self.row;
-        match self.event {
-            Some(event) => {
-                let text = RowText { row: Some(event) };
-                write!(f, "hart {hart}: row {row}: both {text}\n")
-            }
-            None => f.write_str(""),
-        }
-    }
-}
-
-/// The lines of the three rows before the first difference, if they are wanted.
-#[derive(Clone, Copy)]
-struct BothLines<'a> {
-    before: bool,
-    hart: &'a ExplainedHart,
-}
-
-impl fmt::Display for BothLines<'_> {
-    ghost output = { λ lines. Some (both_lines lines.before lines.hart.now) };
-
-    fn fmt<W: fmt::Write>(&self, f: &mut fmt::Formatter<W>) -> fmt::Result {
-        if !self.before {
-            return f.write_str("");
-        }
-        let ExplainedHart { line, row, near } = *self.hart;
-        let hart = line.hart;
-        let three = BothLine {
+        let RowStart {
             hart,
-            row: row.saturating_sub(3),
-            event: near.three_before,
-        };
-        let two = BothLine {
-            hart,
-            row: row.saturating_sub(2),
-            event: near.two_before,
-        };
-        let one = BothLine {
-            hart,
-            row: row.saturating_sub(1),
-            event: near.one_before,
-        };
-        write!(f, "{three}{two}{one}")
-    }
-}
-
-/// What is below the line of a hart, by whether its log came back whole.
-#[derive(Clone, Copy)]
-struct BelowText<'a> {
-    whole: bool,
-    before: bool,
-    hart: &'a ExplainedHart,
-}
-
-impl fmt::Display for BelowText<'_> {
-    ghost output = { λ text. Some (below_text text.whole text.before text.hart.now) };
-
-    fn fmt<W: fmt::Write>(&self, f: &mut fmt::Formatter<W>) -> fmt::Result {
-        if self.whole {
-            return f.write_str("");
+            row,
+            kind,
+            event,
+        } = *self;
+        let text = RowText { row: event };
+        match kind {
+            RowKind::Both => write!(f, "hart {hart}: row {row}: both {text}"),
+            RowKind::Log => write!(f, "hart {hart}: row {row}: log {text}"),
+            RowKind::Decoded => write!(f, "hart {hart}: row {row}: decoded {text}"),
         }
-        let ExplainedHart { line, row, near } = *self.hart;
-        let hart = line.hart;
-        let both = BothLines {
-            before: self.before,
-            hart: self.hart,
-        };
-        let log = RowText { row: near.log };
-        let decoded = RowText { row: near.decoded };
-        write!(f, "{both}hart {hart}: row {row}: log {log}\n")?;
-        write!(f, "hart {hart}: row {row}: decoded {decoded}\n")
-    }
-}
-
-/// The line of a hart, and below it the rows about the first difference, where its log did not come back whole.
-#[derive(Clone, Copy)]
-pub(crate) struct HartText<'a> {
-    /// Whether the rows before the first difference are wanted.
-    pub(crate) before: bool,
-    pub(crate) hart: &'a ExplainedHart,
-}
-
-impl fmt::Display for HartText<'_> {
-    ghost output = { λ text. Some (hart_lines text.before text.hart.now) };
-
-    fn fmt<W: fmt::Write>(&self, f: &mut fmt::Formatter<W>) -> fmt::Result {
-        let line = self.hart.line;
-        let below = BelowText {
-            whole: line.verdict.is_whole(),
-            before: self.before,
-            hart: self.hart,
-        };
-        write!(f, "{line}\n{below}")
     }
 }

@@ -2,24 +2,30 @@
 //!
 //! [`counts_of`] counts the messages of each hart of a capture before decoding stops. [`Comparing`] compares the events
 //! of a log, which come piece by piece, with those that were decoded of its hart. [`write_comparison`] writes a line
-//! for each hart, as a report of `bench` has it, and one for the result. [`write_explained`] also writes the rows about
-//! the first difference, which are those of both lists: [`lists_agree_before_the_row`]. [`whole_is_these_logs`] says
-//! when the result is whole, and [`whole_is_decoded`] what the bytes of the capture then decode to;
+//! for each hart, as a report of `bench` has it, and one for the result. [`sources_of`] finds the message of the capture
+//! that the first row comes from in which a log differs, and [`write_explained`] also writes that, and the rows about
+//! the difference, which are those of both lists: [`lists_agree_before_the_row`]. [`whole_is_these_logs`] says when the
+//! result is whole, and [`whole_is_decoded`] what the bytes of the capture then decode to;
 //! [`whole_of_harts_is_these_logs`] and [`whole_of_harts_is_decoded`] say so of some harts alone.
 #![tactic(auto)]
 
 mod alike_events;
 mod counting;
 mod explained;
+mod explanation;
 mod hart_count;
 mod hart_line;
 mod laws;
 mod near;
 mod pieces;
+mod source;
+mod sourcing;
+mod trail;
 mod writing;
 
 pub use counting::counts_of;
 pub use explained::ExplainedHart;
+pub use explanation::{Explaining, write_explained};
 pub use hart_count::HartCount;
 pub use hart_line::ComparedHart;
 pub use laws::{
@@ -28,4 +34,6 @@ pub use laws::{
 };
 pub use near::NearRows;
 pub use pieces::Comparing;
-pub use writing::{write_comparison, write_explained};
+pub use source::{RowSource, SourceMessage};
+pub use sourcing::{SourcedHart, sources_of};
+pub use writing::write_comparison;

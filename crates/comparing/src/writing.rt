@@ -5,10 +5,8 @@ ghost use Rattle.std.specs.Io.KnownBytes.{Appends};
 ghost use Rattle.std.specs.List.{flat_map, list_all};
 ghost use Rattle.bench.specs.Report.{result_line};
 ghost use Rattle.output.specs.Begun.{AppendsBeginning};
-ghost use Rattle.comparing.specs.Explained.{are_whole_harts, explained_text, hart_lines, is_whole_hart};
 ghost use Rattle.comparing.specs.Lines.{are_whole_lines, is_whole_line, line_text, lines_text};
 
-use crate::explained::{ExplainedHart, HartText};
 use crate::hart_line::ComparedHart;
 use output::{write_bytes, write_text};
 use retire::WriteFault;
@@ -56,7 +54,7 @@ fn line_at(lines: &[ComparedHart], hart: usize) -> &ComparedHart
 }
 
 /// Writes the line of a hart.
-fn write_line<W: Write>(line: &ComparedHart, sink: &mut W) -> Result<(), WriteFault>
+pub(crate) fn write_line<W: Write>(line: &ComparedHart, sink: &mut W) -> Result<(), WriteFault>
     ensures text { OnOk result (Appends (W.contents sink.old) (W.contents sink.new) (line_text line.now)) }
     ensures begun { AppendsBeginning (line_text line.now) (W.contents sink.old) (W.contents sink.new) }
     ensures fault { IfErr result (λ fault. fault ≡ WriteFault.Write) }
@@ -78,7 +76,7 @@ fn are_whole(lines: &[ComparedHart]) -> bool
 }
 
 /// Writes the line of the result.
-fn write_result<W: Write>(whole: bool, sink: &mut W) -> Result<(), WriteFault>
+pub(crate) fn write_result<W: Write>(whole: bool, sink: &mut W) -> Result<(), WriteFault>
     ensures text { OnOk result (Appends (W.contents sink.old) (W.contents sink.new) (result_line whole)) }
     ensures begun { AppendsBeginning (result_line whole) (W.contents sink.old) (W.contents sink.new) }
     ensures fault { IfErr result (λ fault. fault ≡ WriteFault.Write) }
@@ -90,77 +88,4 @@ fn write_result<W: Write>(whole: bool, sink: &mut W) -> Result<(), WriteFault>
     };
     write_bytes(sink, result.as_bytes())?;
     Ok(())
-}
-
-/// Writes what [`write_comparison`] does, and below the line of each hart whose log did not come back whole the row in
-/// which the log and what is decoded first differ: the log's and the decoded one, or `end` where there is none. Where
-/// `before` asks for them, the up to three rows before it, which both have, come first.
-///
-/// The only fault is [`WriteFault::Write`], where the writer failed; what was written then is a prefix of the text. No
-/// memory is taken, and the writer is not flushed.
-pub fn write_explained<W: Write>(
-    harts: &[ExplainedHart],
-    before: bool,
-    ended: bool,
-    sink: &mut W,
-) -> Result<bool, WriteFault>
-    ensures whole { IfOk result (λ whole. whole ≡ are_whole_harts ended harts.now) }
-    ensures text { OnOk result
-        (Appends (W.contents sink.old) (W.contents sink.new) (explained_text before ended harts.now)) }
-    ensures begun { AppendsBeginning (explained_text before ended harts.now)
-        (W.contents sink.old) (W.contents sink.new) }
-    ensures fault { IfErr result (λ fault. fault ≡ WriteFault.Write) }
-{
-    write_harts(harts, before, sink)?;
-    let whole = ended & are_whole_harts(harts);
-    write_result(whole, sink)?;
-    Ok(whole)
-}
-
-/// Writes the lines of each hart.
-fn write_harts<W: Write>(
-    harts: &[ExplainedHart],
-    before: bool,
-    sink: &mut W,
-) -> Result<(), WriteFault>
-    ensures text { OnOk result
-        (Appends (W.contents sink.old) (W.contents sink.new) (flat_map (hart_lines before) harts.now)) }
-    ensures begun { AppendsBeginning (flat_map (hart_lines before) harts.now)
-        (W.contents sink.old) (W.contents sink.new) }
-    ensures fault { IfErr result (λ fault. fault ≡ WriteFault.Write) }
-{
-    for place in 0..harts.len() {
-        write_hart(hart_at(harts, place), before, sink)?;
-    }
-    Ok(())
-}
-
-/// What is said of the hart at this place.
-fn hart_at(harts: &[ExplainedHart], place: usize) -> &ExplainedHart
-    requires { place < length harts.now }
-    ensures { result.now ≡ get_or harts.now place result.now }
-{
-    &harts[place]
-}
-
-/// Writes the lines of a hart.
-fn write_hart<W: Write>(hart: &ExplainedHart, before: bool, sink: &mut W) -> Result<(), WriteFault>
-    ensures text { OnOk result (Appends (W.contents sink.old) (W.contents sink.new) (hart_lines before hart.now)) }
-    ensures begun { AppendsBeginning (hart_lines before hart.now) (W.contents sink.old) (W.contents sink.new) }
-    ensures fault { IfErr result (λ fault. fault ≡ WriteFault.Write) }
-{
-    write_text(sink, HartText { before, hart })?;
-    Ok(())
-}
-
-/// Whether the log of each of these harts came back whole.
-fn are_whole_harts(harts: &[ExplainedHart]) -> bool
-    ensures { result ≡ list_all is_whole_hart harts.now }
-{
-    for hart in harts {
-        if !hart.line.verdict.is_whole() {
-            return false;
-        }
-    }
-    true
 }

@@ -30,26 +30,26 @@ pub use Rattle.captures.specs.FaultText as CaptureFaultText
 pub use Rattle.captures.specs.PacketText
 pub use Rattle.captures.specs.Offsets as CaptureOffsets
 pub use Rattle.captures.specs.Dump
-pub use Rattle.capture_index.specs.Places as HartPlaces
-pub use Rattle.capture_index.specs.Placed as PlacedLogs
-pub use Rattle.capture_index.specs.Surveyed
-pub use Rattle.capture_index.specs.CaptureSurveyed
-pub use Rattle.capture_index.specs.Marks
-pub use Rattle.capture_index.specs.EachHart
-pub use Rattle.capture_index.specs.HartsText
-pub use Rattle.capture_index.specs.Written as WrittenHarts
-pub use Rattle.capture_index.specs.Laws as WrittenHartsLaws
+pub use Rattle.parallel_decode.specs.Places as HartPlaces
+pub use Rattle.parallel_decode.specs.Placed as PlacedLogs
+pub use Rattle.parallel_decode.specs.Surveyed
+pub use Rattle.parallel_decode.specs.CaptureSurveyed
+pub use Rattle.parallel_decode.specs.Marks
+pub use Rattle.parallel_decode.specs.EachHart
+pub use Rattle.parallel_decode.specs.HartsText
+pub use Rattle.parallel_decode.specs.Written as WrittenHarts
+pub use Rattle.parallel_decode.specs.Laws as WrittenHartsLaws
 pub use Rattle.parallel_decode.specs.Marked as MarkedSurveys
 pub use Rattle.parallel_decode.specs.CaptureMarked
 pub use Rattle.parallel_decode.specs.MarkedRows as MarkedHarts
-pub use Rattle.capture_index.specs.Left as HartEventsLeft
-pub use Rattle.capture_lines.specs.Line as CaptureLine
-pub use Rattle.capture_lines.specs.Lines as CaptureLines
-pub use Rattle.capture_lines.specs.Number as LinesNumber
-pub use Rattle.capture_lines.specs.Capture as LinesCapture
-pub use Rattle.capture_lines.specs.ReadBack as LinesReadBack
-pub use Rattle.capture_lines.specs.Recovered as LinesRecovered
-pub use Rattle.capture_lines.specs.FaultText as LinesFaultText
+pub use Rattle.parallel_decode.specs.Left as HartEventsLeft
+pub use Rattle.captures.specs.Line as CaptureLine
+pub use Rattle.captures.specs.Lines as CaptureLines
+pub use Rattle.captures.specs.Number as LinesNumber
+pub use Rattle.captures.specs.Capture as LinesCapture
+pub use Rattle.captures.specs.ReadBack as LinesReadBack
+pub use Rattle.captures.specs.Recovered as LinesRecovered
+pub use Rattle.captures.specs.LineFaultText as LinesFaultText
 pub use Rattle.symbols.specs.File as SymbolFile
 pub use Rattle.symbols.specs.Nearest
 pub use Rattle.symbols.specs.Naming
@@ -58,6 +58,7 @@ pub use Rattle.symbols.specs.FaultText as SymbolsFaultText
 pub use Rattle.symbols.specs.SymbolText
 pub use Rattle.listing.specs.Effect
 pub use Rattle.listing.specs.EffectText
+pub use Rattle.listing.specs.SettledRows as ListingSettledRows
 pub use Rattle.listing.specs.Lines as ListingLines
 pub use Rattle.listing.specs.Placed as ListingPlaced
 pub use Rattle.listing.specs.Entries as ListingEntries

@@ -11,12 +11,12 @@ pub use Rattle.losses.specs.WholeStretches
 pub use Rattle.losses.specs.FaultText as LossyFaultText
 pub use Rattle.losses.specs.Stops
 pub use Rattle.losses.specs.Collects
-pub use Rattle.path_match.specs.Matches
-pub use Rattle.path_match.specs.Aligned
-pub use Rattle.path_match.specs.Split
-pub use Rattle.path_match.specs.Cursor
-pub use Rattle.path_match.specs.Arrivals
-pub use Rattle.path_match.specs.Counted
+pub use Rattle.auditing.specs.Matches
+pub use Rattle.auditing.specs.Aligned
+pub use Rattle.auditing.specs.Split
+pub use Rattle.auditing.specs.Cursor
+pub use Rattle.auditing.specs.Arrivals
+pub use Rattle.auditing.specs.Counted
 pub use Rattle.auditing.specs.Fates
 pub use Rattle.auditing.specs.Judged
 pub use Rattle.auditing.specs.Losing
@@ -29,6 +29,7 @@ pub use Rattle.auditing.specs.Untouched
 pub use Rattle.auditing.specs.DecodedAgain
 pub use Rattle.auditing.specs.FateText
 pub use Rattle.auditing.specs.Findings
+pub use Rattle.auditing.specs.Exchanged
 pub use Rattle.auditing.specs.HartRows
 pub use Rattle.auditing.specs.SentPayload
 pub use Rattle.auditing.specs.Known

@@ -40,8 +40,8 @@ pub use Rattle.decoder.specs.StateStands as DecoderStateStands
 pub use Rattle.decoder.specs.Resuming
 pub use Rattle.decoder.specs.FaultText as DecodeFaultText
 pub use Rattle.roundtrip.specs.Reach
-pub use Rattle.measuring.specs.Kinds as CountedKinds
-pub use Rattle.measuring.specs.Measures
-pub use Rattle.measuring.specs.Table as MeasureTable
-pub use Rattle.measuring.specs.Bounds as MeasureBounds
-pub use Rattle.measuring.specs.HasCounted
+pub use Rattle.captures.specs.Kinds as CountedKinds
+pub use Rattle.captures.specs.Measures
+pub use Rattle.captures.specs.Table as MeasureTable
+pub use Rattle.captures.specs.Bounds as MeasureBounds
+pub use Rattle.captures.specs.HasCounted

@@ -25,6 +25,9 @@ pub use Rattle.comparing.specs.Counts as ComparedCounts
 pub use Rattle.comparing.specs.RowsAbout
 pub use Rattle.comparing.specs.Agreeing as AgreeingRows
 pub use Rattle.comparing.specs.Explained as ExplainedRows
+pub use Rattle.comparing.specs.SourceTexts as RowSourceTexts
+pub use Rattle.comparing.specs.Sourced as SourcedRows
+pub use Rattle.comparing.specs.Sources as RowSources
 pub use Rattle.comparing.specs.Compared
 pub use Rattle.comparing.specs.Lines as ComparedLines
 pub use Rattle.comparing.specs.Verdicts as ComparedVerdicts

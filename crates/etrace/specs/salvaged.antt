@@ -10,10 +10,12 @@ pub use Rattle.salvaging.specs.Ends
 pub use Rattle.salvaging.specs.EndsByNumbers
 pub use Rattle.salvaging.specs.EndsByParts
 pub use Rattle.salvaging.specs.Late
+pub use Rattle.salvaging.specs.Tallies as SalvagedTallies
 pub use Rattle.salvaging.specs.Shares
 pub use Rattle.salvaging.specs.Treatments
 pub use Rattle.salvaging.specs.TreatedParts
 pub use Rattle.salvaging.specs.TreatedCounts
+pub use Rattle.salvaging.specs.CountedOnce
 pub use Rattle.salvaging.specs.PartsIn
 pub use Rattle.salvaging.specs.Salvaged
 pub use Rattle.salvaging.specs.Salvages
@@ -27,6 +29,8 @@ pub use Rattle.salvage_reports.specs.Effects as SalvagedEffects
 pub use Rattle.salvage_reports.specs.ListedAlike
 pub use Rattle.salvage_reports.specs.Offsets as SalvagedOffsets
 pub use Rattle.salvage_reports.specs.SalvagedItems
+pub use Rattle.salvage_reports.specs.StretchEnds
+pub use Rattle.salvage_reports.specs.Totals
 pub use Rattle.salvage_reports.specs.SalvagedReadBack
 pub use Rattle.salvage_reports.specs.Fields as TreatedFields
 pub use Rattle.salvage_reports.specs.TreatedRows as TreatedRows

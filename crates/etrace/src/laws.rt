@@ -2,11 +2,11 @@
 //! contracts cite.
 
 pub use auditing::{
-    harts_are_received_alone, rows_add_up, skips_add_up, whole_decodes_again, whole_is_untouched,
+    counts_add_up, harts_are_received_alone, rows_add_up, skips_add_up, whole_decodes_again,
+    whole_is_equal, whole_is_untouched,
 };
 pub use bench::turns_let_beginnings_through;
-pub use capture_index::all_harts_are_decoded;
-pub use capture_lines::{
+pub use captures::{
     hex_lines_become_the_capture, hex_lines_say_their_messages, low_numbers_are_recovered,
 };
 pub use comparing::{
@@ -28,7 +28,7 @@ pub use legalpath::{
 pub use listing::rows_are_read_back as listed_rows_are_read_back;
 pub use losses::{stretches_are_whole, stretches_stand_apart};
 pub use message::all_harts_select_every_message;
-pub use path_match::{counts_add_up, whole_is_equal};
+pub use parallel_decode::all_harts_are_decoded;
 pub use retire::{
     long_read_is_in_range, long_written_is_read_back, plain_is_parted, read_is_in_range,
     written_is_plain, written_is_read_back,
@@ -48,6 +48,6 @@ pub use salvage_reports::{
 };
 pub use salvaging::{
     harts_are_salvaged_in_one_way, harts_end_at_their_lowest_number,
-    harts_end_where_no_stretch_comes_after, logs_are_salvaged, parts_are_what_is_done,
-    treatments_are_counted, what_is_collected_is_salvaged,
+    harts_end_where_no_stretch_comes_after, logs_are_salvaged, messages_are_counted_once,
+    parts_are_what_is_done, treatments_are_counted, what_is_collected_is_salvaged,
 };

@@ -6,8 +6,8 @@ pub use bench::{
     compare, is_whole, replay, report, run, run_in_rooms, run_on, write_report,
 };
 pub use comparing::{
-    ComparedHart, Comparing, ExplainedHart, HartCount, NearRows, counts_of, write_comparison,
-    write_explained,
+    ComparedHart, Comparing, ExplainedHart, Explaining, HartCount, NearRows, RowSource,
+    SourceMessage, SourcedHart, counts_of, sources_of, write_comparison, write_explained,
 };
 pub use funnel::{
     Core, Ended, MOST_PORTS, OpenFault, Outlet, Port, Receipt, ScheduleFault, SendFault, Settled,

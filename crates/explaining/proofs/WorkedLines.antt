@@ -180,7 +180,7 @@ off bytes = explanation (image_at base bytes) (at 0x20 0 3 ∷ []) (record { row
 
 elf_file : off (0x7f ∷ 0x45 ∷ 0x4c ∷ 0x46 ∷ 0x02 ∷ [])
     ≡ codes "  80000020: no whole word: the image is 80000000 to 80000004\n"
-    ++ codes "  the image looks like an ELF file: give it the raw bytes (objcopy -O binary)\n"
+    ++ codes "  the image looks like an ELF file: give it the raw bytes (tools/image, or objcopy -O binary)\n"
 unfolding words_of class16 class32 digits
 elf_file = refl
 
@@ -229,7 +229,7 @@ six_ranges = refl
 
 an_elf_file_at_the_lowest_address : off_pieces (two_at 0x1000 ∷ piece_at 0x10 (0x7f ∷ 0x45 ∷ 0x4c ∷ 0x46 ∷ []) ∷ [])
     ≡ codes "  80000020: no whole word: the image is 10 to 13, 1000 to 1001\n"
-    ++ codes "  the image looks like an ELF file: give it the raw bytes (objcopy -O binary)\n"
+    ++ codes "  the image looks like an ELF file: give it the raw bytes (tools/image, or objcopy -O binary)\n"
 unfolding words_of class16 class32 digits
 an_elf_file_at_the_lowest_address = refl
 

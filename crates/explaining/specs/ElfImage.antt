@@ -15,4 +15,4 @@ begins_as_elf image =
 abbrev pub elf_line : Image → List ℕ
 elf_line image =
     if begins_as_elf image
-    then codes "  the image looks like an ELF file: give it the raw bytes (objcopy -O binary)\n" else []
+    then codes "  the image looks like an ELF file: give it the raw bytes (tools/image, or objcopy -O binary)\n" else []

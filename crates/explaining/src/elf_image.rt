@@ -18,7 +18,7 @@ impl fmt::Display for ElfLine<'_> {
     fn fmt<W: fmt::Write>(&self, f: &mut fmt::Formatter<W>) -> fmt::Result {
         if begins_as_elf(self.0) {
             f.write_str(
-                "  the image looks like an ELF file: give it the raw bytes (objcopy -O binary)\n",
+                "  the image looks like an ELF file: give it the raw bytes (tools/image, or objcopy -O binary)\n",
             )
         } else {
             Ok(())

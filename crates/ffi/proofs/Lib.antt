@@ -20,6 +20,7 @@ mod PacketsBack
 mod MadeOfCopies
 mod MeasuredInTurn
 mod NoneSet
+mod Offsets
 mod PassingBack
 mod PathWalk
 mod PiecesAdded

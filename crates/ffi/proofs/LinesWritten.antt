@@ -2,12 +2,12 @@
 use Rattle.std.proofs.Common.{◌≡◌, ℕ, ◌+◌, ◌∙◌, List, [], ◌∷◌, Some, None, Result, Ok, Err, refl, sym, ap, subst}
 use Rattle.std.specs.Prelude.{IfErr}
 use Rattle.std.specs.Str.Lines.{lines}
-use Rattle.capture_lines.specs.Capture.{capture_of_lines, capture_of_text, capture_or_fault}
-use Rattle.capture_lines.specs.Line.{line_of}
-use Rattle.capture_lines.specs.Lines.{before, form_of, lines_from, lines_of, with_line}
-use Rattle.capture_lines.specs.declared.fault.LinesFault.{LinesFault}
-use Rattle.capture_lines.specs.declared.fault.LinesFault.TheVariants.{Write}
-use Rattle.capture_lines.specs.declared.settings.Settings.{Settings}
+use Rattle.captures.specs.Capture.{capture_of_lines, capture_of_text, capture_or_fault}
+use Rattle.captures.specs.Line.{line_of}
+use Rattle.captures.specs.Lines.{before, form_of, lines_from, lines_of, with_line}
+use Rattle.captures.specs.declared.line_fault.LinesFault.{LinesFault}
+use Rattle.captures.specs.declared.line_fault.LinesFault.TheVariants.{Write}
+use Rattle.captures.specs.declared.line_settings.Settings.{Settings}
 
 module _ (settings : Settings) (form : _) where
   -- What is wrong with lines is no failure of a writer.

@@ -3,9 +3,9 @@ use Rattle.std.proofs.Common.{◌≡◌, ℕ, ◌+◌, ◌<◌, ◌≤◌, All, 
 use Rattle.std.proofs.lemmas.List.{length-map, map-append}
 use Rattle.std.proofs.lemmas.List.Elements.{All-nil, All-push}
 use Rattle.legalpath.specs.ProgramLog.{ProgramLog}
-use Rattle.measuring.specs.Bounds.{AreWithin, most_counted}
-use Rattle.measuring.specs.Measures.{measures_of, measures_of_each}
-use Rattle.measuring.specs.declared.measures.Measures.{Measures}
+use Rattle.captures.specs.Bounds.{AreWithin, most_counted}
+use Rattle.captures.specs.Measures.{measures_of, measures_of_each}
+use Rattle.captures.specs.declared.measures.Measures.{Measures}
 use Rattle.payload.specs.declared.mode.Mode.{Mode}
 use Rattle.rvclass.specs.Image.{Image}
 use Rattle.ffi.specs.Encoded.{text_between}

@@ -2,7 +2,7 @@
 use Rattle.std.proofs.Common.{◌≡◌, ℕ, ◌+◌, ◌<◌, ◌≤◌, List, ◌∷◌, ◌++◌, ◌∙◌, length, map, get_or, drop, sym, ap}
 use Rattle.std.proofs.Common.{append_assoc, append-nil}
 use Rattle.std.proofs.lemmas.List.{drop_all, drop_more}
-use Rattle.path_match.specs.Matches.{Flags}
+use Rattle.auditing.specs.Matches.{Flags}
 use Rattle.ffi.specs.AuditedAll.{lost_reported}
 use Rattle.ffi.specs.AuditedUnnumbered.{unmatched_from, unmatched_runs}
 use Rattle.ffi.specs.declared.path_numbers.LostRun.{LostRun}

@@ -11,6 +11,7 @@ use Rattle.auditing.specs.Known.{known_all, known_one}
 use Rattle.auditing.specs.Losing.{lost_runs}
 use Rattle.auditing.specs.Seen.{sight_of}
 use Rattle.auditing.specs.Sent.{IsSent, IsSentFault, harts_of}
+use Rattle.auditing.specs.declared.exchange.Exchanged.{Exchanged}
 use Rattle.auditing.specs.declared.fault.SentFault.{SentFault}
 use Rattle.auditing.specs.declared.fault.SentFault.TheVariants as sent
 use Rattle.auditing.specs.declared.finding.Finding.{Finding}
@@ -61,6 +62,15 @@ sent_status (sent.Unread number why) = message_status why
 sent_status (sent.Misplaced number why) = demux_status why
 sent_status sent.Memory = MEMORY
 
+-- How many messages of a hart that are not true are another hart's, and which hart that is, 0 where there is none.
+abbrev pub exchanged_count : Option Exchanged → ℕ
+exchanged_count None = 0
+exchanged_count (Some its) = its.count
+
+abbrev pub exchanged_hart : Option Exchanged → ℕ
+exchanged_hart None = 0
+exchanged_hart (Some its) = its.hart
+
 -- What is found of a hart, in numbers.
 abbrev pub row_reported : HartRow → HartRowNumbers
 row_reported row = record {
@@ -69,6 +79,8 @@ row_reported row = record {
   runs = row.runs;
   longest = row.longest;
   latest = row.latest;
+  exchanged = exchanged_count row.exchanged;
+  exchanged_hart = exchanged_hart row.exchanged;
 }
 
 -- The number of a fate.

@@ -2,7 +2,7 @@
 use Rattle.std.specs.Prelude.{ℕ, ◌≡◌, ◌==◌, ◌+◌, ◌&&◌, ◌++◌, nat_le, nat_lt, not, Bool, true, is_none, is_some}
 use Rattle.std.specs.Prelude.{List, [], ◌∷◌, Option, Some, None, length, map}
 use Rattle.std.specs.List.{count_by}
-use Rattle.path_match.specs.Matches.{Flags}
+use Rattle.auditing.specs.Matches.{Flags}
 use Rattle.payload.specs.declared.by.By.{By}
 use Rattle.auditing.specs.HartRows.{longest_of}
 use Rattle.auditing.specs.Losing.{runs_of}
@@ -15,11 +15,11 @@ use Rattle.message.specs.declared.fault.MessageFault.{MessageFault}
 use Rattle.message.specs.declared.header.Header.{Header}
 use Rattle.message.specs.declared.message.Message.{Message}
 use Rattle.frames.specs.Start.{IsStart}
-use Rattle.path_match.specs.Aligned.{AreAligned}
-use Rattle.path_match.specs.Arrivals.{arrival_lines}
-use Rattle.path_match.specs.Counted.{counts_of, total_of}
-use Rattle.path_match.specs.declared.line.Line.{Line}
-use Rattle.path_match.specs.declared.line.Line.TheVariants as line
+use Rattle.auditing.specs.Aligned.{AreAligned}
+use Rattle.auditing.specs.Arrivals.{arrival_lines}
+use Rattle.auditing.specs.Counted.{counts_of, total_of}
+use Rattle.auditing.specs.declared.arrival_line.Line.{Line}
+use Rattle.auditing.specs.declared.arrival_line.Line.TheVariants as line
 use Rattle.ffi.specs.AuditedAll.{IsGiven, fitting_status, header_fault, header_reported, heads_differ}
 use Rattle.ffi.specs.AuditedAll.{lost_reported, sent_place, sent_status}
 use Rattle.ffi.specs.Numbers.{flag}

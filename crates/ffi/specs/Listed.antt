@@ -1,5 +1,5 @@
 -- What a call reports of the listing of a capture.
-use Rattle.std.specs.Prelude.{ℕ, ◌≡◌, ◌==◌, ◌&&◌, is_none, Bool, if◌then◌else◌, List, [], ◌∷◌, Option, Some, None}
+use Rattle.std.specs.Prelude.{ℕ, ◌≡◌, ◌==◌, ◌&&◌, is_none, Bool, if◌then◌else◌, List, [], ◌∷◌, Option, Some, None, false}
 use Rattle.std.specs.Prelude.{Result, Ok, Err, length}
 use Rattle.captures.specs.declared.outcome.CaptureFault.{CaptureFault}
 use Rattle.listing.specs.Listing.{IsListing}
@@ -24,7 +24,7 @@ use Rattle.ffi.specs.declared.texts.Written.{Written}
 
 -- The format of a number.
 abbrev pub format_of : ℕ → Option Form
-format_of number = if number == TEXT then Some form.Lines else if number == CSV then Some form.Table else None
+format_of number = if number == TEXT then Some (form.Lines false) else if number == CSV then Some form.Table else None
 
 -- A file of symbols that is read, or why it is not.
 abbrev pub some_file : Result (List ℕ) SymbolsFault → Result (Option (List ℕ)) SymbolsFault

@@ -3,7 +3,7 @@ use Rattle.std.specs.Prelude.{ℕ, ◌≡◌, List, Result, Ok, Err}
 use Rattle.std.specs.declared.alloc.Global.{Global}
 use Rattle.std.specs.declared.vec.Vec.{Vec}
 use Rattle.legalpath.specs.ProgramLog.{ProgramLog}
-use Rattle.measuring.specs.Table.{measures_table}
+use Rattle.captures.specs.Table.{measures_table}
 use Rattle.message.specs.declared.header.Version.TheVariants.{Two}
 use Rattle.payload.specs.declared.mode.Mode.{Mode}
 use Rattle.rvclass.specs.Image.{Image}

@@ -2,10 +2,10 @@
 use Rattle.std.specs.Prelude.{ℕ, ◌≡◌, ◌==◌, ◌&&◌, nat_le, if◌then◌else◌, List, Option, Some, None, Result, Ok, Err}
 use Rattle.std.specs.declared.alloc.Global.{Global}
 use Rattle.std.specs.declared.vec.Vec.{Vec}
-use Rattle.capture_lines.specs.Capture.{capture_of_text}
-use Rattle.capture_lines.specs.declared.fault.LineFault.{LineFault}
-use Rattle.capture_lines.specs.declared.fault.LinesFault.TheVariants as fault
-use Rattle.capture_lines.specs.declared.settings.Settings.{Settings}
+use Rattle.captures.specs.Capture.{capture_of_text}
+use Rattle.captures.specs.declared.line_fault.LineFault.{LineFault}
+use Rattle.captures.specs.declared.line_fault.LinesFault.TheVariants as fault
+use Rattle.captures.specs.declared.line_settings.Settings.{Settings}
 use Rattle.message.specs.Version.{most_harts}
 use Rattle.message.specs.declared.header.Version.{Version}
 use Rattle.payload.specs.declared.mode.Mode.{Mode}

@@ -75,7 +75,7 @@ pub record HasSalvaged (layout : Layout) (image : Judged) (asked : Option ℕ) (
   pub salvaged : Salvaged Global
   pub made : image ≡ Ok program
   pub found : IsSalvagedCapture asked program capture header why salvaged
-  pub laid_out : text ≡ salvaged_as layout every_hart header (spans_of header capture) salvaged
+  pub laid_out : text ≡ salvaged_as layout None every_hart header (spans_of header capture) salvaged
   pub ended : end ≡ salvage_end every_hart why (list_any is_run (spans_of header capture)) salvaged
 
 -- The result for a capture, in a layout that is named: what is salvaged of it; or the image makes no program; or an

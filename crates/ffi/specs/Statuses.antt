@@ -1,7 +1,7 @@
 -- Faults as statuses.
 use Rattle.std.specs.Prelude.{ℕ}
-use Rattle.capture_lines.specs.declared.fault.LineFault.{LineFault}
-use Rattle.capture_lines.specs.declared.fault.LineFault.TheVariants as line
+use Rattle.captures.specs.declared.line_fault.LineFault.{LineFault}
+use Rattle.captures.specs.declared.line_fault.LineFault.TheVariants as line
 use Rattle.captures.specs.declared.outcome.CaptureFault.{CaptureFault}
 use Rattle.captures.specs.declared.outcome.CaptureFault.TheVariants as capture
 use Rattle.decoder.specs.declared.fault.DecodeFault.{DecodeFault}

@@ -7,8 +7,8 @@ ghost use Rattle.frames.specs.Start.{IsStart};
 ghost use Rattle.ffi.specs.AuditedAll.{compared_by};
 ghost use Rattle.ffi.specs.AuditedUnnumbered.{AreAlignedGiven, IsAuditedUnnumbered, ReportsUnnumbered};
 ghost use Rattle.ffi.specs.AuditedUnnumbered.{aligned_end, singles_of, strangers_among};
-ghost use Rattle.path_match.specs.Aligned.{AreAligned};
-ghost use Rattle.path_match.specs.Counted.{total_of};
+ghost use Rattle.auditing.specs.Aligned.{AreAligned};
+ghost use Rattle.auditing.specs.Counted.{total_of};
 
 use crate::aligned_harts::{aligned_rows, first_place, singles_of, strangers_among, unmatched_of};
 use crate::aligned_numbers::{AlignedEnd, AlignedRow, Single};
@@ -16,11 +16,10 @@ use crate::path_all::{compared_by, fitting_status, give};
 use crate::path_ending::{header_fault, header_reported, heads_differ};
 use crate::path_numbers::{LostRun, SentPlace, sent_place, sent_status};
 use crate::status::OUT_OF_RANGE;
-use auditing::{Audit, SentFault};
+use auditing::{Alignment, Audit, SentFault, aligned_harts, arrival_lines, total_of};
 use captures::{read_front, read_messages};
 use frames::start_of;
 use message::{Header, Message, MessageFault};
-use path_match::{Alignment, aligned_harts, arrival_lines, total_of};
 use payload::By;
 use std::alloc::{AllocError, Global};
 

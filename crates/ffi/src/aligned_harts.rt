@@ -7,9 +7,8 @@ ghost use Rattle.ffi.specs.AuditedUnnumbered.{unmatched_from};
 use crate::aligned_numbers::{AlignedRow, Single, aligned_reported, single_of};
 use crate::path_harts::add_lost;
 use crate::path_numbers::LostRun;
-use auditing::LostRuns;
+use auditing::{Alignment, Line, LostRuns};
 use message::Message;
-use path_match::{Alignment, Line};
 use std::alloc::{AllocError, Global};
 
 /// What is found of each hart, by their alignments.

@@ -5,8 +5,7 @@ ghost use Rattle.ffi.specs.AuditedUnnumbered.{aligned_reported, single_of};
 
 use crate::headers::HeaderNumbers;
 use crate::path_numbers::{FATE_IN_ORDER, FATE_STRANGER};
-use auditing::run_lengths;
-use path_match::{Alignment, Line, counts_of};
+use auditing::{Alignment, Line, counts_of, run_lengths};
 
 /// The message is matched with no message of SENT.
 pub const FATE_EXTRA: u32 = 5;

@@ -9,7 +9,7 @@ ghost use Rattle.ffi.specs.Statuses.{line_hart_status, line_status};
 use crate::encoding::{mode_of, version_of};
 use crate::handing::hand_out;
 use crate::status::*;
-use capture_lines::{LineFault, LinesFault, Settings, write_capture};
+use captures::{LineFault, LinesFault, Settings, write_capture};
 use message::Version;
 use payload::Mode;
 use std::alloc::Global;

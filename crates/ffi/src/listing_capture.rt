@@ -73,7 +73,7 @@ pub(crate) fn format_of(number: u32) -> Option<Form>
     ensures { result ≡ format_of number }
 {
     match number {
-        TEXT => Some(Form::Lines),
+        TEXT => Some(Form::Lines { rows: false }),
         CSV => Some(Form::Table),
         _ => None,
     }

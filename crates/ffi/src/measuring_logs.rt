@@ -3,8 +3,8 @@
 ghost use Rattle.std.specs.Prelude.{◌≡◌, ◌≤◌, ◌^◌, All, IfErr, IfOk, length, option_map};
 ghost use Rattle.legalpath.specs.Legal.{Legal};
 ghost use Rattle.legalpath.specs.ProgramLog.{program_log};
-ghost use Rattle.measuring.specs.Bounds.{AreWithin, most_counted};
-ghost use Rattle.measuring.specs.Measures.{measures_of};
+ghost use Rattle.captures.specs.Bounds.{AreWithin, most_counted};
+ghost use Rattle.captures.specs.Measures.{measures_of};
 ghost use Rattle.message.specs.Version.{most_harts};
 ghost use Rattle.message.specs.declared.header.Version.TheVariants.{Two};
 ghost use Rattle.retire.specs.Log.{most_rows};
@@ -18,7 +18,7 @@ use crate::encoding::{LogPlace, VERSION_TWO, report_made, settings_of, text_betw
 use crate::fault::Fault;
 use crate::images::{ImagePiece, Judged, judge_pieces};
 use crate::legal_texts::legal_events;
-use measuring::{LogMeasures, Measures, write_measures_of};
+use captures::{LogMeasures, Measures, write_measures_of};
 use payload::Mode;
 use retire::Event;
 use rvclass::ProgramOver;

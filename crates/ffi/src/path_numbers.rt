@@ -2,14 +2,15 @@
 
 ghost use Rattle.std.specs.Prelude.{◌≡◌};
 ghost use Rattle.frames.specs.Borrowed.{message_of};
-ghost use Rattle.ffi.specs.AuditedAll.{arrival_of, expected_at, fate_number, found_by, row_reported, sent_place};
+ghost use Rattle.ffi.specs.AuditedAll.{arrival_of, exchanged_count, exchanged_hart, expected_at, fate_number, found_by};
+ghost use Rattle.ffi.specs.AuditedAll.{row_reported, sent_place};
 ghost use Rattle.ffi.specs.AuditedAll.{sent_status, tally_reported};
 
 use crate::decoding::demux_status;
 use crate::dumping::message_status;
 use crate::headers::HeaderNumbers;
 use crate::status::MEMORY;
-use auditing::{Finding, HartRow, SentFault, Tally};
+use auditing::{Exchanged, Finding, HartRow, SentFault, Tally};
 use frames::BorrowedMessage;
 use message::DemuxFault;
 
@@ -61,6 +62,11 @@ pub struct HartRowNumbers {
     pub longest: u64,
     /// The most by which a message of the hart is late, 0 where none is.
     pub latest: u64,
+    /// How many messages of the hart that are not true are another hart's, where these are 8 at least and more than half,
+    /// and else 0.
+    pub exchanged: u64,
+    /// The other hart, 0 where there is none.
+    pub exchanged_hart: u64,
 }
 
 /// A message of RECEIVED that is taken, and what became of it.
@@ -157,6 +163,28 @@ pub(crate) fn row_reported(row: HartRow) -> HartRowNumbers
         runs: row.runs,
         longest: row.longest,
         latest: row.latest,
+        exchanged: exchanged_count(row.exchanged),
+        exchanged_hart: exchanged_hart(row.exchanged),
+    }
+}
+
+/// How many messages of a hart are another hart's, 0 where there is none.
+fn exchanged_count(exchanged: Option<Exchanged>) -> u64
+    ensures { result ≡ exchanged_count exchanged }
+{
+    match exchanged {
+        Some(its) => its.count,
+        None => 0,
+    }
+}
+
+/// The hart whose messages of another hart are, 0 where there is none.
+fn exchanged_hart(exchanged: Option<Exchanged>) -> u64
+    ensures { result ≡ exchanged_hart exchanged }
+{
+    match exchanged {
+        Some(its) => its.hart as u64,
+        None => 0,
     }
 }
 

@@ -426,8 +426,19 @@ impl Fields for HartEnd {
 
 impl Fields for HartRowNumbers {
     const NAMES: &'static [&'static str] = &[
-        "sent", "came", "lost", "repeated", "late", "changed", "whole", "strange", "runs",
-        "longest", "latest",
+        "sent",
+        "came",
+        "lost",
+        "repeated",
+        "late",
+        "changed",
+        "whole",
+        "strange",
+        "runs",
+        "longest",
+        "latest",
+        "exchanged",
+        "exchanged_hart",
     ];
 
     const KEPT: HartRowNumbers = HartRowNumbers {
@@ -444,6 +455,8 @@ impl Fields for HartRowNumbers {
         runs: KEPT,
         longest: KEPT,
         latest: KEPT,
+        exchanged: KEPT,
+        exchanged_hart: KEPT,
     };
 
     fn record(&self) -> Record {
@@ -460,6 +473,8 @@ impl Fields for HartRowNumbers {
             self.runs,
             self.longest,
             self.latest,
+            self.exchanged,
+            self.exchanged_hart,
         ])
     }
 }

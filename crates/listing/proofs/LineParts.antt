@@ -1,5 +1,5 @@
 -- The line of a message, part by part.
-use Rattle.std.proofs.Common.{◌≡◌, ◌++◌, ℕ, List, Option, Result, codes, sym, ap, subst, ◌∙◌, append_assoc}
+use Rattle.std.proofs.Common.{◌≡◌, ◌++◌, ℕ, Bool, List, Option, Result, codes, length, sym, ap, subst, ◌∙◌, append_assoc}
 use Rattle.std.specs.Io.KnownBytes.{Appends}
 use Rattle.std.proofs.KnownBytes.{Appends-trans}
 use Rattle.output.specs.Begun.{AppendsBeginning}
@@ -13,29 +13,34 @@ use Rattle.message.specs.declared.message.Message.{Message}
 use Rattle.listing.specs.EffectText.{added_text}
 use Rattle.listing.specs.Lines.{effect_line, text_with}
 use Rattle.listing.specs.PacketEnding.{ending_text}
+use Rattle.listing.specs.SettledRows.{shown_rows}
 use Rattle.listing.specs.steps.Message.{effect_of}
 
-module _ (symbols : Option (List ℕ)) (mode : Mode) (offset : ℕ) (message : Message) (added : List Event)
-    (read : Result Packet PackFault) (same : read ≡ reading message.payload) where
+module _ (shows : Bool) (symbols : Option (List ℕ)) (mode : Mode) (offset : ℕ) (message : Message)
+    (added : List Event) (rows : ℕ) (read : Result Packet PackFault) (same : read ≡ reading message.payload) where
   abbrev head : List ℕ
   head = text_with mode offset message read ++ codes " => "
 
   abbrev events : List ℕ
   events = added_text symbols added
 
+  abbrev settled : List ℕ
+  settled = shown_rows shows rows (length added)
+
   abbrev tail : List ℕ
-  tail = ending_text read ++ codes "\n"
+  tail = settled ++ (ending_text read ++ codes "\n")
 
   abbrev line : List ℕ
-  line = effect_line symbols mode offset message (effect_of added (reading message.payload))
+  line = effect_line shows symbols mode offset message (effect_of added rows (reading message.payload))
 
   parted : head ++ (events ++ tail) ≡ line
   parted =
       append_assoc (text_with mode offset message read) (codes " => ") (events ++ tail)
       ∙ ap (λ l. text_with mode offset message read ++ (codes " => " ++ l))
-      (sym (append_assoc events (ending_text read) (codes "\n")))
+      (ap (λ l. events ++ l) (sym (append_assoc settled (ending_text read) (codes "\n")))
+      ∙ sym (append_assoc events (settled ++ ending_text read) (codes "\n")))
       ∙ ap (λ read. text_with mode offset message read ++ (codes " => " ++
-      ((events ++ ending_text read) ++ codes "\n"))) same
+      ((events ++ (settled ++ ending_text read)) ++ codes "\n"))) same
 
   -- A beginning of what stands before the events was written.
   pub head_begun : (old new : Option (List ℕ)) → AppendsBeginning head old new → AppendsBeginning line old new

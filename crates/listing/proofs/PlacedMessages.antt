@@ -27,7 +27,7 @@ effects_counted words before (m ∷ messages) (e ∷ effects) have =
     ap suc (effects_counted words (before ++ m ∷ []) messages effects have.1)
 
 -- One message more stands behind the others.
-placed-next : (place offset : ℕ) (messages : List Message) (m : Message)
+pub placed-next : (place offset : ℕ) (messages : List Message) (m : Message)
     → placed place offset (messages ++ m ∷ [])
     ≡ placed place offset messages ++ placed (place + length messages) (offset + length (capture messages)) (m ∷ [])
 placed-next place offset [] m =

@@ -35,6 +35,7 @@ use Rattle.listing.specs.ReadBack.{AreRowsReadBack}
 use Rattle.listing.specs.Rows.{begin_fields, columns, distance_field, effect_fields, first_of, flag_field}
 use Rattle.listing.specs.Rows.{incomplete_fields, last_of, name_field, naming_at, no_effect, place_field}
 use Rattle.listing.specs.Rows.{symbol_fields}
+use Rattle.listing.specs.SettledRows.{first_row, last_row, row_field}
 
 zeros_plain : (count : ℕ) → IsPlain (replicate count 48)
 zeros_plain zero = refl
@@ -163,6 +164,10 @@ pub place_plain : (at : Option ℕ) → IsPlain (place_field at)
 place_plain None = refl
 place_plain (Some at) = digits_plain 16 at
 
+pub row_plain : (row : Option ℕ) → IsPlain (row_field row)
+row_plain None = refl
+row_plain (Some row) = decimal_plain row
+
 distance_plain : (naming : Option Naming) → IsPlain (distance_field naming)
 distance_plain None = refl
 distance_plain (Some naming) = digits_plain 16 naming.distance
@@ -174,6 +179,8 @@ effect_plain effect =
       flag_plain effect.waits,
       flag_plain effect.closes,
       decimal_plain (length effect.added),
+      row_plain (first_row effect.rows (length effect.added)),
+      row_plain (last_row effect.rows (length effect.added)),
       place_plain (first_of effect.added),
       place_plain (last_of effect.added),
     ) refl)

@@ -69,11 +69,11 @@ row_of_parts begin packet others one two =
     (distance_field two)))))
 
 module _ (symbols : Option (List ℕ)) (mode : Mode) (at offset : ℕ) (message : Message) (added : List Event)
-    (read : Result Packet PackFault) (same : read ≡ reading message.payload) where
+    (rows : ℕ) (read : Result Packet PackFault) (same : read ≡ reading message.payload) where
   abbrev by : Result Packet PackFault → Bool → Bool → ℕ → Option ℕ → Option ℕ → List ℕ
   by read waits closes count first last =
       fields_line (begin_fields (codes "message") at offset message ++ (packet_fields mode read ++
-      (tail_fields waits closes count first last
+      (tail_fields waits closes rows count first last
       ++ symbol_fields quoted_field (naming_at symbols first) (naming_at symbols last))))
 
   module _ (waits closes : Bool) (count : ℕ) (first last : Option ℕ) (is_waits : waits ≡ read_waits read)
@@ -81,23 +81,24 @@ module _ (symbols : Option (List ℕ)) (mode : Mode) (at offset : ℕ) (message 
       (is_last : last ≡ last_of added) where
     abbrev front_by : List ℕ
     front_by =
-        message_cells (codes "message") mode at offset message read ++ tail_cells waits closes count first last
+        message_cells (codes "message") mode at offset message read ++ tail_cells waits closes rows count first last
 
     -- The row is what is before the names of places, and then these.
     pub row_by : front_by ++ names_end symbols first last
-        ≡ effect_row symbols mode at offset message (effect_of added (reading message.payload))
+        ≡ effect_row symbols mode at offset message (effect_of added rows (reading message.payload))
     row_by =
         row_of_parts (begin_fields (codes "message") at offset message) (packet_fields mode read)
-        (tail_fields waits closes count first last) (naming_at symbols first) (naming_at symbols last)
+        (tail_fields waits closes rows count first last) (naming_at symbols first) (naming_at symbols last)
         ∙ (λ i. by (same i) ((is_waits ∙ ap read_waits same) i) ((is_closes ∙ ap read_closes same) i) (is_count i)
         (is_first i) (is_last i))
 
 -- So is that of a message that is refused.
 pub refused_parts : (mode : Mode) (at offset : ℕ) (message : Message) (read : Result Packet PackFault)
     → read ≡ reading message.payload
-    → message_cells (codes "refused") mode at offset message read ++ codes ",,,,,,,,,,,,\n"
+    → message_cells (codes "refused") mode at offset message read ++ codes ",,,,,,,,,,,,,,\n"
     ≡ refused_row mode at offset message
 refused_parts mode at offset message read same =
     let begin = begin_fields (codes "refused") at offset message in
-    sym (three_parts begin (packet_fields mode read) [] ([] ∷ [] ∷ [] ∷ [] ∷ [] ∷ [] ∷ [] ∷ [] ∷ [] ∷ [] ∷ [] ∷ [] ∷ []))
+    sym (three_parts begin (packet_fields mode read) []
+    ([] ∷ [] ∷ [] ∷ [] ∷ [] ∷ [] ∷ [] ∷ [] ∷ [] ∷ [] ∷ [] ∷ [] ∷ [] ∷ [] ∷ []))
     ∙ ap (λ read. fields_line (begin ++ (packet_fields mode read ++ no_effect))) same

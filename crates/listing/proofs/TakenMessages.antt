@@ -83,7 +83,7 @@ accepted_known harts messages message all =
         omega (arith, slice_get_within expected message.hart h is, counted.count)
 
 -- With a packet behind them packets wait exactly where that packet does.
-waiting-next : (packets : List Packet) (packet : Packet) → last_is_waiting (packets ++ packet ∷ []) ≡ waits packet
+pub waiting-next : (packets : List Packet) (packet : Packet) → last_is_waiting (packets ++ packet ∷ []) ≡ waits packet
 waiting-next packets packet = ends None packets
   where
     ends : (before : Option Packet) (packets : List Packet)
@@ -145,18 +145,21 @@ module _ (words : Words) (program : IsProgram words) (harts : ℕ) (messages : L
 
   -- The message adds the events behind those before.
   pub has_effect : HasEffect words messages message
-      (effect_of (drop (length (list_at old message.hart)) (list_at new message.hart)) (reading message.payload))
+      (effect_of (drop (length (list_at old message.hart)) (list_at new message.hart))
+      (length (list_at new message.hart)) (reading message.payload))
   has_effect =
       let more = goes_on in
       let earlier = list_at old message.hart in
       let added : drop (length earlier) (list_at new message.hart) ≡ more.rest =
       ap (drop (length earlier)) more.same ∙ drop-append_seam earlier more.rest in
       let now = drop (length earlier) (list_at new message.hart) in
-      subst (λ read. HasEffect words messages message (effect_of now read)) (sym is.read) (record {
+      subst (λ read. HasEffect words messages message (effect_of now (length (list_at new message.hart)) read))
+      (sym is.read) (record {
         earlier = earlier;
         described_before = more.described_before;
         described = subst (Describes words (packets_of message.hart (messages ++ message ∷ [])))
             (more.same ∙ ap (λ l. earlier ++ l) (sym added)) more.described;
+        counted = ap length (more.same ∙ ap (λ l. earlier ++ l) (sym added));
         waiting = sym (ap last_is_waiting next ∙ waiting-next all is.packet);
         closing = sym (ap last_is_closing next ∙ last_is_closing-next all is.packet);
       })
@@ -171,7 +174,7 @@ module _ {S : Type 0} (input : ListInput S) (program : IsProgram (words_of input
   abbrev entry : Mode → List Event → List ℕ
   entry mode added =
       effect_entry input.form (names_in input) mode at.number at.offset message
-      (effect_of added (reading message.payload))
+      (effect_of added (length list) (reading message.payload))
 
   -- Its entry says what it does.
   pub is_taken : added ≡ drop count list → Agrees announced message
@@ -180,11 +183,13 @@ module _ {S : Type 0} (input : ListInput S) (program : IsProgram (words_of input
       let same : added ≡ drop (length (list_at old message.hart)) (list_at new message.hart) =
       is_added ∙ ap (λ n. drop n list) is_count ∙ ap (drop (length (list_at old message.hart))) is_list in
       record {
-        effect = effect_of added (reading message.payload);
+        effect = effect_of added (length list) (reading message.payload);
         receives = after;
-        has = subst (λ added. HasEffect (words_of input.program.now) messages message
-            (effect_of added (reading message.payload))) (sym same)
-            (has_effect (words_of input.program.now) program harts messages message old new before after);
+        has = subst (λ rows. HasEffect (words_of input.program.now) messages message
+            (effect_of added rows (reading message.payload))) (sym (ap length is_list))
+            (subst (λ added. HasEffect (words_of input.program.now) messages message
+            (effect_of added (length (list_at new message.hart)) (reading message.payload))) (sym same)
+            (has_effect (words_of input.program.now) program harts messages message old new before after));
         agrees = agrees;
         text = ap (λ mode. entry mode added) is_mode;
       }

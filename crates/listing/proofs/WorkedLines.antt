@@ -13,6 +13,7 @@ use Rattle.listing.specs.EffectText.{added_text, effect_text, place_text, places
 use Rattle.listing.specs.Entries.{placed_entries}
 use Rattle.listing.specs.Lines.{offset_line, refused_line}
 use Rattle.listing.specs.Placed.{placed}
+use Rattle.listing.specs.SettledRows.{rows_text}
 use Rattle.listing.specs.declared.form.Form.TheVariants.{Lines}
 
 -- A retirement at machine level, and an exception.
@@ -43,13 +44,13 @@ closing = message 3 (0xcf ∷ 0 ∷ [])
 
 abbrev effects : List Effect
 effects =
-    record { added = []; waits = false; closes = false }
-    ∷ record { added = at 0x8000_0000 ∷ []; waits = false; closes = false }
-    ∷ record { added = []; waits = true; closes = false }
-    ∷ record { added = at 0x8000_0004 ∷ exception 0x8000_0008 ∷ []; waits = false; closes = true } ∷ []
+    record { added = []; rows = 0; waits = false; closes = false }
+    ∷ record { added = at 0x8000_0000 ∷ []; rows = 1; waits = false; closes = false }
+    ∷ record { added = []; rows = 1; waits = true; closes = false }
+    ∷ record { added = at 0x8000_0004 ∷ exception 0x8000_0008 ∷ []; rows = 3; waits = false; closes = true } ∷ []
 
 behind_a_header :
-    placed_entries Lines None Differential (placed 0 16 (opening ∷ synchronising ∷ waiting ∷ closing ∷ [])) effects
+    placed_entries (Lines false) None Differential (placed 0 16 (opening ∷ synchronising ∷ waiting ∷ closing ∷ [])) effects
     ≡ codes "00000010 0 0 open => nothing\n"
     ++ (codes "0000001c 0 1 sync addr=80000000 priv=3 branch=1 => 1 event, 80000000\n"
     ++ (codes "0000002c 0 2 address diff=8 map=- plain => nothing, waits\n"
@@ -57,14 +58,14 @@ behind_a_header :
 unfolding digits extended magnitude
 behind_a_header = refl
 
-with_symbols_in_full :
-    placed_entries Lines symbols Full (placed 0 0 (opening ∷ synchronising ∷ waiting ∷ closing ∷ [])) effects
+with_symbols_and_rows_in_full :
+    placed_entries (Lines true) symbols Full (placed 0 0 (opening ∷ synchronising ∷ waiting ∷ closing ∷ [])) effects
     ≡ codes "00000000 0 0 open => nothing\n"
-    ++ (codes "0000000c 0 1 sync addr=80000000 priv=3 branch=1 => 1 event, 80000000 <_start+0>\n"
+    ++ (codes "0000000c 0 1 sync addr=80000000 priv=3 branch=1 => 1 event, 80000000 <_start+0>, row 1\n"
     ++ (codes "0000001c 0 2 address addr=8 map=- plain => nothing, waits\n"
-    ++ codes "00000028 0 3 close ended_ntr => 2 events, 80000004 <loop+0> to 80000008 <loop+4>, closed\n"))
+    ++ codes "00000028 0 3 close ended_ntr => 2 events, 80000004 <loop+0> to 80000008 <loop+4>, rows 2 to 3, closed\n"))
 unfolding digits extended magnitude
-with_symbols_in_full = refl
+with_symbols_and_rows_in_full = refl
 
 of_three_the_first_and_the_last :
     added_text None (at 0x10 ∷ at 0x20 ∷ at 0x30 ∷ []) ≡ codes "3 events, 10 to 30"
@@ -91,7 +92,8 @@ unfolding digits
 at_address_0 = refl
 
 waits_and_closes :
-    effect_text None (record { added = at 2 ∷ []; waits = true; closes = true }) ≡ codes "1 event, 2, waits, closed"
+    effect_text true None (record { added = at 2 ∷ []; rows = 77; waits = true; closes = true })
+    ≡ codes "1 event, 2, row 77, waits, closed"
 unfolding digits
 waits_and_closes = refl
 
@@ -104,13 +106,18 @@ no_message : offset_line 44 ≡ codes "0000002c\n"
 unfolding digits
 no_message = refl
 
+of_many_rows_the_last_is_counted_with : rows_text 29 12 ≡ codes ", rows 18 to 29"
+unfolding digits
+of_many_rows_the_last_is_counted_with = refl
+
 -- A message that opens a trace has no other effect, by any program.
-opens : (words : Words) → HasEffect words [] opening (record { added = []; waits = false; closes = false })
+opens : (words : Words) → HasEffect words [] opening (record { added = []; rows = 0; waits = false; closes = false })
 unfolding extended magnitude
 opens words = record {
   earlier = [];
   described_before = record { begins = tt; pieces = []; whole = refl; legal = tt; each = tt };
   described = record { begins = tt; pieces = [] ∷ []; whole = refl; legal = tt; each = (tt, refl, tt) };
+  counted = refl;
   waiting = refl;
   closing = refl;
 }

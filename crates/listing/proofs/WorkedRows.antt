@@ -45,58 +45,58 @@ closing = message 3 (0xcf ∷ 0 ∷ [])
 
 -- What they do.
 abbrev nothing : Effect
-nothing = record { added = []; waits = false; closes = false }
+nothing = record { added = []; rows = 0; waits = false; closes = false }
 
 abbrev starts : Effect
-starts = record { added = at 0x8000_0000 ∷ []; waits = false; closes = false }
+starts = record { added = at 0x8000_0000 ∷ []; rows = 1; waits = false; closes = false }
 
 abbrev waits : Effect
-waits = record { added = []; waits = true; closes = false }
+waits = record { added = []; rows = 1; waits = true; closes = false }
 
 abbrev closes : Effect
-closes = record { added = at 0x8000_0004 ∷ exception 0x8000_0008 ∷ []; waits = false; closes = true }
+closes = record { added = at 0x8000_0004 ∷ exception 0x8000_0008 ∷ []; rows = 3; waits = false; closes = true }
 
 names_of_the_columns :
     fields_line columns
     ≡ codes "kind,place,offset,hart,number,packet,addr,diff,priv,branch,trap,cause,tval,handler,epc,map,report,"
-    ++ (codes "mode,ended,bad,waits,closed,treatment,reason,late,bytes,added,first,last,first_symbol,first_distance,"
-    ++ codes "last_symbol,last_distance\n")
+    ++ (codes "mode,ended,bad,waits,closed,treatment,reason,late,bytes,added,first_row,last_row,first,last,"
+    ++ codes "first_symbol,first_distance,last_symbol,last_distance\n")
 names_of_the_columns = refl
 
 behind_a_header :
     placed_entries Table None Differential (placed 0 16 (opening ∷ synchronising ∷ waiting ∷ closing ∷ []))
     (nothing ∷ starts ∷ waits ∷ closes ∷ [])
-    ≡ codes "message,0,00000010,0,0,open,,,,,,,,,,,,diff,,,no,no,,,,,0,,,,,,\n"
-    ++ (codes "message,1,0000001c,0,1,sync,80000000,,3,1,,,,,,,,,,,no,no,,,,,1,80000000,80000000,,,,\n"
-    ++ (codes "message,2,0000002c,0,2,address,,8,,,,,,,,-,plain,,,,yes,no,,,,,0,,,,,,\n"
-    ++ codes "message,3,00000038,0,3,close,,,,,,,,,,,,,ended_ntr,,no,yes,,,,,2,80000004,80000008,,,,\n"))
+    ≡ codes "message,0,00000010,0,0,open,,,,,,,,,,,,diff,,,no,no,,,,,0,,,,,,,,\n"
+    ++ (codes "message,1,0000001c,0,1,sync,80000000,,3,1,,,,,,,,,,,no,no,,,,,1,1,1,80000000,80000000,,,,\n"
+    ++ (codes "message,2,0000002c,0,2,address,,8,,,,,,,,-,plain,,,,yes,no,,,,,0,,,,,,,,\n"
+    ++ codes "message,3,00000038,0,3,close,,,,,,,,,,,,,ended_ntr,,no,yes,,,,,2,2,3,80000004,80000008,,,,\n"))
 unfolding digits extended magnitude
 behind_a_header = refl
 
 with_symbols_in_full :
     placed_entries Table symbols Full (placed 0 0 (opening ∷ synchronising ∷ waiting ∷ closing ∷ []))
     (nothing ∷ starts ∷ waits ∷ closes ∷ [])
-    ≡ codes "message,0,00000000,0,0,open,,,,,,,,,,,,diff,,,no,no,,,,,0,,,,,,\n"
-    ++ (codes "message,1,0000000c,0,1,sync,80000000,,3,1,,,,,,,,,,,no,no,,,,,1,80000000,80000000,_start,0,_start,0\n"
-    ++ (codes "message,2,0000001c,0,2,address,8,,,,,,,,,-,plain,,,,yes,no,,,,,0,,,,,,\n"
-    ++ codes "message,3,00000028,0,3,close,,,,,,,,,,,,,ended_ntr,,no,yes,,,,,2,80000004,80000008,loop,0,loop,4\n"))
+    ≡ codes "message,0,00000000,0,0,open,,,,,,,,,,,,diff,,,no,no,,,,,0,,,,,,,,\n"
+    ++ (codes "message,1,0000000c,0,1,sync,80000000,,3,1,,,,,,,,,,,no,no,,,,,1,1,1,80000000,80000000,_start,0,_start,0\n"
+    ++ (codes "message,2,0000001c,0,2,address,8,,,,,,,,,-,plain,,,,yes,no,,,,,0,,,,,,,,\n"
+    ++ codes "message,3,00000028,0,3,close,,,,,,,,,,,,,ended_ntr,,no,yes,,,,,2,2,3,80000004,80000008,loop,0,loop,4\n"))
 unfolding digits extended magnitude
 with_symbols_in_full = refl
 
 -- A name with a comma, a blank and quotes is between quotes, and each quote in it is doubled.
 with_an_awkward_name :
     effect_row (Some (codes "80000000 T a,b \"c\"\n")) Differential 1 28 synchronising starts
-    ≡ codes "message,1,0000001c,0,1,sync,80000000,,3,1,,,,,,,,,,,no,no,,,,,1,80000000,80000000,\"a,b \"\"c\"\"\",0,"
+    ≡ codes "message,1,0000001c,0,1,sync,80000000,,3,1,,,,,,,,,,,no,no,,,,,1,1,1,80000000,80000000,\"a,b \"\"c\"\"\",0,"
     ++ codes "\"a,b \"\"c\"\"\",0\n"
 unfolding digits escaped extended magnitude
 with_an_awkward_name = refl
 
 refused : refused_row Differential 5 0x1_2345_6789 (record { hart = 7; number = 12; payload = 0x4f ∷ 1 ∷ [] })
-    ≡ codes "refused,5,123456789,7,12,bad,,,,,,,,,,,,,,Unsupported,,,,,,,,,,,,,\n"
+    ≡ codes "refused,5,123456789,7,12,bad,,,,,,,,,,,,,,Unsupported,,,,,,,,,,,,,,,\n"
 unfolding digits extended magnitude
 refused = refl
 
-no_complete_message : incomplete_row 3 44 ≡ codes "incomplete,3,0000002c,,,,,,,,,,,,,,,,,,,,,,,,,,,,,,\n"
+no_complete_message : incomplete_row 3 44 ≡ codes "incomplete,3,0000002c,,,,,,,,,,,,,,,,,,,,,,,,,,,,,,,,\n"
 unfolding digits
 no_complete_message = refl
 

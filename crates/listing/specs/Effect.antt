@@ -1,5 +1,5 @@
 -- What a message of a capture does.
-use Rattle.std.specs.Prelude.{◌≡◌, ◌++◌, Bool, false, List, [], ◌∷◌, Option, Some, None}
+use Rattle.std.specs.Prelude.{ℕ, ◌≡◌, ◌++◌, Bool, false, List, [], ◌∷◌, Option, Some, None, length}
 use Rattle.std.specs.List.{last_or}
 use Rattle.retire.specs.declared.event.Event.{Event}
 use Rattle.rvclass.specs.Words.{Words}
@@ -10,10 +10,11 @@ use Rattle.decoder.specs.Settling.{waits}
 use Rattle.message.specs.OfHart.{packets_of}
 use Rattle.message.specs.declared.message.Message.{Message}
 
--- The events that a message adds to its hart's list; whether its packet waits for the next one of its hart; whether it
--- closes its hart.
+-- The events that a message adds to its hart's list; how many that list has with them; whether the message's packet waits
+-- for the next one of its hart; whether it closes its hart.
 pub record Effect : Type 0 where
   pub added : List Event
+  pub rows : ℕ
   pub waits : Bool
   pub closes : Bool
 
@@ -33,6 +34,7 @@ pub record HasEffect (words : Words) (before : List Message) (message : Message)
   pub earlier : List Event
   pub described_before : Describes words (packets_of message.hart before) earlier
   pub described : Describes words (packets_of message.hart (before ++ message ∷ [])) (earlier ++ effect.added)
+  pub counted : effect.rows ≡ length (earlier ++ effect.added)
   pub waiting : effect.waits ≡ last_is_waiting (packets_of message.hart (before ++ message ∷ []))
   pub closing : effect.closes ≡ last_is_closing (packets_of message.hart (before ++ message ∷ []))
 

@@ -7,6 +7,7 @@ use Rattle.retire.specs.declared.event.Event.{Event}
 use Rattle.legalpath.specs.LastPlace.{last_place}
 use Rattle.symbols.specs.SymbolText.{symbol_text}
 use Rattle.listing.specs.Effect.{Effect}
+use Rattle.listing.specs.SettledRows.{shown_rows}
 use Prim.Native.Nat.{zero, suc}
 
 -- What follows a place, by the symbols of a file, if there is one.
@@ -46,7 +47,9 @@ abbrev pub closes_text : Bool → List ℕ
 closes_text true = codes ", closed"
 closes_text false = []
 
--- What a message does: the events that it adds, whether its packet waits, and whether it closes its hart.
-abbrev pub effect_text : Option (List ℕ) → Effect → List ℕ
-effect_text symbols effect =
-    added_text symbols effect.added ++ (waits_text effect.waits ++ closes_text effect.closes)
+-- What a message does: the events that it adds, which rows they are, if that is to be said, whether its packet waits, and
+-- whether it closes its hart.
+abbrev pub effect_text : Bool → Option (List ℕ) → Effect → List ℕ
+effect_text shows symbols effect =
+    added_text symbols effect.added
+    ++ (shown_rows shows effect.rows (length effect.added) ++ (waits_text effect.waits ++ closes_text effect.closes))

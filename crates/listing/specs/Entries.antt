@@ -14,23 +14,23 @@ use Rattle.listing.specs.declared.form.Form.TheVariants.{Lines, Table}
 
 -- Before the messages: the line of the header, if there is one, or the names of the columns.
 abbrev pub start_text : Form → Option Header → List ℕ
-start_text Lines None = []
-start_text Lines (Some header) = header_line header
+start_text (Lines rows) None = []
+start_text (Lines rows) (Some header) = header_line header
 start_text Table header = fields_line columns
 
 -- The entry of a message with this effect. So many messages come before it, and its first byte has this offset.
 abbrev pub effect_entry : Form → Option (List ℕ) → Mode → ℕ → ℕ → Message → Effect → List ℕ
-effect_entry Lines symbols mode at offset message effect = effect_line symbols mode offset message effect
+effect_entry (Lines rows) symbols mode at offset message effect = effect_line rows symbols mode offset message effect
 effect_entry Table symbols mode at offset message effect = effect_row symbols mode at offset message effect
 
 -- That of a message that is refused.
 abbrev pub refused_entry : Form → Mode → ℕ → ℕ → Message → List ℕ
-refused_entry Lines mode at offset message = refused_line mode offset message
+refused_entry (Lines rows) mode at offset message = refused_line mode offset message
 refused_entry Table mode at offset message = refused_row mode at offset message
 
 -- That of a place where there is no complete message.
 abbrev pub incomplete_entry : Form → ℕ → ℕ → List ℕ
-incomplete_entry Lines at offset = offset_line offset
+incomplete_entry (Lines rows) at offset = offset_line offset
 incomplete_entry Table at offset = incomplete_row at offset
 
 -- The entries of messages at their places, with their effects.

@@ -1,4 +1,5 @@
 pub mod Effect
+pub mod SettledRows
 pub mod EffectText
 pub mod PacketEnding
 pub mod Lines

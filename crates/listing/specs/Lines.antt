@@ -1,5 +1,5 @@
 -- The lines of a listing.
-use Rattle.std.specs.Prelude.{ℕ, ◌++◌, List, Option, Result, codes}
+use Rattle.std.specs.Prelude.{ℕ, ◌++◌, Bool, List, Option, Result, codes}
 use Rattle.std.specs.Fmt.{decimal}
 use Rattle.payload.specs.Reading.{reading}
 use Rattle.payload.specs.declared.fault.PackFault.{PackFault}
@@ -32,7 +32,7 @@ message_text mode offset message = text_with mode offset message (reading messag
 abbrev pub refused_line : Mode → ℕ → Message → List ℕ
 refused_line mode offset message = message_text mode offset message ++ codes "\n"
 
--- The line of a message with this effect.
-abbrev pub effect_line : Option (List ℕ) → Mode → ℕ → Message → Effect → List ℕ
-effect_line symbols mode offset message effect =
-    message_text mode offset message ++ (codes " => " ++ (effect_text symbols effect ++ codes "\n"))
+-- The line of a message with this effect, which says the rows or not.
+abbrev pub effect_line : Bool → Option (List ℕ) → Mode → ℕ → Message → Effect → List ℕ
+effect_line shows symbols mode offset message effect =
+    message_text mode offset message ++ (codes " => " ++ (effect_text shows symbols effect ++ codes "\n"))

@@ -14,13 +14,15 @@ use Rattle.listing.specs.Effect.{Effect}
 use Rattle.output.specs.Fields.{fields_line}
 use Rattle.output.specs.Quoted.{quoted_field}
 use Rattle.listing.specs.Packets.{packet_columns, packet_fields}
+use Rattle.listing.specs.SettledRows.{settled_fields}
 
 -- The names of the columns.
 abbrev pub columns : List (List ℕ)
 columns =
     codes "kind" ∷ codes "place" ∷ codes "offset" ∷ codes "hart" ∷ codes "number" ∷ (packet_columns ++
     (codes "waits" ∷ codes "closed" ∷ codes "treatment" ∷ codes "reason" ∷ codes "late" ∷ codes "bytes"
-    ∷ codes "added" ∷ codes "first" ∷ codes "last" ∷ codes "first_symbol" ∷ codes "first_distance" ∷ codes "last_symbol" ∷ codes "last_distance" ∷ []))
+    ∷ codes "added" ∷ codes "first_row" ∷ codes "last_row" ∷ codes "first" ∷ codes "last" ∷ codes "first_symbol"
+    ∷ codes "first_distance" ∷ codes "last_symbol" ∷ codes "last_distance" ∷ []))
 
 -- The fields with which the row of a message of this kind begins: its place among the messages, its offset, its hart, and
 -- its number.
@@ -63,11 +65,12 @@ flag_field true = codes "yes"
 flag_field false = codes "no"
 
 -- The fields of an effect before the names: whether the packet waits for the one that follows it, whether it closes its
--- hart, how many events are added, and the places of the first and of the last of them.
+-- hart, how many events are added, which rows they are, and the places of the first and of the last of them.
 abbrev pub effect_fields : Effect → List (List ℕ)
 effect_fields effect =
     flag_field effect.waits ∷ flag_field effect.closes ∷ [] ∷ [] ∷ [] ∷ [] ∷ decimal (length effect.added)
-    ∷ place_field (first_of effect.added) ∷ place_field (last_of effect.added) ∷ []
+    ∷ (settled_fields effect.rows (length effect.added)
+    ++ (place_field (first_of effect.added) ∷ place_field (last_of effect.added) ∷ []))
 
 -- The fields of the names of two places. A name may have any bytes, and is written in this way.
 abbrev pub symbol_fields : (List ℕ → List ℕ) → Option Naming → Option Naming → List (List ℕ)
@@ -89,7 +92,7 @@ effect_row symbols mode at offset message effect =
 
 -- The fields after those of a packet, where none of them applies.
 abbrev pub no_effect : List (List ℕ)
-no_effect = [] ∷ [] ∷ [] ∷ [] ∷ [] ∷ [] ∷ [] ∷ [] ∷ [] ∷ [] ∷ [] ∷ [] ∷ [] ∷ []
+no_effect = [] ∷ [] ∷ [] ∷ [] ∷ [] ∷ [] ∷ [] ∷ [] ∷ [] ∷ [] ∷ [] ∷ [] ∷ [] ∷ [] ∷ [] ∷ []
 
 -- The fields of a message that is refused, and its row.
 abbrev pub refused_fields : Mode → ℕ → ℕ → Message → List (List ℕ)

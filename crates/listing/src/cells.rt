@@ -9,6 +9,7 @@ ghost use Rattle.listing.specs.Cells.{cells, message_cells};
 ghost use Rattle.listing.specs.steps.Writing.{tail_cells};
 
 use crate::packet_cells::PacketCells;
+use crate::settled_rows::{RowCells, SettledRows};
 use captures::Offset;
 use message::Message;
 use payload::{Mode, PackFault, Packet};
@@ -24,8 +25,8 @@ impl fmt::Display for Columns {
     fn fmt<W: fmt::Write>(&self, f: &mut fmt::Formatter<W>) -> fmt::Result {
         f.write_str(
             "kind,place,offset,hart,number,packet,addr,diff,priv,branch,trap,cause,tval,handler,epc,map,report,mode,\
-            ended,bad,waits,closed,treatment,reason,late,bytes,added,first,last,first_symbol,first_distance,\
-            last_symbol,last_distance\n",
+            ended,bad,waits,closed,treatment,reason,late,bytes,added,first_row,last_row,first,last,first_symbol,\
+            first_distance,last_symbol,last_distance\n",
         )
     }
 }
@@ -72,8 +73,8 @@ pub(crate) struct TailCells {
     pub(crate) waits: bool,
     /// Whether it closes its hart.
     pub(crate) closes: bool,
-    /// How many events the message adds.
-    pub(crate) added: usize,
+    /// How many events the message adds, and which rows they are.
+    pub(crate) settled: SettledRows,
     /// The place of the first of them.
     pub(crate) first: Option<u64>,
     /// The place of the last of them.
@@ -81,15 +82,17 @@ pub(crate) struct TailCells {
 }
 
 impl fmt::Display for TailCells {
-    ghost output = { λ tail. Some (tail_cells tail.waits tail.closes tail.added tail.first tail.last) };
+    ghost output = { λ tail. Some
+        (tail_cells tail.waits tail.closes tail.settled.rows tail.settled.added tail.first tail.last) };
 
     fn fmt<W: fmt::Write>(&self, f: &mut fmt::Formatter<W>) -> fmt::Result {
         let waits = flag_field(self.waits);
         let closes = flag_field(self.closes);
-        let added = self.added;
+        let added = self.settled.added;
+        let rows = RowCells(self.settled);
         let first = Place(self.first);
         let last = Place(self.last);
-        write!(f, "{waits},{closes},,,,,{added},{first},{last},")
+        write!(f, "{waits},{closes},,,,,{added},{rows},{first},{last},")
     }
 }
 
@@ -131,7 +134,7 @@ impl fmt::Display for IncompleteRow {
         let offset = Offset(self.offset);
         write!(
             f,
-            "incomplete,{at},{offset},,,,,,,,,,,,,,,,,,,,,,,,,,,,,,\n"
+            "incomplete,{at},{offset},,,,,,,,,,,,,,,,,,,,,,,,,,,,,,,,\n"
         )
     }
 }

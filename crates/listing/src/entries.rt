@@ -31,6 +31,13 @@ pub(crate) struct At {
     pub(crate) offset: u64,
 }
 
+/// The events that a message adds to its hart's list, and how many that list has with them.
+#[derive(Clone, Copy)]
+pub(crate) struct Added<'a> {
+    pub(crate) events: &'a [Event],
+    pub(crate) rows: usize,
+}
+
 /// Writes what comes before the messages: the line of the header, if there is one, or the names of the columns.
 pub(crate) fn write_start<W: Write>(
     form: Form,
@@ -42,7 +49,7 @@ pub(crate) fn write_start<W: Write>(
     ensures fault { IfErr result (λ fault. fault ≡ WriteFault.Write) }
 {
     match form {
-        Form::Lines => match header {
+        Form::Lines { .. } => match header {
             Some(header) => write_header_line(sink, &header),
             None => Ok(()),
         },
@@ -56,18 +63,19 @@ pub(crate) fn write_effect<S: Allocator, W: Write>(
     mode: Mode,
     at: At,
     message: &Message,
-    added: &[Event],
+    added: Added<'_>,
     sink: &mut W,
 ) -> Result<(), WriteFault>
     ensures text { OnOk result (Appends (W.contents sink.old) (W.contents sink.new)
         (effect_entry input.now.form (names_in input.now) mode at.number at.offset message.now
-        (effect_of added.now (reading message.now.payload)))) }
+        (effect_of added.entry.events.now added.entry.rows (reading message.now.payload)))) }
     ensures begun { AppendsBeginning (effect_entry input.now.form (names_in input.now) mode at.number at.offset
-        message.now (effect_of added.now (reading message.now.payload))) (W.contents sink.old) (W.contents sink.new) }
+        message.now (effect_of added.entry.events.now added.entry.rows (reading message.now.payload)))
+        (W.contents sink.old) (W.contents sink.new) }
     ensures fault { IfErr result (λ fault. fault ≡ WriteFault.Write) }
 {
     match input.form {
-        Form::Lines => write_effect_line(input.symbols, mode, at.offset, message, added, sink),
+        Form::Lines { .. } => write_effect_line(input, mode, at.offset, message, added, sink),
         Form::Table => write_effect_row(input.symbols, mode, at, message, added, sink),
     }
 }
@@ -99,7 +107,7 @@ pub(crate) fn write_fault<W: Write>(
         return Ok(());
     }
     match form {
-        Form::Lines => write_refused_line(mode, at.offset, message, sink),
+        Form::Lines { .. } => write_refused_line(mode, at.offset, message, sink),
         Form::Table => write_refused_row(mode, at, message, sink),
     }
 }
@@ -113,7 +121,7 @@ pub(crate) fn write_incomplete<W: Write>(form: Form, at: At, sink: &mut W) -> Re
     ensures fault { IfErr result (λ fault. fault ≡ WriteFault.Write) }
 {
     match form {
-        Form::Lines => write_offset_line(at.offset, sink),
+        Form::Lines { .. } => write_offset_line(at.offset, sink),
         Form::Table => write_incomplete_row(at, sink),
     }
 }

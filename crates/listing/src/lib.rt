@@ -6,9 +6,9 @@
 //! and what else goes in; a [`ProgressSink`](message::ProgressSink) is told of each message. [`rows_are_read_back`]
 //! says that `csv` reads back each row.
 //!
-//! [`MessageText`], [`write_places`] and [`PacketEnding`] are the parts of such a line, for other lists of messages.
-//! [`Columns`], [`MessageCells`], [`read_waits`], [`read_closes`], [`flag_field`], [`Place`] and [`write_names`] are
-//! the parts of such a table.
+//! [`MessageText`], [`write_places`], [`SettledRows`] and [`PacketEnding`] are the parts of such a line, for other lists of
+//! messages. [`Columns`], [`MessageCells`], [`read_waits`], [`read_closes`], [`flag_field`], [`RowCells`], [`Place`] and
+//! [`write_names`] are the parts of such a table.
 #![tactic(auto)]
 
 mod capture_listing;
@@ -26,6 +26,7 @@ mod outcome;
 mod packet_cells;
 mod places;
 mod rows;
+mod settled_rows;
 
 pub use capture_listing::list_capture;
 pub use cells::{Columns, MessageCells, Place, flag_field};
@@ -37,3 +38,4 @@ pub use message_text::{MessageText, PacketEnding};
 pub use names::write_names;
 pub use outcome::Listed;
 pub use places::write_places;
+pub use settled_rows::{RowCells, SettledRows};

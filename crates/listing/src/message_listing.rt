@@ -11,7 +11,7 @@ ghost use Rattle.receiver.specs.declared.fault.ReceiveFault.{ReceiveFault as Any
 ghost use Rattle.listing.specs.Listing.{naming_mode};
 ghost use Rattle.listing.specs.steps.Message.{IsJudgedOf, ReceivedSome};
 
-use crate::entries::{At, write_effect, write_fault};
+use crate::entries::{Added, At, write_effect, write_fault};
 use crate::input::ListInput;
 use message::Message;
 use payload::Mode;
@@ -69,8 +69,13 @@ pub(crate) fn list_message<A: Allocator + Copy, S: Allocator, W: Write>(
     let before = events_of(receiver, message.hart).len();
     match receiver.receive(input.program, announced, message) {
         Ok(()) => {
-            let added = &events_of(receiver, message.hart)[before..];
-            write_effect(input, mode, at, message, added, sink)?;
+            let events = events_of(receiver, message.hart);
+            let added = &events[before..];
+            let added_events = Added {
+                events: added,
+                rows: events.len(),
+            };
+            write_effect(input, mode, at, message, added_events, sink)?;
             Ok(None)
         }
         Err(why) => {

@@ -10,8 +10,9 @@ ghost use Rattle.listing.specs.steps.Message.{effect_of};
 
 use crate::cells::{Columns, IncompleteRow, MessageCells, TailCells};
 use crate::endings::{read_closes, read_waits};
-use crate::entries::At;
+use crate::entries::{Added, At};
 use crate::names::write_names;
+use crate::settled_rows::SettledRows;
 use message::Message;
 use output::write_text;
 use payload::{Mode, unpack};
@@ -56,19 +57,20 @@ pub(crate) fn write_effect_row<S: Allocator, W: Write>(
     mode: Mode,
     at: At,
     message: &Message,
-    added: &[Event],
+    added: Added<'_>,
     sink: &mut W,
 ) -> Result<(), WriteFault>
     ensures text { OnOk result (Appends (W.contents sink.old) (W.contents sink.new)
         (effect_row (option_map (λ file. file.now) symbols.entry) mode at.number at.offset
-        message.now (effect_of added.now (reading message.now.payload)))) }
+        message.now (effect_of added.entry.events.now added.entry.rows (reading message.now.payload)))) }
     ensures begun { AppendsBeginning (effect_row (option_map (λ file. file.now) symbols.entry) mode at.number at.offset
-        message.now (effect_of added.now (reading message.now.payload))) (W.contents sink.old) (W.contents sink.new) }
+        message.now (effect_of added.entry.events.now added.entry.rows (reading message.now.payload)))
+        (W.contents sink.old) (W.contents sink.new) }
     ensures fault { IfErr result (λ fault. fault ≡ WriteFault.Write) }
 {
     let unpacked = unpack(message.payload.bytes());
-    let first = first_of(added);
-    let last = last_of(added);
+    let first = first_of(added.events);
+    let last = last_of(added.events);
     let head = MessageCells {
         kind: "message",
         mode,
@@ -80,7 +82,10 @@ pub(crate) fn write_effect_row<S: Allocator, W: Write>(
     let tail = TailCells {
         waits: read_waits(&unpacked),
         closes: read_closes(&unpacked),
-        added: added.len(),
+        settled: SettledRows {
+            rows: added.rows,
+            added: added.events.len(),
+        },
         first,
         last,
     };
@@ -111,7 +116,7 @@ pub(crate) fn write_refused_row<W: Write>(
         message,
         read: &unpacked,
     };
-    write_text(sink, format_args!("{head},,,,,,,,,,,,\n"))?;
+    write_text(sink, format_args!("{head},,,,,,,,,,,,,,\n"))?;
     Ok(())
 }
 

@@ -1,4 +1,5 @@
 mod CheckedLogs
+mod Generated
 mod Gots
 mod Headers
 mod JoinedParts

@@ -17,9 +17,9 @@ use Rattle.legalpath.specs.ProgramLog.{ProgramLog, program_log}
 use Rattle.log_streams.specs.Made.{AreMade, IsMadeOf}
 use Rattle.log_streams.specs.declared.illegal_row.IllegalRow.{IllegalRow}
 use Rattle.log_streams.specs.declared.logs_fault.LogsFault.{LogsFault}
-use Rattle.measuring.specs.Bounds.{AreWithin, most_counted}
-use Rattle.measuring.specs.Measures.{measures_of_each}
-use Rattle.measuring.specs.declared.measures.Measures.{Measures}
+use Rattle.captures.specs.Bounds.{AreWithin, most_counted}
+use Rattle.captures.specs.Measures.{measures_of_each}
+use Rattle.captures.specs.declared.measures.Measures.{Measures}
 use Rattle.message.specs.Capture.{message_bytes}
 use Rattle.message.specs.Numbered.{messages_from}
 use Rattle.message.specs.declared.message.Message.{Message}

@@ -6,6 +6,7 @@ pub mod Parts
 pub mod Encoding
 pub mod Joining
 pub mod Measuring
+pub mod Generating
 pub mod Sending
 pub mod Replaying
 pub mod Benching

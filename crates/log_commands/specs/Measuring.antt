@@ -1,7 +1,7 @@
 -- What `measure` prints, and how it ends.
 use Rattle.std.specs.Prelude.{⊤, ◌≡◌, List, Ok, length}
 use Rattle.legalpath.specs.ProgramLog.{ProgramLog}
-use Rattle.measuring.specs.Table.{measures_table}
+use Rattle.captures.specs.Table.{measures_table}
 use Rattle.message.specs.Version.{most_harts}
 use Rattle.message.specs.declared.header.Version.TheVariants.{Two}
 use Rattle.command_inputs.specs.declared.words.Measure.{Measure}

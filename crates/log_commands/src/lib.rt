@@ -1,13 +1,16 @@
-//! The subcommands of `tracebench` that read logs: [`check`] checks them, [`encode`] writes their messages, [`measure`]
+//! The subcommands of `tracebench` over logs: [`check`] checks them, [`encode`] writes their messages, [`measure`]
 //! counts what these cost, [`replay`] and [`bench`] send them through the funnel and report what is received of them.
+//! [`generate`] makes logs, their image and captures of them from a seed.
 //!
-//! Each reads a base, an image with its further pieces, and logs, in this order, and ends at the first fault.
+//! Each but `generate` reads a base, an image with its further pieces, and logs, in this order. Each ends at the first
+//! fault.
 #![tactic(auto)]
 
 mod benching;
 mod checking;
 mod counting;
 mod encoding;
+mod generating;
 mod laws;
 mod legal_logs;
 mod made;
@@ -22,7 +25,8 @@ mod rooms;
 pub use benching::{bench, bench_logs};
 pub use checking::check;
 pub use encoding::encode;
+pub use generating::generate;
 pub use laws::{all_logs_are_one_part, parts_are_joined};
 pub use measures::measure;
-pub use reason::{Fault, LogReason};
+pub use reason::{Fault, LogReason, Stray};
 pub use replaying::replay;

@@ -3,9 +3,9 @@
 ghost use Rattle.std.specs.Prelude.{◌≡◌, ◌⊎◌, ◌≤◌, ◌^◌, All, Err, IfErr, IfOk, IfSome, OnOk, length};
 ghost use Rattle.std.specs.Io.KnownBytes.{Appends};
 ghost use Rattle.legalpath.specs.ProgramLog.{program_log};
-ghost use Rattle.measuring.specs.Bounds.{AreWithin, most_counted};
-ghost use Rattle.measuring.specs.HasCounted.{HasCounted};
-ghost use Rattle.measuring.specs.Table.{table_of};
+ghost use Rattle.captures.specs.Bounds.{AreWithin, most_counted};
+ghost use Rattle.captures.specs.HasCounted.{HasCounted};
+ghost use Rattle.captures.specs.Table.{table_of};
 ghost use Rattle.message.specs.Version.{most_harts};
 ghost use Rattle.message.specs.declared.header.Version.TheVariants.{Two};
 ghost use Rattle.output.specs.Begun.{AppendsBeginning};
@@ -24,10 +24,10 @@ ghost use Rattle.command_inputs.specs.declared.fault.Fault.TheVariants as Fault;
 use crate::made::all_made;
 use crate::most::most_of;
 use crate::reason::Fault;
+use captures::{LogMeasures, write_measures_of};
 use command_inputs::{Measure, Status, asked_program, begin_progress};
 use legalpath::PathFault;
 use log_streams::{Files, IllegalRow, LogTask, made_of_logs};
-use measuring::{LogMeasures, write_measures_of};
 use message::MOST_HARTS;
 use payload::Mode;
 use retire::Event;
@@ -75,7 +75,7 @@ struct Measuring {
     ghost some: { 1 ≤ period },
 }
 
-impl LogTask<measuring::Measures> for Measuring {
+impl LogTask<captures::Measures> for Measuring {
     type State = LogMeasures;
 
     ghost Keeps = { λ task program hart seen counted.
@@ -104,11 +104,11 @@ impl LogTask<measuring::Measures> for Measuring {
         &self,
         program: &ProgramOver,
         counted: LogMeasures,
-    ) -> Result<measuring::Measures, AllocError> {
+    ) -> Result<captures::Measures, AllocError> {
         Ok(counted.finish(program))
     }
 
-    fn refuse(&self, _: &ProgramOver, row: IllegalRow) -> Result<measuring::Measures, PathFault> {
+    fn refuse(&self, _: &ProgramOver, row: IllegalRow) -> Result<captures::Measures, PathFault> {
         Err(row.fault)
     }
 }
@@ -121,7 +121,7 @@ fn measures_of_logs<'a, F: Files + Sync, R: Threads + Sync>(
     program: &ProgramOver,
     asked: &Measure<'a>,
     paths: &[&'a str],
-) -> Result<Vec<measuring::Measures>, Fault<'a>>
+) -> Result<Vec<captures::Measures>, Fault<'a>>
 where
     F::Reader: Send,
     requires { 1 ≤ asked.now.period }
@@ -145,7 +145,7 @@ where
 
 /// Writes the table of these measures, flushes the output, and returns that all is done.
 fn write_table<'a, O: Write>(
-    measures: &[measuring::Measures],
+    measures: &[captures::Measures],
     out: &mut O,
 ) -> Result<Status, Fault<'a>>
     requires few { length measures.now ≤ 2 ^ 16 }

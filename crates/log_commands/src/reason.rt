@@ -1,7 +1,7 @@
 //! What only a subcommand that reads logs stops at.
 
 ghost use Rattle.std.specs.Prelude.{◌≡◌, Some, refl};
-ghost use Rattle.log_commands.specs.FaultText.{log_reason_text};
+ghost use Rattle.log_commands.specs.FaultText.{log_reason_text, stray_text};
 ghost use Rattle.log_commands.specs.Faults.{log_reason_status, schedule_fault, unsent_fault};
 
 use bench::Setup;
@@ -12,7 +12,28 @@ use std::fmt;
 /// Why a subcommand that reads logs stops.
 pub type Fault<'a> = command_inputs::Fault<'a, LogReason>;
 
-/// What only a subcommand that reads logs stops at.
+/// An option of `generate` that is given and does not go with what is made.
+#[derive(Clone, Copy, Debug, PartialEq, Eq)]
+pub enum Stray {
+    /// `--hart`, which goes with a log.
+    Hart,
+    /// `--events`, which goes with a log.
+    Events,
+    /// `--harts`, which goes with a capture, as the others do.
+    Harts,
+    /// `--messages`.
+    Messages,
+    /// `--period`.
+    Period,
+    /// `--full`.
+    Full,
+    /// `--v1`.
+    VersionOne,
+    /// `--burst`.
+    Burst,
+}
+
+/// What only a subcommand that reads or makes logs stops at.
 #[derive(Clone, Copy, Debug, PartialEq, Eq)]
 pub enum LogReason {
     /// The text of the schedule is no schedule.
@@ -27,6 +48,28 @@ pub enum LogReason {
     ManyHarts(u16),
     /// The first log is of a hart that is not below this many, the count of all harts.
     FirstHart(u16),
+    /// The argument is the name of nothing that is made.
+    Product,
+    /// The argument is the name of no mix.
+    Mix,
+    /// An option is given that does not go with what is made.
+    Stray(Stray),
+}
+
+/// What is said of an option that does not go with what is made.
+fn stray_text(option: Stray) -> &'static str
+    ensures { result.now ≡ stray_text option }
+{
+    match option {
+        Stray::Hart => "--hart goes with log alone",
+        Stray::Events => "--events goes with log alone",
+        Stray::Harts => "--harts goes with capture alone",
+        Stray::Messages => "--messages goes with capture alone",
+        Stray::Period => "--period goes with capture alone",
+        Stray::Full => "--full goes with capture alone",
+        Stray::VersionOne => "--v1 goes with capture alone",
+        Stray::Burst => "--burst goes with capture alone",
+    }
 }
 
 impl fmt::Display for LogReason {
@@ -40,6 +83,11 @@ impl fmt::Display for LogReason {
             LogReason::FirstAlone => f.write_str("--first needs --of"),
             LogReason::ManyHarts(most) => write!(f, "more than {most} harts"),
             LogReason::FirstHart(harts) => write!(f, "first hart is not below {harts}"),
+            LogReason::Product => f.write_str("what is made is not one of image, log, capture"),
+            LogReason::Mix => f.write_str(
+                "mix is not one of mixed, branches, jumps, traps, longest, straight",
+            ),
+            LogReason::Stray(option) => f.write_str(stray_text(*option)),
         }
     }
 }

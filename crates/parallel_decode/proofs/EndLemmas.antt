@@ -6,7 +6,7 @@ use Rattle.std.proofs.lemmas.Bool.{ltb-true}
 use Rattle.std.proofs.lemmas.List.{take_all}
 use Rattle.std.proofs.lemmas.Option.{same_Some, slice_get-get_or}
 use Rattle.message.specs.declared.message.Message.{Message}
-use Rattle.capture_index.specs.declared.mark.Mark.{Mark}
+use Rattle.parallel_decode.specs.declared.mark.Mark.{Mark}
 use Rattle.rvclass.specs.Words.{Words}
 use Rattle.payload.specs.declared.mode.Mode.{Mode}
 use Rattle.parallel_decode.specs.declared.hart.Entry.{Entry}

@@ -5,9 +5,9 @@ use Rattle.message.specs.Range.{selects}
 use Rattle.message.specs.declared.range.HartRange.{HartRange}
 use Rattle.retire.specs.LogText.{log_text}
 use Rattle.retire.specs.declared.event.Event.{Event}
-use Rattle.capture_index.proofs.HartTexts.{hart_passed, hart_selected, joined-snoc}
-use Rattle.capture_index.specs.EachHart.{hart_line, numbered_hart_of}
-use Rattle.capture_index.specs.HartsText.{harts_text_of}
+use Rattle.parallel_decode.proofs.HartTexts.{hart_passed, hart_selected, joined-snoc}
+use Rattle.parallel_decode.specs.EachHart.{hart_line, numbered_hart_of}
+use Rattle.parallel_decode.specs.HartsText.{harts_text_of}
 
 module _ (range : HartRange) (logs : List (List Event)) (i : ℕ) (within : i < length logs) where
   abbrev own : List Event

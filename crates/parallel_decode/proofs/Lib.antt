@@ -1,3 +1,13 @@
+pub mod PlaceLemmas
+pub mod TrackLemmas
+pub mod SurveyLemmas
+pub mod CaptureLemmas
+pub mod LeftLemmas
+pub mod HartTexts
+pub mod SplitLemmas
+pub mod PutLemmas
+pub mod RowLemmas
+pub mod AllHarts
 pub mod ByHart
 pub mod OwnLemmas
 pub mod SectionLemmas

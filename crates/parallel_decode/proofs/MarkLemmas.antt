@@ -8,8 +8,8 @@ use Rattle.rvclass.specs.Words.{Words}
 use Rattle.decoder.specs.DecoderStands.{DecoderStands}
 use Rattle.message.specs.OfHart.{packets_in}
 use Rattle.message.specs.declared.message.Message.{Message}
-use Rattle.capture_index.specs.Marks.{AreRising, IsMark}
-use Rattle.capture_index.specs.declared.mark.Mark.{Mark}
+use Rattle.parallel_decode.specs.Marks.{AreRising, IsMark}
+use Rattle.parallel_decode.specs.declared.mark.Mark.{Mark}
 use Rattle.parallel_decode.specs.steps.Ends.{AreOnWay, IsUpTo}
 
 -- The first of more elements are those of the list, where there are so many.

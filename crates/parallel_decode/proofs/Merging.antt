@@ -31,10 +31,10 @@ use Rattle.captures.specs.Decoded.{as_capture_fault}
 use Rattle.captures.specs.OfHarts.{BeginsRefusedOf, StopsDecodingOf, StopsOf}
 use Rattle.captures.specs.Returned.{IsMemory}
 use Rattle.captures.specs.declared.outcome.CaptureFault.{CaptureFault}
-use Rattle.capture_index.specs.Marks.{AreMarkedLogs, AreRising, IsMark, IsMarkedLog}
-use Rattle.capture_index.specs.Surveyed.{IsSurvey, NeverMemory}
-use Rattle.capture_index.specs.declared.mark.Mark.{Mark}
-use Rattle.capture_index.specs.declared.surveying.Survey.{Survey}
+use Rattle.parallel_decode.specs.Marks.{AreMarkedLogs, AreRising, IsMark, IsMarkedLog}
+use Rattle.parallel_decode.specs.Surveyed.{IsSurvey, NeverMemory}
+use Rattle.parallel_decode.specs.declared.mark.Mark.{Mark}
+use Rattle.parallel_decode.specs.declared.indexing.Survey.{Survey}
 use Rattle.parallel_decode.proofs.ByHart.{accepting-own, all-accepted, all-of-harts, newcomer-at}
 use Rattle.parallel_decode.proofs.StartLemmas.{starts-read}
 use Rattle.parallel_decode.specs.Marked.{IsMarkedSurvey}

@@ -17,13 +17,13 @@ use Rattle.decoder.specs.declared.decoding.Decoder.{Decoder}
 use Rattle.message.proofs.HartMessages.{packets_in-append}
 use Rattle.message.specs.OfHart.{packets_in}
 use Rattle.message.specs.declared.message.Message.{Message}
-use Rattle.capture_index.proofs.SplitLemmas.{rows}
-use Rattle.capture_index.specs.EachHart.{hart_line}
-use Rattle.capture_index.specs.HartsText.{head_of}
-use Rattle.capture_index.proofs.PlaceLemmas.{places-length}
-use Rattle.capture_index.specs.Marks.{AreRising, IsMark}
-use Rattle.capture_index.specs.Places.{AreAt, IsAt}
-use Rattle.capture_index.specs.declared.mark.Mark.{Mark}
+use Rattle.parallel_decode.proofs.SplitLemmas.{rows}
+use Rattle.parallel_decode.specs.EachHart.{hart_line}
+use Rattle.parallel_decode.specs.HartsText.{head_of}
+use Rattle.parallel_decode.proofs.PlaceLemmas.{places-length}
+use Rattle.parallel_decode.specs.Marks.{AreRising, IsMark}
+use Rattle.parallel_decode.specs.Places.{AreAt, IsAt}
+use Rattle.parallel_decode.specs.declared.mark.Mark.{Mark}
 use Rattle.parallel_decode.proofs.StretchLemmas.{text_push}
 use Rattle.parallel_decode.specs.declared.stretch.Stretch.{Stretch}
 use Rattle.parallel_decode.specs.steps.Planning.{IsMarkedHart}

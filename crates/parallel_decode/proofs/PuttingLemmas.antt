@@ -9,8 +9,8 @@ use Rattle.std.specs.Io.KnownBytes.{Appends}
 use Rattle.retire.specs.declared.event.Event.{Event}
 use Rattle.retire.specs.declared.fault.WriteFault.{WriteFault}
 use Rattle.rvclass.specs.Fetch.{words_of}
-use Rattle.capture_index.proofs.PutLemmas.{put_behind, put_in_front}
-use Rattle.capture_index.specs.Put.{IsPut}
+use Rattle.parallel_decode.proofs.PutLemmas.{put_behind, put_in_front}
+use Rattle.parallel_decode.specs.Put.{IsPut}
 use Rattle.parallel_decode.proofs.StretchLemmas.{First, part_at, text_first}
 use Rattle.parallel_decode.specs.declared.stretch.Plan.{Plan}
 use Rattle.parallel_decode.specs.declared.stretch.Stretch.{Stretch}

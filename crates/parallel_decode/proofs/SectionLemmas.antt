@@ -11,7 +11,7 @@ use Rattle.retire.specs.declared.event.Event.{Event}
 use Rattle.rvclass.specs.Words.{Words}
 use Rattle.payload.specs.declared.mode.Mode.{Mode}
 use Rattle.message.specs.declared.message.Message.{Message}
-use Rattle.capture_index.proofs.PlaceLemmas.{any_message, places-length}
+use Rattle.parallel_decode.proofs.PlaceLemmas.{any_message, places-length}
 use Rattle.parallel_decode.specs.declared.own.Own.{Own}
 use Rattle.parallel_decode.specs.declared.section_ends.SectionEnd.{SectionEnd}
 use Rattle.parallel_decode.specs.declared.sections.Section.{Section}

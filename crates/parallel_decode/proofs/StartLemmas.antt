@@ -5,7 +5,7 @@ use Rattle.message.proofs.Answering.{answer-unpacked}
 use Rattle.message.specs.Accepting.{answer, state_after}
 use Rattle.message.specs.declared.hart.Hart.{Hart}
 use Rattle.message.specs.declared.message.Message.{Message}
-use Rattle.capture_index.specs.Places.{AreAt}
+use Rattle.parallel_decode.specs.Places.{AreAt}
 use Rattle.parallel_decode.specs.steps.OwnMessages.{AreOwnAccepted}
 use Rattle.parallel_decode.specs.steps.Starts.{StartAt}
 

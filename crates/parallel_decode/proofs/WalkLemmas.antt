@@ -14,7 +14,7 @@ use Rattle.message.specs.Cut.{IsMessage}
 use Rattle.message.specs.declared.message.Message.{Message}
 use Rattle.message.specs.steps.Filling.{AreBytes}
 use Rattle.captures.proofs.Reaching.{capture_next}
-use Rattle.capture_index.proofs.PlaceLemmas.{place_behind}
+use Rattle.parallel_decode.proofs.PlaceLemmas.{place_behind}
 use Rattle.parallel_decode.specs.steps.Starts.{AreStarts, StartAt, StartsAt}
 use Rattle.parallel_decode.specs.steps.Walked.{AreWalked, IsOfHarts}
 

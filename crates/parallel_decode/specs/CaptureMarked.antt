@@ -4,8 +4,8 @@ use Rattle.message.specs.declared.range.HartRange.{HartRange}
 use Rattle.retire.specs.declared.event.Event.{Event}
 use Rattle.rvclass.specs.Words.{Words}
 use Rattle.captures.specs.OfHarts.{IsDecodedOf}
-use Rattle.capture_index.specs.Marks.{AreMarkedLogs}
-use Rattle.capture_index.specs.Surveyed.{NeverMemory}
+use Rattle.parallel_decode.specs.Marks.{AreMarkedLogs}
+use Rattle.parallel_decode.specs.Surveyed.{NeverMemory}
 use Rattle.parallel_decode.specs.declared.capturing.MarkedCaptureSurvey.{MarkedCaptureSurvey}
 
 -- The flags and the fault are those of what the bytes of a capture decode to, where messages of these harts alone are

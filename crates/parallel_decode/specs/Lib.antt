@@ -1,3 +1,16 @@
+pub mod Marks
+pub mod Placed
+pub mod Places
+pub mod Surveyed
+pub mod Body
+pub mod CaptureSurveyed
+pub mod Left
+pub mod EachHart
+pub mod HartsText
+pub mod Laws
+pub mod Parts
+pub mod Written
+pub mod Put
 pub mod Marked
 pub mod CaptureMarked
 pub mod steps

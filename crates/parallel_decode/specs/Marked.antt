@@ -6,9 +6,9 @@ use Rattle.retire.specs.declared.event.Event.{Event}
 use Rattle.rvclass.specs.Words.{Words}
 use Rattle.payload.specs.declared.mode.Mode.{Mode}
 use Rattle.captures.specs.OfHarts.{AreHartsDecoded}
-use Rattle.capture_index.specs.Marks.{AreMarkedLogs}
-use Rattle.capture_index.specs.Places.{ArePlaced}
-use Rattle.capture_index.specs.Surveyed.{NeverMemory}
+use Rattle.parallel_decode.specs.Marks.{AreMarkedLogs}
+use Rattle.parallel_decode.specs.Places.{ArePlaced}
+use Rattle.parallel_decode.specs.Surveyed.{NeverMemory}
 use Rattle.parallel_decode.specs.declared.surveying.MarkedSurvey.{MarkedSurvey}
 
 -- The flags and the fault are those of what the bytes decode to. The places are those of the messages that are decoded,

@@ -3,8 +3,8 @@ use Rattle.std.specs.Prelude.{ℕ, List}
 use Rattle.std.specs.declared.vec.Vec.{Vec}
 use Rattle.retire.specs.declared.event.Event.{Event}
 use Rattle.rvclass.specs.Words.{Words}
-use Rattle.capture_index.specs.Marks.{AreMarkedLogs}
-use Rattle.capture_index.specs.declared.mark.Mark.{Mark}
+use Rattle.parallel_decode.specs.Marks.{AreMarkedLogs}
+use Rattle.parallel_decode.specs.declared.mark.Mark.{Mark}
 
 -- There are logs such that these are the places of the harts' messages, and marks on the way through them.
 abbrev pub HaveMarkedLogs : {A B : Type 0} → Words → List ℕ → List (Vec ℕ A) → List (Vec Mark B) → Type 0

@@ -1,3 +1,7 @@
+pub mod Tracking
+pub mod Surveying
+pub mod Handing
+pub mod Rows
 pub mod Ends
 pub mod OwnMessages
 pub mod Sections

@@ -5,7 +5,7 @@ ghost use Rattle.rvclass.specs.Fetch.{words_of};
 ghost use Rattle.parallel_decode.specs.CaptureMarked.{IsMarkedCaptureSurvey};
 
 use crate::surveying::{MarkedSurvey, survey_side_by_side};
-use capture_index::{Selection, body_of};
+use crate::{Selection, body_of};
 use message::ProgressSink;
 use std::alloc::{AllocError, Global};
 use std::thread::Threads;
@@ -20,7 +20,7 @@ pub struct MarkedCaptureSurvey<'b> {
 }
 
 /// Surveys the messages that a capture has of the harts in a range: as
-/// [`survey_capture`](capture_index::survey_capture) does, with several harts side by side, and with marks, as
+/// [`survey_capture`](crate::survey_capture) does, with several harts side by side, and with marks, as
 /// [`survey_side_by_side`] has them.
 pub fn survey_capture_side_by_side<'b, R: Threads + Sync, V: ProgressSink>(
     alloc: Global,

@@ -4,13 +4,12 @@ ghost use Rattle.std.specs.Prelude.{◌≡◌, ◌⊎◌, Err, IfOk};
 ghost use Rattle.std.specs.Io.KnownBytes.{Keeps};
 ghost use Rattle.rvclass.specs.Fetch.{words_of};
 ghost use Rattle.captures.specs.OfHarts.{IsDecodedOf};
-ghost use Rattle.capture_index.specs.Surveyed.{NeverMemory};
-ghost use Rattle.capture_index.specs.Written.{BeginsHartsOf, WritesHartsOf};
+ghost use Rattle.parallel_decode.specs.Surveyed.{NeverMemory};
+ghost use Rattle.parallel_decode.specs.Written.{BeginsHartsOf, WritesHartsOf};
 
 use crate::harts::write_harts_side_by_side;
 use crate::sharing::Sharing;
-use crate::survey_capture_side_by_side;
-use capture_index::{Selection, WatchSurvey};
+use crate::{Selection, WatchSurvey, survey_capture_side_by_side};
 use captures::CaptureFault;
 use retire::WriteFault;
 use std::alloc::Global;

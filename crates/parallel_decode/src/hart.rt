@@ -9,10 +9,10 @@ ghost use Rattle.parallel_decode.specs.steps.Ends.{IsEnd, IsReceivedSoFar};
 ghost use Rattle.parallel_decode.specs.steps.Sections.{IsOfHart, IsSectionEnd};
 ghost use Rattle.parallel_decode.specs.steps.Starts.{StartAt, StartsAt};
 
+use crate::Mark;
 use crate::own::Own;
 use crate::section_ends::SectionEnd;
 use crate::trail::Trail;
-use capture_index::Mark;
 use message::{Message, Messages};
 use payload::Mode;
 use rvclass::ProgramOver;

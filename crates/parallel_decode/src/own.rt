@@ -14,8 +14,8 @@ ghost use Rattle.receiver.specs.NotReceived.{IsNotDecoded};
 ghost use Rattle.parallel_decode.specs.steps.OwnMessages.{IsOwn, IsOwnRefused};
 ghost use Rattle.std.specs.Prelude.{Option, ℕ};
 
+use crate::feed_packet;
 use crate::same::is_state;
-use capture_index::feed_packet;
 use decoder::{DecodeFault, Decoder};
 use message::{Hart, Message};
 use payload::{Mode, Packet};

@@ -5,14 +5,14 @@ ghost use Rattle.std.specs.declared.vec.Vec.{Vec as AnyVec};
 ghost use Rattle.retire.specs.LogText.{log_text};
 ghost use Rattle.retire.specs.declared.event.Event.{Event as AnyEvent};
 ghost use Rattle.rvclass.specs.Words.{IsProgram, Words};
-ghost use Rattle.capture_index.specs.EachHart.{hart_line};
-ghost use Rattle.capture_index.specs.HartsText.{harts_text_of};
-ghost use Rattle.capture_index.specs.Marks.{AreMarkedLogs, IsMarkedLog};
+ghost use Rattle.parallel_decode.specs.EachHart.{hart_line};
+ghost use Rattle.parallel_decode.specs.HartsText.{harts_text_of};
+ghost use Rattle.parallel_decode.specs.Marks.{AreMarkedLogs, IsMarkedLog};
 ghost use Rattle.parallel_decode.specs.steps.Planning.{IsMarkedHart};
 ghost use Rattle.parallel_decode.specs.steps.Stretches.{HaveText};
 
 use crate::stretch::Stretch;
-use capture_index::{Mark, selects_hart};
+use crate::{Mark, selects_hart};
 use decoder::Decoder;
 use message::HartRange;
 use std::alloc::{AllocError, Global};

@@ -7,12 +7,12 @@ ghost use Rattle.parallel_decode.specs.steps.Putting.{PutsOn};
 ghost use Rattle.parallel_decode.specs.steps.Shelves.{ShelvesHold};
 ghost use Rattle.parallel_decode.specs.steps.Stretches.{HaveTexts};
 
+use crate::RowBuffers;
 use crate::shelf::{Held, Shelf};
 use crate::slot::Slot;
 use crate::stretch::Plan;
 use crate::turns::{IDLE_TURNS, Job, decode_next};
 use crate::writing::{put, write_at};
-use capture_index::RowBuffers;
 use retire::WriteFault;
 use std::io::Write;
 use std::sync::Mutex;

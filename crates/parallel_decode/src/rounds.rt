@@ -5,13 +5,13 @@ ghost use Rattle.std.specs.Thread.{IsSync, IsSend};
 ghost use Rattle.parallel_decode.specs.steps.Putting.{PutsOn, PutsRest};
 ghost use Rattle.parallel_decode.specs.steps.Shelves.{ShelvesHold};
 
+use crate::RowBuffers;
 use crate::ready::{write_as_decoded, write_on};
 use crate::shelf::{Held, Shelf, shelves_of};
 use crate::slot::Slot;
 use crate::stretch::Plan;
 use crate::turns::{Job, decode_stretches};
 use crate::writing::write_stretches;
-use capture_index::RowBuffers;
 use retire::WriteFault;
 use side_by_side::drop_side_by_side;
 use std::alloc::Global;

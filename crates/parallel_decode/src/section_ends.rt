@@ -8,7 +8,7 @@ use crate::hart::{Work, message_at};
 use crate::own::Own;
 use crate::sections::Section;
 use crate::trail::MARK_EVENTS;
-use capture_index::{feed_packet, packet_at};
+use crate::{feed_packet, packet_at};
 use decoder::{Decoder, DecoderState};
 use message::Hart;
 use payload::{Mode, Packet, Support};

@@ -1,7 +1,7 @@
 //! Sections of the messages of long harts.
 
 use crate::hart::Work;
-use capture_index::packet_at;
+use crate::packet_at;
 use payload::Packet;
 use std::alloc::AllocError;
 

@@ -4,10 +4,10 @@ ghost use Rattle.std.specs.Prelude.{◌≡◌, ◌≤◌, ◌<◌, false, All, I
 ghost use Rattle.parallel_decode.specs.steps.Filled.{IsFilled};
 ghost use Rattle.parallel_decode.specs.steps.Stretches.{HaveTexts};
 
+use crate::RowBuffers;
 use crate::stretch::Plan;
 use crate::text::Text;
 use crate::writing::write_stretch;
-use capture_index::RowBuffers;
 use std::alloc::{AllocError, Global};
 
 /// What a thread decodes a stretch into.

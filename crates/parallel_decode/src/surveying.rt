@@ -10,7 +10,7 @@ use crate::hart::{HartEnd, Work};
 use crate::lists::empty_lists;
 use crate::parts::receive_harts;
 use crate::walking::walk_over;
-use capture_index::{Mark, Selection, survey_messages};
+use crate::{Mark, Selection, survey_messages};
 use captures::CaptureFault;
 use message::{HartRange, NoProgress, ProgressSink};
 use payload::Mode;

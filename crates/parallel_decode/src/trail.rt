@@ -8,7 +8,7 @@ ghost use Rattle.message.specs.OfHart.{packets_in};
 ghost use Rattle.message.specs.declared.message.Message.{Message as AnyMessage};
 ghost use Rattle.parallel_decode.specs.steps.Ends.{IsTrail};
 
-use capture_index::Mark;
+use crate::Mark;
 use decoder::Decoder;
 use std::alloc::{AllocError, Global};
 

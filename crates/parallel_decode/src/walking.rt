@@ -8,9 +8,9 @@ ghost use Rattle.message.specs.declared.message.Message.{Message as AnyMessage};
 ghost use Rattle.parallel_decode.specs.steps.Starts.{StartsAt};
 ghost use Rattle.parallel_decode.specs.steps.Walked.{AreWalked};
 
+use crate::add_selected;
 use crate::lists::empty_lists;
 use byteorder::{ByteOrder, LittleEndian};
-use capture_index::add_selected;
 use frames::message_size;
 use message::{HartRange, ProgressSink};
 use std::alloc::{AllocError, Global};

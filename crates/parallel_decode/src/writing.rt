@@ -2,12 +2,12 @@
 
 ghost use Rattle.std.specs.Prelude.{◌≡◌, ◌+◌, ◌<◌, List, IfOk, length};
 ghost use Rattle.retire.specs.declared.event.Event.{Event as AnyEvent};
-ghost use Rattle.capture_index.specs.Put.{IsPut};
+ghost use Rattle.parallel_decode.specs.Put.{IsPut};
 ghost use Rattle.parallel_decode.specs.steps.Putting.{PutsOn, PutsRest};
 ghost use Rattle.parallel_decode.specs.steps.Stretches.{HavePart, HaveTexts, IsPartOf, head_if, stretch_text};
 
 use crate::stretch::{Plan, Stretch};
-use capture_index::{RowBuffers, write_head, write_part};
+use crate::{RowBuffers, write_head, write_part};
 use output::write_bytes;
 use retire::WriteFault;
 use std::io::Write;

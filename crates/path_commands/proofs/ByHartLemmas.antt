@@ -20,7 +20,7 @@ use Rattle.message.specs.declared.fault.MessageFault.TheVariants as fault
 use Rattle.message.specs.declared.header.Header.{Header}
 use Rattle.message.specs.declared.message.Message.{Message}
 use Rattle.frames.specs.Start.{IsStart}
-use Rattle.path_match.specs.Split.{AreSplit}
+use Rattle.auditing.specs.Split.{AreSplit}
 use Rattle.auditing.specs.Sent.{harts_of}
 use Rattle.path_commands.specs.Unnumbered.{strangers_among}
 use Rattle.path_commands.specs.declared.by_hart.ByHart.{ByHart}

@@ -5,8 +5,8 @@ use Rattle.std.proofs.KnownBytes.{Appends-nil}
 use Rattle.std.specs.Io.KnownBytes.{Appends, Keeps}
 use Rattle.output.proofs.Beginnings.{whole_begun}
 use Rattle.output.specs.Begun.{AppendsBeginning}
-use Rattle.capture_lines.specs.declared.fault.LinesFault.{LinesFault}
-use Rattle.capture_lines.specs.declared.fault.LinesFault.TheVariants as lines
+use Rattle.captures.specs.declared.line_fault.LinesFault.{LinesFault}
+use Rattle.captures.specs.declared.line_fault.LinesFault.TheVariants as lines
 use Rattle.command_inputs.specs.Begun.{IsCutOf}
 use Rattle.command_inputs.specs.Faults.{Path}
 use Rattle.command_inputs.specs.Printed.{IsPrinted, PrintsUnlessDenied, silent}

@@ -1,7 +1,7 @@
 -- What `capture` prints, from what each of its steps found.
 use Rattle.std.proofs.Common.{◌≡◌, ◌∙◌, ◌⊎◌, ap, inr, refl, ℕ, List, Bool, true, false, Option, Some, None, Result, Ok, Err}
 use Rattle.std.specs.Prelude.{⊤, IfSome, if◌then◌else◌}
-use Rattle.capture_lines.specs.declared.settings.Settings.{Settings}
+use Rattle.captures.specs.declared.line_settings.Settings.{Settings}
 use Rattle.log_streams.specs.Known.{Content}
 use Rattle.message.specs.Version.{most_harts}
 use Rattle.command_inputs.specs.declared.words.Capture.{Capture}

@@ -13,3 +13,4 @@ pub mod SpanRows
 pub mod Sums
 mod CaptureRuns
 mod CaptureSteps
+mod GeneratedCaptures

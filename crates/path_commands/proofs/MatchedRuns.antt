@@ -4,7 +4,7 @@ use Rattle.std.proofs.Common.{refl, sym, subst}
 use Rattle.std.proofs.KnownBytes.{Appends-nil}
 use Rattle.std.specs.Prelude.{⊤, IfErr, IfOk, is_some}
 use Rattle.output.specs.Begun.{AppendsBeginning}
-use Rattle.path_match.specs.Matches.{Flags}
+use Rattle.auditing.specs.Matches.{Flags}
 use Rattle.message.specs.Range.{selected}
 use Rattle.message.specs.declared.range.HartRange.{HartRange}
 use Rattle.message.specs.declared.fault.MessageFault.{MessageFault}
@@ -14,7 +14,7 @@ use Rattle.captures.specs.Whole.{IsFront}
 use Rattle.frames.specs.Start.{IsStart}
 use Rattle.command_inputs.specs.declared.words.Audit.{Audit}
 use Rattle.auditing.specs.Sent.{harts_of}
-use Rattle.path_match.specs.Aligned.{AreAligned}
+use Rattle.auditing.specs.Aligned.{AreAligned}
 use Rattle.command_inputs.proofs.Runs.{prints}
 use Rattle.command_inputs.specs.Begun.{IsCutOf}
 use Rattle.command_inputs.specs.Printed.{PrintsUnlessDenied}

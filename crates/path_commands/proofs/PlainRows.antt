@@ -1,14 +1,15 @@
 -- The rows of an audit's table are read back.
-use Rattle.std.proofs.Common.{ℕ, List, [], Bool, true, false, Option, codes, refl}
+use Rattle.std.proofs.Common.{ℕ, ◌-◌, List, [], Bool, true, false, Option, codes, refl}
 use Rattle.std.specs.Fmt.{decimal}
 use Rattle.auditing.specs.declared.finding.Finding.{Finding}
 use Rattle.auditing.specs.declared.finding.Finding.TheVariants as finding
-use Rattle.path_match.specs.declared.line.Line.{Line}
-use Rattle.path_match.specs.declared.line.Line.TheVariants as line
+use Rattle.auditing.specs.declared.arrival_line.Line.{Line}
+use Rattle.auditing.specs.declared.arrival_line.Line.TheVariants as line
 use Rattle.output.proofs.PlainFields.{IsPlain, bytes_plain, decimal_plain, number_plain, plain_read}
 use Rattle.output.specs.ReadBack.{IsReadBack}
 use Rattle.path_commands.specs.AlignedRows.{aligned_all_fields, aligned_fields, arrival_fields}
-use Rattle.path_commands.specs.AuditRows.{all_fields, by_field, bytes_fields, came_field, columns, fate_field}
+use Rattle.path_commands.specs.AuditRows.{all_fields, by_field, bytes_fields, came_field, columns, exchanged_fields}
+use Rattle.path_commands.specs.AuditRows.{fate_field}
 use Rattle.path_commands.specs.AuditRows.{hart_fields, headers_field, message_fields, result_fields, run_fields, sent_field}
 use Rattle.path_commands.specs.AuditText.{sent_bytes, verdict_text}
 use Rattle.path_commands.specs.ReadBack.{AreReadBack}
@@ -90,7 +91,11 @@ are_read_back = record {
         decimal_plain its.longest,
         decimal_plain its.latest,
         verdict_plain its.tally.whole,
+        decimal_plain (its.tally.lost - its.tally.changed),
       ) refl);
+  exchanged = λ hart its.
+      plain_read (exchanged_fields hart its) tt
+      (rw (decimal_plain hart, decimal_plain its.hart, decimal_plain its.count) refl);
   all = λ total.
       plain_read (all_fields total) tt
       (rw (
@@ -102,6 +107,7 @@ are_read_back = record {
         decimal_plain total.changed,
         decimal_plain total.strange,
         verdict_plain total.whole,
+        decimal_plain (total.lost - total.changed),
       ) refl);
   result = λ messages first unlike bytes strangers runs whole.
       plain_read (result_fields messages first unlike bytes strangers runs whole) tt

@@ -1,10 +1,10 @@
 -- The fields of the rows of an audit of messages that carry no numbers, as a table.
 use Rattle.std.specs.Prelude.{ℕ, ◌++◌, List, [], ◌∷◌, None, codes}
 use Rattle.std.specs.Fmt.{decimal}
-use Rattle.path_match.specs.declared.counting.AlignedTotal.{AlignedTotal}
-use Rattle.path_match.specs.declared.counting.HartCounts.{HartCounts}
-use Rattle.path_match.specs.declared.line.Line.{Line}
-use Rattle.path_match.specs.declared.line.Line.TheVariants as line
+use Rattle.auditing.specs.declared.aligned_counts.AlignedTotal.{AlignedTotal}
+use Rattle.auditing.specs.declared.aligned_counts.HartCounts.{HartCounts}
+use Rattle.auditing.specs.declared.arrival_line.Line.{Line}
+use Rattle.auditing.specs.declared.arrival_line.Line.TheVariants as line
 use Rattle.output.specs.Fields.{fields_line}
 use Rattle.path_commands.specs.AuditRows.{message_fields, result_fields}
 use Rattle.path_commands.specs.AuditText.{verdict_text}
@@ -22,14 +22,14 @@ abbrev pub aligned_fields : ℕ → HartCounts → ℕ → ℕ → List (List �
 aligned_fields hart counts runs longest =
     codes "hart" ∷ [] ∷ [] ∷ decimal hart ∷ [] ∷ [] ∷ [] ∷ [] ∷ [] ∷ []
     ∷ decimal counts.sent ∷ decimal counts.came ∷ decimal counts.lost ∷ [] ∷ [] ∷ [] ∷ decimal counts.extra
-    ∷ decimal runs ∷ decimal longest ∷ [] ∷ verdict_text counts.whole ∷ []
+    ∷ decimal runs ∷ decimal longest ∷ [] ∷ verdict_text counts.whole ∷ [] ∷ []
 
 -- The fields of all harts together.
 abbrev pub aligned_all_fields : AlignedTotal → List (List ℕ)
 aligned_all_fields total =
     codes "all" ∷ [] ∷ [] ∷ [] ∷ [] ∷ [] ∷ [] ∷ [] ∷ [] ∷ []
     ∷ decimal total.sent ∷ decimal total.came ∷ decimal total.lost ∷ [] ∷ [] ∷ [] ∷ decimal total.extra
-    ∷ [] ∷ [] ∷ [] ∷ verdict_text total.whole ∷ []
+    ∷ [] ∷ [] ∷ [] ∷ verdict_text total.whole ∷ [] ∷ []
 
 -- The last rows: all harts together, and the result.
 abbrev pub aligned_last : MatchedTotal → List ℕ

@@ -1,6 +1,7 @@
 -- The fields of the rows of an audit as a table.
-use Rattle.std.specs.Prelude.{ℕ, ◌++◌, Bool, true, false, List, [], ◌∷◌, Option, Some, codes}
+use Rattle.std.specs.Prelude.{ℕ, ◌-◌, ◌++◌, Bool, true, false, List, [], ◌∷◌, Option, Some, codes}
 use Rattle.std.specs.Fmt.{decimal}
+use Rattle.auditing.specs.declared.exchange.Exchanged.{Exchanged}
 use Rattle.auditing.specs.declared.finding.Finding.{Finding}
 use Rattle.auditing.specs.declared.finding.Finding.TheVariants as finding
 use Rattle.auditing.specs.declared.lost.Lost.{Lost}
@@ -16,11 +17,11 @@ columns =
     codes "kind" ∷ codes "place" ∷ codes "offset" ∷ codes "hart" ∷ codes "number" ∷ codes "last" ∷ codes "fate"
     ∷ codes "by" ∷ codes "sent_payload" ∷ codes "came_payload" ∷ codes "sent" ∷ codes "came" ∷ codes "lost"
     ∷ codes "repeated" ∷ codes "late" ∷ codes "changed" ∷ codes "strange" ∷ codes "runs" ∷ codes "longest_run"
-    ∷ codes "most_late" ∷ codes "verdict" ∷ []
+    ∷ codes "most_late" ∷ codes "verdict" ∷ codes "missing" ∷ []
 
 -- The fields of the columns from `sent` on, where none of them applies.
 abbrev pub no_counts : List (List ℕ)
-no_counts = [] ∷ [] ∷ [] ∷ [] ∷ [] ∷ [] ∷ [] ∷ [] ∷ [] ∷ [] ∷ [] ∷ []
+no_counts = [] ∷ [] ∷ [] ∷ [] ∷ [] ∷ [] ∷ [] ∷ [] ∷ [] ∷ [] ∷ [] ∷ [] ∷ []
 
 -- The fields of a message: its place, its hart, its number, its fate, by how much it is late or how many numbers it
 -- skips, and both payloads.
@@ -68,21 +69,33 @@ abbrev pub run_fields : ℕ → Lost → List (List ℕ)
 run_fields hart run =
     codes "run" ∷ [] ∷ [] ∷ decimal hart ∷ decimal run.first ∷ decimal run.last ∷ [] ∷ [] ∷ [] ∷ [] ∷ no_counts
 
--- The fields of a hart: its counts, the runs of its lost numbers and the longest of them, and the most by which one of
--- its messages is late.
+-- How many messages are lost, and nothing came in their place, where so many of the lost ones are counted, and so many
+-- that came changed.
+abbrev pub missing_field : ℕ → ℕ → List ℕ
+missing_field lost changed = decimal (lost - changed)
+
+-- The fields of a hart: its counts, the runs of its lost numbers and the longest of them, the most by which one of its
+-- messages is late, and how many are missing.
 abbrev pub hart_fields : ℕ → HartRow → List (List ℕ)
 hart_fields hart row =
     codes "hart" ∷ [] ∷ [] ∷ decimal hart ∷ [] ∷ [] ∷ [] ∷ [] ∷ [] ∷ []
     ∷ decimal row.tally.sent ∷ decimal row.tally.came ∷ decimal row.tally.lost ∷ decimal row.tally.repeated
     ∷ decimal row.tally.late ∷ decimal row.tally.changed ∷ decimal row.strange ∷ decimal row.runs ∷ decimal row.longest
-    ∷ decimal row.latest ∷ verdict_text row.tally.whole ∷ []
+    ∷ decimal row.latest ∷ verdict_text row.tally.whole ∷ missing_field row.tally.lost row.tally.changed ∷ []
+
+-- The fields of the hart whose most of a hart's messages are that are not true: the hart's number, the other's, and how
+-- many messages they are.
+abbrev pub exchanged_fields : ℕ → Exchanged → List (List ℕ)
+exchanged_fields hart its =
+    codes "exchanged" ∷ [] ∷ [] ∷ decimal hart ∷ decimal its.hart ∷ [] ∷ [] ∷ decimal its.count ∷ [] ∷ [] ∷ no_counts
 
 -- The fields of all harts together: the sums of their counts.
 abbrev pub all_fields : Total → List (List ℕ)
 all_fields total =
     codes "all" ∷ [] ∷ [] ∷ [] ∷ [] ∷ [] ∷ [] ∷ [] ∷ [] ∷ []
     ∷ decimal total.sent ∷ decimal total.came ∷ decimal total.lost ∷ decimal total.repeated
-    ∷ decimal total.late ∷ decimal total.changed ∷ decimal total.strange ∷ [] ∷ [] ∷ [] ∷ verdict_text total.whole ∷ []
+    ∷ decimal total.late ∷ decimal total.changed ∷ decimal total.strange ∷ [] ∷ [] ∷ [] ∷ verdict_text total.whole
+    ∷ missing_field total.lost total.changed ∷ []
 
 -- Whether headers differ.
 abbrev pub headers_field : Bool → List ℕ
@@ -95,7 +108,7 @@ headers_field false = []
 abbrev pub result_fields : ℕ → Option ℕ → Bool → Option ℕ → ℕ → Option ℕ → Bool → List (List ℕ)
 result_fields messages first unlike bytes strangers runs whole =
     codes "result" ∷ decimal messages ∷ [] ∷ [] ∷ number_field first ∷ [] ∷ headers_field unlike ∷ number_field bytes
-    ∷ [] ∷ [] ∷ [] ∷ [] ∷ [] ∷ [] ∷ [] ∷ [] ∷ decimal strangers ∷ number_field runs ∷ [] ∷ [] ∷ verdict_text whole ∷ []
+    ∷ [] ∷ [] ∷ [] ∷ [] ∷ [] ∷ [] ∷ [] ∷ [] ∷ decimal strangers ∷ number_field runs ∷ [] ∷ [] ∷ verdict_text whole ∷ [] ∷ []
 
 -- The last rows: all harts together, and the result.
 abbrev pub last_rows : Ending → List ℕ

@@ -8,6 +8,7 @@ use Rattle.message.specs.declared.message.Message.{Message}
 use Rattle.receiver.specs.Agreeing.{differ}
 use Rattle.auditing.specs.HartRows.{row_of}
 use Rattle.auditing.specs.Tallies.{tally_of}
+use Rattle.auditing.specs.declared.exchange.Exchanged.{Exchanged}
 use Rattle.auditing.specs.declared.finding.Finding.{Finding}
 use Rattle.auditing.specs.declared.finding.Finding.TheVariants as finding
 use Rattle.auditing.specs.declared.lost.Lost.{Lost}
@@ -85,11 +86,19 @@ late_line hart latest =
     if latest == 0 then [] else
     codes "hart " ++ (decimal hart ++ (codes ": late by at most " ++ (decimal latest ++ codes "\n")))
 
--- The lines of a hart: its counts, the runs of its lost numbers, and the most by which one of its messages is late.
+-- The line of the hart whose most of a hart's messages are that are not true, if there is one.
+abbrev pub exchanged_line : ℕ → Option Exchanged → List ℕ
+exchanged_line hart None = []
+exchanged_line hart (Some its) =
+    codes "hart " ++ (decimal hart ++ (codes ": " ++ (decimal its.count ++ (codes " of what came is hart "
+    ++ (decimal its.hart ++ codes "'s\n")))))
+
+-- The lines of a hart: its counts, the runs of its lost numbers, the most by which one of its messages is late, and whose
+-- most of those are that are not true.
 abbrev pub row_text : ℕ → HartRow → List ℕ
 row_text hart row =
     codes "hart " ++ (decimal hart ++ (codes ": " ++ (row_counts row
-    ++ (runs_line hart row.runs row.longest ++ late_line hart row.latest))))
+    ++ (runs_line hart row.runs row.longest ++ (late_line hart row.latest ++ exchanged_line hart row.exchanged)))))
 
 -- The line of strangers, where there are any.
 abbrev pub strangers_line : ℕ → List ℕ

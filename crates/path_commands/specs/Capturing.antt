@@ -1,9 +1,9 @@
 -- What `capture` prints, and how it ends.
 use Rattle.std.specs.Prelude.{⊤, ◌≡◌, ℕ, ◌^◌, nat_lt, if◌then◌else◌, Bool, false, List, Option, Some, None, Result}
 use Rattle.std.specs.Prelude.{Ok, Err}
-use Rattle.capture_lines.specs.Capture.{capture_of_text}
-use Rattle.capture_lines.specs.declared.fault.LinesFault.{LinesFault}
-use Rattle.capture_lines.specs.declared.settings.Settings.{Settings}
+use Rattle.captures.specs.Capture.{capture_of_text}
+use Rattle.captures.specs.declared.line_fault.LinesFault.{LinesFault}
+use Rattle.captures.specs.declared.line_settings.Settings.{Settings}
 use Rattle.message.specs.Version.{most_harts}
 use Rattle.command_inputs.specs.declared.words.Capture.{Capture}
 use Rattle.log_streams.specs.Known.{Content}

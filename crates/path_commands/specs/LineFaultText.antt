@@ -1,8 +1,8 @@
 -- The texts of the reasons that only `capture` has.
 use Rattle.std.specs.Prelude.{ℕ, ◌++◌, List, codes}
 use Rattle.std.specs.Fmt.{decimal}
-use Rattle.capture_lines.specs.FaultText.{lines_fault_text}
-use Rattle.capture_lines.specs.declared.fault.LinesFault.TheVariants as lines
+use Rattle.captures.specs.LineFaultText.{lines_fault_text}
+use Rattle.captures.specs.declared.line_fault.LinesFault.TheVariants as lines
 use Rattle.command_inputs.specs.FaultText.{at_path}
 use Rattle.path_commands.specs.declared.line_reason.LineReason.{LineReason}
 use Rattle.path_commands.specs.declared.line_reason.LineReason.TheVariants.{Line, ManyHarts}

@@ -1,7 +1,7 @@
 -- The fault of `capture` for each fault of what it calls, and how it ends at that.
 use Rattle.std.specs.Prelude.{Result}
-use Rattle.capture_lines.specs.declared.fault.LinesFault.{LinesFault}
-use Rattle.capture_lines.specs.declared.fault.LinesFault.TheVariants as lines
+use Rattle.captures.specs.declared.line_fault.LinesFault.{LinesFault}
+use Rattle.captures.specs.declared.line_fault.LinesFault.TheVariants as lines
 use Rattle.command_inputs.specs.Faults as inputs
 use Rattle.command_inputs.specs.Faults.{Path}
 use Rattle.command_inputs.specs.Finding as finding

@@ -3,10 +3,10 @@ use Rattle.std.specs.Prelude.{ℕ, ◌++◌, List, length}
 use Rattle.std.specs.List.{flat_map}
 use Rattle.command_inputs.specs.declared.words.Format.{Format}
 use Rattle.auditing.specs.HartRows.{longest_of}
-use Rattle.path_match.specs.Counted.{counts_of}
-use Rattle.path_match.specs.Matches.{Flags}
-use Rattle.path_match.specs.declared.counting.HartCounts.{HartCounts}
-use Rattle.path_match.specs.declared.line.Line.{Line}
+use Rattle.auditing.specs.Counted.{counts_of}
+use Rattle.auditing.specs.Matches.{Flags}
+use Rattle.auditing.specs.declared.aligned_counts.HartCounts.{HartCounts}
+use Rattle.auditing.specs.declared.arrival_line.Line.{Line}
 use Rattle.output.specs.Fields.{fields_line}
 use Rattle.path_commands.specs.AlignedRows.{aligned_fields, aligned_last, arrival_fields}
 use Rattle.path_commands.specs.AuditText.{unless_summary}

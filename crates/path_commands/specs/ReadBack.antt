@@ -1,11 +1,12 @@
 -- The rows of an audit's table are read back.
 use Rattle.std.specs.Prelude.{ℕ, Bool, List, Option}
+use Rattle.auditing.specs.declared.exchange.Exchanged.{Exchanged}
 use Rattle.auditing.specs.declared.finding.Finding.{Finding}
 use Rattle.auditing.specs.declared.lost.Lost.{Lost}
 use Rattle.auditing.specs.declared.row.HartRow.{HartRow}
-use Rattle.path_match.specs.declared.counting.AlignedTotal.{AlignedTotal}
-use Rattle.path_match.specs.declared.counting.HartCounts.{HartCounts}
-use Rattle.path_match.specs.declared.line.Line.{Line}
+use Rattle.auditing.specs.declared.aligned_counts.AlignedTotal.{AlignedTotal}
+use Rattle.auditing.specs.declared.aligned_counts.HartCounts.{HartCounts}
+use Rattle.auditing.specs.declared.arrival_line.Line.{Line}
 use Rattle.output.specs.ReadBack.{IsReadBack}
 use Rattle.path_commands.specs.AlignedRows.{aligned_all_fields, aligned_fields, arrival_fields}
 use Rattle.path_commands.specs.AuditRows as row
@@ -19,6 +20,7 @@ pub record AreReadBack : Type 0 where
   pub bytes : (offset count : ℕ) → IsReadBack (row.bytes_fields offset count)
   pub run : (hart : ℕ) (run : Lost) → IsReadBack (row.run_fields hart run)
   pub hart : (hart : ℕ) (its : HartRow) → IsReadBack (row.hart_fields hart its)
+  pub exchanged : (hart : ℕ) (its : Exchanged) → IsReadBack (row.exchanged_fields hart its)
   pub all : (total : Total) → IsReadBack (row.all_fields total)
   pub result : (messages : ℕ) (first : Option ℕ) (unlike : Bool) (bytes : Option ℕ) (strangers : ℕ) (runs : Option ℕ)
       (whole : Bool) → IsReadBack (row.result_fields messages first unlike bytes strangers runs whole)

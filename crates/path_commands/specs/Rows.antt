@@ -1,5 +1,5 @@
 -- The rows of an audit, as text or as a table.
-use Rattle.std.specs.Prelude.{ℕ, ◌||◌, ◌++◌, if◌then◌else◌, List, [], ◌∷◌, Option, length}
+use Rattle.std.specs.Prelude.{ℕ, ◌||◌, ◌++◌, if◌then◌else◌, List, [], ◌∷◌, Option, Some, None, length}
 use Rattle.std.specs.List.{flat_map}
 use Rattle.payload.specs.declared.by.By.{By}
 use Rattle.frames.specs.declared.span.Span.{Span}
@@ -17,11 +17,13 @@ use Rattle.auditing.specs.Known.{known_all, known_one}
 use Rattle.auditing.specs.Losing.{lost_runs}
 use Rattle.auditing.specs.Sent.{harts_of}
 use Rattle.auditing.specs.SentPayload.{payload_sent}
+use Rattle.auditing.specs.declared.exchange.Exchanged.{Exchanged}
 use Rattle.auditing.specs.declared.finding.Finding.{Finding}
 use Rattle.auditing.specs.declared.lost.Lost.{Lost}
 use Rattle.auditing.specs.declared.row.HartRow.{HartRow}
 use Rattle.output.specs.Fields.{fields_line}
-use Rattle.path_commands.specs.AuditRows.{bytes_fields, columns, finding_fields, hart_fields, last_rows, run_fields}
+use Rattle.path_commands.specs.AuditRows.{bytes_fields, columns, exchanged_fields, finding_fields, hart_fields, last_rows}
+use Rattle.path_commands.specs.AuditRows.{run_fields}
 use Rattle.path_commands.specs.AuditText.{ending_text, finding_line, lost_line, row_text, total_of, unless_summary}
 use Rattle.path_commands.specs.ReceivedCapture.{ReceivedCapture, is_whole_result}
 use Rattle.path_commands.specs.OnlyHarts.{first_of, harts_among, strangers_of}
@@ -101,9 +103,15 @@ run_rows format hart runs = flat_map (run_row format hart) runs
 abbrev pub all_run_rows : Format → List Message → List Message → List ℕ → List ℕ
 all_run_rows format sent received harts = flat_map (λ hart. run_rows format hart (lost_runs sent received hart)) harts
 
--- The row of a hart.
+-- The row of the hart whose most of a hart's messages are that are not true, if there is one.
+abbrev pub exchanged_row : ℕ → Option Exchanged → List ℕ
+exchanged_row hart None = []
+exchanged_row hart (Some its) = fields_line (exchanged_fields hart its)
+
+-- The row of a hart, and the one of the hart whose most of its messages are that are not true.
 abbrev pub hart_row : Format → ℕ → HartRow → List ℕ
-hart_row format hart row = row_in format (row_text hart row) (fields_line (hart_fields hart row))
+hart_row format hart row =
+    row_in format (row_text hart row) (fields_line (hart_fields hart row) ++ exchanged_row hart row.exchanged)
 
 -- The rows of these harts.
 abbrev pub hart_rows : Format → List Message → List Message → List ℕ → List ℕ

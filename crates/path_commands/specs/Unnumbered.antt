@@ -2,7 +2,7 @@
 use Rattle.std.specs.Prelude.{ℕ, ◌≡◌, ◌==◌, ◌&&◌, nat_lt, not, Bool, is_none, List, [], Option, Some, None, Result, Err}
 use Rattle.std.specs.Prelude.{length, map}
 use Rattle.std.specs.List.{count_by, filter}
-use Rattle.path_match.specs.Matches.{Flags}
+use Rattle.auditing.specs.Matches.{Flags}
 use Rattle.message.specs.Range.{selected, selects}
 use Rattle.message.specs.declared.range.HartRange.{HartRange}
 use Rattle.message.specs.declared.fault.MessageFault.{MessageFault}
@@ -13,10 +13,10 @@ use Rattle.captures.specs.Whole.{IsCutBehind, IsWhole}
 use Rattle.command_inputs.specs.declared.words.Audit.{Audit}
 use Rattle.command_inputs.specs.declared.words.Format.{Format}
 use Rattle.auditing.specs.Sent.{harts_of}
-use Rattle.path_match.specs.Aligned.{AreAligned}
-use Rattle.path_match.specs.Arrivals.{arrival_lines}
-use Rattle.path_match.specs.Counted.{total_of}
-use Rattle.path_match.specs.declared.line.Line.{Line}
+use Rattle.auditing.specs.Aligned.{AreAligned}
+use Rattle.auditing.specs.Arrivals.{arrival_lines}
+use Rattle.auditing.specs.Counted.{total_of}
+use Rattle.auditing.specs.declared.arrival_line.Line.{Line}
 use Rattle.command_inputs.specs.Faults.{Path}
 use Rattle.command_inputs.specs.declared.status.Status.{Status}
 use Rattle.path_commands.specs.Faults.{Fault, Printed, unread_fault}

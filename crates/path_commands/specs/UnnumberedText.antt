@@ -1,16 +1,16 @@
 -- The lines of an audit of messages that carry no numbers, as text.
 use Rattle.std.specs.Prelude.{ℕ, ◌+◌, ◌++◌, nat_lt, Bool, if◌then◌else◌, List, [], ◌∷◌, Option, Some, None, codes}
 use Rattle.std.specs.Fmt.{decimal}
-use Rattle.path_match.specs.Matches.{Flags}
+use Rattle.auditing.specs.Matches.{Flags}
 use Rattle.message.specs.Range.{selects}
 use Rattle.message.specs.declared.range.HartRange.{HartRange}
 use Rattle.auditing.specs.Losing.{runs_of}
 use Rattle.auditing.specs.Unset.{lost_in}
 use Rattle.auditing.specs.declared.lost.Lost.{Lost}
-use Rattle.path_match.specs.declared.counting.AlignedTotal.{AlignedTotal}
-use Rattle.path_match.specs.declared.counting.HartCounts.{HartCounts}
-use Rattle.path_match.specs.declared.line.Line.{Line}
-use Rattle.path_match.specs.declared.line.Line.TheVariants as line
+use Rattle.auditing.specs.declared.aligned_counts.AlignedTotal.{AlignedTotal}
+use Rattle.auditing.specs.declared.aligned_counts.HartCounts.{HartCounts}
+use Rattle.auditing.specs.declared.arrival_line.Line.{Line}
+use Rattle.auditing.specs.declared.arrival_line.Line.TheVariants as line
 use Rattle.path_commands.specs.AuditText.{first_line, headers_line, result_line, runs_line, strangers_line}
 use Rattle.path_commands.specs.AuditText.{verdict_text}
 use Rattle.path_commands.specs.declared.matched_rows.MatchedTotal.{MatchedTotal}

@@ -7,7 +7,7 @@ ghost use Rattle.path_commands.specs.AlignedRows.{aligned_all_fields, arrival_fi
 ghost use Rattle.path_commands.specs.AuditRows.{message_fields};
 
 use crate::ending::verdict_text;
-use path_match::{AlignedTotal, Line};
+use auditing::{AlignedTotal, Line};
 use std::fmt;
 
 /// The row of a message in a table.
@@ -20,10 +20,10 @@ impl fmt::Display for ArrivalFields {
     fn fmt<W: fmt::Write>(&self, f: &mut fmt::Formatter<W>) -> fmt::Result {
         match self.0 {
             Line::Stranger { place, hart } => {
-                write!(f, "message,{place},,{hart},,,stranger,,,,,,,,,,,,,,\n")
+                write!(f, "message,{place},,{hart},,,stranger,,,,,,,,,,,,,,,\n")
             }
             Line::Extra { place, hart } => {
-                write!(f, "message,{place},,{hart},,,extra,,,,,,,,,,,,,,\n")
+                write!(f, "message,{place},,{hart},,,extra,,,,,,,,,,,,,,,\n")
             }
             Line::Skips {
                 place,
@@ -62,7 +62,7 @@ impl fmt::Display for SkipsRow {
         let number = self.number;
         let skips = self.skips;
         write!(f, "message,{place},,{hart},{number},,")?;
-        write!(f, "skips,{skips},,,,,,,,,,,,,\n")
+        write!(f, "skips,{skips},,,,,,,,,,,,,,\n")
     }
 }
 
@@ -80,6 +80,6 @@ impl fmt::Display for AlignedAllFields {
         let extra = self.0.extra;
         let verdict = verdict_text(self.0.whole);
         write!(f, "all,,,,,,,,,,{sent},{came},{lost},")?;
-        write!(f, ",,,{extra},,,,{verdict}\n")
+        write!(f, ",,,{extra},,,,{verdict},\n")
     }
 }

@@ -5,11 +5,11 @@ ghost use Rattle.message.specs.Range.{selected};
 ghost use Rattle.message.specs.declared.message.Message.{Message as AnyMessage};
 ghost use Rattle.captures.specs.Whole.{IsFront};
 ghost use Rattle.captures.specs.steps.Reading.{AreReadUpTo};
-ghost use Rattle.path_match.specs.Split.{AreSplit};
+ghost use Rattle.auditing.specs.Split.{AreSplit};
 ghost use Rattle.path_commands.specs.steps.Matching.{IsByHart};
 
+use auditing::SentPayloads;
 use message::{HartRange, Header, Message, MessageFault, Messages};
-use path_match::SentPayloads;
 use payload::By;
 use std::alloc::{AllocError, Global};
 

@@ -11,7 +11,7 @@ ghost use Rattle.path_commands.specs.LineFaults.{final_status};
 ghost use Rattle.path_commands.specs.steps.Ready.{IsReady};
 
 use crate::line_reason::{Fault, LineReason, lines_fault};
-use capture_lines::{Settings, write_capture};
+use captures::{Settings, write_capture};
 use command_inputs::{Capture, Files, Status, content_of};
 use std::io::Write;
 

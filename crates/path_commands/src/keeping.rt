@@ -14,11 +14,10 @@ ghost use Rattle.command_inputs.specs.declared.fault.Fault.TheVariants as Fault;
 use crate::by_hart::{ByHart, read_by_hart};
 use crate::reason::{Fault, sent_fault};
 use crate::sides::by_packets;
-use auditing::Audit;
+use auditing::{Audit, SentPayloads};
 use command_inputs::{Audit as Asked, Files, content_of};
 use frames::start_of;
 use message::{HartRange, Header, MessageFault};
-use path_match::SentPayloads;
 use payload::By;
 use std::alloc::{AllocError, Global};
 

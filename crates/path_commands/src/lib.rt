@@ -29,6 +29,6 @@ mod total;
 
 pub use capturing::capture;
 pub use choosing::audit;
-pub use laws::rows_are_read_back;
+pub use laws::{generated_captures_are_whole, rows_are_read_back};
 pub use line_reason::LineReason;
 pub use reason::{Fault, PathReason};

@@ -4,7 +4,7 @@ ghost use Rattle.std.specs.Prelude.{◌≡◌, Some, refl};
 ghost use Rattle.path_commands.specs.LineFaultText.{line_reason_text};
 ghost use Rattle.path_commands.specs.LineFaults.{line_reason_status, lines_fault};
 
-use capture_lines::{LineFault, LinesFault};
+use captures::{LineFault, LinesFault};
 use command_inputs::{Reason, Status};
 use std::fmt;
 

@@ -1,10 +1,10 @@
 //! What is in the lines of messages and of harts.
 
 ghost use Rattle.std.specs.Prelude.{◌≡◌, Some, option_map};
-ghost use Rattle.path_commands.specs.AuditText.{finding_text, late_line, row_counts, runs_line};
+ghost use Rattle.path_commands.specs.AuditText.{exchanged_line, finding_text, late_line, row_counts, runs_line};
 
 use crate::ending::verdict_text;
-use auditing::{Finding, HartRow};
+use auditing::{Exchanged, Finding, HartRow};
 use output::Digits;
 use std::fmt;
 
@@ -104,6 +104,29 @@ impl fmt::Display for LateLine {
             f.write_str("")
         } else {
             write!(f, "hart {hart}: late by at most {latest}\n")
+        }
+    }
+}
+
+/// The line of the hart whose most of a hart's messages are that are not true, if there is one.
+#[derive(Clone, Copy)]
+pub(crate) struct ExchangedLine {
+    pub(crate) hart: usize,
+    pub(crate) exchanged: Option<Exchanged>,
+}
+
+impl fmt::Display for ExchangedLine {
+    ghost output = { λ line. Some (exchanged_line line.hart line.exchanged) };
+
+    fn fmt<W: fmt::Write>(&self, f: &mut fmt::Formatter<W>) -> fmt::Result {
+        let hart = self.hart;
+        match self.exchanged {
+            Some(its) => {
+                let count = its.count;
+                let other = its.hart;
+                write!(f, "hart {hart}: {count} of what came is hart {other}'s\n")
+            }
+            None => f.write_str(""),
         }
     }
 }

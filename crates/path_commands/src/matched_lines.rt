@@ -5,7 +5,7 @@ ghost use Rattle.path_commands.specs.UnnumberedText.{aligned_all, aligned_row, a
 ghost use Rattle.path_commands.specs.UnnumberedText.{hart_of, place_of};
 
 use crate::ending::verdict_text;
-use path_match::{AlignedTotal, HartCounts, Line};
+use auditing::{AlignedTotal, HartCounts, Line};
 use std::fmt;
 
 /// The line of a message.

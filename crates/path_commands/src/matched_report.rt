@@ -15,10 +15,9 @@ use crate::matched_lines::place_of;
 use crate::matched_rows::{ArrivalRow, MatchedRow, MatchedTotal, TotalRow};
 use crate::report::Report;
 use crate::rows::FrontRow;
-use auditing::{LostRuns, run_lengths};
+use auditing::{Alignment, Line, LostRuns, counts_of, run_lengths};
 use command_inputs::Format;
 use output::write_text;
-use path_match::{Alignment, Line, counts_of};
 use std::io;
 use std::io::Write;
 

@@ -8,8 +8,8 @@ use crate::ending::{Closing, StrangersLine, verdict_text};
 use crate::lines::RunsLine;
 use crate::matched_lines::{AlignedAll, AlignedRow, ArrivalText};
 use crate::table_rows::ResultRow;
+use auditing::{AlignedTotal, HartCounts, Line};
 use command_inputs::Format;
-use path_match::{AlignedTotal, HartCounts, Line};
 use std::fmt;
 
 /// The row of a message.
@@ -62,7 +62,7 @@ impl fmt::Display for MatchedRow {
                 let extra = counts.extra;
                 let verdict = verdict_text(counts.whole);
                 write!(f, "hart,,,{hart},,,,,,,{sent},{came},{lost},")?;
-                write!(f, ",,,{extra},{runs},{longest},,{verdict}\n")
+                write!(f, ",,,{extra},{runs},{longest},,{verdict},\n")
             }
             Format::Text | Format::Other => {
                 let row = AlignedRow { hart, counts };

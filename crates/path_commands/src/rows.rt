@@ -4,8 +4,10 @@ ghost use Rattle.std.specs.Prelude.{Some, option_map};
 ghost use Rattle.path_commands.specs.Rows.{ending_row, front_row, hart_row, message_row, run_row};
 
 use crate::ending::{Ending, EndingLines, verdict_text};
-use crate::lines::{FindingText, LateLine, RowCounts, RunsLine};
-use crate::table_rows::{AllFields, ByField, CamePayload, ResultRow, SentPayload, fate_field};
+use crate::lines::{ExchangedLine, FindingText, LateLine, RowCounts, RunsLine};
+use crate::table_rows::{
+    AllFields, ByField, CamePayload, ExchangedRow, ResultRow, SentPayload, fate_field,
+};
 use auditing::{Finding, HartRow, Lost};
 use command_inputs::Format;
 use std::fmt;
@@ -21,7 +23,7 @@ impl fmt::Display for FrontRow {
         match self.0 {
             Format::Csv => f.write_str(
                 "kind,place,offset,hart,number,last,fate,by,sent_payload,came_payload,sent,came,lost,repeated,late,\
-                changed,strange,runs,longest_run,most_late,verdict\n",
+                changed,strange,runs,longest_run,most_late,verdict,missing\n",
             ),
             Format::Text | Format::Other => f.write_str(""),
         }
@@ -62,7 +64,7 @@ impl fmt::Display for MessageRow<'_> {
                     came: self.came,
                 };
                 write!(f, "message,{place},,{hart},{number},,{fate},")?;
-                write!(f, "{by},{sent},{came},,,,,,,,,,,\n")
+                write!(f, "{by},{sent},{came},,,,,,,,,,,,\n")
             }
             Format::Text | Format::Other => {
                 let text = FindingText {
@@ -92,7 +94,7 @@ impl fmt::Display for LostRow {
         let first = self.run.first;
         let last = self.run.last;
         match self.format {
-            Format::Csv => write!(f, "run,,,{hart},{first},{last},,,,,,,,,,,,,,,\n"),
+            Format::Csv => write!(f, "run,,,{hart},{first},{last},,,,,,,,,,,,,,,,\n"),
             Format::Text | Format::Other => {
                 if first == last {
                     write!(f, "hart {hart}: number {first} lost\n")
@@ -130,9 +132,14 @@ impl fmt::Display for CountsRow {
                 let changed = self.row.tally.changed;
                 let strange = self.row.strange;
                 let verdict = verdict_text(self.row.tally.whole);
+                let missing = lost.saturating_sub(changed);
+                let other = ExchangedRow {
+                    hart,
+                    exchanged: self.row.exchanged,
+                };
                 write!(f, "hart,,,{hart},,,,,,,{sent},{came},{lost},")?;
                 write!(f, "{repeated},{late},{changed},{strange},")?;
-                write!(f, "{runs},{longest},{latest},{verdict}\n")
+                write!(f, "{runs},{longest},{latest},{verdict},{missing}\n{other}")
             }
             Format::Text | Format::Other => {
                 let counts = RowCounts { row: self.row };
@@ -142,7 +149,11 @@ impl fmt::Display for CountsRow {
                     longest,
                 };
                 let late = LateLine { hart, latest };
-                write!(f, "hart {hart}: {counts}{lost}{late}")
+                let other = ExchangedLine {
+                    hart,
+                    exchanged: self.row.exchanged,
+                };
+                write!(f, "hart {hart}: {counts}{lost}{late}{other}")
             }
         }
     }

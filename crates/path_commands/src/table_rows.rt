@@ -4,10 +4,11 @@ ghost use Rattle.std.specs.Prelude.{◌≡◌, Some, option_map};
 ghost use Rattle.path_commands.specs.AuditRows.{all_fields, by_field, bytes_fields, came_field, fate_field};
 ghost use Rattle.path_commands.specs.AuditRows.{headers_field, result_fields, sent_field};
 ghost use Rattle.output.specs.Fields.{fields_line};
+ghost use Rattle.path_commands.specs.Rows.{exchanged_row};
 
 use crate::ending::verdict_text;
 use crate::total::Total;
-use auditing::Finding;
+use auditing::{Exchanged, Finding};
 use output::{Digits, Number};
 use std::fmt;
 
@@ -94,7 +95,30 @@ impl fmt::Display for BytesRow {
     fn fmt<W: fmt::Write>(&self, f: &mut fmt::Formatter<W>) -> fmt::Result {
         let offset = self.offset;
         let count = self.count;
-        write!(f, "bytes,,{offset},,,,,{count},,,,,,,,,,,,,\n")
+        write!(f, "bytes,,{offset},,,,,{count},,,,,,,,,,,,,,\n")
+    }
+}
+
+/// The row of the hart whose most of a hart's messages are that are not true, if there is one.
+#[derive(Clone, Copy)]
+pub(crate) struct ExchangedRow {
+    pub(crate) hart: usize,
+    pub(crate) exchanged: Option<Exchanged>,
+}
+
+impl fmt::Display for ExchangedRow {
+    ghost output = { λ row. Some (exchanged_row row.hart row.exchanged) };
+
+    fn fmt<W: fmt::Write>(&self, f: &mut fmt::Formatter<W>) -> fmt::Result {
+        let hart = self.hart;
+        match self.exchanged {
+            Some(its) => {
+                let other = its.hart;
+                let count = its.count;
+                write!(f, "exchanged,,,{hart},{other},,,{count},,,,,,,,,,,,,,\n")
+            }
+            None => f.write_str(""),
+        }
     }
 }
 
@@ -114,8 +138,12 @@ impl fmt::Display for AllFields {
         let changed = self.0.changed;
         let strange = self.0.strange;
         let verdict = verdict_text(self.0.whole);
+        let missing = lost.saturating_sub(changed);
         write!(f, "all,,,,,,,,,,{sent},{came},{lost},")?;
-        write!(f, "{repeated},{late},{changed},{strange},,,,{verdict}\n")
+        write!(
+            f,
+            "{repeated},{late},{changed},{strange},,,,{verdict},{missing}\n"
+        )
     }
 }
 
@@ -151,7 +179,7 @@ impl fmt::Display for ResultRow {
         let runs = Number(self.runs);
         let verdict = verdict_text(self.whole);
         write!(f, "result,{messages},,,{first},,{headers},{bytes},,,")?;
-        write!(f, ",,,,,,{strangers},{runs},,,{verdict}\n")
+        write!(f, ",,,,,,{strangers},{runs},,,{verdict},\n")
     }
 }
 

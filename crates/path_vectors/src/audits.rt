@@ -20,7 +20,7 @@ fn add_word(case: &mut Case<'_>, list: &mut Vec<Message>, word: &str) {
 }
 
 /// The messages of an argument, with commas between them.
-fn messages_in(case: &mut Case<'_>, name: &str) -> Vec<Message> {
+pub(crate) fn messages_in(case: &mut Case<'_>, name: &str) -> Vec<Message> {
     let mut list = Vec::new(case.alloc);
     for word in case.named(name).split(',') {
         if !word.is_empty() {
@@ -51,12 +51,14 @@ fn goes_on(before: Finding, next: Finding) -> bool {
 
 /// Appends what is found of so many messages in a row, by the first and the last of them.
 fn put_run(case: &mut Case<'_>, times: u64, first: Finding, last: Finding) {
-    let done = if first == last {
-        write!(case.came, "{times} x {first:?}\n")
-    } else {
-        write!(case.came, "{times} from {first:?} to {last:?}\n")
-    };
-    case.note(done);
+    case.put_shown(times);
+    case.put(if first == last { " x " } else { " from " });
+    case.put_debug(first);
+    if first != last {
+        case.put(" to ");
+        case.put_debug(last);
+    }
+    case.put("\n");
 }
 
 /// Appends what is found of messages, a line for those in a row that go on.
@@ -88,9 +90,10 @@ fn put_audit(case: &mut Case<'_>, audit: &mut Audit<'_>, received: &[Message]) {
         case.put_debug(audit.row(hart));
         case.put("\n");
     }
-    let (first, strangers) = (audit.first(), audit.strangers());
-    let done = write!(case.came, "first {first:?}, strangers {strangers}");
-    case.note(done);
+    case.put("first ");
+    case.put_debug(audit.first());
+    case.put(", strangers ");
+    case.put_shown(audit.strangers());
 }
 
 /// What is found of each message that came and of each hart, where the first fault shows, and how many strangers came.

@@ -1,8 +1,7 @@
-//! Captures that are made of a text's lines (`capture_lines`).
+//! Captures that are made of a text's lines (`captures`).
 
-use capture_lines::{LineFault, LinesFault, Settings, write_capture};
-use cases::{Case, text_of};
-use fault_injection::FailingWriter;
+use captures::{LineFault, LinesFault, Settings, write_capture};
+use cases::{Case, FailingWriter, text_of};
 use message::Version;
 use payload::Mode;
 use std::alloc::AllocError;
@@ -84,18 +83,17 @@ pub(crate) fn line_fault(case: &mut Case<'_>) {
     case.put_shown(LinesFault::Line { line, why });
 }
 
-/// Adds so many lines, of harts 0 to 1,023 over and over. Each has its number, or none has.
-fn add_lines(text: &mut String, lines: u64, is_numbered: bool) -> Result<(), AllocError> {
+/// Appends so many lines, of harts 0 to 1,023 over and over. Each has its number, or none has.
+fn put_lines(text: &mut Case<'_>, lines: u64, is_numbered: bool) {
     for place in 0..lines {
         let hart = place % 1024;
         let number = place / 1024;
         if is_numbered {
-            write!(text, "{hart} {number} 1f\n")?;
+            text.put_filled("# # 1f\n", &[hart, number]);
         } else {
-            write!(text, "{hart} 1f\n")?;
+            text.put_filled("# 1f\n", &[hart]);
         }
     }
-    Ok(())
 }
 
 /// Adds the capture of these lines: the header of 1,024 harts, and a message for each line.
@@ -117,8 +115,8 @@ pub(crate) fn long_lines(case: &mut Case<'_>) {
     let lines = case.number("lines", 0);
     let is_numbered = case.named("numbered") == "yes";
     let mut text = case.again();
-    let added = add_lines(&mut text.came, lines, is_numbered);
-    case.note(added);
+    put_lines(&mut text, lines, is_numbered);
+    case.join(&text);
     let mut wanted = Vec::new(case.alloc);
     let added = add_capture(&mut wanted, lines);
     case.note(added);

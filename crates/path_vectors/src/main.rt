@@ -1,12 +1,11 @@
-//! Cases of messages on their way, as lines of data files: captures that are made of lines, frames among damaged bytes,
-//! alignments, audits, and symbols.
+//! Cases as lines of data files: of messages on their way (captures that are made of lines, frames among damaged bytes,
+//! alignments, audits), of symbols, of the texts of logs and of schedules, and of stimulus.
 //!
 //! A case is a verb and its arguments, most of them `NAME=VALUE`. The files of cases say what each verb does.
 #![tactic(auto)]
 
 mod alignments;
 mod audits;
-mod damages;
 mod fates;
 mod lines;
 mod lists;
@@ -14,6 +13,8 @@ mod naming;
 mod paths;
 mod salvages;
 mod spans;
+mod stimuli;
+mod texts;
 mod verbs;
 
 use crate::verbs::PathVerbs;

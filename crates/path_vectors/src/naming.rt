@@ -33,15 +33,16 @@ fn symbols_of(case: &mut Case<'_>, count: u64) -> Option<Symbols> {
     for left in 0..count {
         let number = count.saturating_sub(1).saturating_sub(left);
         let kind = match number % 5 {
-            0 => "t",
-            1 => "T",
-            2 => "w",
-            3 => "W",
-            _ => "D",
+            0 => " t",
+            1 => " T",
+            2 => " w",
+            3 => " W",
+            _ => " D",
         };
         let address = BASE.wrapping_add(number.wrapping_mul(4));
-        let done = write!(file.came, "{address:x} {kind} s{number}\n");
-        file.note(done);
+        file.put_hex(address);
+        file.put(kind);
+        file.put_filled(" s#\n", &[number]);
     }
     case.join(&file);
     Symbols::new(case.alloc, case.copied(file.came.as_bytes())).ok()
@@ -57,17 +58,12 @@ fn put_sized(case: &mut Case<'_>, symbols: &Symbols, count: u64, number: u64) {
         last
     };
     let distance = number.saturating_sub(symbol).wrapping_mul(4);
-    let mut wanted = case.again();
-    let done = write!(wanted.came, "at <s{symbol}+{distance:x}>");
-    wanted.note(done);
-    case.join(&wanted);
-    let mut found = case.again();
-    put_symbol(
-        &mut found,
-        symbols,
-        BASE.wrapping_add(number.wrapping_mul(4)),
-    );
-    case.put_other(wanted.came.as_str(), &found, wanted.came.as_str());
+    case.put_filled("at <s#+", &[symbol]);
+    case.put_hex(distance);
+    case.put(">");
+    case.end_hidden_way();
+    put_symbol(case, symbols, BASE.wrapping_add(number.wrapping_mul(4)));
+    case.end_way("wanted otherwise");
 }
 
 /// `same`, or how other places of a file with so many symbols are named: of the first 200, the last 200 and the one after.

@@ -1,10 +1,10 @@
-//! What is said of messages that carry no numbers (`path_match`).
+//! What is said of messages that carry no numbers (`auditing`).
 
-use cases::{Case, add_message, bytes_of};
-use message::{Message, NoProgress};
-use path_match::{
+use auditing::{
     Alignment, Line, SentPayloads, aligned_harts, arrival_lines, counts_of, lines_by_hart, total_of,
 };
+use cases::{Case, add_message, bytes_of};
+use message::{Message, NoProgress};
 use payload::By;
 use std::alloc::{AllocError, Global};
 
@@ -45,8 +45,10 @@ fn put_counts(case: &mut Case<'_>, all: &[Alignment]) {
         times = times.saturating_add(1);
         let next = all.get(hart.saturating_add(1));
         if !next.is_some_and(|next| counts_of(next) == counts) {
-            let done = write!(case.came, "{times} x {counts:?}\n");
-            case.note(done);
+            case.put_shown(times);
+            case.put(" x ");
+            case.put_debug(counts);
+            case.put("\n");
             times = 0;
         }
     }
@@ -66,8 +68,8 @@ fn put_lines(case: &mut Case<'_>, path: Path<'_>, lines: &[Line]) {
         Err(_) => case.no_memory(),
     }
     for line in lines {
-        let done = write!(case.came, "{line:?}\n");
-        case.note(done);
+        case.put_debug(line);
+        case.put("\n");
     }
 }
 

@@ -38,7 +38,7 @@ fn put_treated(case: &mut Case<'_>, capture: &[u8], treated: &[Treated]) {
     let mut text = Vec::new(case.alloc);
     let form = match case.named("form") {
         "table" => Form::Table,
-        _ => Form::Lines,
+        _ => Form::Lines { rows: false },
     };
     let capture = TreatedCapture {
         header: None,
@@ -77,7 +77,7 @@ pub(crate) fn treat(case: &mut Case<'_>) {
 /// Appends the table of what is salvaged.
 fn put_salvaged(case: &mut Case<'_>, capture: &[u8], found: &Found) {
     let mut table = Vec::new(case.alloc);
-    if write_found(case.alloc, Layout::Table, found, capture, &mut table).is_err() {
+    if write_found(case.alloc, Layout::Table, None, found, capture, &mut table).is_err() {
         case.no_memory();
     }
     case.put_text(table.as_slice());

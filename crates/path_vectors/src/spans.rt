@@ -16,21 +16,32 @@ pub(crate) fn bytes_in(case: &mut Case<'_>) -> Vec<u8> {
     bytes
 }
 
+/// Appends a line with a place, and the hart, the number and the payload of the message there.
+pub(crate) fn put_message(
+    case: &mut Case<'_>,
+    offset: usize,
+    (hart, number): (u16, u64),
+    payload: &[u8],
+) {
+    case.put_filled("#: #.#:", &[offset as u64, u64::from(hart), number]);
+    case.put_digits(payload);
+    case.put("\n");
+}
+
+/// Appends a line with a place, and how many bytes there are of no message.
+pub(crate) fn put_bytes(case: &mut Case<'_>, offset: usize, count: usize) {
+    case.put_filled("#: # bytes\n", &[offset as u64, count as u64]);
+}
+
 /// Appends the line of a span.
-fn put_span(case: &mut Case<'_>, span: &Span) {
+pub(crate) fn put_span(case: &mut Case<'_>, span: &Span) {
     match span {
         Span::Frame { offset, message } => {
-            let (hart, number) = (message.hart, message.number);
-            let done = write!(case.came, "{offset}: {hart}.{number}:");
-            case.note(done);
-            case.put_digits(message.payload.bytes());
+            let own = (message.hart, message.number);
+            put_message(case, *offset, own, message.payload.bytes());
         }
-        Span::Bytes { offset, count } => {
-            let done = write!(case.came, "{offset}: {count} bytes");
-            case.note(done);
-        }
+        Span::Bytes { offset, count } => put_bytes(case, *offset, *count),
     }
-    case.put("\n");
 }
 
 /// The spans of bytes from a place on, a line each: offset and message, or the count of bytes that are of none.

@@ -1,19 +1,43 @@
 //! The verbs.
 
-use crate::{alignments, audits, damages, fates, lines, naming, paths, salvages, spans};
+use crate::{alignments, audits, fates, lines, naming, paths, salvages, spans, stimuli, texts};
 use cases::{Case, Verbs};
 
 /// The verbs of this program.
 #[derive(Drop)]
 pub(crate) struct PathVerbs;
 
+/// Plays a case of stimulus.
+fn play_stimulus(case: &mut Case<'_>, verb: &str) {
+    match verb {
+        "image-sum" => stimuli::image_sum_case(case),
+        "log-rows" => stimuli::log_rows_case(case),
+        "log-sum" => stimuli::log_sum_case(case),
+        "log-comes" => stimuli::log_comes_case(case),
+        "mixed-capture" => stimuli::mixed_capture_case(case),
+        _ => case.unread(),
+    }
+}
+
+/// Plays a case of the text of a log or of a schedule.
+fn play_text(case: &mut Case<'_>, verb: &str) {
+    match verb {
+        "text-line" => texts::line_case(case),
+        "read" => texts::read_case(case),
+        "read-most" => texts::read_most_case(case),
+        "write" => texts::write_case(case),
+        "schedule" => texts::schedule_case(case),
+        _ => play_stimulus(case, verb),
+    }
+}
+
 /// Plays cases that are drawn, or made by a rule.
 fn play_rule(case: &mut Case<'_>, verb: &str) {
     match verb {
-        "damages" => damages::damages(case),
+        "guided" => fates::guided(case),
         "fates" => fates::fates(case),
         "sized" => naming::sized(case),
-        _ => case.unread(),
+        _ => play_text(case, verb),
     }
 }
 

@@ -9,8 +9,8 @@ use Rattle.message.specs.Range.{selects}
 use Rattle.message.specs.declared.range.HartRange.{HartRange}
 use Rattle.output.specs.Begun.{AppendsBeginning}
 use Rattle.output.proofs.Beginnings.{begun_between}
-use Rattle.capture_index.proofs.HartTexts.{joined-append, joined-snoc}
-use Rattle.capture_index.specs.EachHart.{each_hart, hart_line, joined_harts, numbered_harts}
+use Rattle.parallel_decode.proofs.HartTexts.{joined-append, joined-snoc}
+use Rattle.parallel_decode.specs.EachHart.{each_hart, hart_line, joined_harts, numbered_harts}
 use Rattle.salvage_reports.specs.HartItems.{items_of}
 
 -- No more than the harts up to the last have one.

@@ -1,6 +1,8 @@
 pub mod HartLists
 mod OffsetLists
 pub mod OwnSpans
+pub mod CappedSums
+pub mod RangeOf
 pub mod PartTexts
 pub mod SameTexts
 pub mod FoundBehind

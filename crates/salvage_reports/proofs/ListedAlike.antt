@@ -1,5 +1,5 @@
 -- An undamaged capture is listed alike with what salvaging does and without it.
-use Rattle.std.proofs.Common.{◌≡◌, ◌++◌, ◌+◌, ℕ, All, Bool, true, List, [], ◌∷◌, Option, Some, None, codes, drop}
+use Rattle.std.proofs.Common.{◌≡◌, ◌++◌, ◌+◌, ℕ, All, Bool, true, false, List, [], ◌∷◌, Option, Some, None, codes, drop}
 use Rattle.std.proofs.Common.{drop_at, length, map, refl, sym, ap, subst, ◌∙◌}
 use Rattle.std.specs.List.{last_or}
 use Rattle.std.proofs.lemmas.List.{append-nil}
@@ -53,13 +53,13 @@ last_more before (first ∷ packets) packet = last_more (Some first) packets pac
 
 -- The lines of all of these spans.
 abbrev lines_of : Option (List ℕ) → Mode → ℕ → List Span → List Treated → List ℕ
-lines_of symbols named at spans treated = spans_text Lines (λ span. true) symbols named at spans treated
+lines_of symbols named at spans treated = spans_text (Lines false) (λ span. true) symbols named at spans treated
 
 module _ (symbols : Option (List ℕ)) (named : Mode) (words : Words) (harts : ℕ) where
   -- The line of a message that is taken with its effect is the one that a listing has.
   line_alike : (offset : ℕ) (front : List Message) (message : Message) (effect : Effect) → IsNext harts front message
       → HasEffect words front message effect
-      → treated_line symbols named offset message (taken_with effect) ≡ effect_line symbols named offset message effect
+      → treated_line symbols named offset message (taken_with effect) ≡ effect_line false symbols named offset message effect
   line_alike offset front message effect next has =
       let packets = packets_of message.hart front in
       let more = packets_of-next front message next.packet next.read in
@@ -69,20 +69,26 @@ module _ (symbols : Option (List ℕ)) (named : Mode) (words : Words) (harts : �
       let closes_too : read_closes (reading message.payload) ≡ effect.closes =
       ap read_closes next.read ∙ sym (has.closing ∙ ap last_is_closing more ∙ last_is_closing-next packets next.packet)
       in
-      let text = taken_have_their_effect symbols (reading message.payload) effect.added
-      ∙ ap (λ w. effect_text symbols (record {
+      let text = taken_have_their_effect symbols (reading message.payload) effect.rows effect.added
+      ∙ ap (λ w. effect_text false symbols (record {
         added = effect.added;
+        rows = effect.rows;
         waits = w;
         closes = read_closes (reading message.payload);
       })) waits_too
-      ∙ ap (λ c. effect_text symbols (record { added = effect.added; waits = effect.waits; closes = c })) closes_too in
+      ∙ ap (λ c. effect_text false symbols (record {
+        added = effect.added;
+        rows = effect.rows;
+        waits = effect.waits;
+        closes = c;
+      })) closes_too in
       ap (λ l. message_text named offset message ++ (codes " => " ++ (l ++ codes "\n"))) text
 
   lines_alike : (at offset : ℕ) (front messages : List Message) (effects : List Effect)
       → AreAccepted (newcomers harts) front → AreAccepted (expected_after (newcomers harts) front) messages
       → HaveEffects words front messages effects
       → lines_of symbols named at (frames_from offset messages) (map taken_with effects)
-      ≡ placed_entries Lines symbols named (placed at offset messages) effects
+      ≡ placed_entries (Lines false) symbols named (placed at offset messages) effects
   lines_alike at offset front [] effects before all have = refl
   lines_alike at offset front (message ∷ messages) [] before all have = absurd have
   lines_alike at offset front (message ∷ messages) (effect ∷ effects) before all have =
@@ -91,7 +97,7 @@ module _ (symbols : Option (List ℕ)) (named : Mode) (words : Words) (harts : �
       (accepted_next harts front before message all.0) (accepted_rest harts front message messages all) have.1 in
       ap (λ l. l ++ lines_of symbols named (at + 1) (frames_from here messages) (map taken_with effects))
       (line_alike offset front message effect (is_next harts front before message all.0) have.0)
-      ∙ ap (λ l. effect_line symbols named offset message effect ++ l) later
+      ∙ ap (λ l. effect_line false symbols named offset message effect ++ l) later
 
 -- After its header a capture is the bytes of its messages.
 pub after_header : (bytes : List ℕ) (header : Option Header) (messages : List Message)
@@ -114,7 +120,7 @@ module _ (words : Words) (mode : Mode) (symbols : Option (List ℕ)) (bytes : Li
   -- What is listed of messages of all harts.
   abbrev Listed : ℕ → Option Mode → ℕ → List ℕ → List ℕ → List Bool → Type 0
   Listed harts announced offset rest text closed =
-      AreMessagesListed words Lines every_hart harts announced symbols offset rest closed None text
+      AreMessagesListed words (Lines false) every_hart harts announced symbols offset rest closed None text
 
   -- The text of what is listed up to the end of the bytes.
   whole_lines : (harts : ℕ) (announced : Option Mode) (offset : ℕ) (rest text : List ℕ) (closed : List Bool)
@@ -129,11 +135,11 @@ module _ (words : Words) (mode : Mode) (symbols : Option (List ℕ)) (bytes : Li
       let have = subst (λ ms. HaveEffects words [] ms effects) all listed.have in
       let taken = accepted_taken words mode harts messages effects treated program accepted have are in
       let named = naming_mode announced in
-      let lines = placed_entries Lines symbols named (placed_of every_hart 0 offset listed.messages) effects in
+      let lines = placed_entries (Lines false) symbols named (placed_of every_hart 0 offset listed.messages) effects in
       ap (lines_of symbols named 0 (frames_from offset messages)) taken
       ∙ lines_alike symbols named words harts 0 offset [] messages effects tt accepted have
-      ∙ ap (λ ms. placed_entries Lines symbols named (placed 0 offset ms) effects) (sym same)
-      ∙ ap (λ shown. placed_entries Lines symbols named shown effects)
+      ∙ ap (λ ms. placed_entries (Lines false) symbols named (placed 0 offset ms) effects) (sym same)
+      ∙ ap (λ shown. placed_entries (Lines false) symbols named shown effects)
       (sym (all_placed 0 offset listed.messages listed.ranges))
       ∙ sym (append-nil lines)
       ∙ ap (λ l. lines ++ l) (sym listed.last_entry)
@@ -158,10 +164,10 @@ module _ (words : Words) (mode : Mode) (harts : ℕ) (symbols : Option (List ℕ
   AlikeWith header =
       IsWhole bytes header messages → All (IsFrame (known_harts header)) messages
       → AreTreated words mode (harts_counted (Some harts) header bytes) messages treated
-      → treated_text Lines symbols header (spans_of header bytes) treated ≡ text
+      → treated_text (Lines false) symbols header (spans_of header bytes) treated ≡ text
 
   alike_with : (announced : Option Mode) (rest lines : List ℕ) (found header : Option Header)
-      → (listed : AreMessagesListed words Lines every_hart (harts_counted (Some harts) found bytes) announced symbols
+      → (listed : AreMessagesListed words (Lines false) every_hart (harts_counted (Some harts) found bytes) announced symbols
       (first_place found) rest closed None lines)
       → naming_mode announced ≡ mode_of found → BeginsWith found bytes rest → text ≡ start_line found ++ lines
       → AlikeWith header

@@ -43,12 +43,18 @@ one_effect words front message packet log more described =
     let earlier = join (settled_pieces packets described.pieces) in
     let added = before.1.rest in
     record {
-      effect = record { added = added; waits = last_is_waiting all; closes = last_is_closing all };
+      effect = record {
+        added = added;
+        rows = length (earlier ++ added);
+        waits = last_is_waiting all;
+        closes = last_is_closing all;
+      };
       has = record {
         earlier = earlier;
         described_before = before.0;
         described = subst (λ ps. Describes words ps (earlier ++ added)) (sym more)
             (subst (Describes words (packets ++ packet ∷ [])) before.1.is described);
+        counted = refl;
         waiting = refl;
         closing = refl;
       };

@@ -28,6 +28,8 @@ use Rattle.salvage_reports.specs.SalvagedItems as row
 use Rattle.salvage_reports.specs.declared.salvaged_items.Counted.TheVariants as counted
 use Rattle.salvage_reports.specs.declared.salvaged_items.Item.{Item}
 use Rattle.salvage_reports.specs.declared.salvaged_items.Item.TheVariants as item
+use Rattle.salvage_reports.specs.declared.salvaged_items.Total.{Total}
+use Rattle.salvage_reports.specs.declared.salvaged_items.Total.TheVariants as total
 
 zeros_plain : (count : ℕ) → IsPlain (replicate count 48)
 zeros_plain zero = refl
@@ -45,6 +47,19 @@ mode_plain Full = refl
 closed_plain : (closed : Bool) → IsPlain (row.closed_text closed)
 closed_plain true = refl
 closed_plain false = refl
+
+total_plain : (what : Total) → IsPlain (row.total_text what)
+total_plain total.Rows = refl
+total_plain total.Decoded = refl
+total_plain total.Passed = refl
+total_plain total.Far = refl
+total_plain total.Bad = refl
+total_plain total.Alone = refl
+total_plain total.Doubtful = refl
+total_plain total.Copies = refl
+total_plain total.Strangers = refl
+total_plain total.Late = refl
+total_plain total.Bytes = refl
 
 -- A byte that calls for no quotes is no quote.
 no_quote : (byte : ℕ) (b : Bool) → (byte == quote_mark) ≡ b → needs_byte default_writer byte ≡ false → b ≡ false
@@ -163,6 +178,9 @@ item_read (item.Run offset count) =
     (rw (decimal_plain count, offset_plain offset) refl)
 item_read (item.Strangers count) =
     plain_read (row.item_fields reason_text (item.Strangers count)) tt (rw (decimal_plain count) refl)
+item_read (item.All what count harts messages) =
+    plain_read (row.item_fields reason_text (item.All what count harts messages)) tt
+    (rw (decimal_plain count, total_plain what) refl)
 
 pub are_read_back : AreReadBack
 are_read_back = record { columns = plain_read row.columns tt refl; items = item_read }

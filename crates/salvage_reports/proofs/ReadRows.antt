@@ -68,8 +68,8 @@ done_written read treated =
     ∷ plain_field closes (taken_plain (read_closes read) one) i
     ∷ plain_field (treatment_field one) (word_plain one) i ∷ why_is one i
     ∷ plain_field (flag_field treated.late) (flag_plain treated.late) i ∷ []
-    ∷ plain_field (count_field one) (count_plain one) i ∷ plain_field first (place_plain (first_place one)) i
-    ∷ plain_field last (place_plain (last_place one)) i ∷ []
+    ∷ plain_field (count_field one) (count_plain one) i ∷ [] ∷ []
+    ∷ plain_field first (place_plain (first_place one)) i ∷ plain_field last (place_plain (last_place one)) i ∷ []
 
 pub are_rows_read_back : AreRowsReadBack
 are_rows_read_back = record {

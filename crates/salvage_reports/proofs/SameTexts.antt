@@ -6,12 +6,15 @@ use Rattle.frames.specs.declared.span.Span.{Span}
 use Rattle.message.specs.declared.range.HartRange.{HartRange}
 use Rattle.rvclass.specs.Image.{Image}
 use Rattle.salvaging.specs.declared.salvaged.SalvagedHart.{SalvagedHart}
+use Rattle.frames.specs.Search.{chosen}
 use Rattle.frames.specs.Start.{spans_of}
-use Rattle.capture_index.specs.EachHart.{joined_harts}
+use Rattle.parallel_decode.specs.EachHart.{joined_harts}
 use Rattle.salvage_reports.specs.Found.{IsFound}
+use Rattle.salvage_reports.specs.Frames.{messages_in}
 use Rattle.salvage_reports.specs.HartItems.{items_of}
 use Rattle.salvage_reports.specs.Layouts.{found_as, front_text, hart_text, report_on, rest_text, salvaged_as}
 use Rattle.salvage_reports.specs.Offsets.{offsets_in, offsets_or, own_offsets}
+use Rattle.salvage_reports.specs.Totals.{totals_text}
 use Rattle.salvage_reports.specs.declared.found.Found.{Found}
 use Rattle.salvage_reports.specs.declared.found_writing.Layout.{Layout}
 use Rattle.salvage_reports.proofs.HartLists.{one_of}
@@ -52,13 +55,17 @@ module _ (only : HartRange) (asked : Option ℕ) (program : Image) (bytes : List
       ap offsets_or own.1 ∙ is.frames.offsets hart own.0 own.1 ∙ offsets_chosen only hart spans here.selected
 
   -- In each layout.
-  pub text_same : (layout : Layout)
-      → found_as layout found bytes ≡ salvaged_as layout only found.header spans found.salvaged
-  text_same layout =
-      ap (λ (r : HartRange). report_on layout r found.header spans (own_offsets found.frames.offsets.items)
-      found.salvaged) is.only_is
-      ∙ ap (λ l. front_text layout ++ (l ++ rest_text layout spans found.salvaged.strangers))
-      (same_harts (λ hart own. hart_text layout found.header hart (own_offsets found.frames.offsets.items hart) own)
-      (λ hart own. hart_text layout found.header hart (offsets_in hart spans) own) only.first
+  pub text_same : (layout : Layout) (symbols : Option (List ℕ))
+      → found_as layout symbols found bytes ≡ salvaged_as layout symbols only found.header spans found.salvaged
+  text_same layout symbols =
+      ap (λ (r : HartRange). report_on layout symbols r found.header spans (length found.frames.messages.items)
+      (own_offsets found.frames.offsets.items) found.salvaged) is.only_is
+      ∙ ap (λ messages. report_on layout symbols only found.header spans (length messages)
+      (own_offsets found.frames.offsets.items) found.salvaged) is.frames.messages
+      ∙ ap (λ l. front_text layout ++ (l ++ (rest_text layout spans found.salvaged.strangers
+      ++ totals_text layout (items_of only found.salvaged.harts.items) spans found.salvaged.strangers
+      (length (messages_in (chosen only spans))))))
+      (same_harts (λ hart own. hart_text layout symbols found.header hart (own_offsets found.frames.offsets.items hart) own)
+      (λ hart own. hart_text layout symbols found.header hart (offsets_in hart spans) own) only.first
       (items_of only found.salvaged.harts.items)
-      (λ k own from within. ap (λ l. hart_text layout found.header k l own) (same_offsets k from within)))
+      (λ k own from within. ap (λ l. hart_text layout symbols found.header k l own) (same_offsets k from within)))

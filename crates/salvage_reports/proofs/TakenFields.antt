@@ -20,7 +20,7 @@ some event events = ne_eqb (length (event ∷ events)) 0 (λ e. absurd (omega (a
 fields_are : (written : List ℕ → List ℕ) (read : Result Packet PackFault) (events : List Event) (late : Bool)
     → done_fields written read (record { treatment = treatment_of (Adds events); late = late })
     ≡ flag_field (read_waits read) ∷ flag_field (read_closes read) ∷ codes "taken" ∷ written [] ∷ flag_field late ∷ []
-    ∷ decimal (length events) ∷ place_field (first_of events) ∷ place_field (last_of events) ∷ []
+    ∷ decimal (length events) ∷ [] ∷ [] ∷ place_field (first_of events) ∷ place_field (last_of events) ∷ []
 fields_are written read [] late = refl
 fields_are written read (event ∷ events) late = rw (some event events) refl
 

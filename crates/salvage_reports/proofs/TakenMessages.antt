@@ -14,4 +14,4 @@ places_are symbols (event ∷ []) = refl
 places_are symbols (event ∷ next ∷ rest) = refl
 
 pub taken_have_their_effect : TakenHaveTheirEffect
-taken_have_their_effect symbols read events = ap (λ text. text ++ ending_text read) (places_are symbols events)
+taken_have_their_effect symbols read rows events = ap (λ text. text ++ ending_text read) (places_are symbols events)

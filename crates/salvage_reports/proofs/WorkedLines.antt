@@ -61,7 +61,7 @@ treated =
     ∷ in_time treatment.Copy ∷ late (treatment.Bad (Packet Unsupported)) ∷ in_time treatment.Doubtful
     ∷ late treatment.Passed ∷ in_time treatment.Alone ∷ in_time treatment.Stranger ∷ []
 
-each_word : spans_text Lines (λ span. true) None Differential 0 spans treated
+each_word : spans_text (Lines false) (λ span. true) None Differential 0 spans treated
     ≡ codes "00000010 0 0 open => nothing\n"
     ++ (codes "0000001c 0 1 sync addr=80000000 priv=3 branch=1 => 1 event, 80000000\n"
     ++ (codes "0000002c 0 2 address diff=8 map=- plain => nothing, waits, late\n"
@@ -77,7 +77,7 @@ unfolding digits extended magnitude
 each_word = refl
 
 -- With a header and symbols.
-with_a_header : treated_text Lines symbols (Some (record { mode = Full; period = 64; harts = 2 }))
+with_a_header : treated_text (Lines false) symbols (Some (record { mode = Full; period = 64; harts = 2 }))
     (Frame 16 (message 1 0 waiting) ∷ Frame 28 (message 1 1 closing) ∷ Frame 41 (message 1 2 closing) ∷ [])
     (in_time (treatment.Taken (record { count = 2; first = 0x8000_0000; last = 0x8000_0006 }))
     ∷ in_time (treatment.Bad (Closing 2)) ∷ late (treatment.Bad (Decode WrongPlace)) ∷ [])
@@ -89,6 +89,6 @@ unfolding digits extended magnitude
 with_a_header = refl
 
 -- A message with no treatment has no line.
-none_left : spans_text Lines (λ span. true) None Full 0 (Frame 0 (message 0 0 opening) ∷ Bytes 12 2 ∷ []) [] ≡ codes "0000000c bytes: 2\n"
+none_left : spans_text (Lines false) (λ span. true) None Full 0 (Frame 0 (message 0 0 opening) ∷ Bytes 12 2 ∷ []) [] ≡ codes "0000000c bytes: 2\n"
 unfolding digits
 none_left = refl

@@ -11,9 +11,12 @@ use Rattle.retire.specs.declared.event.Event.TheVariants.{Retire, Trap}
 use Rattle.salvaging.specs.LeftParts.{LeftPart, Missing, Events, BadNumber, DoubtfulNumber, AloneNumber}
 use Rattle.salvaging.specs.declared.reason.Reason.TheVariants.{Packet, Closing}
 use Rattle.salvage_reports.specs.Layouts.{part_text}
-use Rattle.salvage_reports.specs.SalvagedItems.{counted_of, run_of, said_of, strangers_of, text_if}
+use Rattle.salvage_reports.specs.SalvagedItems.{counted_of, item_text, run_of, said_of, strangers_of, text_if}
 use Rattle.salvage_reports.specs.declared.found_writing.Layout.TheVariants.{Summary, Table, Text}
 use Rattle.salvage_reports.specs.declared.salvaged_items.Counted.TheVariants.{Copies, Late}
+use Rattle.salvage_reports.specs.declared.salvaged_items.Item.{Item}
+use Rattle.salvage_reports.specs.declared.salvaged_items.Item.TheVariants as item
+use Rattle.salvage_reports.specs.declared.salvaged_items.Total.TheVariants as total
 
 -- A part of each kind, where the hart's messages are at these offsets.
 abbrev offsets : List ℕ
@@ -25,7 +28,7 @@ parts =
     ∷ BadNumber 13 0 (Closing 20) ∷ Missing 1 ∷ DoubtfulNumber 15 2 1 ∷ Missing 5
     ∷ Events 20 20 (Retire 0x8000_0008 0 3 ∷ []) ∷ BadNumber 21 2 (Packet BadPad) ∷ AloneNumber 24 1 ∷ []
 
-text_of_parts : flat_map (part_text Text 0 offsets) parts
+text_of_parts : flat_map (part_text Text None 0 offsets) parts
     ≡ codes "bad: number 0 at 0000001c: bad packet: Unsupported\n"
     ++ codes "stretch: 2 events, numbers 1 to 4\naddr,itype,priv,cause,tval\n80000000,0,3,,\n80000004,2,3,7,\n"
     ++ codes "bad: number 13 at 00000010: closing, but number 20 came\n"
@@ -36,7 +39,7 @@ unfolding digits
 text_of_parts = refl
 
 -- A summary has no rows.
-text_of_summary : flat_map (part_text Summary 0 offsets) parts
+text_of_summary : flat_map (part_text Summary None 0 offsets) parts
     ≡ codes "bad: number 0 at 0000001c: bad packet: Unsupported\nstretch: 2 events, numbers 1 to 4\n"
     ++ codes "bad: number 13 at 00000010: closing, but number 20 came\n"
     ++ codes "gap: 1 messages\ndoubtful: number 15 at 10000002c and 0000001c\ngap: 5 messages\n"
@@ -46,7 +49,7 @@ unfolding digits
 text_of_summary = refl
 
 -- The rows of the same parts of hart 2.
-rows_of_parts : flat_map (part_text Table 2 offsets) parts
+rows_of_parts : flat_map (part_text Table None 2 offsets) parts
     ≡ codes "bad,2,0,,,0000001c,,,,bad packet: Unsupported\nstretch,2,1,4,2,,,,,\n"
     ++ codes "bad,2,13,,,00000010,,,,\"closing, but number 20 came\"\n"
     ++ codes "gap,2,,,1,,,,,\ndoubtful,2,15,,,10000002c,0000001c,,,\ngap,2,,,5,,,,,\n"
@@ -84,3 +87,24 @@ line_of_one = refl
 line_of_many : text_if Text (strangers_of 1024) ≡ codes "strangers: 1024 messages\n"
 unfolding digits
 line_of_many = refl
+
+-- The last line of all harts, and the last rows.
+abbrev pieces : List Item
+pieces =
+    item.All total.Rows 28 2 14 ∷ item.All total.Decoded 7 2 14 ∷ item.All total.Passed 1 2 14
+    ∷ item.All total.Far 0 2 14 ∷ item.All total.Bad 2 2 14 ∷ item.All total.Alone 1 2 14
+    ∷ item.All total.Doubtful 2 2 14 ∷ item.All total.Copies 1 2 14 ∷ item.All total.Strangers 0 2 14
+    ∷ item.All total.Late 3 2 14 ∷ item.All total.Bytes 515 2 14 ∷ []
+
+line_of_all : flat_map (item_text Text) pieces
+    ≡ codes "all: 28 rows of 2 harts, 14 messages: 7 decoded, 1 passed, 0 far, 2 bad, 1 alone, 2 doubtful, "
+    ++ codes "1 copies, 0 strangers; 3 late, 515 bytes\n"
+unfolding digits
+line_of_all = refl
+
+rows_of_all : flat_map (item_text Table) pieces
+    ≡ codes "all,,,,28,,,,,rows\nall,,,,7,,,,,decoded\nall,,,,1,,,,,passed\nall,,,,0,,,,,far\nall,,,,2,,,,,bad\n"
+    ++ codes "all,,,,1,,,,,alone\nall,,,,2,,,,,doubtful\nall,,,,1,,,,,copies\nall,,,,0,,,,,strangers\n"
+    ++ codes "all,,,,3,,,,,late\nall,,,,515,,,,,bytes\n"
+unfolding digits
+rows_of_all = refl

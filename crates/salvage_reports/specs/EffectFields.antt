@@ -16,6 +16,6 @@ pub record TakenHaveTheirEffect : Type 0 where
   pub fields : (written : List ℕ → List ℕ) (read : Result Packet PackFault) (events : List Event) (late : Bool)
       → done_fields written read (record { treatment = treatment_of (Adds events); late = late })
       ≡ flag_field (read_waits read) ∷ flag_field (read_closes read) ∷ codes "taken" ∷ written [] ∷ flag_field late ∷ []
-      ∷ decimal (length events) ∷ place_field (first_of events) ∷ place_field (last_of events) ∷ []
+      ∷ decimal (length events) ∷ [] ∷ [] ∷ place_field (first_of events) ∷ place_field (last_of events) ∷ []
   pub first : (events : List Event) → first_place (treatment_of (Adds events)) ≡ first_of events
   pub last : (events : List Event) → last_place (treatment_of (Adds events)) ≡ last_of events

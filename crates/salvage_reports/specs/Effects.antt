@@ -1,5 +1,5 @@
 -- What a message adds is listed as a listing without damage says it.
-use Rattle.std.specs.Prelude.{ℕ, ◌≡◌, List, Option, Result}
+use Rattle.std.specs.Prelude.{ℕ, ◌≡◌, false, List, Option, Result}
 use Rattle.retire.specs.declared.event.Event.{Event}
 use Rattle.payload.specs.declared.fault.PackFault.{PackFault}
 use Rattle.payload.specs.declared.packet.Packet.{Packet}
@@ -11,6 +11,6 @@ use Rattle.salvage_reports.specs.Words.{word_text}
 
 -- The word for a message that adds events is the text of that effect in a listing.
 abbrev pub TakenHaveTheirEffect : Type 0
-TakenHaveTheirEffect = (symbols : Option (List ℕ)) (read : Result Packet PackFault) (events : List Event)
+TakenHaveTheirEffect = (symbols : Option (List ℕ)) (read : Result Packet PackFault) (rows : ℕ) (events : List Event)
     → word_text symbols read (treatment_of (Adds events))
-    ≡ effect_text symbols (record { added = events; waits = read_waits read; closes = read_closes read })
+    ≡ effect_text false symbols (record { added = events; rows = rows; waits = read_waits read; closes = read_closes read })

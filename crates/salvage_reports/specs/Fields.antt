@@ -55,5 +55,5 @@ abbrev pub done_fields : (List ℕ → List ℕ) → Result Packet PackFault →
 done_fields written read treated =
     taken_flag (read_waits read) treated.treatment ∷ taken_flag (read_closes read) treated.treatment
     ∷ treatment_field treated.treatment ∷ why_field written treated.treatment ∷ flag_field treated.late ∷ []
-    ∷ count_field treated.treatment ∷ place_field (first_place treated.treatment)
+    ∷ count_field treated.treatment ∷ [] ∷ [] ∷ place_field (first_place treated.treatment)
     ∷ place_field (last_place treated.treatment) ∷ []

@@ -2,6 +2,8 @@ pub mod MessagesLine
 pub mod HartItems
 pub mod Frames
 pub mod SalvagedItems
+pub mod StretchEnds
+pub mod Totals
 pub mod Layouts
 pub mod Damage
 pub mod Found

@@ -41,11 +41,11 @@ abbrev pub CapturesAreListedAlike : Type 0
 CapturesAreListedAlike =
     (words : Words) (mode : Mode) (harts : ℕ) (symbols : Option (List ℕ)) (bytes text : List ℕ) (closed : List Bool)
     (header : Option Header) (messages : List Message) (treated : List Treated)
-    → IsProgram words → IsListing words Lines every_hart harts symbols bytes closed None text
+    → IsProgram words → IsListing words (Lines false) every_hart harts symbols bytes closed None text
     → IsWhole bytes header messages
     → All (IsFrame (known_harts header)) messages
     → AreTreated words mode (harts_counted (Some harts) header bytes) messages treated
-    → treated_text Lines symbols header (spans_of header bytes) treated ≡ text
+    → treated_text (Lines false) symbols header (spans_of header bytes) treated ≡ text
 
 -- The messages of legal logs of one program, long ones among them, as an encoder writes them: those of each hart in
 -- order, one hart after the other. They have effects, and salvaging takes each of them with its effect, whatever mode is

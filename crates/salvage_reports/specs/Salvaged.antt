@@ -1,5 +1,5 @@
 -- What is written of what is salvaged of a capture that may be damaged.
-use Rattle.std.specs.Prelude.{ℕ, List, Option}
+use Rattle.std.specs.Prelude.{ℕ, List, Option, None}
 use Rattle.std.specs.declared.alloc.Global.{Global}
 use Rattle.message.specs.declared.range.HartRange.{HartRange}
 use Rattle.message.specs.declared.fault.MessageFault.{MessageFault}
@@ -19,4 +19,4 @@ pub record BeginsSalvaged (layout : Layout) (only : HartRange) (asked : Option �
   pub why : Option MessageFault
   pub salvaged : Salvaged Global
   pub found : IsSalvagedOf only asked program bytes header why salvaged
-  pub begun : AppendsBeginning (salvaged_as layout only header (spans_of header bytes) salvaged) old new
+  pub begun : AppendsBeginning (salvaged_as layout None only header (spans_of header bytes) salvaged) old new

@@ -1,7 +1,7 @@
 -- What the lines and the rows of a report on what is salvaged say.
 use Rattle.std.specs.Prelude.{ℕ, zero, suc, ◌++◌, Bool, true, false, List, [], ◌∷◌, Option, Some, None, codes, length}
 use Rattle.std.specs.Fmt.{decimal}
-use Rattle.capture_index.specs.EachHart.{hart_line}
+use Rattle.parallel_decode.specs.EachHart.{hart_line}
 use Rattle.captures.specs.Offsets.{bytes_line, offset_text}
 use Rattle.frames.specs.declared.span.Span.{Span}
 use Rattle.frames.specs.declared.span.Span.TheVariants.{Frame, Bytes}
@@ -20,6 +20,8 @@ use Rattle.salvage_reports.specs.declared.found_writing.Layout.TheVariants as la
 use Rattle.salvage_reports.specs.declared.salvaged_items.Counted.{Counted}
 use Rattle.salvage_reports.specs.declared.salvaged_items.Counted.TheVariants as counted
 use Rattle.salvage_reports.specs.declared.salvaged_items.Item.{Item}
+use Rattle.salvage_reports.specs.declared.salvaged_items.Total.{Total}
+use Rattle.salvage_reports.specs.declared.salvaged_items.Total.TheVariants as total
 use Rattle.salvage_reports.specs.declared.salvaged_items.Item.TheVariants as item
 
 -- The name of a mode.
@@ -43,15 +45,39 @@ counted_text counted.Gap = codes "gap"
 counted_text counted.Copies = codes "copies"
 counted_text counted.Late = codes "late"
 
+-- The name of what is counted of all harts.
+abbrev pub total_text : Total → List ℕ
+total_text total.Rows = codes "rows"
+total_text total.Decoded = codes "decoded"
+total_text total.Passed = codes "passed"
+total_text total.Far = codes "far"
+total_text total.Bad = codes "bad"
+total_text total.Alone = codes "alone"
+total_text total.Doubtful = codes "doubtful"
+total_text total.Copies = codes "copies"
+total_text total.Strangers = codes "strangers"
+total_text total.Late = codes "late"
+total_text total.Bytes = codes "bytes"
+
+-- A count of all harts, as a piece of their line; they are so many and have so many messages.
+abbrev pub total_piece : Total → ℕ → ℕ → ℕ → List ℕ
+total_piece total.Rows count harts messages = codes "all: " ++ (decimal count ++ codes " rows")
+total_piece total.Decoded count harts messages =
+    codes " of " ++ (decimal harts ++ (codes " harts, " ++ (decimal messages ++ (codes " messages: "
+    ++ (decimal count ++ codes " decoded")))))
+total_piece total.Late count harts messages = codes "; " ++ (decimal count ++ codes " late")
+total_piece total.Bytes count harts messages = codes ", " ++ (decimal count ++ codes " bytes\n")
+total_piece what count harts messages = codes ", " ++ (decimal count ++ (codes " " ++ total_text what))
+
 -- The line of an item: of a hart its number; the mode that the header says; how many events a stretch has, and its first
--- and its last number; a count of messages; a number, with where its messages are, and why it is bad; how many bytes belong
--- to no frame, and where the first is; or the count of strangers.
+-- and its last number, without the end of the line; a count of messages; a number, with where its messages are, and why
+-- it is bad; how many bytes belong to no frame, and where the first is; the count of strangers; or a piece of the line of all harts.
 abbrev pub item_line : Item → List ℕ
 item_line (item.Hart hart mode closed) = hart_line hart
 item_line (item.Said hart said) = said_line said
 item_line (item.Stretch hart first last count) =
     codes "stretch: " ++ (decimal count ++ (codes " events, numbers " ++ (decimal first ++ (codes " to "
-    ++ (decimal last ++ codes "\n")))))
+    ++ decimal last))))
 item_line (item.Messages hart what count) = messages_line (counted_text what) count
 item_line (item.Bad hart number offset why) =
     codes "bad: number " ++ (decimal number ++ (codes " at " ++ (offset_text offset
@@ -63,6 +89,7 @@ item_line (item.Alone hart number offset) =
     codes "alone: number " ++ (decimal number ++ (codes " at " ++ (offset_text offset ++ codes "\n")))
 item_line (item.Run offset count) = bytes_line offset count
 item_line (item.Strangers count) = messages_line (codes "strangers") count
+item_line (item.All what count harts messages) = total_piece what count harts messages
 
 -- The columns of the table.
 abbrev pub columns : List (List ℕ)
@@ -90,6 +117,8 @@ item_fields written (item.Run offset count) =
     codes "bytes" ∷ [] ∷ [] ∷ [] ∷ decimal count ∷ offset_text offset ∷ [] ∷ [] ∷ [] ∷ [] ∷ []
 item_fields written (item.Strangers count) =
     codes "strangers" ∷ [] ∷ [] ∷ [] ∷ decimal count ∷ [] ∷ [] ∷ [] ∷ [] ∷ [] ∷ []
+item_fields written (item.All what count harts messages) =
+    codes "all" ∷ [] ∷ [] ∷ [] ∷ decimal count ∷ [] ∷ [] ∷ [] ∷ [] ∷ total_text what ∷ []
 
 -- The field of why a message is bad. A reason that has a comma is between quotes.
 abbrev pub reason_field : Reason → List ℕ

@@ -32,7 +32,8 @@ treated_row symbols mode at offset message treated =
 abbrev pub run_fields : ℕ → ℕ → List (List ℕ)
 run_fields offset count =
     codes "bytes" ∷ [] ∷ offset_text offset ∷ [] ∷ [] ∷ [] ∷ [] ∷ [] ∷ [] ∷ [] ∷ [] ∷ [] ∷ [] ∷ [] ∷ [] ∷ [] ∷ [] ∷ [] ∷ []
-    ∷ [] ∷ [] ∷ [] ∷ [] ∷ [] ∷ [] ∷ decimal count ∷ [] ∷ [] ∷ [] ∷ [] ∷ [] ∷ [] ∷ [] ∷ []
+    ∷ [] ∷ [] ∷ [] ∷ [] ∷ [] ∷ [] ∷ decimal count ∷ [] ∷ [] ∷ [] ∷ [] ∷ [] ∷ [] ∷ [] ∷ [] ∷ []
+    ∷ []
 
 -- Their row.
 abbrev pub run_row : ℕ → ℕ → List ℕ

@@ -20,12 +20,12 @@ use Rattle.salvage_reports.specs.TreatedRows.{run_row, treated_row}
 
 -- The line or the row of a message with which this is done. So many messages come before it.
 abbrev pub message_text : Form → Option (List ℕ) → Mode → ℕ → ℕ → Message → Treated → List ℕ
-message_text Lines symbols mode at offset message treated = treated_line symbols mode offset message treated
+message_text (Lines rows) symbols mode at offset message treated = treated_line symbols mode offset message treated
 message_text Table symbols mode at offset message treated = treated_row symbols mode at offset message treated
 
 -- The line or the row of bytes that belong to no frame.
 abbrev pub run_text : Form → ℕ → ℕ → List ℕ
-run_text Lines offset count = run_line offset count
+run_text (Lines rows) offset count = run_line offset count
 run_text Table offset count = run_row offset count
 
 -- That of a span, where so many messages come before it and these are the treatments of the messages from it on. A message
@@ -60,7 +60,7 @@ spans_text form shows symbols mode at (span ∷ spans) treated =
 
 -- What comes before them: the line of the header, if there is one, or the names of the columns.
 abbrev pub front_text : Form → Option Header → List ℕ
-front_text Lines header = start_line header
+front_text (Lines rows) header = start_line header
 front_text Table header = fields_line columns
 
 -- The lines or the table of all frames and of the bytes between them.

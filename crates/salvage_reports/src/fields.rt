@@ -36,7 +36,7 @@ impl fmt::Display for DoneCells<'_> {
         let last = Place(last_place(treatment));
         write!(
             f,
-            "{waits},{closes},{word},{why},{late},,{count},{first},{last},"
+            "{waits},{closes},{word},{why},{late},,{count},,,{first},{last},"
         )
     }
 }

@@ -27,6 +27,8 @@ mod offsets;
 mod progress;
 mod salvaged_items;
 mod salvaged_writing;
+mod stretch_ends;
+mod totals;
 mod treated_messages;
 mod treated_writing;
 mod words;

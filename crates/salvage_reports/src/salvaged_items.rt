@@ -5,7 +5,7 @@ ghost use Rattle.output.specs.Fields.{fields_line};
 ghost use Rattle.salvaging.specs.PartsIn.{part_of};
 ghost use Rattle.salvage_reports.specs.SalvagedItems.{closed_text, columns, counted_of, counted_text, item_fields};
 ghost use Rattle.salvage_reports.specs.SalvagedItems.{item_line, item_of, mode_text, reason_field, run_of, said_line};
-ghost use Rattle.salvage_reports.specs.SalvagedItems.{said_of, strangers_of};
+ghost use Rattle.salvage_reports.specs.SalvagedItems.{said_of, strangers_of, total_piece, total_text};
 
 use crate::offsets::offset_at;
 use captures::Offset;
@@ -24,6 +24,33 @@ pub(crate) enum Counted {
     Copies,
     /// Its late messages.
     Late,
+}
+
+/// What is counted of all harts that a report is on.
+#[derive(Clone, Copy)]
+pub(crate) enum Total {
+    /// The rows of the stretches.
+    Rows,
+    /// The messages that are decoded.
+    Decoded,
+    /// The messages that are passed over.
+    Passed,
+    /// The far messages.
+    Far,
+    /// The bad messages.
+    Bad,
+    /// The messages that stand alone.
+    Alone,
+    /// The messages of doubtful numbers, without copies.
+    Doubtful,
+    /// The copies.
+    Copies,
+    /// The strangers.
+    Strangers,
+    /// The late messages.
+    Late,
+    /// The bytes that belong to no frame.
+    Bytes,
 }
 
 /// What a line or a row says.
@@ -82,6 +109,13 @@ pub(crate) enum Item {
     Strangers {
         count: u64,
     },
+    /// A count of all harts that a report is on, which are so many and have so many messages.
+    All {
+        what: Total,
+        count: u64,
+        harts: usize,
+        messages: usize,
+    },
 }
 
 /// The name of a mode.
@@ -122,6 +156,57 @@ fn counted_text(what: Counted) -> &'static str
     }
 }
 
+/// The name of what is counted of all harts.
+fn total_text(what: Total) -> &'static str
+    ensures { result.now ≡ total_text what }
+{
+    match what {
+        Total::Rows => "rows",
+        Total::Decoded => "decoded",
+        Total::Passed => "passed",
+        Total::Far => "far",
+        Total::Bad => "bad",
+        Total::Alone => "alone",
+        Total::Doubtful => "doubtful",
+        Total::Copies => "copies",
+        Total::Strangers => "strangers",
+        Total::Late => "late",
+        Total::Bytes => "bytes",
+    }
+}
+
+/// A count of all harts, as a piece of their line.
+#[derive(Clone, Copy)]
+struct TotalPiece {
+    what: Total,
+    count: u64,
+    harts: usize,
+    messages: usize,
+}
+
+impl fmt::Display for TotalPiece {
+    ghost output = { λ one. Some (total_piece one.what one.count one.harts one.messages) };
+
+    fn fmt<W: fmt::Write>(&self, f: &mut fmt::Formatter<W>) -> fmt::Result {
+        let TotalPiece {
+            what,
+            count,
+            harts,
+            messages,
+        } = *self;
+        match what {
+            Total::Rows => write!(f, "all: {count} rows"),
+            Total::Decoded => write!(f, " of {harts} harts, {messages} messages: {count} decoded"),
+            Total::Late => write!(f, "; {count} late"),
+            Total::Bytes => write!(f, ", {count} bytes\n"),
+            other => {
+                let name = total_text(other);
+                write!(f, ", {count} {name}")
+            }
+        }
+    }
+}
+
 /// The line of an item.
 #[derive(Clone, Copy)]
 pub(crate) struct ItemLine(pub(crate) Item);
@@ -139,7 +224,7 @@ impl fmt::Display for ItemLine {
                 last,
                 count,
                 ..
-            } => write!(f, "stretch: {count} events, numbers {first} to {last}\n"),
+            } => write!(f, "stretch: {count} events, numbers {first} to {last}"),
             Item::Messages { what, count, .. } => {
                 let name = counted_text(what);
                 write!(f, "{name}: {count} messages\n")
@@ -172,6 +257,20 @@ impl fmt::Display for ItemLine {
                 write!(f, "bytes: {count} at {at}\n")
             }
             Item::Strangers { count } => write!(f, "strangers: {count} messages\n"),
+            Item::All {
+                what,
+                count,
+                harts,
+                messages,
+            } => {
+                let piece = TotalPiece {
+                    what,
+                    count,
+                    harts,
+                    messages,
+                };
+                write!(f, "{piece}")
+            }
         }
     }
 }
@@ -266,6 +365,10 @@ impl fmt::Display for ItemRow {
                 write!(f, "bytes,,,,{count},{at},,,,\n")
             }
             Item::Strangers { count } => write!(f, "strangers,,,,{count},,,,,\n"),
+            Item::All { what, count, .. } => {
+                let name = total_text(what);
+                write!(f, "all,,,,{count},,,,,{name}\n")
+            }
         }
     }
 }

@@ -1,6 +1,6 @@
 //! Writing what is salvaged of a capture that may be damaged.
 
-ghost use Rattle.std.specs.Prelude.{◌≡◌, ◌⊎◌, Err, IfOk};
+ghost use Rattle.std.specs.Prelude.{◌≡◌, ◌⊎◌, Err, IfOk, None};
 ghost use Rattle.std.specs.Io.KnownBytes.{Appends, Keeps};
 ghost use Rattle.frames.specs.Start.{spans_of};
 ghost use Rattle.salvage_reports.specs.Found.{IsFound};
@@ -40,7 +40,7 @@ pub fn write_salvaged<V: WatchSalvage, O: Write>(
 ) -> Result<Found, WriteFault>
     ensures found { IfOk result (IsFound only harts program.now bytes.now) }
     ensures text { IfOk result (λ found. Appends (O.contents out.old) (O.contents out.new)
-        (salvaged_as layout only found.header (spans_of found.header bytes.now) found.salvaged)) }
+        (salvaged_as layout None only found.header (spans_of found.header bytes.now) found.salvaged)) }
     ensures begun { Keeps (O.contents out.old) (O.contents out.new)
         ⊎ BeginsSalvaged layout only harts program.now bytes.now (O.contents out.old) (O.contents out.new) }
     ensures untouched { result ≡ Err WriteFault.Memory → out.new ≡ out.old }
@@ -48,6 +48,6 @@ pub fn write_salvaged<V: WatchSalvage, O: Write>(
     let start = start_of(bytes);
     let count = harts_counted(harts, start.header, bytes);
     let found = find_salvaged(alloc, program, start, count, only, bytes, watch)?;
-    write_found(alloc, layout, &found, bytes, out)?;
+    write_found(alloc, layout, None, &found, bytes, out)?;
     Ok(found)
 }

@@ -52,7 +52,7 @@ pub(crate) fn write_message<S: Allocator, W: Write>(
     ensures fault { IfErr result (λ fault. fault ≡ WriteFault.Write) }
 {
     match form {
-        Form::Lines => write_line(symbols, one, sink),
+        Form::Lines { .. } => write_line(symbols, one, sink),
         Form::Table => write_row(symbols, one, sink),
     }
 }
@@ -134,7 +134,10 @@ impl fmt::Display for RunRow {
     fn fmt<W: fmt::Write>(&self, f: &mut fmt::Formatter<W>) -> fmt::Result {
         let offset = Offset(self.offset);
         let count = self.count;
-        write!(f, "bytes,,{offset},,,,,,,,,,,,,,,,,,,,,,,{count},,,,,,,\n")
+        write!(
+            f,
+            "bytes,,{offset},,,,,,,,,,,,,,,,,,,,,,,{count},,,,,,,,,\n"
+        )
     }
 }
 
@@ -151,7 +154,7 @@ pub(crate) fn write_run<W: Write>(
 {
     let first = Offset(offset);
     match form {
-        Form::Lines => write_text(sink, format_args!("{first} bytes: {count}\n"))?,
+        Form::Lines { .. } => write_text(sink, format_args!("{first} bytes: {count}\n"))?,
         Form::Table => write_text(sink, RunRow { offset, count })?,
     }
     Ok(())

@@ -100,7 +100,7 @@ fn write_front<W: Write>(form: Form, header: Option<Header>, sink: &mut W) -> Re
     ensures fault { IfErr result (λ fault. fault ≡ WriteFault.Write) }
 {
     match form {
-        Form::Lines => write_start(header, sink)?,
+        Form::Lines { .. } => write_start(header, sink)?,
         Form::Table => write_text(sink, Columns)?,
     }
     Ok(())

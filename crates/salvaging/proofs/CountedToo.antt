@@ -14,15 +14,18 @@ use Rattle.salvaging.specs.Leaving.{own_mode}
 use Rattle.salvaging.specs.PartsIn.{parts_in}
 use Rattle.salvaging.specs.Salvaged.{IsSalvaged, IsSalvagedHart}
 use Rattle.salvaging.specs.Shares.{Share, Adds, Passes, Spoils, StandsAlone, Doubts}
+use Rattle.salvaging.specs.Tallies.{good_count, passed}
 use Rattle.salvaging.specs.Strangers.{has_number, is_stranger, own_messages}
 use Rattle.salvaging.specs.TreatedCounts.{AreCountedAlike, AreCountedToo, is_alone_number, is_bad_number, is_own}
-use Rattle.salvaging.specs.TreatedCounts.{makes_alone, makes_bad, makes_copy, makes_stranger, own_of}
+use Rattle.salvaging.specs.TreatedCounts.{count_treated, makes_alone, makes_bad, makes_copy, makes_passed, makes_stranger}
+use Rattle.salvaging.specs.TreatedCounts.{makes_taken, own_of}
 use Rattle.salvaging.specs.Treatments.{AreTreated, HartTreats, IsTreated, Row, hart_rows, is_good_treatment, own_place}
 use Rattle.salvaging.specs.Treatments.{rows, stranger, treatment_of}
 use Rattle.salvaging.specs.declared.salvaged.SalvagedHart.{SalvagedHart}
 use Rattle.salvaging.specs.declared.salvaged.Salvaged.{Salvaged}
 use Rattle.salvaging.specs.declared.treatment.Treated.{Treated}
 use Rattle.salvaging.specs.declared.treatment.Treatment.{Treatment}
+use Rattle.salvaging.proofs.CountedOnce.{hart_once}
 use Rattle.salvaging.proofs.CountedRows.{AreTreatedBy, NoneDoubtful, as_many, count_cons, own_row}
 use Rattle.salvaging.proofs.CountedTotals.{sum_from, sum_of, total}
 use Rattle.salvaging.proofs.CutOnce.{cut_once}
@@ -32,9 +35,10 @@ use Rattle.salvaging.proofs.MarksCounted.{GoTogether, SuitAll, doubts_fail, hart
 use Rattle.salvaging.proofs.Members.{in_of_contains}
 use Rattle.salvaging.proofs.OneWay.{copies_once}
 use Rattle.salvaging.proofs.OwnTreated.{length-own, stands_among}
-use Rattle.salvaging.proofs.PartsTreated.{parts_treated}
+use Rattle.salvaging.proofs.PartsTreated.{hart_many, parts_treated}
 use Rattle.salvaging.proofs.TreatedAll.{others_own}
 use Rattle.salvaging.proofs.TreatedCopies.{row_share, treated_copies}
+use Rattle.salvaging.proofs.TreatedTallies.{doubts_none, good_shares, hart_passes, one_kind, rows_shares}
 
 -- As many rows are late as are counted.
 late_rows : (entries : List Entry) (treatments : List Treatment)
@@ -89,6 +93,45 @@ alone_together = record {
   taken = λ added. refl;
 }
 
+-- Two tests that go together count the same.
+count_same : {X Y : Type 0} (p : X → Bool) (q : Y → Bool) (xs : List X) (ys : List Y) → length xs ≡ length ys
+    → ((k : ℕ) (x : X) (y : Y) → slice_get xs k ≡ Some x → slice_get ys k ≡ Some y → p x ≡ q y)
+    → count_by p xs ≡ count_by q ys
+count_same p q [] [] long same = refl
+count_same p q [] (y ∷ ys) long same = absurd (omega (arith, long))
+count_same p q (x ∷ xs) [] long same = absurd (omega (arith, long))
+count_same p q (x ∷ xs) (y ∷ ys) long same =
+    let rest = count_same p q xs ys (omega (arith, long)) (λ k. same (suc k)) in
+    count_cons p x xs ∙ ap (λ b. cond b (suc (count_by p xs)) (count_by p xs)) (same 0 x y refl refl)
+    ∙ ap (λ n. cond (q y) (suc n) n) rest ∙ sym (count_cons q y ys)
+
+share_no_stranger : (share : Share) → makes_stranger (treatment_of share) ≡ false
+share_no_stranger (Adds events) = refl
+share_no_stranger Passes = refl
+share_no_stranger (Spoils why) = refl
+share_no_stranger StandsAlone = refl
+share_no_stranger Doubts = refl
+
+-- No message of a hart is a stranger.
+none_strange : (messages : List Message) (entries : List Entry) (shares : List Share) (treated : List Treated)
+    → AreTreatedBy messages (rows entries (map treatment_of shares)) treated → count_treated makes_stranger treated ≡ 0
+none_strange messages entries shares treated by =
+    count_same (λ (one : Treated). makes_stranger one.treatment) (λ (message : Message). false) treated messages by.long
+    (λ k one message done here. by_treated k message one (by.each k message one here done))
+    ∙ no_count messages
+  where
+    by_treated : (k : ℕ) (message : Message) (one : Treated)
+        → IsTreated messages (rows entries (map treatment_of shares)) k message one → makes_stranger one.treatment ≡ false
+    by_treated k message one (inl (like, is)) = ap (λ (t : Treated). makes_stranger t.treatment) is
+    by_treated k message one (inr (first, contains)) =
+        let row : Row = record { number = message.number; treated = one } in
+        let share = row_share entries shares row (in_of_contains (rows entries (map treatment_of shares)) row contains) in
+        ap makes_stranger share.1 ∙ share_no_stranger share.0
+
+    no_count : (messages : List Message) → count_by (λ (message : Message). false) messages ≡ 0
+    no_count [] = refl
+    no_count (message ∷ messages) = count_cons (λ (message : Message). false) message messages ∙ no_count messages
+
 module _ (words : Words) (program : IsProgram words) (mode : Mode) where
   -- Of one hart.
   hart_counted : {A : Type 0} (messages : List Message) (treated : List Treated) (hart : SalvagedHart A)
@@ -111,19 +154,46 @@ module _ (words : Words) (program : IsProgram words) (mode : Mode) where
       (hart_suits words program own treats.upto treats.beyond shares treats.are_shares) in
       let marks = (parts_treated words mode messages hart program salvaged treats).marks in
       let done = map treatment_of shares in
+      let long_shares = hart_many words program own treats.upto treats.beyond shares treats.are_shares
+      ∙ sym (ap length treats.cut.whole) in
+      let copies = copies_once messages _ hart.copies (treated_copies messages entries shares treated by)
+      salvaged.copies in
+      let bad = as_many (λ (one : Treated). makes_bad one.treatment) messages entries done treats.are_entries
+      (doubts_fail is_bad_number makes_bad bad_together entries shares suit) treated by refl
+      ∙ rows_of_parts is_bad_number makes_bad bad_together (parts_in hart.parts.items) entries shares marks suit in
+      let alone = as_many (λ (one : Treated). makes_alone one.treatment) messages entries done treats.are_entries
+      (doubts_fail is_alone_number makes_alone alone_together entries shares suit) treated by refl
+      ∙ rows_of_parts is_alone_number makes_alone alone_together (parts_in hart.parts.items) entries shares marks suit in
+      let passes = as_many (λ (one : Treated). makes_passed one.treatment) messages entries done treats.are_entries
+      (doubts_none makes_passed refl entries shares suit) treated by refl
+      ∙ rows_shares makes_passed entries shares long_shares in
+      let takes = as_many (λ (one : Treated). makes_taken one.treatment) messages entries done treats.are_entries
+      (doubts_none makes_taken refl entries shares suit) treated by refl
+      ∙ rows_shares makes_taken entries shares long_shares in
+      let passed_is = passes
+      ∙ hart_passes words program own treats.upto treats.beyond shares treats.are_shares salvaged.goods goods
+      ∙ ap (λ es. passed false 0 es salvaged.goods) (sym treats.cut.whole ∙ sym same)
+      ∙ sym salvaged.tallied.passed in
+      let good = good_shares shares in
+      let goods_count = ap good_count goods in
+      let tallied = salvaged.tallied.decoded in
+      let decoded : count_treated makes_taken treated ≡ hart.decoded =
+      omega (arith, takes, good, goods_count, tallied, passes, passed_is) in
+      let counted = hart_once words mode messages hart salvaged in
+      let kinds_are = one_kind treated in
+      let no_stranger = none_strange messages entries shares treated by in
+      let long = by.long in
       record {
-        copies = copies_once messages _ hart.copies (treated_copies messages entries shares treated by) salvaged.copies;
+        copies = copies;
         late = as_many (λ (one : Treated). one.late) messages entries done treats.are_entries
             (none_doubtful_late entries done) treated by refl
             ∙ late_rows entries done ∙ sym (ap (late entries) goods) ∙ sym (ap (λ es. late es salvaged.goods) same)
             ∙ sym salvaged.late;
-        bad = as_many (λ (one : Treated). makes_bad one.treatment) messages entries done treats.are_entries
-            (doubts_fail is_bad_number makes_bad bad_together entries shares suit) treated by refl
-            ∙ rows_of_parts is_bad_number makes_bad bad_together (parts_in hart.parts.items) entries shares marks suit;
-        alone = as_many (λ (one : Treated). makes_alone one.treatment) messages entries done treats.are_entries
-            (doubts_fail is_alone_number makes_alone alone_together entries shares suit) treated by refl
-            ∙ rows_of_parts is_alone_number makes_alone alone_together (parts_in hart.parts.items) entries shares marks
-            suit;
+        decoded = decoded;
+        passed = passed_is;
+        doubtful = omega (arith, counted, kinds_are, no_stranger, long, decoded, passed_is, bad, alone, copies);
+        bad = bad;
+        alone = alone;
       }
 
 -- A hart's own message, where the hart is known, is no stranger.
@@ -139,25 +209,6 @@ own_known harts hart message below own = by_tests (message.hart == hart) (has_nu
         (same, ap (λ b. not (b && has_number message)) known ∙ ap not has)
     by_tests true false is has own = cc
     by_tests false has is_not is own = cc
-
--- Two tests that go together count the same.
-count_same : {X Y : Type 0} (p : X → Bool) (q : Y → Bool) (xs : List X) (ys : List Y) → length xs ≡ length ys
-    → ((k : ℕ) (x : X) (y : Y) → slice_get xs k ≡ Some x → slice_get ys k ≡ Some y → p x ≡ q y)
-    → count_by p xs ≡ count_by q ys
-count_same p q [] [] long same = refl
-count_same p q [] (y ∷ ys) long same = absurd (omega (arith, long))
-count_same p q (x ∷ xs) [] long same = absurd (omega (arith, long))
-count_same p q (x ∷ xs) (y ∷ ys) long same =
-    let rest = count_same p q xs ys (omega (arith, long)) (λ k. same (suc k)) in
-    count_cons p x xs ∙ ap (λ b. cond b (suc (count_by p xs)) (count_by p xs)) (same 0 x y refl refl)
-    ∙ ap (λ n. cond (q y) (suc n) n) rest ∙ sym (count_cons q y ys)
-
-share_no_stranger : (share : Share) → makes_stranger (treatment_of share) ≡ false
-share_no_stranger (Adds events) = refl
-share_no_stranger Passes = refl
-share_no_stranger (Spoils why) = refl
-share_no_stranger StandsAlone = refl
-share_no_stranger Doubts = refl
 
 module _ (words : Words) (program : IsProgram words) (mode : Mode) (harts : ℕ) (messages : List Message)
     (treated : List Treated) (are : AreTreated words mode harts messages treated) where

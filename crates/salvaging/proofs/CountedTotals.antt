@@ -32,7 +32,7 @@ sum_same f g start (suc n) same =
 
 -- One more at one of the numbers.
 module _ (f g : ℕ → ℕ) (k : ℕ) (here : g k ≡ suc (f k)) (others : (h : ℕ) → h ≢ k → g h ≡ f h) where
-  sum_more : (start n : ℕ) → start ≤ k → k < start + n → sum_from g start n ≡ suc (sum_from f start n)
+  pub sum_more : (start n : ℕ) → start ≤ k → k < start + n → sum_from g start n ≡ suc (sum_from f start n)
   sum_more start zero least most = absurd (omega (arith, least, most))
   sum_more start (suc n) least most =
       by_order (cases_lt start k) (λ below. sum_more (suc start) n (omega (arith, below)) (omega (arith, most)))

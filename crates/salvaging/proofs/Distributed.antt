@@ -45,7 +45,7 @@ placed-append from (x ∷ xs) ys =
     ap (λ l. record { place = from; message = x } ∷ l) (placed-append (from + 1) xs ys
     ∙ ap (λ n. placed_from (from + 1) xs ++ placed_from n ys) at)
 
-length-placed : (from : ℕ) (xs : List Message) → length (placed_from from xs) ≡ length xs
+pub length-placed : (from : ℕ) (xs : List Message) → length (placed_from from xs) ≡ length xs
 length-placed from [] = refl
 length-placed from (x ∷ xs) = ap suc (length-placed (from + 1) xs)
 

@@ -14,10 +14,10 @@ use Rattle.payload.specs.declared.packet.Packet.TheVariants as packet
 use Rattle.decoder.specs.Resuming.{IsSync}
 use Rattle.losses.specs.Apart.{AreRising}
 use Rattle.salvaging.specs.Ends.{AreCutAtEnd, BeginsStretch, EndsAtLast, IsEnd, NoneBegins, NoneEnds}
-use Rattle.salvaging.specs.Entries.{Entry, Used, Doubtful, entry_number, next_used}
+use Rattle.salvaging.specs.Entries.{Entry, Used, Doubtful, entry_number, is_used, next_used}
 use Rattle.salvaging.specs.declared.received.ReceivedMessage.{ReceivedMessage}
 use Rattle.salvaging.specs.steps.Arrivals.{Arrival, arrival_of, arrivals_in}
-use Rattle.salvaging.specs.steps.Ending.{closes, is_used}
+use Rattle.salvaging.specs.steps.Ending.{closes}
 use Rattle.salvaging.specs.steps.Grouping.{AreOfOne, entries_by}
 use Rattle.salvaging.proofs.GroupParted.{begins_with_first, group_parted}
 

@@ -78,7 +78,7 @@ module _ (words : Words) (program : IsProgram words) (mode : Mode) where
   one_beyond (Doubtful number first second) following (Adds events) does = absurd does
   one_beyond (Doubtful number first second) following Passes does = absurd does
 
-  beyond_good : (entries : List Entry) (shares : List Share) → AllShareBeyond words mode entries shares
+  pub beyond_good : (entries : List Entry) (shares : List Share) → AllShareBeyond words mode entries shares
       → none_good entries ≡ goods_of shares
   beyond_good [] [] share = refl
   beyond_good [] (one ∷ shares) share = absurd share

@@ -14,7 +14,8 @@ use Rattle.salvaging.specs.declared.reason.Reason.{Reason}
 use Rattle.salvaging.specs.declared.reason.Reason.TheVariants as reason
 use Rattle.salvaging.specs.declared.trail.Trail.{Trail}
 use Rattle.salvaging.specs.steps.Ending.{BeginsBy, JudgedAlone}
-use Rattle.salvaging.specs.steps.UnderWay.{Judged, is_sync}
+use Rattle.salvaging.specs.Tallies.{is_sync}
+use Rattle.salvaging.specs.steps.UnderWay.{Judged}
 use Rattle.salvaging.proofs.EntriesOfLog.{same_packet}
 
 pub judged_alone : {A : Type 0} (words : Words) (mode : Mode) (payload : List ℕ) (following : Option ℕ) (new : Trail A)

@@ -18,7 +18,7 @@ pub record LateSo (entries : List Entry) (goods : List Bool) (count : ℕ) (firs
   pub first_is : first ≡ earliest later (drop at goods)
   pub few : count + at ≤ length goods
 
-drop_good : (goods : List Bool) (at : ℕ) (good : Bool) → at < length goods → good ≡ get_or goods at good
+pub drop_good : (goods : List Bool) (at : ℕ) (good : Bool) → at < length goods → good ≡ get_or goods at good
     → drop at goods ≡ good ∷ drop (suc at) goods
 drop_good [] at good within is = absurd (omega (arith, within))
 drop_good (one ∷ goods) zero good within is = ap (λ g. g ∷ goods) (sym is)

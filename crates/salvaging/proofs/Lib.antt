@@ -36,6 +36,7 @@ pub mod RunsEnded
 pub mod TrailSteps
 pub mod EntriesTaken
 pub mod TakenSoFar
+pub mod TallySteps
 pub mod Distributed
 pub mod JudgedApart
 pub mod EndLemmas
@@ -71,5 +72,7 @@ pub mod TreatedCopies
 pub mod GoodsTreated
 pub mod MarksCounted
 pub mod CountedTotals
+pub mod CountedOnce
+pub mod TreatedTallies
 pub mod CountedToo
 pub mod TakenWhole

@@ -283,7 +283,7 @@ module _ (words : Words) (program : IsProgram words) (mode : Mode) where
             (marks_of beyond share.after) first.marks after.marks));
       }
 
-  hart_many : (upto beyond : List Entry) (shares : List Share) → HartShares words mode upto beyond shares
+  pub hart_many : (upto beyond : List Entry) (shares : List Share) → HartShares words mode upto beyond shares
       → length shares ≡ length (upto ++ beyond)
   hart_many upto beyond shares share =
       let first = shares_many upto first_run 0 share.first share.shares_upto in

@@ -28,7 +28,8 @@ use Rattle.salvaging.proofs.PushedParts.{adds_both}
 use Rattle.salvaging.specs.Leaving.{LeavesBefore, RunLeaves, kept}
 use Rattle.salvaging.specs.steps.UnderWay.{AddsParts, BeginsWith, GoesOn, IsUnderWay, Judged, TakesBad, TakesUsed}
 use Rattle.salvaging.specs.steps.UnderWay.{are_lost, begun_by, early}
-use Rattle.salvaging.specs.steps.UnderWay.{is_sync, reads_behind}
+use Rattle.salvaging.specs.Tallies.{is_sync}
+use Rattle.salvaging.specs.steps.UnderWay.{reads_behind}
 use Rattle.salvaging.specs.declared.reason.Reason.{Reason}
 use Rattle.salvaging.specs.declared.reason.Reason.TheVariants as reason
 use Rattle.salvaging.specs.declared.trail.Trail.{Trail}

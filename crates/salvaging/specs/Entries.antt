@@ -1,5 +1,5 @@
 -- Entries: what came with each number of a hart.
-use Rattle.std.specs.Prelude.{ℕ, ◌≡◌, ◌≢◌, ◌<◌, All, Bool, false, Contains, List, [], ◌∷◌, Option, Some, None, map}
+use Rattle.std.specs.Prelude.{ℕ, ◌≡◌, ◌≢◌, ◌<◌, All, Bool, true, false, Contains, List, [], ◌∷◌, Option, Some, None, map}
 use Rattle.std.specs.Prelude.{slice_get}
 use Rattle.payload.specs.Closing.{is_closing}
 use Rattle.message.specs.declared.message.Message.{Message}
@@ -15,6 +15,11 @@ pub data Entry : Type 0 where
 abbrev pub entry_number : Entry → ℕ
 entry_number (Used number place payload) = number
 entry_number (Doubtful number first second) = number
+
+-- The entry is used.
+abbrev pub is_used : Entry → Bool
+is_used (Used number place payload) = true
+is_used (Doubtful number first second) = false
 
 -- Of a hart's messages, the one at this place is the first with this number, and it has this payload. Each other
 -- message with the number has the same payload.

@@ -9,6 +9,7 @@ pub mod Ends
 pub mod EndsByParts
 pub mod EndsByNumbers
 pub mod Late
+pub mod Tallies
 pub mod Shares
 pub mod Treatments
 pub mod PartsIn
@@ -20,4 +21,5 @@ pub mod Salvages
 pub mod AlikeParts
 pub mod TreatedParts
 pub mod TreatedCounts
+pub mod CountedOnce
 pub mod steps

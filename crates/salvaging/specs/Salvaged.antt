@@ -9,12 +9,14 @@ use Rattle.salvaging.specs.Ends.{AreCutAtEnd, HartLeaves}
 use Rattle.salvaging.specs.Late.{late}
 use Rattle.salvaging.specs.Leaving.{own_mode}
 use Rattle.salvaging.specs.PartsIn.{parts_in}
+use Rattle.salvaging.specs.Tallies.{IsTallied}
 use Rattle.salvaging.specs.Strangers.{is_stranger, own_messages}
 use Rattle.salvaging.specs.declared.salvaged.SalvagedHart.{SalvagedHart}
 use Rattle.salvaging.specs.declared.salvaged.Salvaged.{Salvaged}
 
 -- This is salvaged of a hart with these messages, where this mode is handed in: its own mode, the parts of its log, and
--- whether it is closed, by the entries up to its end; how many of its messages are copies, and how many are late.
+-- whether it is closed, by the entries up to its end; how many of its messages are copies, and how many are late,
+-- decoded, passed over and of doubtful numbers.
 pub record IsSalvagedHart {A : Type 0} (words : Words) (mode : Mode) (messages : List Message)
     (hart : SalvagedHart A) : Type 0 where
   pub entries : List Entry
@@ -28,6 +30,7 @@ pub record IsSalvagedHart {A : Type 0} (words : Words) (mode : Mode) (messages :
   pub copies : AreCopies messages hart.copies
   pub late : hart.late ≡ late entries goods
   pub closed : hart.closed ≡ is_closed upto
+  pub tallied : IsTallied messages entries goods hart
 
 -- This is salvaged of messages of so many harts: of each hart by its own messages and the mode handed in alone, and all
 -- strangers are counted.

@@ -42,6 +42,21 @@ abbrev pub makes_alone : Treatment → Bool
 makes_alone treatment.Alone = true
 makes_alone other = false
 
+-- It is decoded.
+abbrev pub makes_taken : Treatment → Bool
+makes_taken (treatment.Taken added) = true
+makes_taken other = false
+
+-- It is passed over.
+abbrev pub makes_passed : Treatment → Bool
+makes_passed treatment.Passed = true
+makes_passed other = false
+
+-- Its number is doubtful.
+abbrev pub makes_doubtful : Treatment → Bool
+makes_doubtful treatment.Doubtful = true
+makes_doubtful other = false
+
 -- How many of the messages with which this is done are such.
 abbrev pub count_treated : (Treatment → Bool) → List Treated → ℕ
 count_treated is_such treated = count_by (λ (one : Treated). is_such one.treatment) treated
@@ -60,11 +75,15 @@ abbrev pub is_alone_number : LeftPart → Bool
 is_alone_number (AloneNumber number place) = true
 is_alone_number other = false
 
--- What is done with the messages of a hart counts as what is salvaged of it does. As many are copies, and as many are
--- late. As many are bad as its parts have bad numbers, and as many are alone as its parts have numbers that stand alone.
+-- What is done with the messages of a hart counts as what is salvaged of it does. As many are copies, as many are late,
+-- and as many are decoded, passed over and of doubtful numbers. As many are bad as its parts have bad numbers, and as
+-- many are alone as its parts have numbers that stand alone.
 pub record AreCountedAlike {A : Type 0} (treated : List Treated) (hart : SalvagedHart A) : Type 0 where
   pub copies : count_treated makes_copy treated ≡ hart.copies
   pub late : count_late treated ≡ hart.late
+  pub decoded : count_treated makes_taken treated ≡ hart.decoded
+  pub passed : count_treated makes_passed treated ≡ hart.passed
+  pub doubtful : count_treated makes_doubtful treated ≡ hart.doubtful
   pub bad : count_treated makes_bad treated ≡ count_by is_bad_number (parts_in hart.parts.items)
   pub alone : count_treated makes_alone treated ≡ count_by is_alone_number (parts_in hart.parts.items)
 

@@ -9,4 +9,5 @@ pub mod Rows
 pub mod Looking
 pub mod SortedOut
 pub mod Lateness
+pub mod Tallying
 pub mod Distributing

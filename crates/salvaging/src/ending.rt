@@ -4,9 +4,9 @@ ghost use Rattle.std.specs.Prelude.{◌≡◌, ◌≤◌, ◌&&◌, ◌||◌, if
 ghost use Rattle.rvclass.specs.Fetch.{words_of};
 ghost use Rattle.losses.specs.Apart.{AreRising};
 ghost use Rattle.salvaging.specs.Ends.{AreCutAtEnd, BeginsStretch};
-ghost use Rattle.salvaging.specs.Entries.{entry_number, next_used};
+ghost use Rattle.salvaging.specs.Entries.{entry_number, is_used, next_used};
 ghost use Rattle.salvaging.specs.steps.Arrivals.{arrivals_in};
-ghost use Rattle.salvaging.specs.steps.Ending.{BeginsBy, JudgedAlone, closes, is_used};
+ghost use Rattle.salvaging.specs.steps.Ending.{BeginsBy, JudgedAlone, closes};
 ghost use Rattle.salvaging.specs.steps.Grouping.{entries_by, entry_of};
 
 use crate::entry::Entry;

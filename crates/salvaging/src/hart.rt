@@ -13,6 +13,7 @@ use crate::late::late;
 use crate::own_mode::own_mode;
 use crate::received::{ReceivedMessage, put_in_order};
 use crate::salvaged::SalvagedHart;
+use crate::tally::tally;
 use crate::trail::take_all;
 use crate::used::is_closed;
 use decoder::StraightRuns;
@@ -48,11 +49,16 @@ pub(crate) fn salvage_hart<A: Allocator + Copy, V: ProgressSink>(
     let beyond = &ordered[end..];
     take_beyond(alloc, program, own, beyond, &mut trail)?;
     watch.note(beyond.len());
-    let late = late(ordered, &trail.goods);
+    let goods = trail.goods.as_slice();
+    let late = late(ordered, goods);
+    let tally = tally(ordered, goods);
     Ok(SalvagedHart {
         parts: trail.parts,
         copies,
         late,
+        decoded: tally.decoded,
+        passed: tally.passed,
+        doubtful: ordered.len() - copies - tally.used,
         closed: is_closed(upto),
         mode: own,
     })

@@ -15,6 +15,7 @@ ghost use Rattle.losses.specs.Runs.{first_run};
 ghost use Rattle.losses.specs.Stops.{AreAcceptedLossy};
 ghost use Rattle.losses.specs.declared.part.HartPieces.{HartPieces as AnyPieces};
 ghost use Rattle.salvaging.specs.AlikeParts.{AreAlikeHarts};
+ghost use Rattle.salvaging.specs.CountedOnce.{AreCountedOnce};
 ghost use Rattle.salvaging.specs.Ends.{AreCutAtEnd};
 ghost use Rattle.salvaging.specs.EndsByNumbers.{AreCutByNumber};
 ghost use Rattle.salvaging.specs.EndsByParts.{MayEndByParts};
@@ -91,11 +92,18 @@ pub fn parts_are_what_is_done<A: Allocator>()
 {}
 
 /// What is done with messages counts as what is salvaged of them does. Of each hart as many messages are copies, and as
-/// many are late, as are counted where it is salvaged. As many are bad as its parts have bad numbers, and as many are
-/// alone as its parts have numbers that stand alone. Of all harts as many messages are copies, and as many are late, as
-/// their counts come to, and as many are strangers.
+/// many are late, decoded, passed over and of doubtful numbers, as are counted where it is salvaged. As many are bad as
+/// its parts have bad numbers, and as many are alone as its parts have numbers that stand alone. Of all harts as many
+/// messages are copies, and as many are late, as their counts come to, and as many are strangers.
 pub fn treatments_are_counted<A: Allocator>()
     ensures { (words : Words) (mode : Mode) (harts : ℕ) (messages : List Message) (treated : List AnyTreated)
         (salvaged : AnySalvaged A) → IsProgram words → AreTreated words mode harts messages treated
         → IsSalvaged words mode harts messages salvaged → AreCountedToo messages treated salvaged }
+{}
+
+/// Each message is counted once where messages are salvaged. Of a hart, whose messages are those without strangers, a
+/// message is decoded, passed over, bad, alone, of a doubtful number or a copy, and all come to as many as the hart has.
+pub fn messages_are_counted_once<A: Allocator>()
+    ensures { (words : Words) (mode : Mode) (harts : ℕ) (messages : List Message) (salvaged : AnySalvaged A)
+        → IsSalvaged words mode harts messages salvaged → AreCountedOnce messages salvaged }
 {}

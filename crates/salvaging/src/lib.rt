@@ -31,6 +31,7 @@ mod salvaging;
 mod sharing;
 mod sharing_beyond;
 mod sorting_out;
+mod tally;
 mod trail;
 mod treating;
 mod treatment;
@@ -38,8 +39,8 @@ mod used;
 
 pub use laws::{
     harts_are_salvaged_in_one_way, harts_end_at_their_lowest_number,
-    harts_end_where_no_stretch_comes_after, logs_are_salvaged, parts_are_what_is_done,
-    treatments_are_counted, what_is_collected_is_salvaged,
+    harts_end_where_no_stretch_comes_after, logs_are_salvaged, messages_are_counted_once,
+    parts_are_what_is_done, treatments_are_counted, what_is_collected_is_salvaged,
 };
 pub use part::Part;
 pub use reason::Reason;

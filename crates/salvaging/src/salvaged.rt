@@ -14,6 +14,12 @@ pub struct SalvagedHart<A: Allocator = Global> {
     /// How many messages are late: they are used, and an earlier used message that is neither bad nor alone has a greater
     /// number.
     pub late: usize,
+    /// How many messages are decoded: they are used, neither bad nor alone, and of a stretch.
+    pub decoded: usize,
+    /// How many messages are passed over: they are used, neither bad nor alone, and a synchronisation is looked for.
+    pub passed: usize,
+    /// How many messages are of doubtful numbers, and no copies.
+    pub doubtful: usize,
     /// Whether the hart is closed: the last number that is used, up to the hart's end, has a packet that closes the
     /// trace.
     pub closed: bool,

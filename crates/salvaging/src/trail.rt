@@ -17,7 +17,8 @@ ghost use Rattle.salvaging.specs.steps.Arrivals.{arrivals_in};
 ghost use Rattle.salvaging.specs.steps.Grouping.{AreSmall, entries_by, entry_of};
 ghost use Rattle.salvaging.specs.steps.Trails.{TakesEntries};
 ghost use Rattle.salvaging.specs.steps.UnderWay.{BeginsWith, EndsRun, EndsStretch, GoesOn, IsUnderWay, Judged};
-ghost use Rattle.salvaging.specs.steps.UnderWay.{TakesBad, TakesDoubtful, TakesUsed, begun_by, early, is_sync};
+ghost use Rattle.salvaging.specs.Tallies.{is_sync};
+ghost use Rattle.salvaging.specs.steps.UnderWay.{TakesBad, TakesDoubtful, TakesUsed, begun_by, early};
 
 use crate::entry::Entry;
 use crate::grouping::first_entry;

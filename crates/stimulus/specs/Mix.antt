@@ -1,7 +1,22 @@
--- The kinds of instructions of a mix.
+-- The names of mixes, and the kinds of instructions of each.
+use Rattle.std.specs.Prelude.{◌≡◌, ◌≢◌, ℕ, List, Option, Some, None, codes}
 use Rattle.stimulus.specs.declared.mix.Bounds.{Bounds}
 use Rattle.stimulus.specs.declared.mix.Mix.{Mix}
 use Rattle.stimulus.specs.declared.mix.Mix.TheVariants.{Mixed, Branches, Jumps, Traps, Longest, Straight}
+
+-- The name of a mix.
+abbrev pub name_of : Mix → List ℕ
+name_of Mixed = codes "mixed"
+name_of Branches = codes "branches"
+name_of Jumps = codes "jumps"
+name_of Traps = codes "traps"
+name_of Longest = codes "longest"
+name_of Straight = codes "straight"
+
+-- The mix of a name is found, or none where it is the name of none.
+abbrev pub IsNamed : List ℕ → Option Mix → Type 0
+IsNamed name (Some mix) = name ≡ name_of mix
+IsNamed name None = (mix : Mix) → name ≢ name_of mix
 
 -- Branches of 4 bytes.
 abbrev pub only_branches : Bounds

@@ -1,6 +1,6 @@
 //! Writing a capture in which the messages of many harts are mixed.
 
-ghost use Rattle.std.specs.Prelude.{ℕ, ◌≡◌, ◌≤◌, ◌<◌, IfErr, IfOk, List, [], OnOk, length};
+ghost use Rattle.std.specs.Prelude.{ℕ, ◌≡◌, ◌≤◌, ◌<◌, Err, IfErr, IfOk, List, [], OnOk, length};
 ghost use Rattle.rvclass.specs.Fetch.{words_of};
 ghost use Rattle.rvclass.specs.Image.{IsImage};
 ghost use Rattle.rvclass.specs.Words.{Words};
@@ -48,8 +48,8 @@ pub struct Capture {
 ///
 /// `messages` steps are drawn, and in each a hart sends one message; a hart with no event left sends none. When a trace
 /// closes, up to two messages come that are not counted. Memory is taken for what each hart keeps, and no list grows
-/// with the run. Where the writer fails, what was written is a prefix of a front of such a capture. The writer is not
-/// flushed.
+/// with the run. Where the writer fails, what was written is a prefix of a front of such a capture; where allocation
+/// fails, nothing is written. The writer is not flushed.
 pub fn write_capture<A: Allocator + Copy, W: Write>(
     alloc: A,
     program: &ProgramOver,
@@ -62,9 +62,10 @@ pub fn write_capture<A: Allocator + Copy, W: Write>(
         (W.contents sink.old) (W.contents sink.new)) }
     ensures begun { BeginsMixed program.now asked.now.version (header_of asked.now)
         (W.contents sink.old) (W.contents sink.new) }
+    ensures untouched { result ≡ Err WriteFault.Memory → sink.new ≡ sink.old }
 {
     let mut senders = senders_of(alloc, program, asked)?;
-    let mut order = Order::new(alloc, asked.seed, asked.harts, asked.burst)?;
+    let mut order = Order::new(alloc, asked)?;
     match write_messages(program, asked, &mut senders, &mut order, sink) {
         Ok(()) => Ok(()),
         Err(_) => Err(WriteFault::Write),

@@ -54,7 +54,7 @@ impl Hart {
         let next = [event];
         match self.check.pass(program, &next) {
             Ok(()) => {
-                self.walk.go_on(program, &event);
+                self.walk.go_on(&event);
                 Some(event)
             }
             Err(_) => None,

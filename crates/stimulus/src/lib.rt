@@ -19,5 +19,5 @@ mod words;
 pub use capturing::{Capture, write_capture};
 pub use hart::Hart;
 pub use image::{IMAGE_SIZE, image_of};
-pub use logging::write_log;
+pub use logging::{Log, write_log};
 pub use mix::Mix;

@@ -1,6 +1,6 @@
 //! Writing the log of a hart.
 
-ghost use Rattle.std.specs.Prelude.{[], IfOk};
+ghost use Rattle.std.specs.Prelude.{◌≡◌, ◌<◌, [], Err, IfOk, vec_capacity};
 ghost use Rattle.rvclass.specs.Fetch.{words_of};
 ghost use Rattle.stimulus.specs.Walked.{HasWalked};
 ghost use Rattle.stimulus.specs.Written.{BeginsLog, WritesLog};
@@ -14,29 +14,39 @@ use rvclass::ProgramOver;
 use std::alloc::Allocator;
 use std::io::Write;
 
-/// Writes the log of the hart of this number that runs the program: the line of the header and so many rows, or fewer
-/// where [`Hart::next_event`] returns no event more. Returns how many rows were written.
+/// What a log is made of.
+#[derive(Clone, Copy, Debug, PartialEq, Eq)]
+pub struct Log {
+    /// What the program does, and how the hart behaves.
+    pub mix: Mix,
+    /// What all draws are decided by.
+    pub seed: u64,
+    /// The hart's number.
+    pub hart: u16,
+    /// How many rows there are.
+    pub events: u32,
+}
+
+/// Writes the log of a hart that runs the program: the line of the header and so many rows, or fewer where [`Hart::next_event`] returns no event more. Returns how many rows were written.
 ///
 /// The rows are written through a buffer of 64 kB, and no list holds the events. Where the writer fails, what was
-/// written is a prefix of the text. The writer is not flushed.
+/// written is a prefix of the text; where allocation fails, nothing is written. The writer is not flushed.
 pub fn write_log<A: Allocator, W: Write>(
     alloc: A,
     program: &ProgramOver,
-    mix: Mix,
-    seed: u64,
-    number: u16,
-    events: u32,
+    asked: &Log,
     sink: &mut W,
 ) -> Result<u32, WriteFault>
-    ensures written { IfOk result (λ count. WritesLog program.now events count
+    ensures written { IfOk result (λ count. WritesLog program.now asked.now.events count
         (W.contents sink.old) (W.contents sink.new)) }
-    ensures begun { BeginsLog program.now events (W.contents sink.old) (W.contents sink.new) }
+    ensures begun { BeginsLog program.now asked.now.events (W.contents sink.old) (W.contents sink.new) }
+    ensures untouched { result ≡ Err WriteFault.Memory → sink.new ≡ sink.old }
 {
     let extent = Extent::of(program);
     let mut room = Vec::with_capacity(alloc, LOG_ROOM)?;
-    let mut hart = Hart::within(extent, mix, seed, number);
+    let mut hart = Hart::within(extent, asked.mix, asked.seed, asked.hart);
     begin_log_in(&mut room)?;
-    let count = write_events(program, &mut hart, events, &mut room, sink)?;
+    let count = write_events(program, &mut hart, asked.events, &mut room, sink)?;
     end_log_in(&mut room, sink)?;
     Ok(count)
 }
@@ -54,6 +64,7 @@ fn write_events<A: Allocator, W: Write>(
         (W.contents sink.old) (W.contents sink.new)) }
     ensures begun { BeginsRows (words_of program.now) events room.old.items (W.contents sink.old)
         (W.contents sink.new) }
+    ensures memory { result ≡ Err WriteFault.Memory → vec_capacity room.old < LOG_ROOM }
 {
     for count in 0..events {
         let Some(event) = hart.next_event(program) else {

@@ -1,7 +1,7 @@
 //! What a program and its harts do, as numbers.
 
 ghost use Rattle.std.specs.Prelude.{◌≡◌};
-ghost use Rattle.stimulus.specs.Mix.{bounds_of};
+ghost use Rattle.stimulus.specs.Mix.{IsNamed, bounds_of};
 
 /// What the program of a stimulus does, and how the harts that run it behave.
 #[derive(Clone, Copy, Debug, PartialEq, Eq)]
@@ -18,6 +18,23 @@ pub enum Mix {
     Longest,
     /// Plain instructions, and few traps.
     Straight,
+}
+
+impl Mix {
+    /// The mix of this name: that of the variant, in lower case. There is none of any other name.
+    pub fn named(name: &str) -> Option<Mix>
+        ensures { IsNamed name.now result }
+    {
+        match name {
+            "mixed" => Some(Mix::Mixed),
+            "branches" => Some(Mix::Branches),
+            "jumps" => Some(Mix::Jumps),
+            "traps" => Some(Mix::Traps),
+            "longest" => Some(Mix::Longest),
+            "straight" => Some(Mix::Straight),
+            _ => None,
+        }
+    }
 }
 
 /// Where each kind of instruction ends among the 256 values that choose the kind of a slot, in the order of the kinds.

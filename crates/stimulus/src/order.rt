@@ -1,8 +1,12 @@
 //! The order in which harts send, as a path sees it.
 
+use crate::capturing::Capture;
 use rand_core::utils::NextWord;
 use rand_pcg::Pcg32;
 use std::alloc::{AllocError, Allocator};
+
+/// In a short capture one of so many bursts ends a trace.
+const SHORTEST_ENDING: u64 = 256;
 
 /// The generator's stream of the order. Those of harts are above it, and those of the slots of the program below.
 const STREAM: u64 = 0x8000;
@@ -25,6 +29,8 @@ pub(crate) struct Order<A: Allocator> {
     open: Vec<u16, A>,
     /// How many messages a burst has at most.
     burst: u32,
+    /// Of so many bursts one ends a trace.
+    ending: u32,
     /// The hart that sends.
     hart: u16,
     /// How many messages of its burst are left.
@@ -32,11 +38,11 @@ pub(crate) struct Order<A: Allocator> {
 }
 
 impl<A: Allocator> Order<A> {
-    /// The order of this many harts, 1 at least. A hart weighs 1 to 4.
-    pub(crate) fn new(alloc: A, seed: u64, harts: u16, burst: u32) -> Result<Order<A>, AllocError> {
-        let mut random = Pcg32::new(seed, STREAM);
+    /// The order of the harts of a capture. A hart weighs 1 to 4.
+    pub(crate) fn new(alloc: A, asked: &Capture) -> Result<Order<A>, AllocError> {
+        let mut random = Pcg32::new(asked.seed, STREAM);
         let mut open = Vec::new(alloc);
-        for hart in 0..harts {
+        for hart in 0..asked.harts {
             for _ in 0..random.next_word() % 4 + 1 {
                 open.push(hart)?;
             }
@@ -44,13 +50,14 @@ impl<A: Allocator> Order<A> {
         Ok(Order {
             random,
             open,
-            burst,
+            burst: asked.burst,
+            ending: (asked.messages / 16).clamp(SHORTEST_ENDING, u64::from(u32::MAX)) as u32,
             hart: 0,
             left: 0,
         })
     }
 
-    /// What comes next. After one of 256 bursts the hart closes its trace, unless it is the last.
+    /// What comes next. After a burst the hart may close its trace, unless it is the last.
     pub(crate) fn next(&mut self) -> Turn {
         if self.left > 0 {
             self.left -= 1;
@@ -70,7 +77,7 @@ impl<A: Allocator> Order<A> {
 
     /// The hart whose burst has ended, if it is drawn that it closes its trace, and it is not the last.
     fn leaving(&mut self) -> Option<u16> {
-        if self.random.next_word() % 256 != 0 {
+        if self.random.next_word() % self.ending.max(1) != 0 {
             return None;
         }
         let hart = self.hart;

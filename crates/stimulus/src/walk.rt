@@ -5,7 +5,7 @@
 ghost use Rattle.rvclass.specs.Image.{IsImage};
 
 use crate::mix::{Habits, Mix, habits_of};
-use legalpath::{Next, greatest_after, may_retire_at, successor};
+use legalpath::{Next, greatest_after, leads, may_retire_at};
 use rand_core::utils::NextWord;
 use rand_pcg::Pcg32;
 use retire::{
@@ -56,6 +56,10 @@ pub(crate) struct Walk {
     privilege: u8,
     /// Whether the next event may be anywhere.
     is_free: bool,
+    /// Where the event that was proposed leads.
+    next: Next,
+    /// The class of the instruction that it retires.
+    class: Class,
 }
 
 impl Walk {
@@ -68,6 +72,8 @@ impl Walk {
             at: 0,
             privilege: 3,
             is_free: true,
+            next: Next::Any,
+            class: Class::NotRetirable,
         };
         walk.land();
         walk.privilege = walk.level_up_to(3);
@@ -75,7 +81,9 @@ impl Walk {
     }
 
     /// What the hart does next.
+    #[inline]
     pub(crate) fn propose(&mut self, program: &ProgramOver) -> Event {
+        self.next = Next::Any;
         let of_65536 = if self.is_free {
             self.habits.nested
         } else {
@@ -84,8 +92,9 @@ impl Walk {
         if self.random.next_word() % 65_536 < of_65536 {
             return self.trap();
         }
-        let Some((class, length)) = program.at(self.at) else {
-            return self.exception(ACCESS_FAULT, self.at);
+        let at = self.at;
+        let Some((class, length)) = program.at(at) else {
+            return self.exception(ACCESS_FAULT, at);
         };
         if matches!(class, Class::NotRetirable) {
             return self.exception(CALL + self.privilege % 4, 0);
@@ -93,16 +102,20 @@ impl Walk {
         if !may_retire_at(class, self.privilege) {
             return self.exception(ILLEGAL, 0);
         }
+        let itype = self.itype_of(program, class, at + u64::from(length));
+        self.next = leads(at, itype, class, length);
+        self.class = class;
         Event::Retire {
-            addr: self.at,
-            itype: self.itype_of(program, class, self.at.wrapping_add(u64::from(length))),
+            addr: at,
+            itype,
             privilege: self.privilege,
         }
     }
 
-    /// Goes to where the event leads, or where it is drawn.
-    pub(crate) fn go_on(&mut self, program: &ProgramOver, event: &Event) {
-        match successor(program, event) {
+    /// Goes to where the event leads that was proposed, or where it is drawn.
+    #[inline]
+    pub(crate) fn go_on(&mut self, event: &Event) {
+        match self.next {
             Next::One(to) => {
                 self.at = to;
                 self.is_free = false;
@@ -114,9 +127,9 @@ impl Walk {
         }
         match event {
             Event::Trap { .. } => self.privilege = self.handling(),
-            Event::Retire { addr, itype, .. } => {
+            Event::Retire { itype, .. } => {
                 if *itype == ITYPE_TRAP_RETURN {
-                    self.privilege = self.level_after(program, *addr);
+                    self.privilege = self.level_up_to(greatest_after(self.class, self.privilege));
                 }
             }
         }
@@ -202,14 +215,6 @@ impl Walk {
             3
         } else {
             1
-        }
-    }
-
-    /// The privilege after a return from a trap at this address.
-    fn level_after(&mut self, program: &ProgramOver, addr: u64) -> u8 {
-        match program.at(addr) {
-            Some((class, _)) => self.level_up_to(greatest_after(class, self.privilege)),
-            None => self.privilege,
         }
     }
 

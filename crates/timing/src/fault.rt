@@ -1,32 +1,33 @@
 //! Why nothing is measured.
 
 use rvclass::ProgramFault;
-use std::alloc::AllocError;
-use std::io;
-use thiserror::Error;
+use std::fmt;
+use std::fmt::{Display, Write};
+use std::io::ErrorKind;
 
 /// Why nothing is measured.
-#[derive(Debug, Drop, Error)]
+#[derive(Clone, Copy)]
 pub(crate) enum Fault {
     /// The arguments are not a base, an image and at least one log.
-    #[error("usage: timing BASE IMAGE LOG...")]
     Words,
     /// The image makes no program at the base.
-    #[error("{0}")]
-    Image(#[from] ProgramFault),
+    Image(ProgramFault),
     /// A log is not read, or not written.
-    #[error("a log is refused")]
     Log,
     /// A file or the clock is not read.
-    #[error("{0}")]
-    Io(#[from] io::Error),
+    Io(ErrorKind),
     /// An allocation failed.
-    #[error("out of memory")]
     Memory,
 }
 
-impl From<AllocError> for Fault {
-    fn from(_: AllocError) -> Self {
-        Fault::Memory
+impl Display for Fault {
+    fn fmt<W: Write>(&self, f: &mut fmt::Formatter<W>) -> fmt::Result {
+        match self {
+            Fault::Words => f.write_str("usage: timing BASE IMAGE LOG..."),
+            Fault::Image(fault) => Display::fmt(fault, f),
+            Fault::Log => f.write_str("a log is refused"),
+            Fault::Io(kind) => Display::fmt(kind, f),
+            Fault::Memory => f.write_str("out of memory"),
+        }
     }
 }

@@ -23,8 +23,8 @@ use std::process::ExitCode;
 fn main(rt: HostRuntime) -> ExitCode {
     let mut err = rt.stderr();
     match run::run(&rt, &mut err) {
-        Ok(()) => ExitCode::SUCCESS,
-        Err(fault) => {
+        None => ExitCode::SUCCESS,
+        Some(fault) => {
             let _ = writeln!(err, "timing: {fault}");
             ExitCode::FAILURE
         }

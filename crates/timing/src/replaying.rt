@@ -1,7 +1,7 @@
 //! The phases of logs through the funnel: by a schedule, and over threads.
 
 use crate::fault::Fault;
-use crate::least::{Phase, RUNS, measure, write_time};
+use crate::least::{Meter, Phase, RUNS, now, since};
 use crate::packets::{MODE, PERIOD};
 use bench::{Config, Open, Outcome, Turn, replay, run};
 use encoder::Source;
@@ -10,7 +10,7 @@ use std::alloc::{AllocError, Global};
 use std::io::Write;
 use std::sync::Wait;
 use std::thread::Threads;
-use std::time::{Clock, Instant};
+use std::time::Clock;
 
 /// How many messages the funnel of a replay holds.
 const CAPACITY: u32 = 16;
@@ -28,6 +28,18 @@ fn payload_count(log: &LegalLog<'_>) -> usize {
     count
 }
 
+/// Adds a turn by which each hart that still has messages sends, and one after it by which a message is taken.
+fn add_round(turns: &mut Vec<Turn>, counts: &[usize], number: usize) -> Result<(), AllocError> {
+    let mut hart = 0u16;
+    for count in counts {
+        if number < *count {
+            turns.extend_from_slice(&[Turn::Hart(hart), Turn::Collect])?;
+        }
+        hart = hart.wrapping_add(1);
+    }
+    Ok(())
+}
+
 /// Turns that go round the harts of these logs until each has sent all: one sends, and a message is taken.
 fn rounds(alloc: Global, logs: &[LegalLog<'_>]) -> Result<Vec<Turn>, AllocError> {
     let mut counts = Vec::new(alloc);
@@ -39,14 +51,7 @@ fn rounds(alloc: Global, logs: &[LegalLog<'_>]) -> Result<Vec<Turn>, AllocError>
     }
     let mut turns = Vec::new(alloc);
     for number in 0..longest {
-        let mut hart = 0u16;
-        for count in &counts {
-            if number < *count {
-                turns.push(Turn::Hart(hart))?;
-                turns.push(Turn::Collect)?;
-            }
-            hart = hart.wrapping_add(1);
-        }
+        add_round(&mut turns, counts.as_slice(), number)?;
     }
     Ok(turns)
 }
@@ -74,41 +79,52 @@ impl Phase for Replaying<'_, '_> {
 
 /// Measures a replay of logs, a hart each, by a schedule that goes round the harts.
 pub(crate) fn measure_replay<R: Clock + AllocGlobal, E: Write>(
-    rt: &R,
-    err: &mut E,
+    meter: &mut Meter<'_, R, E>,
     logs: &[LegalLog<'_>],
-) -> Result<(), Fault> {
+) {
+    let alloc = meter.rt.alloc();
+    match rounds(alloc, logs) {
+        Ok(turns) => {
+            let turns = turns.as_slice();
+            let replaying = Replaying { alloc, logs, turns };
+            meter.measure("replay", event_count(logs), replaying);
+        }
+        Err(_) => meter.stop(Fault::Memory),
+    }
+}
+
+/// How many nanoseconds a run of logs over threads takes, and how many events are decoded.
+fn timed_run<R: Clock + AllocGlobal + Threads + Wait + Sync>(
+    rt: &R,
+    logs: &[LegalLog<'_>],
+    capacity: u32,
+) -> Result<(u128, u64), Fault> {
     let alloc = rt.alloc();
-    let turns = rounds(alloc, logs)?;
-    let replaying = Replaying {
-        alloc,
-        logs,
-        turns: turns.as_slice(),
+    let start = now(rt)?;
+    let Ok(outcome) = run(alloc, alloc, logs, config_of(capacity), &Open, rt) else {
+        return Err(Fault::Log);
     };
-    measure(rt, err, "replay", event_count(logs), replaying)
+    let decoded = decoded_in(&outcome);
+    Ok((since(rt, start)?, decoded))
 }
 
 /// Runs logs through the funnel over threads several times, and writes a name, the least time for each event and how
 /// many were decoded.
 pub(crate) fn measure_runs<R: Clock + AllocGlobal + Threads + Wait + Sync, E: Write>(
-    rt: &R,
-    err: &mut E,
+    meter: &mut Meter<'_, R, E>,
     name: &str,
     logs: &[LegalLog<'_>],
     capacity: u32,
-) -> Result<(), Fault> {
-    let alloc = rt.alloc();
-    let mut least = u128::MAX;
-    let mut decoded = 0;
+) {
+    let rt = meter.rt;
     for _ in 0..RUNS {
-        let start = Instant::now(rt)?;
-        let Ok(outcome) = run(alloc, alloc, logs, config_of(capacity), &Open, rt) else {
-            return Err(Fault::Log);
-        };
-        decoded = decoded_in(&outcome);
-        least = least.min(start.elapsed(rt)?.as_nanos());
+        if meter.is_stopped() {
+            return;
+        }
+        let timed = timed_run(rt, logs, capacity);
+        meter.note(timed);
     }
-    write_time(err, name, event_count(logs), least, decoded)
+    meter.write_time(name, event_count(logs));
 }
 
 /// How many events the logs have.

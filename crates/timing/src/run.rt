@@ -4,7 +4,7 @@ use crate::auditing_captures::{Auditing, DENSE_PERIOD, messages_in};
 use crate::coding::{Decoding, Encoding};
 use crate::fault::Fault;
 use crate::input::Input;
-use crate::least::measure;
+use crate::least::Meter;
 use crate::logs::{self, Judging, Reading, Writing};
 use crate::packets::{MODE, PERIOD, Packing, Unpacking, VERSION, packets_of, payloads_of};
 use crate::replaying::{measure_replay, measure_runs};
@@ -13,7 +13,7 @@ use crate::whole_captures::{CaptureDecoding, CaptureWriting, LossyDecoding};
 use captures::encode_capture;
 use legalpath::LegalLog;
 use payload::{Packet, Payload};
-use std::alloc::Global;
+use rvclass::Program;
 use std::env::Env;
 use std::io::Write;
 use std::rt::Files;
@@ -22,55 +22,84 @@ use std::thread::Threads;
 use std::time::Clock;
 
 /// Measures each phase over each log that the arguments name, then a replay and runs of all of them, and then a funnel.
+/// Returns why not all is measured, if something failed.
 pub(crate) fn run<R: Env + Files + Clock + AllocGlobal + Threads + Wait + Sync, E: Write>(
     rt: &R,
     err: &mut E,
-) -> Result<(), Fault> {
-    let input = Input::read(rt)?;
-    measure_input(rt, err, &input)?;
-    measure_funnel(rt, err)
+) -> Option<Fault> {
+    match Input::read(rt) {
+        Ok(input) => {
+            let mut meter = Meter::new(rt, err);
+            measure_input(&mut meter, &input);
+            measure_all(&mut meter, &input);
+            measure_funnel(&mut meter);
+            meter.fault()
+        }
+        Err(fault) => Some(fault),
+    }
 }
 
-/// Measures each phase over each log, and then a replay and runs of all of them, a hart each.
-fn measure_input<R: Clock + AllocGlobal + Threads + Wait + Sync, E: Write>(
-    rt: &R,
-    err: &mut E,
-    input: &Input,
-) -> Result<(), Fault> {
+/// Measures each phase over each log.
+fn measure_input<R: Clock + AllocGlobal, E: Write>(meter: &mut Meter<'_, R, E>, input: &Input) {
     for text in &input.texts {
-        let logs = [logs::read(rt.alloc(), &input.program, text.as_slice())?];
-        measure_one(rt, err, text.as_slice(), &logs)?;
+        measure_text(meter, &input.program, text.as_slice());
     }
-    let logs = logs_of(rt.alloc(), input)?;
-    measure_replay(rt, err, logs.as_slice())?;
-    for (name, capacity) in [("bench 1", 1), ("bench 16", 16), ("bench 1024", 1024)] {
-        measure_runs(rt, err, name, logs.as_slice(), capacity)?;
+}
+
+/// Measures each phase over a log by its text.
+fn measure_text<R: Clock + AllocGlobal, E: Write>(
+    meter: &mut Meter<'_, R, E>,
+    program: &Program,
+    text: &[u8],
+) {
+    match logs::read(meter.rt.alloc(), program, text) {
+        Ok(log) => measure_one(meter, text, &[log]),
+        Err(fault) => meter.stop(fault),
     }
-    Ok(())
 }
 
 /// Measures each phase over a log and its text.
 fn measure_one<R: Clock + AllocGlobal, E: Write>(
-    rt: &R,
-    err: &mut E,
+    meter: &mut Meter<'_, R, E>,
     text: &[u8],
     logs: &[LegalLog<'_>; 1],
-) -> Result<(), Fault> {
-    measure_log(rt, err, text, &logs[0])?;
-    measure_packets(rt, err, &logs[0])?;
-    measure_captures(rt, err, logs)
+) {
+    measure_log(meter, text, &logs[0]);
+    measure_packets(meter, &logs[0]);
+    measure_captures(meter, logs);
 }
 
 /// The logs of all texts.
-fn logs_of<'p>(alloc: Global, input: &'p Input) -> Result<Vec<LegalLog<'p>>, Fault> {
+fn logs_of<'p, R: AllocGlobal, E>(
+    meter: &mut Meter<'_, R, E>,
+    input: &'p Input,
+) -> Vec<LegalLog<'p>> {
+    let alloc = meter.rt.alloc();
     let mut logs = Vec::new(alloc);
     for text in &input.texts {
-        let log = logs::read(alloc, &input.program, text.as_slice())?;
-        if logs.push(log).is_err() {
-            return Err(Fault::Memory);
+        match logs::read(alloc, &input.program, text.as_slice()) {
+            Ok(log) => {
+                if logs.push(log).is_err() {
+                    meter.stop(Fault::Memory);
+                }
+            }
+            Err(fault) => meter.stop(fault),
         }
     }
-    Ok(logs)
+    logs
+}
+
+/// Measures a replay and runs of all logs, a hart each.
+fn measure_all<R: Clock + AllocGlobal + Threads + Wait + Sync, E: Write>(
+    meter: &mut Meter<'_, R, E>,
+    input: &Input,
+) {
+    let logs = logs_of(meter, input);
+    let logs = logs.as_slice();
+    measure_replay(meter, logs);
+    for (name, capacity) in [("bench 1", 1), ("bench 16", 16), ("bench 1024", 1024)] {
+        measure_runs(meter, name, logs, capacity);
+    }
 }
 
 /// How many messages go through a funnel with a capacity of 1, and with a greater one.
@@ -78,141 +107,142 @@ const FEW: u64 = 6_400;
 
 const MANY: u64 = 64_000;
 
+/// The funnels with senders in threads of their own: a name, how many harts send, the capacity, and how many messages all
+/// harts send.
+const FUNNELS: [(&str, u16, u32, u64); 9] = [
+    ("funnel 1, 1", 1, 1, FEW),
+    ("funnel 4, 1", 4, 1, FEW),
+    ("funnel 64, 1", 64, 1, FEW),
+    ("funnel 1, 16", 1, 16, MANY),
+    ("funnel 4, 16", 4, 16, MANY),
+    ("funnel 64, 16", 64, 16, MANY),
+    ("funnel 1, 1024", 1, 1024, MANY),
+    ("funnel 4, 1024", 4, 1024, MANY),
+    ("funnel 64, 1024", 64, 1024, MANY),
+];
+
 /// Measures a message through a funnel: in one thread, on a bare channel, and with senders in threads of their own.
 fn measure_funnel<R: Clock + AllocGlobal + Threads + Wait + Sync, E: Write>(
-    rt: &R,
-    err: &mut E,
-) -> Result<(), Fault> {
-    let alloc = rt.alloc();
+    meter: &mut Meter<'_, R, E>,
+) {
+    let (rt, alloc) = (meter.rt, meter.rt.alloc());
     let count = IN_ONE_THREAD as usize;
-    measure(rt, err, "funnel alone", count, OneThread { rt, alloc })?;
-    measure(rt, err, "bare channel", count, Bare { rt, alloc })?;
-    for (name, harts, capacity, each) in [
-        ("funnel 1, 1", 1, 1, FEW),
-        ("funnel 4, 1", 4, 1, FEW / 4),
-        ("funnel 64, 1", 64, 1, FEW / 64),
-        ("funnel 1, 16", 1, 16, MANY),
-        ("funnel 4, 16", 4, 16, MANY / 4),
-        ("funnel 64, 16", 64, 16, MANY / 64),
-        ("funnel 1, 1024", 1, 1024, MANY),
-        ("funnel 4, 1024", 4, 1024, MANY / 4),
-        ("funnel 64, 1024", 64, 1024, MANY / 64),
-    ] {
+    meter.measure("funnel alone", count, OneThread { rt, alloc });
+    meter.measure("bare channel", count, Bare { rt, alloc });
+    for (name, harts, capacity, all) in FUNNELS {
+        let each = all / u64::from(harts.max(1));
         let senders = Senders {
-            name,
             harts,
             capacity,
             each,
         };
-        measure_senders(rt, err, alloc, senders)?;
+        measure_senders(meter, name, senders);
     }
-    Ok(())
 }
 
 /// Measures the phases over a log's text and its events.
 fn measure_log<R: Clock + AllocGlobal, E: Write>(
-    rt: &R,
-    err: &mut E,
+    meter: &mut Meter<'_, R, E>,
     text: &[u8],
     log: &LegalLog<'_>,
-) -> Result<(), Fault> {
-    let alloc = rt.alloc();
+) {
+    let alloc = meter.rt.alloc();
     let program = log.program();
     let events = log.events();
     let count = events.len();
-    measure(rt, err, "log reading", count, Reading { alloc, text })?;
-    measure(rt, err, "log writing", count, Writing { alloc, events })?;
-    let judging = Judging { program, events };
-    measure(rt, err, "legality check", count, judging)
+    meter.measure("log reading", count, Reading { alloc, text });
+    meter.measure("log writing", count, Writing { alloc, events });
+    meter.measure("legality check", count, Judging { program, events });
 }
 
 /// Measures the phases over a log's packets and payloads.
 fn measure_packets<'a, R: Clock + AllocGlobal, E: Write>(
-    rt: &R,
-    err: &mut E,
+    meter: &mut Meter<'_, R, E>,
     log: &'a LegalLog<'a>,
-) -> Result<(), Fault> {
-    let alloc = rt.alloc();
-    let packets = packets_of(alloc, log.program(), log.events())?;
-    let payloads = payloads_of(alloc, packets.as_slice())?;
-    measure_both_ways(rt, err, log, packets.as_slice(), payloads.as_slice())
+) {
+    let alloc = meter.rt.alloc();
+    let Ok(packets) = packets_of(alloc, log.program(), log.events()) else {
+        return meter.stop(Fault::Memory);
+    };
+    match payloads_of(alloc, packets.as_slice()) {
+        Ok(payloads) => measure_both_ways(meter, log, packets.as_slice(), payloads.as_slice()),
+        Err(_) => meter.stop(Fault::Memory),
+    }
 }
 
 /// Measures the phases from a log to these packets and payloads of it, and back.
 fn measure_both_ways<'a, R: Clock + AllocGlobal, E: Write>(
-    rt: &R,
-    err: &mut E,
+    meter: &mut Meter<'_, R, E>,
     log: &'a LegalLog<'a>,
     packets: &[Packet],
     payloads: &[Payload],
-) -> Result<(), Fault> {
+) {
     let count = log.events().len();
-    measure(rt, err, "encode and pack", count, Encoding { log })?;
+    meter.measure("encode and pack", count, Encoding { log });
     let decoding = Decoding {
-        alloc: rt.alloc(),
+        alloc: meter.rt.alloc(),
         program: log.program(),
         payloads,
     };
-    measure(rt, err, "unpack and decode", count, decoding)?;
-    measure(rt, err, "pack", packets.len(), Packing { packets })?;
-    measure(rt, err, "unpack", payloads.len(), Unpacking { payloads })
+    meter.measure("unpack and decode", count, decoding);
+    meter.measure("pack", packets.len(), Packing { packets });
+    meter.measure("unpack", payloads.len(), Unpacking { payloads });
 }
 
-/// Measures the phases over a log's capture.
-fn measure_captures<'a, 'p, R: Clock + AllocGlobal, E: Write>(
-    rt: &R,
-    err: &mut E,
-    logs: &'a [LegalLog<'p>; 1],
-) -> Result<(), Fault> {
-    let mut capture = Vec::new(rt.alloc());
-    if encode_capture(logs, PERIOD, MODE, VERSION, &mut capture).is_err() {
-        return Err(Fault::Log);
+/// The capture of logs at a period.
+fn capture_of<R: AllocGlobal, E>(
+    meter: &mut Meter<'_, R, E>,
+    logs: &[LegalLog<'_>; 1],
+    period: u16,
+) -> Vec<u8> {
+    let mut capture = Vec::new(meter.rt.alloc());
+    if encode_capture(logs, period.max(1), MODE, VERSION, &mut capture).is_err() {
+        meter.stop(Fault::Log);
     }
-    measure_capture(rt, err, logs, capture.as_slice())?;
-    measure_audit(rt, err, logs)
+    capture
+}
+
+/// Measures the phases over a log's capture, and the audit of one with many synchronisations, where just its messages
+/// came.
+fn measure_captures<'a, 'p, R: Clock + AllocGlobal, E: Write>(
+    meter: &mut Meter<'_, R, E>,
+    logs: &'a [LegalLog<'p>; 1],
+) {
+    let capture = capture_of(meter, logs, PERIOD);
+    measure_capture(meter, logs, capture.as_slice());
+    let dense = capture_of(meter, logs, DENSE_PERIOD);
+    let capture = dense.as_slice();
+    let alloc = meter.rt.alloc();
+    meter.measure("audit", messages_in(capture), Auditing { alloc, capture });
 }
 
 /// Measures the phases from a log to this capture of it, and back.
 fn measure_capture<'a, 'p, R: Clock + AllocGlobal, E: Write>(
-    rt: &R,
-    err: &mut E,
+    meter: &mut Meter<'_, R, E>,
     logs: &'a [LegalLog<'p>; 1],
     capture: &[u8],
-) -> Result<(), Fault> {
-    let alloc = rt.alloc();
+) {
+    let alloc = meter.rt.alloc();
     let program = logs[0].program();
     let count = logs[0].events().len();
+    let Ok(sink) = Vec::with_capacity(alloc, capture.len()) else {
+        return meter.stop(Fault::Memory);
+    };
     let writing = CaptureWriting {
         logs,
-        capture: Vec::with_capacity(alloc, capture.len())?,
+        capture: sink,
     };
-    measure(rt, err, "capture writing", count, writing)?;
+    meter.measure("capture writing", count, writing);
     let decoding = CaptureDecoding {
         alloc,
         program,
         capture,
     };
-    measure(rt, err, "capture decoding", count, decoding)?;
+    meter.measure("capture decoding", count, decoding);
     let lossy = LossyDecoding {
         alloc,
         program,
         capture,
     };
-    measure(rt, err, "lossy decoding", count, lossy)
-}
-
-/// Measures the audit of a log's capture with many synchronisations, where just its messages came.
-fn measure_audit<'a, 'p, R: Clock + AllocGlobal, E: Write>(
-    rt: &R,
-    err: &mut E,
-    logs: &'a [LegalLog<'p>; 1],
-) -> Result<(), Fault> {
-    let alloc = rt.alloc();
-    let mut capture = Vec::new(alloc);
-    if encode_capture(logs, DENSE_PERIOD, MODE, VERSION, &mut capture).is_err() {
-        return Err(Fault::Log);
-    }
-    let capture = capture.as_slice();
-    let count = messages_in(capture);
-    measure(rt, err, "audit", count, Auditing { alloc, capture })
+    meter.measure("lossy decoding", count, lossy);
 }

@@ -1,18 +1,18 @@
 //! The phases over a funnel: messages that are sent and taken.
 
 use crate::fault::Fault;
-use crate::least::{Phase, RUNS, write_time};
+use crate::least::{Meter, Phase, RUNS, now, since};
 use crossbeam_channel::bounded_with;
 use crossbeam_channel::protocol::{Lesson, Outcome, Protocol};
 use funnel::{Outlet, Port, open};
 use message::Message;
 use payload::{PackFault, Payload};
-use std::alloc::Global;
+use std::alloc::{AllocError, Global};
 use std::io::Write;
 use std::sync::Wait;
 use std::thread;
 use std::thread::{Scope, Threads};
-use std::time::{Clock, Instant};
+use std::time::Clock;
 
 /// How many messages are sent and taken in one thread.
 pub(crate) const IN_ONE_THREAD: u64 = 100_000;
@@ -89,12 +89,15 @@ impl<R: Wait> Phase for Bare<'_, R> {
     type Made = ();
 
     fn run(&mut self) -> Result<((), u64), Fault> {
-        Ok(((), through_a_channel(self.rt, self.alloc)?))
+        match through_a_channel(self.rt, self.alloc) {
+            Ok(taken) => Ok(((), taken)),
+            Err(_) => Err(Fault::Memory),
+        }
     }
 }
 
 /// How many messages are sent and then taken on a bare channel.
-fn through_a_channel<R: Wait>(rt: &R, alloc: Global) -> Result<u64, Fault> {
+fn through_a_channel<R: Wait>(rt: &R, alloc: Global) -> Result<u64, AllocError> {
     let (sender, receiver, mut pass) = bounded_with::<Message, (), Anything, Global>(
         alloc,
         ROOM as usize,
@@ -124,32 +127,41 @@ fn through_a_channel<R: Wait>(rt: &R, alloc: Global) -> Result<u64, Fault> {
 /// A funnel that is measured, where each hart sends in a thread of its own.
 #[derive(Clone, Copy)]
 pub(crate) struct Senders {
-    pub(crate) name: &'static str,
     pub(crate) harts: u16,
     pub(crate) capacity: u32,
     /// How many messages each hart sends.
     pub(crate) each: u64,
 }
 
-/// Runs a funnel several times, and writes its name, its least time for each message and how many were taken.
-pub(crate) fn measure_senders<R: Clock + Threads + Wait + Sync, E: Write>(
+/// How many nanoseconds a funnel takes, and how many messages were taken.
+fn timed_funnel<R: Clock + AllocGlobal + Threads + Wait + Sync>(
     rt: &R,
-    err: &mut E,
-    alloc: Global,
     senders: Senders,
-) -> Result<(), Fault> {
-    let mut least = u128::MAX;
-    let mut taken = 0;
+) -> Result<(u128, u64), Fault> {
+    let start = now(rt)?;
+    let Ok((ports, outlet)) = open(rt.alloc(), senders.harts, senders.capacity) else {
+        return Err(Fault::Memory);
+    };
+    let taken = through_threads(rt, ports, outlet, senders.each);
+    Ok((since(rt, start)?, taken))
+}
+
+/// Runs a funnel several times, and writes its name, its least time for each message and how many were taken.
+pub(crate) fn measure_senders<R: Clock + AllocGlobal + Threads + Wait + Sync, E: Write>(
+    meter: &mut Meter<'_, R, E>,
+    name: &str,
+    senders: Senders,
+) {
+    let rt = meter.rt;
     for _ in 0..RUNS {
-        let start = Instant::now(rt)?;
-        let Ok((ports, outlet)) = open(alloc, senders.harts, senders.capacity) else {
-            return Err(Fault::Memory);
-        };
-        taken = through_threads(rt, ports, outlet, senders.each);
-        least = least.min(start.elapsed(rt)?.as_nanos());
+        if meter.is_stopped() {
+            return;
+        }
+        let timed = timed_funnel(rt, senders);
+        meter.note(timed);
     }
     let count = u64::from(senders.harts).saturating_mul(senders.each);
-    write_time(err, senders.name, count as usize, least, taken)
+    meter.write_time(name, count as usize);
 }
 
 /// Starts a thread for each port, and takes to the end.

@@ -41,7 +41,9 @@ impl Phase for CaptureDecoding<'_> {
     type Made = CaptureOutcome<Global>;
 
     fn run(&mut self) -> Result<(CaptureOutcome<Global>, u64), Fault> {
-        let outcome = decode_capture(self.alloc, self.program, 1, self.capture)?;
+        let Ok(outcome) = decode_capture(self.alloc, self.program, 1, self.capture) else {
+            return Err(Fault::Memory);
+        };
         let mut events = 0u64;
         for list in &outcome.harts {
             events = events.wrapping_add(list.len() as u64);

@@ -10,8 +10,6 @@ pub(crate) const BASE: u64 = 0x8000_0000;
 // Words, as the RISC-V Unprivileged ISA and the Privileged Architecture encode them. The loops are to themselves.
 pub(crate) const NOP: u32 = 0x0000_0013;
 
-pub(crate) const JUMP_LOOP: u32 = 0x0000_006f;
-
 /// To 8 bytes before.
 pub(crate) const BACK_JUMP_TWICE: u32 = 0xff9f_f06f;
 

@@ -1,6 +1,6 @@
 //! A memory of two pieces where an allocation fails (`rvclass`). Others are cases of `vectors`.
 
-use fault_injection::Refusing;
+use cases::Refusing;
 use rvclass::{Fetched, Memory, PieceFault};
 
 #[test]

@@ -1,9 +1,5 @@
-//! Legal logs, and a reading of payloads bit by bit, for other tests. Packets, their payloads and the packets of logs are
-//! cases of `vectors`.
+//! Legal logs for other tests. Packets, their payloads and the packets of logs are cases of `vectors`.
 
-mod faults_by_bits;
-
-pub(crate) use self::faults_by_bits::fault_of;
 use legalpath::LegalLog;
 use retire::Event;
 use rvclass::Program;

@@ -4,8 +4,8 @@ use crate::fixtures::Step::{self, Retires, Traps};
 use crate::fixtures::{BASE, BRANCH_LOOP, log_of, program_of};
 use crate::same::same_at;
 use captures::{CaptureFault, CaptureOutcome, decode_capture};
+use cases::Refusing;
 use decoder::DecodeFault;
-use fault_injection::Refusing;
 use std::alloc::{AllocError, Global};
 use std::process::Abort;
 

@@ -4,7 +4,7 @@
 use crate::fixtures::{BASE, NOP, program_of};
 use crate::lossy::add;
 use crate::same::same_at;
-use fault_injection::Refusing;
+use cases::Refusing;
 use message::{Message, NoProgress};
 use payload::Mode;
 use salvaging::{Added, Treated, Treatment, treat_watched};

@@ -1,14 +1,12 @@
-//! Whole captures (`captures`): of worked logs with each byte changed, and to writers that fail; the logs of their harts,
-//! written while they are decoded (`capture_index`); and the first pass over them, with the harts side by side
+//! Whole captures (`captures`): to writers that fail; the logs of their harts,
+//! written while they are decoded (`parallel_decode`); and the first pass over them, with the harts side by side
 //! (`parallel_decode`). What captures are written, read and decoded as are cases of `vectors`.
 
-mod by_bytes;
-mod changed;
 mod failing;
 mod surveyed;
 mod written;
 
-use crate::fixtures::add;
+use crate::fixtures::{add, short_log};
 use crate::packets::legal_log;
 use captures::{CaptureOutcome, decode_capture, encode_capture};
 use legalpath::LegalLog;
@@ -60,15 +58,28 @@ fn write_capture<R: Abort, W: Write>(
     }
 }
 
-/// The capture of logs, 1 to 1,024, of version 2 in this mode.
+/// The capture of so many harts, 1 to 1,024, that each retire this many instructions C.NOP once.
+fn short_capture<R: Abort + AllocGlobal>(
+    rt: &R,
+    program: &Program,
+    (harts, events): (u16, u32),
+    period: u16,
+    form: (Version, Mode),
+) -> Vec<u8> {
+    let log = short_log(rt, events);
+    let logs = copies_of(rt, program, &log, harts);
+    capture_of(rt, &logs, period, form)
+}
+
+/// The capture of logs, 1 to 1,024, in a version and a mode.
 fn capture_of<R: Abort + AllocGlobal>(
     rt: &R,
     logs: &[LegalLog<'_>],
     period: u16,
-    mode: Mode,
+    form: (Version, Mode),
 ) -> Vec<u8> {
     let mut capture = Vec::new(rt.alloc());
-    write_capture(rt, logs, period, (Version::Two, mode), &mut capture).expect(rt, "a capture");
+    write_capture(rt, logs, period, form, &mut capture).expect(rt, "a capture");
     capture
 }
 
@@ -114,13 +125,4 @@ fn capture_by_hand<R: Abort + AllocGlobal>(
         add_messages(rt, &mut capture, hart, payloads);
     }
     capture
-}
-
-/// Whether an outcome is whole: it has this many harts, each has this log and is closed, and there is no fault.
-fn is_whole(outcome: &CaptureOutcome, harts: usize, log: &[Event]) -> bool {
-    let mut whole = outcome.fault.is_none();
-    for (list, closed) in outcome.harts.iter().zip(outcome.closed.iter()) {
-        whole &= *closed & (list.as_slice() == log);
-    }
-    whole & (outcome.harts.len() == harts) & (outcome.closed.len() == harts)
 }

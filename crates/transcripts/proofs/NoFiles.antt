@@ -1,6 +1,9 @@
--- Where there is no file, nothing that words ask for is done: an image or a capture is read before anything is.
+-- Where there is no file, nothing that words ask for but `generate` is done: an image or a capture is read before anything
+-- is.
 use Rattle.std.proofs.Common.{◌≡◌, ◌≢◌, ◌∙◌, ◌⊎◌, ℕ, List, [], Option, Result, Ok, Err, ap, arith, inl, inr, map, refl}
 use Rattle.std.proofs.Common.{subst, sym}
+use Rattle.cli.specs.Asking.{AskGenerate}
+use Rattle.command_inputs.specs.Kind.{IsGenerate}
 use Rattle.command_inputs.specs.declared.words.Asked.{Asked}
 use Rattle.command_inputs.specs.declared.words.Asked.TheVariants.{Audit, Bench, Check, Decode, Dump, Encode, Listing}
 use Rattle.command_inputs.specs.declared.words.Asked.TheVariants as asked_for
@@ -137,9 +140,9 @@ ends_so : {W : Type 0} (to : W → CommandReason) (text : List ℕ) (status : St
 ends_so to text status own is =
     same_status to status own.ended (ap (λ (p : Printed). p.ended) is)
 
--- Nothing is carried out to its end.
+-- Nothing is carried out to its end but `generate`.
 not_ended : (asked : Asked) (status : Status) (old new : Option (List ℕ)) → IsCarriedOut none asked (Ok status) old new
-    → ⊥
+    → IsGenerate asked
 not_ended (Check asked) status old new done =
     let own = done.prints.own in
     let ends = ends_so Log done.text status own done.prints.is in
@@ -213,7 +216,7 @@ not_ended (Listing asked) status old new done =
     (λ base is prints. not_first (IsOnly asked.only) (ListsHarts none asked base) own status ends
     (λ only found lists. not_first (IsProgramAt none base asked.program) (λ program.
     First (AreSymbols none asked.symbols) (λ symbols. First (IsRead none asked.capture)
-    (WritesListed asked.format asked.salvage only asked.harts program symbols))) own status ends
+    (WritesListed asked.format asked.rows asked.salvage only asked.harts program symbols))) own status ends
     (λ program made listing. no_program base asked.program program made) lists) prints)
     done.prints.prints
 not_ended (Salvage asked) status old new done =
@@ -221,12 +224,15 @@ not_ended (Salvage asked) status old new done =
     let ends = ends_so Capture done.text status own done.prints.is in
     not_first (IsAskedBase asked.format asked.program) (λ base.
     First (IsOnly asked.only) (λ only. First (IsProgramAt none base asked.program) (λ program.
-    First (IsRead none asked.capture) (SalvagesOf only asked.format asked.harts asked.summary program)))) own status ends
+    First (AreSymbols none asked.symbols) (λ symbols. First (IsRead none asked.capture)
+    (SalvagesOf only asked.format asked.harts asked.summary program symbols))))) own status ends
     (λ base is prints. not_first (IsOnly asked.only) (λ only.
     First (IsProgramAt none base asked.program) (λ program.
-    First (IsRead none asked.capture) (SalvagesOf only asked.format asked.harts asked.summary program))) own status ends
+    First (AreSymbols none asked.symbols) (λ symbols. First (IsRead none asked.capture)
+    (SalvagesOf only asked.format asked.harts asked.summary program symbols)))) own status ends
     (λ only found left. not_first (IsProgramAt none base asked.program) (λ program.
-    First (IsRead none asked.capture) (SalvagesOf only asked.format asked.harts asked.summary program)) own status ends
+    First (AreSymbols none asked.symbols) (λ symbols. First (IsRead none asked.capture)
+    (SalvagesOf only asked.format asked.harts asked.summary program symbols))) own status ends
     (λ program made salvaged. no_program base asked.program program made) left) prints)
     done.prints.prints
 not_ended (asked_for.Capture asked) status old new done =
@@ -241,14 +247,18 @@ not_ended (asked_for.Compare asked) status old new done =
     let ends = ends_so Capture done.text status own done.prints.is in
     not_first (IsBase asked.program) (λ base.
     First (IsOnly asked.only) (λ range. First (IsProgramAt none base asked.program) (λ program.
-    First (IsRead none asked.capture) (ComparesHarts none asked range program)))) own status ends
+    First (AreSymbols none asked.symbols) (λ symbols.
+    First (IsRead none asked.capture) (ComparesHarts none asked range program symbols))))) own status ends
     (λ base is prints. not_first (IsOnly asked.only) (λ range.
     First (IsProgramAt none base asked.program) (λ program.
-    First (IsRead none asked.capture) (ComparesHarts none asked range program))) own status ends
+    First (AreSymbols none asked.symbols) (λ symbols.
+    First (IsRead none asked.capture) (ComparesHarts none asked range program symbols)))) own status ends
     (λ range found lines. not_first (IsProgramAt none base asked.program) (λ program.
-    First (IsRead none asked.capture) (ComparesHarts none asked range program)) own status ends
+    First (AreSymbols none asked.symbols) (λ symbols.
+    First (IsRead none asked.capture) (ComparesHarts none asked range program symbols))) own status ends
     (λ program made compared. no_program base asked.program program made) lines) prints)
     done.prints.prints
+not_ended (asked_for.Generate asked) status old new done = tt
 
 -- No reason ends with status 0.
 reason_faulty : (why : CommandReason) → code_of (command_reason_status why) ≢ 0
@@ -259,6 +269,9 @@ reason_faulty (Log (log.Unsent why)) = λ is. omega arith
 reason_faulty (Log log.FirstAlone) = λ is. omega arith
 reason_faulty (Log (log.ManyHarts most)) = λ is. omega arith
 reason_faulty (Log (log.FirstHart harts)) = λ is. omega arith
+reason_faulty (Log log.Product) = λ is. omega arith
+reason_faulty (Log log.Mix) = λ is. omega arith
+reason_faulty (Log (log.Stray option)) = λ is. omega arith
 reason_faulty (Capture capture.Header) = λ is. omega arith
 reason_faulty (Capture (capture.Message number why)) = λ is. omega arith
 reason_faulty (Capture (capture.Unclosed hart)) = λ is. omega arith
@@ -287,37 +300,39 @@ faulty (fault.Illegal path why) = λ is. omega arith
 faulty fault.Output = λ is. omega arith
 faulty fault.Memory = λ is. omega arith
 
--- What was carried out of no files did not end with status 0.
+-- What was carried out of no files ended with status 0 only where it was `generate`.
 ended_faulty : (asked : Asked) (ended : Result Status Fault) (old new : Option (List ℕ))
-    → IsCarriedOut none asked ended old new → code_of (final_status ended) ≢ 0
-ended_faulty asked (Ok status) old new done = absurd (not_ended asked status old new done)
-ended_faulty asked (Err why) old new done = faulty why
+    → IsCarriedOut none asked ended old new → code_of (final_status ended) ≡ 0 → IsGenerate asked
+ended_faulty asked (Ok status) old new done is = not_ended asked status old new done
+ended_faulty asked (Err why) old new done is = absurd (faulty why is)
 
--- What the words ask for did not end with status 0.
+-- What the words ask for ended with status 0 only where it was `generate`.
 not_done : {E : Type 0} (words : List (List ℕ)) (code : ℕ) (old new : Option (List ℕ))
     (contents : E → Option (List ℕ)) (err_old err_new : E)
-    → AreCarriedOut none words code old new contents err_old err_new → code ≢ 0
-not_done words code old new contents err_old err_new carried =
-    let faulty : code_of (final_status carried.done.ended) ≢ 0
-    = ended_faulty carried.asked carried.done.ended old new carried.done.carried in
-    λ is. faulty (ap code_of (sym carried.done.ends) ∙ (sym carried.coded ∙ is))
+    → AreCarriedOut none words code old new contents err_old err_new → code ≡ 0 → AskGenerate words
+not_done words code old new contents err_old err_new carried is = (
+  carried.asked,
+  carried.asks,
+  ended_faulty carried.asked carried.done.ended old new carried.done.carried
+      (ap code_of (sym carried.done.ends) ∙ (sym carried.coded ∙ is)),
+)
 
 -- Words that are refused do not end with status 0.
 not_refused : {M : Type 0} (code : ℕ) → (code ≡ 2) ⊎ ((code ≡ 3) × M) → code ≢ 0
 not_refused code (inl two) = λ is. omega arith
 not_refused code (inr three) = let machine : code ≡ 3 = three.0 in λ is. omega arith
 
--- Nothing ends with status 0 where no file is left on the shelf.
+-- Nothing but `generate` ends with status 0 where no file is left on the shelf.
 pub not_whole : {F E R K M N L : Type 0} (f : F → List ℕ × List ℕ) (files : List F) (words : List (List ℕ)) (code : ℕ)
     (old new : Option (List ℕ)) (contents : E → Option (List ℕ)) (err_old err_new : E) → files ≡ []
     → (R → K × ((code ≡ 2) ⊎ ((code ≡ 3) × M)))
     → R ⊎ (((code ≡ 3) × N × L)
     ⊎ AreCarriedOut (λ path. content_in (map f files) path) words code old new contents err_old err_new)
-    → code ≢ 0
-not_whole f files words code old new contents err_old err_new gone refusal (inl refused) =
-    not_refused code (refusal refused).1
-not_whole f files words code old new contents err_old err_new gone refusal (inr (inl memory)) =
-    let machine : code ≡ 3 = memory.0 in λ is. omega arith
-not_whole f files words code old new contents err_old err_new gone refusal (inr (inr carried)) =
+    → code ≡ 0 → AskGenerate words
+not_whole f files words code old new contents err_old err_new gone refusal (inl refused) is =
+    absurd (not_refused code (refusal refused).1 is)
+not_whole f files words code old new contents err_old err_new gone refusal (inr (inl memory)) is =
+    let machine : code ≡ 3 = memory.0 in let never : ⊥ = omega arith in absurd never
+not_whole f files words code old new contents err_old err_new gone refusal (inr (inr carried)) is =
     not_done words code old new contents err_old err_new (subst (λ left. AreCarriedOut
-    (λ path. content_in (map f left) path) words code old new contents err_old err_new) gone carried)
+    (λ path. content_in (map f left) path) words code old new contents err_old err_new) gone carried) is

@@ -2,8 +2,8 @@
 
 use cases::Case;
 use command_inputs::{
-    Asked, Audit, Bench, Capture, Check, Compare, Decode, Dump, Encode, Format, Listing, Measure,
-    ProgramArgs, Replay, Salvage,
+    Asked, Audit, Bench, Capture, Check, Compare, Decode, Dump, Encode, Format, Generate, Listing,
+    Measure, Product, ProgramArgs, Replay, Salvage,
 };
 use std::fmt::Debug;
 
@@ -125,6 +125,7 @@ fn put_listing(text: &mut Case<'_>, asked: &Listing<'_>) {
     put(text, "harts", asked.harts);
     put(text, "only", asked.only);
     put(text, "symbols", asked.symbols);
+    put(text, "rows", asked.rows);
     put(text, "salvage", asked.salvage);
     put_format(text, asked.format);
     put(text, "progress", asked.progress);
@@ -136,6 +137,7 @@ fn put_salvage(text: &mut Case<'_>, asked: &Salvage<'_>) {
     put_program(text, &asked.program);
     put(text, "harts", asked.harts);
     put(text, "only", asked.only);
+    put(text, "symbols", asked.symbols);
     put(text, "summary", asked.summary);
     put_format(text, asked.format);
     put(text, "progress", asked.progress);
@@ -158,10 +160,32 @@ fn put_compare(text: &mut Case<'_>, asked: &Compare<'_>) {
     put(text, "harts", asked.harts);
     put(text, "only", asked.only);
     put(text, "explain", asked.explain);
+    put(text, "symbols", asked.symbols);
     put(text, "long", asked.long);
     put(text, "progress", asked.progress);
     put(text, "capture", asked.capture);
     put(text, "logs", asked.logs.as_slice());
+}
+
+fn put_generate(text: &mut Case<'_>, asked: &Generate<'_>) {
+    text.put("Generate(Generate { product: ");
+    text.put(match asked.product {
+        Product::Image => "Image",
+        Product::Log => "Log",
+        Product::Capture => "Capture",
+        Product::Other => "Other",
+    });
+    put(text, "seed", asked.seed);
+    put(text, "mix", asked.mix);
+    put(text, "base", asked.base);
+    put(text, "hart", asked.hart);
+    put(text, "events", asked.events);
+    put(text, "harts", asked.harts);
+    put(text, "messages", asked.messages);
+    put(text, "period", asked.period);
+    put(text, "mode", asked.mode);
+    put(text, "version", asked.version);
+    put(text, "burst", asked.burst);
 }
 
 /// Appends a line with what is asked.
@@ -179,6 +203,7 @@ pub(crate) fn put_asked(text: &mut Case<'_>, asked: &Asked<'_>) {
         Asked::Salvage(asked) => put_salvage(text, asked),
         Asked::Capture(asked) => put_capture(text, asked),
         Asked::Compare(asked) => put_compare(text, asked),
+        Asked::Generate(asked) => put_generate(text, asked),
     }
     text.put(" })\n");
 }

@@ -1,13 +1,12 @@
 //! Cases of whole captures: what is read, decoded (`captures`), received (`receiver`) and written (`parallel_decode`)
 //! of them.
 
-use crate::lossy::{put_end, put_harts, put_places};
+use crate::lossy::{join_harts, put_end, put_places};
 use crate::told::Told;
-use capture_index::Selection;
 use captures::{CaptureFault, CaptureOutcome, decode_capture, read_front, read_messages};
 use cases::{Case, bytes_of};
 use message::{HartRange, Header, Message};
-use parallel_decode::{DecodedHarts, Sharing, write_decoded_side_by_side};
+use parallel_decode::{DecodedHarts, Selection, Sharing, write_decoded_side_by_side};
 use payload::Mode;
 use receiver::Receiver;
 use retire::{Event, write_log};
@@ -57,42 +56,40 @@ fn put_messages(case: &mut Case<'_>, header: Option<Header>, messages: &[Message
 
 /// `read-capture`: the header and the messages of the capture, read as those of a complete one and up to the first fault.
 pub(crate) fn read_capture_case(case: &mut Case<'_>, bytes: &[u8]) {
-    let mut first = case.again();
     match read_messages(case.alloc, bytes) {
-        Ok(read) => put_messages(&mut first, read.header, read.messages.as_slice()),
+        Ok(read) => put_messages(case, read.header, read.messages.as_slice()),
         Err(_) => case.unread(),
     }
-    case.put_first(&first);
-    let mut front = case.again();
+    case.end_first_way();
     match read_front(case.alloc, bytes) {
         Ok(read) => {
-            put_messages(&mut front, read.header, read.messages.as_slice());
+            put_messages(case, read.header, read.messages.as_slice());
             if read.stop.is_some() {
-                front.put_word("stops");
+                case.put_word("stops");
             }
         }
         Err(_) => case.no_memory(),
     }
-    case.put_other("up to a fault", &front, first.came.as_str());
+    case.end_way("up to a fault");
 }
 
 /// Appends at which message decoding stopped, and why, if it did.
 fn put_fault(case: &mut Case<'_>, fault: Option<(u64, CaptureFault)>) {
     if let Some((number, fault)) = fault {
-        let done = write!(case.came, "; message {number}: {fault}");
-        case.note(done);
+        case.put_filled("; message #: ", &[number]);
+        case.put_shown(fault);
     }
 }
 
 /// Appends the events of harts, by places in the log, and which of them are closed.
 fn put_decoded(case: &mut Case<'_>, log: &[Event], harts: &[Vec<Event>], closed: &[bool]) {
-    let mut texts = case.again();
+    case.keep();
     for (events, closed) in harts.iter().zip(closed.iter()) {
-        put_places(&mut texts, log, events.as_slice(), 0);
-        put_end(&mut texts, *closed);
-        texts.put("\n");
+        put_places(case, log, events.as_slice(), 0);
+        put_end(case, *closed);
+        case.put("\n");
     }
-    put_harts(case, &texts);
+    join_harts(case);
     if harts.len() != closed.len() {
         case.put(", flags of other harts");
     }
@@ -165,9 +162,8 @@ fn put_other_written<R: Threads + Sync>(
     let is_text = text.as_slice() == whole.as_slice();
     let is_end = ended.closed.as_slice() == outcome.closed.as_slice();
     if !is_text || !is_end || ended.fault != outcome.fault {
-        let count = bytes.len();
-        let done = write!(case.came, ", other logs of {count} bytes and {harts} harts");
-        case.note(done);
+        let sizes = [bytes.len() as u64, u64::from(harts)];
+        case.put_filled(", other logs of # bytes and # harts", &sizes);
     }
 }
 
@@ -320,4 +316,38 @@ pub(crate) fn decode_changes_case<R: Threads + Sync>(
     }
     case.put_shown(count);
     case.put_first(&others);
+}
+
+/// Appends the events of harts, by places in the log, and which of them are closed.
+fn put_each(case: &mut Case<'_>, log: &[Event], harts: &[Vec<Event>], closed: &[bool]) {
+    for (events, closed) in harts.iter().zip(closed.iter()) {
+        put_places(case, log, events.as_slice(), 0);
+        put_end(case, *closed);
+    }
+}
+
+/// Appends what bytes decode to as the capture of one hart.
+fn put_decoding(case: &mut Case<'_>, captured: Captured<'_>, bytes: &[u8]) {
+    match decode_capture(case.alloc, captured.program, 1, bytes) {
+        Ok(outcome) => {
+            let harts = outcome.harts.as_slice();
+            put_each(case, captured.log, harts, outcome.closed.as_slice());
+            put_fault(case, outcome.fault);
+        }
+        Err(_) => case.no_memory(),
+    }
+}
+
+/// `changes PLACE`: what the capture of one hart decodes to where the byte at a place has each value, values with the same
+/// text together.
+pub(crate) fn changes_case(case: &mut Case<'_>, captured: Captured<'_>) {
+    let place = case.word();
+    let place = case.decimal(place) as usize;
+    let mut bytes = case.copied(captured.bytes);
+    for value in 0..=255u8 {
+        set(&mut bytes, place, value);
+        put_decoding(case, captured, bytes.as_slice());
+        case.put("\n");
+    }
+    join_harts(case);
 }

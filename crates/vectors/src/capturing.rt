@@ -275,35 +275,27 @@ fn handed_in<F: Form>(
     bytes
 }
 
-/// The lines and the bytes of a hart's messages, and in which pieces there are others, where the period is a word's.
-fn handed_in_at<'a>(
-    case: &mut Case<'a>,
-    (program, log): (&Program, &[Event]),
-    (hart, mode): (u16, Mode),
-    word: &str,
-) -> Case<'a> {
-    let mut one = case.again();
-    let setting = (hart, one.short(word), mode);
-    let mut others = case.again();
-    let lines = handed_in::<HexLines>(&mut others, program, log, setting);
-    let bytes = handed_in::<CaptureBytes>(&mut others, program, log, setting);
-    one.put_text(lines.as_slice());
-    one.put_digits(bytes.as_slice());
-    one.put_first(&others);
-    one
+/// Appends the lines and the bytes of a hart's messages, and in which pieces there are others.
+fn put_handed_in(case: &mut Case<'_>, program: &Program, log: &[Event], setting: Setting) {
+    let lines = handed_in::<HexLines>(case, program, log, setting);
+    case.put_text(lines.as_slice());
+    let bytes = handed_in::<CaptureBytes>(case, program, log, setting);
+    case.put_digits(bytes.as_slice());
 }
 
 /// `hand-in HART MODE PERIODS`: the lines and the bytes of a hart's messages, where its log is the one of the case before.
 /// They have to be the same at each of these periods, and in whatever pieces the log comes.
 pub(crate) fn hand_in_case(case: &mut Case<'_>, both: (&Program, &[Event])) {
     let (hart, mode) = (case.word(), case.word());
-    let setting = (case.short(hart), mode_of(case, mode));
+    let (hart, mode) = (case.short(hart), mode_of(case, mode));
     let period = case.word();
-    let first = handed_in_at(case, both, setting, period);
-    case.put_first(&first);
+    let period = case.short(period);
+    put_handed_in(case, both.0, both.1, (hart, period, mode));
+    case.end_first_way();
     for word in case.text.split_whitespace() {
-        let other = handed_in_at(case, both, setting, word);
-        case.put_other(word, &other, first.came.as_str());
+        let period = case.short(word);
+        put_handed_in(case, both.0, both.1, (hart, period, mode));
+        case.end_way(word);
     }
 }
 

@@ -130,60 +130,38 @@ pub(crate) fn settings_of(case: &mut Case<'_>) -> (u16, Mode) {
 }
 
 /// Appends what an encoder and a source give of a log in other ways, where it is not what came in the first.
-fn put_others(
-    case: &mut Case<'_>,
-    program: &Program,
-    log: &[Event],
-    settings: (u16, Mode),
-    first: &str,
-) {
-    let mut until = case.again();
-    put_pushed(&mut until, program, log, settings, Way::UntilPacket);
-    case.put_other("until a packet", &until, first);
+fn put_others(case: &mut Case<'_>, program: &Program, log: &[Event], settings: (u16, Mode)) {
+    put_pushed(case, program, log, settings, Way::UntilPacket);
+    case.end_way("until a packet");
     let Some(legal) = legal_log(case, program, log) else {
         return;
     };
-    let mut payloads = case.again();
     for payload in &sourced(case, &legal, settings) {
-        payloads.put_bytes(payload.bytes());
+        case.put_bytes(payload.bytes());
     }
-    case.put_other("of a source", &payloads, first);
-    let mut packets = case.again();
-    put_sourced(&mut packets, &legal, settings);
-    case.put_other("packets of a source", &packets, first);
+    case.end_way("of a source");
+    put_sourced(case, &legal, settings);
+    case.end_way("packets of a source");
 }
 
 /// `encode PERIOD MODE ROWS`: the payloads of a log, by an encoder and by a source.
 pub(crate) fn encode_case(case: &mut Case<'_>, program: &Program) {
     let settings = settings_of(case);
     let log = events_of(case);
-    let mut first = case.again();
-    put_pushed(&mut first, program, log.as_slice(), settings, Way::Singly);
-    case.put_first(&first);
-    put_others(case, program, log.as_slice(), settings, first.came.as_str());
+    put_pushed(case, program, log.as_slice(), settings, Way::Singly);
+    case.end_first_way();
+    put_others(case, program, log.as_slice(), settings);
 }
 
 /// `encode-alike ROWS`: what differs between the ways to encode a log, at several periods and in both modes.
 pub(crate) fn encode_alike_case(case: &mut Case<'_>, program: &Program) {
     let log = events_of(case);
+    let log = log.as_slice();
     for period in [1u16, 2, 1_024] {
         for mode in [Mode::Differential, Mode::Full] {
-            let mut first = case.again();
-            put_pushed(
-                &mut first,
-                program,
-                log.as_slice(),
-                (period, mode),
-                Way::Singly,
-            );
-            case.join(&first);
-            put_others(
-                case,
-                program,
-                log.as_slice(),
-                (period, mode),
-                first.came.as_str(),
-            );
+            put_pushed(case, program, log, (period, mode), Way::Singly);
+            case.end_hidden_way();
+            put_others(case, program, log, (period, mode));
         }
     }
 }

@@ -1,7 +1,7 @@
 //! Cases of captures as text: dumps (`captures`), listings (`listing`) and audits (`auditing`).
 
 use crate::captured::Captured;
-use crate::lossy::{is_lost, put_harts};
+use crate::lossy::{is_lost, join_harts};
 use auditing::{Audit, Fate, Tally};
 use captures::{dump_capture, read_messages};
 use cases::{Case, text_of};
@@ -19,8 +19,8 @@ pub(crate) fn dump_capture_case(case: &mut Case<'_>, bytes: &[u8]) {
                 case.put("bad payloads");
             }
             if let Some((number, fault)) = dumped.fault {
-                let done = write!(case.came, "message {number}: {fault}");
-                case.note(done);
+                case.put_filled("message #: ", &[number]);
+                case.put_shown(fault);
             }
         }
         Err(_) => case.no_memory(),
@@ -35,7 +35,7 @@ fn put_listing(case: &mut Case<'_>, captured: Captured<'_>, harts: u16, symbols:
         only: HartRange::ALL,
         capture: captured.bytes,
         symbols,
-        form: Form::Lines,
+        form: Form::Lines { rows: false },
     };
     let mut text = Vec::new(case.alloc);
     let Ok(listed) = list_capture(case.alloc, &input, &mut text, &NoProgress) else {
@@ -73,9 +73,8 @@ pub(crate) fn list_capture_case(case: &mut Case<'_>, captured: Captured<'_>) {
 
 /// Appends how many messages of a hart were sent, came and are lost, and what else became of them.
 fn put_tally(case: &mut Case<'_>, tally: &Tally) {
-    let (sent, came, lost) = (tally.sent, tally.came, tally.lost);
-    let done = write!(case.came, "{sent} sent, {came} came, {lost} lost:");
-    case.note(done);
+    let counts = [tally.sent, tally.came, tally.lost];
+    case.put_filled("# sent, # came, # lost:", &counts);
     let others = tally.repeated.max(tally.late).max(tally.changed);
     if others > 0 || tally.whole {
         case.put(" and others");
@@ -111,19 +110,18 @@ pub(crate) fn audit_capture_case(case: &mut Case<'_>, bytes: &[u8]) {
     let Ok(mut audit) = Audit::new(case.alloc, bytes) else {
         return case.unread();
     };
-    let mut texts = case.again();
     for message in &read.messages {
-        if !is_lost(&mut texts, lost, message.number) {
+        if !is_lost(case, lost, message.number) {
             let fate = audit.take(message);
             if fate != Fate::InOrder {
-                texts.put("not in order ");
+                case.put("not in order ");
             }
         }
     }
     for hart in 0..audit.harts() {
-        put_hart(&mut texts, &audit, hart);
+        put_hart(case, &audit, hart);
     }
-    put_harts(case, &texts);
+    join_harts(case);
     if audit.strangers() > 0 {
         case.put("; strangers");
     }

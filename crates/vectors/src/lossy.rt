@@ -9,8 +9,9 @@ use payload::{Mode, Payload};
 use retire::Event;
 use rvclass::Program;
 use salvaging::{
-    Part as Salvage, Salvaged, SalvagedHart, Treated, Treatment, salvage, treat_watched,
+    Part as Salvage, Reason, Salvaged, SalvagedHart, Treated, Treatment, salvage, treat_watched,
 };
+use std::mem;
 
 /// Where events are in a log, at this place or after it.
 fn position_of(log: &[Event], events: &[Event], from: usize) -> Option<usize> {
@@ -24,6 +25,14 @@ fn position_of(log: &[Event], events: &[Event], from: usize) -> Option<usize> {
     None
 }
 
+/// Appends a place, with two digits at least.
+fn put_place(case: &mut Case<'_>, place: usize) {
+    if place < 10 {
+        case.put("0");
+    }
+    case.put_shown(place);
+}
+
 /// Appends the places that events have in a log, from the first up to the one after the last; or the events where they
 /// are not there. Returns the place after them.
 pub(crate) fn put_places(
@@ -35,8 +44,9 @@ pub(crate) fn put_places(
     match position_of(log, events, from) {
         Some(first) => {
             let end = first.saturating_add(events.len());
-            let done = write!(case.came, "{first:02}-{end:02}");
-            case.note(done);
+            put_place(case, first);
+            case.put("-");
+            put_place(case, end);
             end
         }
         None => {
@@ -85,9 +95,8 @@ fn put_alike(case: &mut Case<'_>, first: usize, end: usize, text: &str) {
 }
 
 /// Appends texts of harts, a line each. Harts with the same text are named together.
-pub(crate) fn put_harts(case: &mut Case<'_>, texts: &Case<'_>) {
-    case.join(texts);
-    let texts = texts.came.trim_end_matches('\n');
+fn put_lines(case: &mut Case<'_>, texts: &str) {
+    let texts = texts.trim_end_matches('\n');
     let (mut first, mut count) = (0usize, 0usize);
     for (text, next) in texts.split('\n').zip(texts.split('\n').skip(1)) {
         count = count.saturating_add(1);
@@ -102,24 +111,36 @@ pub(crate) fn put_harts(case: &mut Case<'_>, texts: &Case<'_>) {
     }
 }
 
+/// Names harts with the same text together, where the text of each came in a line since the case kept what came before.
+pub(crate) fn join_harts(case: &mut Case<'_>) {
+    let texts = mem::replace(&mut case.came, String::new(case.alloc));
+    put_lines(case, texts.as_str());
+}
+
+/// Appends why nothing is collected.
+fn put_fault(case: &mut Case<'_>, fault: LossyFault) {
+    if let LossyFault::Demux(place, _) | LossyFault::Decode(place, _) = fault {
+        case.put_filled("message #: ", &[place as u64]);
+    }
+    case.put_shown(fault);
+}
+
 /// Appends what is collected of harts.
 fn put_collected(case: &mut Case<'_>, log: &[Event], found: Result<Vec<HartPieces>, LossyFault>) {
-    let collected = match found {
-        Ok(collected) => collected,
-        Err(fault) => {
-            if let LossyFault::Demux(place, _) | LossyFault::Decode(place, _) = fault {
-                let done = write!(case.came, "message {place}: ");
-                case.note(done);
-            }
-            return case.put_shown(fault);
-        }
-    };
-    let mut texts = case.again();
-    for pieces in collected.as_slice() {
-        put_pieces(&mut texts, log, pieces);
-        texts.put("\n");
+    match found {
+        Ok(collected) => put_all(case, log, collected.as_slice()),
+        Err(fault) => put_fault(case, fault),
     }
-    put_harts(case, &texts);
+}
+
+/// Appends what is left of the logs of harts.
+fn put_all(case: &mut Case<'_>, log: &[Event], collected: &[HartPieces]) {
+    case.keep();
+    for pieces in collected {
+        put_pieces(case, log, pieces);
+        case.put("\n");
+    }
+    join_harts(case);
 }
 
 /// Reads how many harts there are, and a mode.
@@ -171,32 +192,46 @@ pub(crate) fn lossy_case(case: &mut Case<'_>, (program, log): (&Program, &[Event
     let payloads = sourced(case, &legal, settings);
     let lost = case.text;
     let messages = messages_but(case, payloads.as_slice(), lost);
-    case.put("of ");
-    case.put_shown(payloads.len());
-    case.put(": ");
+    case.put_filled("of #: ", &[payloads.len() as u64]);
     let found = collect_lossy(case.alloc, program, 1, settings.1, messages.as_slice());
     put_collected(case, log, found);
 }
 
+/// Appends why a message is bad.
+fn put_why(case: &mut Case<'_>, why: &Reason) {
+    case.put(" (");
+    case.put_shown(*why);
+    case.put(")");
+}
+
 /// Appends a part of what is salvaged, and returns the place in the log after it.
 fn put_part(case: &mut Case<'_>, log: &[Event], part: &Salvage, from: usize) -> usize {
-    let came = &mut case.came;
-    let done = match part {
-        Salvage::Gap(lost) => write!(came, "gap {lost}"),
-        Salvage::Stretch { first, last, .. } => write!(came, "{first}-{last}="),
-        Salvage::Bad { number, place, why } => write!(came, "bad {number}@{place} ({why})"),
+    match part {
+        Salvage::Gap(lost) => case.put_filled("gap #", &[*lost]),
+        Salvage::Stretch {
+            first,
+            last,
+            events,
+        } => {
+            case.put_filled("#-#=", &[*first, *last]);
+            return put_places(case, log, events.as_slice(), from);
+        }
+        Salvage::Bad { number, place, why } => {
+            case.put_filled("bad #@#", &[*number, *place as u64]);
+            put_why(case, why);
+        }
         Salvage::Doubtful {
             number,
             first,
             second,
-        } => write!(came, "doubtful {number}@{first}@{second}"),
-        Salvage::Alone { number, place } => write!(came, "alone {number}@{place}"),
-    };
-    case.note(done);
-    match part {
-        Salvage::Stretch { events, .. } => put_places(case, log, events.as_slice(), from),
-        _ => from,
+        } => {
+            case.put_filled("doubtful #@#@#", &[*number, *first as u64, *second as u64]);
+        }
+        Salvage::Alone { number, place } => {
+            case.put_filled("alone #@#", &[*number, *place as u64]);
+        }
     }
+    from
 }
 
 /// Appends how many messages are of a kind, if there are some.
@@ -222,16 +257,14 @@ fn put_hart(case: &mut Case<'_>, log: &[Event], hart: &SalvagedHart) {
 
 /// Appends what is salvaged.
 fn put_salvaged(case: &mut Case<'_>, log: &[Event], salvaged: &Salvaged) {
-    let mut texts = case.again();
+    case.keep();
     for hart in salvaged.harts.as_slice() {
-        put_hart(&mut texts, log, hart);
-        texts.put("\n");
+        put_hart(case, log, hart);
+        case.put("\n");
     }
-    put_harts(case, &texts);
-    let strangers = salvaged.strangers;
-    if strangers > 0 {
-        let done = write!(case.came, "; {strangers} strangers");
-        case.note(done);
+    join_harts(case);
+    if salvaged.strangers > 0 {
+        case.put_filled("; # strangers", &[salvaged.strangers as u64]);
     }
 }
 
@@ -334,8 +367,10 @@ fn put_treated(case: &mut Case<'_>, treated: &Treated) {
             let (count, first, last) = (added.count, added.first, added.last);
             case.put_word(count);
             if count > 0 || first > 0 || last > 0 {
-                let done = write!(case.came, "={first:x}-{last:x}");
-                case.note(done);
+                case.put("=");
+                case.put_hex(first);
+                case.put("-");
+                case.put_hex(last);
             }
         }
     }

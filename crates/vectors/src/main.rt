@@ -13,7 +13,6 @@ mod measures;
 mod packets;
 mod paths;
 mod programs;
-mod texts;
 mod told;
 mod verbs;
 

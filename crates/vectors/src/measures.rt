@@ -1,12 +1,12 @@
-//! Cases of what traces cost (`measuring`).
+//! Cases of what traces cost (`captures`).
 
 ghost use Rattle.std.specs.Prelude.{◌≤◌, All, length};
-ghost use Rattle.measuring.specs.Bounds.{AreWithin, most_counted};
+ghost use Rattle.captures.specs.Bounds.{AreWithin, most_counted};
 
 use crate::encoding::{legal_log, settings_of};
+use captures::{LogMeasures, Measures, measure, write_measures, write_measures_of};
 use cases::{Case, events_of};
 use legalpath::LegalLog;
-use measuring::{LogMeasures, Measures, measure, write_measures, write_measures_of};
 use payload::Mode;
 use retire::Event;
 use rvclass::Program;

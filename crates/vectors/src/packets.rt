@@ -83,15 +83,14 @@ pub(crate) fn outcomes_case(case: &mut Case<'_>) {
     let outcomes = outcomes_of(case.text);
     case.put_word(outcomes.len());
     case.put_word(outcomes.map());
-    case.put_word("");
-    let mut first = case.again();
-    put_outcomes(&mut first, &outcomes);
-    case.put_first(&first);
-    let mut mapped = case.again();
+    case.put(" ");
+    case.keep();
+    put_outcomes(case, &outcomes);
+    case.end_first_way();
     let count = outcomes.len() as u32;
-    put_outcomes(&mut mapped, &Outcomes::of_map(count, outcomes.map()));
-    case.put_other("of its map", &mapped, first.came.as_str());
+    put_outcomes(case, &Outcomes::of_map(count, outcomes.map()));
+    case.end_way("of its map");
     if outcomes.is_empty() {
-        case.put_word("empty");
+        case.put(" empty");
     }
 }

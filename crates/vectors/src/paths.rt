@@ -1,7 +1,6 @@
 //! Cases of logs and the paths that they take through a program (`legalpath`, `explaining`).
 
-use crate::texts::put_quoted;
-use cases::{Case, events_of};
+use cases::{Case, events_of, put_quoted};
 use explaining::{explain, explain_row};
 use legalpath::{LegalLog, Next, PathCheck, PathFault, Why, check, successor};
 use retire::Event;
@@ -33,12 +32,11 @@ fn checked_in_pieces(program: &Program, front: &[Event], back: &[Event]) -> Resu
 }
 
 /// Appends where a log is cut into two pieces of which something else is found.
-fn put_cuts(case: &mut Case<'_>, program: &Program, log: &[Event], wanted: &str) {
+fn put_cuts(case: &mut Case<'_>, program: &Program, log: &[Event]) {
     for count in 0..log.len().saturating_add(1) {
         let (front, back) = log.split_at(count.min(log.len()));
-        let mut cut = case.again();
-        put_found(&mut cut, log, checked_in_pieces(program, front, back));
-        case.put_other("cut", &cut, wanted);
+        put_found(case, log, checked_in_pieces(program, front, back));
+        case.end_way("cut");
     }
 }
 
@@ -69,15 +67,13 @@ pub(crate) fn check_case(case: &mut Case<'_>, program: &Program) {
     if log.len() > 1 << 24 {
         return case.unread();
     }
-    let mut first = case.again();
-    put_found(&mut first, log, check(program, log));
-    case.put_first(&first);
+    put_found(case, log, check(program, log));
+    case.end_first_way();
     if log.len() <= MOST_CUT {
-        put_cuts(case, program, log, first.came.as_str());
+        put_cuts(case, program, log);
     }
-    let mut kept = case.again();
-    put_kept(&mut kept, program, log);
-    case.put_other("kept", &kept, first.came.as_str());
+    put_kept(case, program, log);
+    case.end_way("kept");
 }
 
 /// `successor ROW`: where an event leads.

@@ -130,12 +130,10 @@ pub(crate) fn memory_case(case: &mut Case<'_>) {
     let text = case.part('?');
     let addrs = case.text;
     let pieces = pieces_of(case, text);
-    let mut owned = case.again();
-    put_memory(&mut owned, pieces.as_slice(), addrs, Held::Owned);
-    case.put_first(&owned);
-    let mut borrowed = case.again();
-    put_memory(&mut borrowed, pieces.as_slice(), addrs, Held::Borrowed);
-    case.put_other("borrowed", &borrowed, owned.came.as_str());
+    put_memory(case, pieces.as_slice(), addrs, Held::Owned);
+    case.end_first_way();
+    put_memory(case, pieces.as_slice(), addrs, Held::Borrowed);
+    case.end_way("borrowed");
 }
 
 /// Appends how control goes on from an instruction.
@@ -232,19 +230,18 @@ pub(crate) fn program_case(case: &mut Case<'_>) -> Option<Program> {
     let text = case.part('?');
     let addrs = case.text;
     let pieces = pieces_of(case, text);
-    let mut owned = case.again();
-    let made = program_of(&mut owned, pieces.as_slice());
-    if let (false, Some(program)) = (only_sets, &made) {
-        put_program(&mut owned, program, addrs);
+    let made = program_of(case, pieces.as_slice());
+    if only_sets {
+        if made.is_some() {
+            case.sets();
+        }
+        return made;
     }
-    case.put_first(&owned);
-    if only_sets && made.is_some() {
-        case.sets();
+    if let Some(program) = &made {
+        put_program(case, program, addrs);
     }
-    if !only_sets {
-        let mut borrowed = case.again();
-        put_borrowed(&mut borrowed, pieces.as_slice(), addrs);
-        case.put_other("borrowed", &borrowed, owned.came.as_str());
-    }
+    case.end_first_way();
+    put_borrowed(case, pieces.as_slice(), addrs);
+    case.end_way("borrowed");
     made
 }

@@ -1,7 +1,7 @@
 //! What is told of a first pass over a capture.
 
-use capture_index::WatchSurvey;
 use message::ProgressSink;
+use parallel_decode::WatchSurvey;
 use std::cell::Cell;
 
 /// Counts the messages that are told of, and the ends.

@@ -1,8 +1,8 @@
 //! The verbs of cases.
 
 use crate::captured::{
-    Captured, decode_capture_case, decode_changes_case, decode_fronts_case, read_capture_case,
-    receive_case, write_decoded_case,
+    Captured, changes_case, decode_capture_case, decode_changes_case, decode_fronts_case,
+    read_capture_case, receive_case, write_decoded_case,
 };
 use crate::capturing::{
     encode_capture_case, encodes_capture_case, hand_in_alike_case, hand_in_case, hex_lines_case,
@@ -20,7 +20,6 @@ use crate::measures::{count_alike_case, count_case, measure_case, measure_counte
 use crate::packets::{outcomes_case, pack_case, payload_case, unpack_case};
 use crate::paths::{check_case, explain_case, explain_types_case, successor_case};
 use crate::programs::{memory_case, program_case};
-use crate::texts::{line_case, read_case, read_most_case, schedule_case, write_case};
 use cases::{Case, bytes_of, events_of};
 use retire::Event;
 use rvclass::Program;
@@ -158,6 +157,7 @@ impl Vectors {
             "list-capture" => list_capture_case(case, captured),
             "audit-capture" => audit_capture_case(case, bytes),
             "payload-lines" => payload_lines_case(case, bytes),
+            "changes" => changes_case(case, captured),
             _ => case.unread(),
         }
     }
@@ -173,11 +173,6 @@ impl Vectors {
             "unpack" => unpack_case(case),
             "payload" => payload_case(case),
             "outcomes" => outcomes_case(case),
-            "line" => line_case(case),
-            "read" => read_case(case),
-            "read-most" => read_most_case(case),
-            "write" => write_case(case),
-            "schedule" => schedule_case(case),
             _ => self.ask(rt, case, verb),
         }
     }

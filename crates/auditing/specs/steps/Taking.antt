@@ -5,6 +5,7 @@ use Rattle.std.specs.List.{count_by}
 use Rattle.payload.specs.Same.{same}
 use Rattle.payload.specs.declared.by.By.{By}
 use Rattle.message.specs.declared.message.Message.{Message}
+use Rattle.auditing.specs.Exchanged.{first_exchanged}
 use Rattle.auditing.specs.Findings.{is_plain}
 use Rattle.auditing.specs.HartRows.{longest_of}
 use Rattle.auditing.specs.Ledger.{HartLedger, Ledger}
@@ -17,6 +18,7 @@ use Rattle.auditing.specs.declared.row.HartRow.{HartRow}
 use Rattle.auditing.specs.declared.tally.Counts.{Counts}
 use Rattle.auditing.specs.declared.tally.Tally.{Tally}
 use Rattle.auditing.specs.Unset.{lost_in}
+use Rattle.auditing.specs.steps.Moving.{is_untrue, moves_if, owner_in}
 
 -- The fate of a message of a hart, by the payload that SENT has with its number, if it has one.
 abbrev pub fate_by : By → HartLedger → ℕ → List ℕ → Option (List ℕ) → Fate
@@ -109,15 +111,21 @@ abbrev pub strangers_after : ℕ → Fate → ℕ
 strangers_after strangers fate.Stranger = one_more strangers
 strangers_after strangers other = strangers
 
+-- What is kept of all harts after a message.
+abbrev pub harts_after : By → Ledger → Message → List HartLedger
+harts_after how ledger message = harts_found how ledger.harts message (slice_get ledger.harts message.hart)
+
 -- What is kept after a message.
 abbrev pub ledger_after : By → Ledger → Message → Ledger
 ledger_after how ledger message = record {
   by = ledger.by;
   header = ledger.header;
-  harts = harts_found how ledger.harts message (slice_get ledger.harts message.hart);
+  harts = harts_after how ledger message;
   strangers = strangers_after ledger.strangers (fate_from how ledger message);
   taken = one_more ledger.taken;
   first = first_after ledger.first ledger.taken (finding_from how ledger message);
+  moves = moves_if (is_untrue (fate_from how ledger message)) ledger.moves message.hart
+      (owner_in how (harts_after how ledger message) message.number message.payload);
 }
 
 -- A hart is whole, by its counts and how many of its numbers are lost: none is lost, and none of its messages has
@@ -139,13 +147,14 @@ tally_in own =
       whole = is_whole_by own.counts lost;
     }
 
--- What is found of a hart, by what is kept of it.
-abbrev pub row_in : HartLedger → HartRow
-row_in own =
+-- What is found of a hart, by what is kept of it, and by how many of its messages that are not true are of each hart.
+abbrev pub row_in : HartLedger → List ℕ → HartRow
+row_in own moved =
     let runs = runs_of (lost_in 0 own.came) in record {
       tally = tally_in own;
       strange = own.counts.strange;
       runs = length runs;
       longest = longest_of runs;
       latest = own.latest;
+      exchanged = first_exchanged 0 (own.counts.changed + own.counts.strange) moved;
     }

@@ -2,7 +2,7 @@
 use Rattle.std.specs.Prelude.{◌≡◌, ◌⊎◌, ◌≤◌, ◌<◌, ◌++◌, List, drop, length, vec_capacity}
 use Rattle.retire.specs.declared.event.Event.{Event}
 use Rattle.comparing.specs.Compared.{HasCompared}
-use Rattle.capture_index.specs.Left.{HasLeft}
+use Rattle.parallel_decode.specs.Left.{HasLeft}
 use Rattle.capture_commands.specs.declared.beside.Beside.{Beside}
 
 -- These events came of the log, and of what is decoded those before the ones that are held or left. Either as many were

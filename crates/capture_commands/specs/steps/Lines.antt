@@ -2,8 +2,9 @@
 use Rattle.std.specs.Prelude.{ℕ, ◌≡◌, Bool, List, Option, Ok, is_none, length}
 use Rattle.bench.specs.Got.{Got}
 use Rattle.captures.specs.declared.outcome.CaptureFault.{CaptureFault}
-use Rattle.comparing.specs.Explained.{are_whole_harts, explained_harts, explained_text}
+use Rattle.comparing.specs.Explained.{are_whole_sourced, explained_harts, explained_text}
 use Rattle.comparing.specs.declared.explained.ExplainedHart.{ExplainedHart}
+use Rattle.comparing.specs.declared.sourcing.SourcedHart.{SourcedHart}
 use Rattle.log_streams.specs.Known.{Content}
 use Rattle.legalpath.specs.ProgramLog.{ProgramLog}
 use Rattle.rvclass.specs.Image.{Image}
@@ -23,9 +24,9 @@ pub record AreLinesOfLogs (rows : ℕ) (content : Content) (program : Image) (pa
   pub each : lines ≡ explained_harts hart gots logs
 
 -- The report of these harts is written, where decoding stops there, and the run ends as that says. The rows before the
--- first difference are written if they are wanted.
-abbrev pub WritesLines : Bool → Option (ℕ × CaptureFault) → List ExplainedHart → Printed → Type 0
-WritesLines before stop harts printed = printed ≡ record {
-  text = explained_text before (is_none stop) harts;
-  ended = comparison_end (end_of_stop stop) (are_whole_harts (is_none stop) harts);
+-- first difference are written if they are wanted, and places are named by the symbols.
+abbrev pub WritesLines : Bool → Option (List ℕ) → Option (ℕ × CaptureFault) → List SourcedHart → Printed → Type 0
+WritesLines before symbols stop harts printed = printed ≡ record {
+  text = explained_text before symbols stop harts;
+  ended = comparison_end (end_of_stop stop) (are_whole_sourced (is_none stop) harts);
 }

@@ -4,7 +4,7 @@ use Rattle.bench.specs.Got.{Got}
 use Rattle.comparing.specs.Compared.{AreGotOf, gots_by, of_harts}
 use Rattle.comparing.specs.steps.Held.{count_in}
 use Rattle.message.specs.declared.range.HartRange.{HartRange}
-use Rattle.capture_index.specs.Placed.{ArePlacedLogs}
+use Rattle.parallel_decode.specs.Placed.{ArePlacedLogs}
 use Rattle.retire.specs.declared.event.Event.{Event}
 use Rattle.rvclass.specs.Words.{Words}
 use Rattle.capture_commands.specs.declared.surveyed.Surveyed.{Surveyed}

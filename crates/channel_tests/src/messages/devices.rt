@@ -2,7 +2,7 @@
 
 use crate::fixtures::message;
 use crate::same::same_at;
-use fault_injection::{FailingReader, FailingWriter};
+use cases::{FailingReader, FailingWriter};
 use message::{
     Header, Message, MessageFault, Start, read_message, read_start, write_header, write_message,
 };

@@ -24,9 +24,14 @@ use Rattle.listing.specs.declared.entries.At.{At}
 use Rattle.listing.specs.declared.form.Form.{Form}
 use Rattle.listing.specs.declared.input.ListInput.{ListInput}
 
--- The effect of a message that adds these events, whose payload unpacks to this.
-abbrev pub effect_of : List Event → Result Packet PackFault → Effect
-effect_of added read = record { added = added; waits = read_waits read; closes = read_closes read }
+-- The effect of a message that adds these events, with which its hart has so many, and whose payload unpacks to this.
+abbrev pub effect_of : List Event → ℕ → Result Packet PackFault → Effect
+effect_of added rows read = record {
+  added = added;
+  rows = rows;
+  waits = read_waits read;
+  closes = read_closes read;
+}
 
 -- A message is not received because an allocation failed.
 abbrev pub denies_memory : ReceiveFault → Bool

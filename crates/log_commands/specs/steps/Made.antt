@@ -9,9 +9,9 @@ use Rattle.encoder.specs.Payloads.{payloads}
 use Rattle.log_streams.specs.Known.{Content}
 use Rattle.legalpath.specs.ProgramLog.{ProgramLog}
 use Rattle.log_streams.specs.declared.logs_fault.LogsFault.{LogsFault}
-use Rattle.measuring.specs.Bounds.{AreWithin, most_counted}
-use Rattle.measuring.specs.Measures.{measures_of}
-use Rattle.measuring.specs.declared.measures.Measures.{Measures}
+use Rattle.captures.specs.Bounds.{AreWithin, most_counted}
+use Rattle.captures.specs.Measures.{measures_of}
+use Rattle.captures.specs.declared.measures.Measures.{Measures}
 use Rattle.message.specs.Capture.{message_bytes}
 use Rattle.message.specs.Numbered.{messages_from}
 use Rattle.message.specs.declared.header.Header.{Header}

@@ -5,8 +5,8 @@ use Rattle.retire.specs.declared.event.Event.{Event}
 use Rattle.rvclass.specs.Words.{Words}
 use Rattle.payload.specs.declared.mode.Mode.{Mode}
 use Rattle.message.specs.declared.message.Message.{Message}
-use Rattle.capture_index.specs.Marks.{AreRising, IsMark}
-use Rattle.capture_index.specs.declared.mark.Mark.{Mark}
+use Rattle.parallel_decode.specs.Marks.{AreRising, IsMark}
+use Rattle.parallel_decode.specs.declared.mark.Mark.{Mark}
 use Rattle.parallel_decode.specs.steps.OwnMessages.{IsOwn}
 use Rattle.parallel_decode.specs.steps.Starts.{StartAt}
 use Rattle.parallel_decode.specs.declared.hart.Entry.{Entry}

@@ -2,7 +2,7 @@
 use Rattle.std.specs.Prelude.{ℕ, ◌≡◌, ◌++◌, List, Option, Ok, Err, Result}
 use Rattle.std.specs.Io.KnownBytes.{Appends}
 use Rattle.retire.specs.declared.fault.WriteFault.{WriteFault}
-use Rattle.capture_index.specs.Put.{IsPut}
+use Rattle.parallel_decode.specs.Put.{IsPut}
 use Rattle.parallel_decode.specs.declared.stretch.Plan.{Plan}
 use Rattle.parallel_decode.specs.steps.Stretches.{HaveTextFrom}
 

@@ -4,7 +4,7 @@ use Rattle.std.specs.declared.vec.Vec.{Vec}
 use Rattle.message.specs.Capture.{message_bytes}
 use Rattle.message.specs.Cut.{IsMessage}
 use Rattle.message.specs.declared.message.Message.{Message}
-use Rattle.capture_index.specs.Places.{AreListed, EachAt}
+use Rattle.parallel_decode.specs.Places.{AreListed, EachAt}
 
 -- The message begins at this place of the bytes.
 pub record StartsAt (bytes : List ℕ) (place : ℕ) (message : Message) : Type 0 where

@@ -6,8 +6,8 @@ use Rattle.retire.specs.LogText.{event_line}
 use Rattle.retire.specs.declared.event.Event.{Event}
 use Rattle.rvclass.specs.Fetch.{words_of}
 use Rattle.rvclass.specs.Words.{Words}
-use Rattle.capture_index.specs.HartsText.{head_of}
-use Rattle.capture_index.specs.Parts.{IsPart}
+use Rattle.parallel_decode.specs.HartsText.{head_of}
+use Rattle.parallel_decode.specs.Parts.{IsPart}
 use Rattle.parallel_decode.specs.declared.stretch.Plan.{Plan}
 use Rattle.parallel_decode.specs.declared.stretch.Stretch.{Stretch}
 

@@ -1,6 +1,6 @@
 -- What the writer of a capture of lines may be given.
 use Rattle.std.specs.Prelude.{◌≤◌, IfSome}
-use Rattle.capture_lines.specs.declared.settings.Settings.{Settings}
+use Rattle.captures.specs.declared.line_settings.Settings.{Settings}
 use Rattle.message.specs.Version.{most_harts}
 
 -- The period is 1 at least, the count of harts is 1 at least and no more than a capture of the version has, and the

@@ -1,5 +1,5 @@
 -- How the end of a hart is found, and what is taken beyond it.
-use Rattle.std.specs.Prelude.{ℕ, ◌≡◌, ◌++◌, Bool, true, false, List, [], Option, Some, None}
+use Rattle.std.specs.Prelude.{ℕ, ◌≡◌, ◌++◌, Bool, false, List, [], Option, Some, None}
 use Rattle.rvclass.specs.Words.{Words}
 use Rattle.payload.specs.Closing.{is_closing}
 use Rattle.payload.specs.declared.mode.Mode.{Mode}
@@ -23,11 +23,6 @@ JudgedAlone words mode payload following (Some why) = IsBad words mode (run_of 1
 -- A stretch begins at a used message with this payload, where a synchronisation is looked for.
 abbrev pub BeginsBy : Words → Mode → List ℕ → Type 0
 BeginsBy words mode payload = (packet : Packet) × IsSync packet × IsGood words mode (run_of 1 []) payload None packet
-
--- The entry is used.
-abbrev pub is_used : Entry → Bool
-is_used (Used number place payload) = true
-is_used (Doubtful number first second) = false
 
 -- The entry is used, and its packet closes the trace.
 abbrev pub closes : Entry → Bool

@@ -6,7 +6,6 @@ use Rattle.rvclass.specs.Words.{Words}
 use Rattle.payload.specs.Closing.{is_closing_packet}
 use Rattle.payload.specs.declared.mode.Mode.{Mode}
 use Rattle.payload.specs.declared.packet.Packet.{Packet}
-use Rattle.payload.specs.declared.packet.Packet.TheVariants as packet
 use Rattle.losses.specs.Runs.{Run, longer, mode_of_first, mode_or, run_behind, run_of}
 use Rattle.losses.specs.steps.FollowingRuns.{FollowsRun}
 use Rattle.salvaging.specs.Bad.{IsBad, IsGood}
@@ -27,11 +26,6 @@ BeginsWith (Some first) next packets = (first + length packets ≡ next) × (pac
 abbrev pub are_lost : ℕ → Bool
 are_lost zero = false
 are_lost (suc missing) = true
-
--- The packet is a synchronisation.
-abbrev pub is_sync : Packet → Bool
-is_sync (packet.Sync taken priv address) = true
-is_sync other = false
 
 -- The stretch has begun with this number where it had begun before, or where the packet with the number begins it: any
 -- packet does, unless a synchronisation is looked for.

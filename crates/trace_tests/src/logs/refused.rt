@@ -3,7 +3,7 @@
 use super::texts::{RETIRED, ROW, text_of_rows};
 use crate::fixtures::add;
 use crate::same::same_at;
-use fault_injection::Refusing;
+use cases::Refusing;
 use retire::{Event, LogFault, WriteFault, read_log, read_log_from_slice, write_log};
 use std::alloc::Global;
 use std::process::Abort;

@@ -3,7 +3,7 @@
 use super::texts::text_of_rows;
 use crate::fixtures::add;
 use crate::same::same_at;
-use fault_injection::FailingReader;
+use cases::FailingReader;
 use linked_list_allocator::LocalHeap;
 use retire::{Event, LogFault, LogReader, MOST_ROWS, PieceBuffer, ReaderSource, Source};
 use std::io::ErrorKind;

@@ -5,7 +5,7 @@ use crate::fixtures::Step::Retires;
 use crate::fixtures::{NOP, log_of, program_of};
 use crate::same::same_at;
 use captures::hex_lines;
-use fault_injection::FailingWriter;
+use cases::FailingWriter;
 use legalpath::LegalLog;
 use message::{MessageFault, Version};
 use payload::{Mode, Payload};

@@ -2,16 +2,15 @@
 //! one thread finds, and decoding goes on from each mark.
 
 use super::written::told::Told;
-use super::{copies_of, decoded, write_capture};
+use super::{capture_of, copies_of, decoded, short_capture};
 use crate::fixtures::{BRANCH_LOOP, log_of, program_of, short_log, short_words};
 use crate::packets::legal_log;
 use crate::refused_captures::{CAPTURE, FULL};
 use crate::same::same_at;
 use crate::two_logs::{WORDS, steps_of};
-use capture_index::{Mark, Selection, survey_messages};
 use legalpath::LegalLog;
 use message::{HartRange, Version};
-use parallel_decode::{MarkedSurvey, survey_side_by_side};
+use parallel_decode::{Mark, MarkedSurvey, Selection, survey_messages, survey_side_by_side};
 use payload::Mode;
 use rvclass::Program;
 use std::fmt::Debug;
@@ -146,27 +145,50 @@ fn is_mark<R: Abort + AllocGlobal>(
     assert!(rt; before < 131_072, "at {}: {before} events", mark.taken);
 }
 
+/// Ends the test unless each hart has one mark. Where there is one hart, its mark is looked at.
+fn have_one_mark<R: Abort + AllocGlobal>(
+    rt: &R,
+    program: &Program,
+    bytes: &[u8],
+    found: &MarkedSurvey,
+) {
+    let harts = found.places.len();
+    for (own, marks) in found.places.iter().zip(found.marks.iter()) {
+        same_at(rt, harts, marks.len(), 1);
+        if let ([mark], 1) = (marks.as_slice(), harts) {
+            is_mark(rt, program, bytes, own, mark);
+        }
+    }
+}
+
 /// A hart of 70,000 events has one mark, and each of two has one.
 #[test]
 fn marks_of_long_logs(rt: HostRuntime) {
     let program = short_words(&rt, 70_000);
-    let log = short_log(&rt, 70_000);
     for harts in [1u16, 2] {
-        let logs = copies_of(&rt, &program, &log, harts);
-        let mut bytes = Vec::new(rt.alloc());
         let form = (Version::One, Mode::Full);
-        write_capture(&rt, &logs, 100, form, &mut bytes).expect(&rt, "a capture");
+        let bytes = short_capture(&rt, &program, (harts, 70_000), 100, form);
         let found = is_same(&rt, harts, &program, (harts, HartRange::ALL), None, &bytes);
-        for (own, marks) in found.places.iter().zip(found.marks.iter()) {
-            same_at(&rt, harts, marks.len(), 1);
-            if harts == 1 {
-                is_mark(
-                    &rt,
-                    &program,
-                    &bytes,
-                    own,
-                    marks.first().expect(&rt, "a mark"),
-                );
+        have_one_mark(&rt, &program, &bytes, &found);
+    }
+}
+
+/// Ends the test unless a capture with a byte changed is surveyed alike, at the first four bytes of each tenth of it.
+fn changed_is_same<R: Abort + AllocGlobal + Threads + Sync>(
+    rt: &R,
+    program: &Program,
+    harts: u16,
+    bytes: &mut [u8],
+) {
+    let tenth = bytes.len() / 10;
+    for part in 0..10 {
+        for offset in 0..4 {
+            let place = tenth * part + offset;
+            if place < bytes.len() {
+                bytes[place] ^= 1;
+                let at = (harts, part, offset);
+                is_same(rt, at, program, (harts, HartRange::ALL), None, bytes);
+                bytes[place] ^= 1;
             }
         }
     }
@@ -177,33 +199,40 @@ fn marks_of_long_logs(rt: HostRuntime) {
 #[test]
 fn harts_of_three_sections(rt: HostRuntime) {
     let program = short_words(&rt, 32_000);
-    let log = short_log(&rt, 32_000);
     for (harts, mode) in [(1u16, Mode::Differential), (2, Mode::Full)] {
-        let logs = copies_of(&rt, &program, &log, harts);
-        let mut bytes = Vec::new(rt.alloc());
-        write_capture(&rt, &logs, 5, (Version::One, mode), &mut bytes).expect(&rt, "a capture");
+        let mut bytes = short_capture(&rt, &program, (harts, 32_000), 5, (Version::One, mode));
+        let all = (harts, HartRange::ALL);
         for announced in [None, Some(Mode::Full)] {
-            let at = (harts, announced);
-            is_same(
-                &rt,
-                at,
-                &program,
-                (harts, HartRange::ALL),
-                announced,
-                &bytes,
-            );
+            is_same(&rt, (harts, announced), &program, all, announced, &bytes);
         }
-        for part in 0..10 {
-            for offset in 0..4 {
-                let at = (harts, part, offset);
-                let place = bytes.len() / 10 * part + offset;
-                if place < bytes.len() {
-                    bytes[place] ^= 1;
-                    is_same(&rt, at, &program, (harts, HartRange::ALL), None, &bytes);
-                    bytes[place] ^= 1;
-                }
-            }
-        }
+        changed_is_same(&rt, &program, harts, &mut bytes);
+    }
+}
+
+/// Ends the test unless a hart of 700,000 events has marks as far apart as they have to be, up to its end.
+fn are_apart<R: Abort>(rt: &R, marks: &[Mark]) {
+    let mut before = 0u64;
+    for mark in marks {
+        let between = mark.events.saturating_sub(before);
+        assert!(rt; (65_536..131_072).contains(&between), "{between} events");
+        before = mark.events;
+    }
+    assert!(rt; before > 700_000 - 131_072, "{before} events");
+}
+
+/// Ends the test unless each of the first two marks of the one hart has the events that its messages settle.
+fn are_settled<R: Abort + AllocGlobal>(
+    rt: &R,
+    program: &Program,
+    bytes: &[u8],
+    places: &[usize],
+    marks: &[Mark],
+) {
+    for mark in marks.iter().take(2) {
+        let end = places.get(mark.taken).copied().unwrap_or(bytes.len());
+        let outcome = decoded(rt, program, 1, bytes.get(..end).unwrap_or(&[]));
+        let log = outcome.harts.first().expect(rt, "a hart");
+        same_at(rt, mark.taken, log.len() as u64, mark.events);
     }
 }
 
@@ -211,26 +240,13 @@ fn harts_of_three_sections(rt: HostRuntime) {
 #[test]
 fn marks_in_sections(rt: HostRuntime) {
     let program = short_words(&rt, 700_000);
-    let logs = copies_of(&rt, &program, &short_log(&rt, 700_000), 1);
-    let mut bytes = Vec::new(rt.alloc());
     let form = (Version::One, Mode::Differential);
-    write_capture(&rt, &logs, 60, form, &mut bytes).expect(&rt, "a capture");
+    let bytes = short_capture(&rt, &program, (1, 700_000), 60, form);
     let found = is_same(&rt, "parts", &program, (1, HartRange::ALL), None, &bytes);
-    let own = found.places.first().expect(&rt, "a hart");
     let marks = found.marks.first().expect(&rt, "a hart");
-    let mut before = 0u64;
-    for mark in marks {
-        let between = mark.events.saturating_sub(before);
-        assert!(&rt; (65_536..131_072).contains(&between), "{between} events");
-        before = mark.events;
-    }
-    assert!(&rt; before > 700_000 - 131_072, "{before} events");
-    for mark in marks.iter().take(2) {
-        let end = own.get(mark.taken).copied().unwrap_or(bytes.len());
-        let outcome = decoded(&rt, &program, 1, bytes.get(..end).unwrap_or(&[]));
-        let log = outcome.harts.first().expect(&rt, "a hart");
-        same_at(&rt, mark.taken, log.len() as u64, mark.events);
-    }
+    are_apart(&rt, marks);
+    let places = found.places.first().expect(&rt, "a hart");
+    are_settled(&rt, &program, &bytes, places, marks);
 }
 
 /// Ends the test unless the capture of these logs is surveyed alike, in both modes.
@@ -242,8 +258,7 @@ fn encoded_is_same<R: Abort + AllocGlobal + Threads + Sync>(
 ) {
     let harts = (logs.len().min(1_024) as u16, HartRange::ALL);
     for mode in [Mode::Differential, Mode::Full] {
-        let mut bytes = Vec::new(rt.alloc());
-        write_capture(rt, logs, period, (Version::One, mode), &mut bytes).expect(rt, "a capture");
+        let bytes = capture_of(rt, logs, period, (Version::One, mode));
         is_same(rt, (period, mode), program, harts, Some(mode), &bytes);
     }
 }

@@ -1,7 +1,8 @@
 -- The prover tries no chain of steps by itself: what each step found is handed to it, in order.
 use Rattle.std.proofs.Common.{Err, List, Ok, Option, ap, arith, inr, refl, subst, sym, ℕ, ◌≡◌, ◌∙◌, ◌⊎◌}
 use Rattle.std.proofs.lemmas.Grind.{common_steps}
-use Rattle.std.specs.Prelude.{IfSome}
+use Rattle.std.specs.Borrow.{Bor}
+use Rattle.std.specs.Prelude.{IfSome, option_map}
 use Rattle.log_streams.specs.Known.{Content}
 use Rattle.message.specs.declared.range.HartRange.{HartRange}
 use Rattle.rvclass.specs.Image.{Image}
@@ -15,6 +16,7 @@ use Rattle.command_inputs.specs.Printed.{PrintsUnlessDenied}
 use Rattle.command_inputs.specs.declared.fault.Fault.TheVariants as fault
 use Rattle.command_inputs.proofs.Runs.{ends_silently}
 use Rattle.capture_commands.specs.declared.reason.CaptureReason.{CaptureReason}
+use Rattle.capture_commands.specs.Symbols.{AreSymbols}
 use Rattle.capture_commands.specs.Comparing.{CanCompare, CanCompareHarts, Compares, ComparesHarts}
 use Rattle.capture_commands.proofs.ComparedRuns.{harts_cut, harts_printed}
 use Rattle.capture_commands.proofs.OnlyOrders.{early_none, early_only}
@@ -91,29 +93,57 @@ returns-in_err-program-clause-printed g c =
       (Ok c.in_ok-only.only, c.in_ok-only.ensures.found, (Err why, none, refl)),
     ))
 
+pub returns-in_err-symbols-clause-early : goal.returns-in_err-symbols-clause-early
+returns-in_err-symbols-clause-early g c =
+    let asked = c.args.asked.now in
+    early_none (base_number asked.program) c.in_ok-base.base (asked_harts asked.only)
+    c.from_residual-in_err-symbols.result c.in_ok-base.ensures.number c.in_ok-only.ensures.some
+
+pub returns-in_err-symbols-clause-printed : goal.returns-in_err-symbols-clause-printed
+returns-in_err-symbols-clause-printed g c =
+    let asked = c.args.asked.now in
+    let content = g.F.Files.content c.args.files.now in
+    let why = c.in_err-symbols.field-0.0 in
+    let is : c.from_residual-in_err-symbols.result ≡ Err why = grind (arith, common_steps) in
+    let lacked = subst (λ known. (why ≡ fault.Memory) ⊎ AreSymbols known asked.symbols (Err why))
+    c.in_ok-program.ensures.kept c.in_err-symbols.ensures.fault in
+    ends_silently (Compares content asked) (CanCompare content asked) (AreSymbols content asked.symbols (Err why)) why
+    c.from_residual-in_err-symbols.result (g.O.Write.contents c.args.out.now) is lacked
+    (λ none. (
+      Ok c.in_ok-base.base,
+      c.in_ok-base.ensures.found,
+      (
+        Ok c.in_ok-only.only,
+        c.in_ok-only.ensures.found,
+        (Ok c.in_ok-program.program, c.in_ok-program.ensures.program, (Err why, none, refl)),
+      ),
+    ))
+
 pub returns-in_err-bytes-clause-printed : goal.returns-in_err-bytes-clause-printed
 returns-in_err-bytes-clause-printed g c =
     let asked = c.args.asked.now in
     let content = g.F.Files.content c.args.files.now in
-    let base = c.in_ok-base.base in
-    let program = c.in_ok-program.program in
+    let symbols = c.in_ok-symbols.symbols in
     let why = c.in_err-bytes.field-0.0 in
     let is : c.from_residual-in_err-bytes.result ≡ Err why = grind (arith, common_steps) in
-    let lacked = subst (λ known. (why ≡ fault.Memory) ⊎ IsRead known asked.capture (Err why))
-    c.in_ok-program.ensures.kept c.in_err-bytes.ensures.lacked in
+    let kept = c.in_ok-symbols.ensures.kept ∙ c.in_ok-program.ensures.kept in
+    let lacked = subst (λ known. (why ≡ fault.Memory) ⊎ IsRead known asked.capture (Err why)) kept
+    c.in_err-bytes.ensures.lacked in
+    let named = subst (λ known. AreSymbols known asked.symbols (Ok symbols)) c.in_ok-program.ensures.kept
+    c.in_ok-symbols.ensures.symbols in
     ends_silently (Compares content asked) (CanCompare content asked) (IsRead content asked.capture (Err why)) why
     c.from_residual-in_err-bytes.result
     (g.O.Write.contents c.args.out.now) is lacked
     (λ none. (
-      Ok base,
+      Ok c.in_ok-base.base,
       c.in_ok-base.ensures.found,
       (
         Ok c.in_ok-only.only,
         c.in_ok-only.ensures.found,
         (
-          Ok program,
+          Ok c.in_ok-program.program,
           c.in_ok-program.ensures.program,
-          (Err why, none, refl),
+          (Ok symbols, named, (Err why, none, refl)),
         ),
       ),
     ))
@@ -134,6 +164,9 @@ module _ (g : _) (c : After-compare_input g) where
   abbrev program : Image
   program = c.in_ok-program.program
 
+  abbrev symbols : Option (List ℕ)
+  symbols = option_map (λ (file : Bor (List ℕ)). file.now) c.as_ref.result
+
   abbrev old : Option (List ℕ)
   old = g.O.Write.contents c.args.out.now
 
@@ -143,31 +176,38 @@ module _ (g : _) (c : After-compare_input g) where
   -- The file that was read is the capture.
   read : IsRead {W = CaptureReason} content asked.capture (Ok bytes)
   read =
-      subst (λ known. IsRead {W = CaptureReason} known asked.capture (Ok bytes)) c.in_ok-program.ensures.kept
-      c.in_ok-bytes.ensures.held
+      subst (λ known. IsRead {W = CaptureReason} known asked.capture (Ok bytes))
+      (c.in_ok-symbols.ensures.kept ∙ c.in_ok-program.ensures.kept) c.in_ok-bytes.ensures.held
+
+  -- The symbols that were found are those that are handed on.
+  named : AreSymbols content asked.symbols (Ok symbols)
+  named =
+      subst (λ symbols. AreSymbols content asked.symbols (Ok symbols)) (sym c.as_ref.ensures.value)
+      (subst (λ known. AreSymbols known asked.symbols (Ok c.in_ok-symbols.symbols)) c.in_ok-program.ensures.kept
+      c.in_ok-symbols.ensures.symbols)
 
   -- The files are still as they were.
   same : g.F.Files.content c.content_of.new.files ≡ content
-  same = c.in_ok-bytes.ensures.kept ∙ c.in_ok-program.ensures.kept
+  same = c.in_ok-bytes.ensures.kept ∙ (c.in_ok-symbols.ensures.kept ∙ c.in_ok-program.ensures.kept)
 
   printed : PrintsUnlessDenied (Compares content asked) (CanCompare content asked) c.compare_input.result old new
   printed =
-      harts_printed content asked c.in_ok-base.base range program bytes c.in_ok-base.ensures.found
+      harts_printed content asked c.in_ok-base.base range program symbols bytes c.in_ok-base.ensures.found
       c.in_ok-only.ensures.found
-      c.in_ok-program.ensures.program read c.compare_input.result old new
-      (subst (λ known. PrintsUnlessDenied (ComparesHarts known asked range program bytes)
+      c.in_ok-program.ensures.program named read c.compare_input.result old new
+      (subst (λ known. PrintsUnlessDenied (ComparesHarts known asked range program symbols bytes)
       (CanCompareHarts known asked range program bytes) c.compare_input.result old new) same
-      (subst (λ bytes. PrintsUnlessDenied (ComparesHarts (g.F.Files.content c.content_of.new.files) asked range program bytes)
+      (subst (λ bytes. PrintsUnlessDenied (ComparesHarts (g.F.Files.content c.content_of.new.files) asked range program symbols bytes)
       (CanCompareHarts (g.F.Files.content c.content_of.new.files) asked range program bytes) c.compare_input.result old new)
       c.as_slice.ensures.value c.compare_input.ensures.printed))
 
   cut : IsCutOf (Compares content asked) old new
   cut =
-      harts_cut content asked c.in_ok-base.base range program bytes c.in_ok-base.ensures.found
+      harts_cut content asked c.in_ok-base.base range program symbols bytes c.in_ok-base.ensures.found
       c.in_ok-only.ensures.found
-      c.in_ok-program.ensures.program read old new
-      (subst (λ known. IsCutOf (ComparesHarts known asked range program bytes) old new) same
-      (subst (λ bytes. IsCutOf (ComparesHarts (g.F.Files.content c.content_of.new.files) asked range program bytes) old new)
+      c.in_ok-program.ensures.program named read old new
+      (subst (λ known. IsCutOf (ComparesHarts known asked range program symbols bytes) old new) same
+      (subst (λ bytes. IsCutOf (ComparesHarts (g.F.Files.content c.content_of.new.files) asked range program symbols bytes) old new)
       c.as_slice.ensures.value c.compare_input.ensures.cut))
 
 pub returns-clause-printed : goal.returns-clause-printed

@@ -2,7 +2,7 @@
 use Rattle.std.proofs.Common.{◌≡◌, ◌∙◌, Err, ap, arith, inl, inr, refl, subst, sym}
 use Rattle.std.proofs.lemmas.Grind.{common_steps}
 use Rattle.std.specs.Prelude.{⊤}
-use Rattle.capture_index.specs.HartsText.{harts_text_of}
+use Rattle.parallel_decode.specs.HartsText.{harts_text_of}
 use Rattle.output.proofs.Beginnings.{begun_kept, whole_begun}
 use Rattle.command_inputs.proofs.Runs.{appends-keeps, prints}
 use Rattle.command_inputs.specs.Begun.{IsCutOf}

@@ -7,7 +7,7 @@ use Rattle.command_inputs.specs.Faults.{stop_fault}
 use Rattle.command_inputs.specs.FoundLogs.{AreLegalLogsUpTo}
 use Rattle.command_inputs.specs.declared.fault.Fault.TheVariants as fault
 use Rattle.comparing.specs.Compared.{gots_by, of_harts}
-use Rattle.capture_index.specs.Placed.{ArePlacedLogs}
+use Rattle.parallel_decode.specs.Placed.{ArePlacedLogs}
 use Rattle.log_streams.specs.Made.{AreMade}
 use Rattle.rvclass.specs.Fetch.{words_of}
 use Rattle.capture_commands.specs.Comparison.{rows_of}

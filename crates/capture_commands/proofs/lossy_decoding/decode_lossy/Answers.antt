@@ -11,7 +11,7 @@ use Rattle.rvclass.specs.Image.{Image}
 use Rattle.command_inputs.specs.Begun.{IsCutOf}
 use Rattle.command_inputs.proofs.Beginnings.{printed_begun}
 use Rattle.command_inputs.proofs.Runs.{appends-keeps, ends_silently, prints}
-use Rattle.capture_index.specs.EachHart.{each_hart}
+use Rattle.parallel_decode.specs.EachHart.{each_hart}
 use Rattle.salvage_reports.specs.HartItems.{items_of}
 use Rattle.capture_commands.specs.Pieces.{ArePiecesOf, HasPieces, WritesPieces, end_of_pieces_from, parts_of, parts_text}
 use Rattle.capture_commands.proofs.lossy_decoding.decode_lossy.Goals as goal

@@ -7,7 +7,7 @@ use Rattle.losses.specs.PartsIn.{parts_in}
 use Rattle.losses.specs.declared.part.HartPieces.{HartPieces}
 use Rattle.output.specs.Begun.{AppendsBeginning}
 use Rattle.output.proofs.Beginnings.{begun_behind, begun_in_front}
-use Rattle.capture_index.specs.EachHart.{each_hart, hart_line, numbered_hart, numbered_harts}
+use Rattle.parallel_decode.specs.EachHart.{each_hart, hart_line, numbered_hart, numbered_harts}
 use Rattle.capture_commands.specs.Pieces.{parts_of, parts_text}
 use Rattle.salvage_reports.proofs.HartLists.{each_of, from_begun, from_written}
 use Rattle.capture_commands.proofs.lossy_decoding.write_pieces.Goals as goal

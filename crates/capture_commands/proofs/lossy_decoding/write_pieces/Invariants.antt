@@ -1,7 +1,7 @@
 -- The texts of the harts so far are written.
 use Rattle.std.proofs.Common.{take}
 use Rattle.std.specs.Io.KnownBytes.{Appends}
-use Rattle.capture_index.specs.EachHart.{each_hart}
+use Rattle.parallel_decode.specs.EachHart.{each_hart}
 use Rattle.capture_commands.specs.Pieces.{parts_of, parts_text}
 use Rattle.capture_commands.proofs.lossy_decoding.write_pieces.Given as goal
 

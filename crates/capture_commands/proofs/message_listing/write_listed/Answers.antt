@@ -19,7 +19,7 @@ returns-then-asked-clause-printed g c =
     let asked = c.args.asked.now in
     let input = c.args.input.now in
     subst (λ salvage. PrintsUnlessDenied
-    (WritesListed asked.format salvage input.only asked.harts input.program.now (names_in input) input.bytes.now)
+    (WritesListed asked.format asked.rows salvage input.only asked.harts input.program.now (names_in input) input.bytes.now)
     (CanWriteListed salvage input.only asked.harts input.bytes.now) c.list_salvaged.result
     (g.O.Write.contents c.args.out.now) (g.O.Write.contents c.list_salvaged.new.out))
     (sym c.if-asked.true) c.list_salvaged.ensures.printed
@@ -34,7 +34,7 @@ returns-then-asked-clause-cut g c =
     let asked = c.args.asked.now in
     let input = c.args.input.now in
     subst (λ salvage. IsCutOf
-    (WritesListedPart asked.format salvage input.only asked.harts input.program.now (names_in input) input.bytes.now)
+    (WritesListedPart asked.format asked.rows salvage input.only asked.harts input.program.now (names_in input) input.bytes.now)
     (g.O.Write.contents c.args.out.now) (g.O.Write.contents c.list_salvaged.new.out))
     (sym c.if-asked.true) c.list_salvaged.ensures.cut
 
@@ -46,11 +46,11 @@ returns-in_err-check_harts_below-clause-printed g c =
     let why = c.in_err-check_harts_below.field-0.0 in
     let is : c.from_residual.result ≡ Err why = grind (arith, common_steps) in
     ends_silently
-    (WritesListed asked.format asked.salvage input.only asked.harts input.program.now (names_in input) input.bytes.now)
+    (WritesListed asked.format asked.rows asked.salvage input.only asked.harts input.program.now (names_in input) input.bytes.now)
     (CanWriteListed asked.salvage input.only asked.harts input.bytes.now)
     (HasHartBelow harts input.only input.bytes.now (Err why)) why c.from_residual.result
     (g.O.Write.contents c.args.out.now) is (inr c.in_err-check_harts_below.ensures.found)
-    (lists_nothing asked.format asked.salvage input.only asked.harts input.program.now (names_in input)
+    (lists_nothing asked.format asked.rows asked.salvage input.only asked.harts input.program.now (names_in input)
     input.bytes.now c.if-asked.false harts c.harts_or_one-harts.ensures why)
 
 pub returns-clause-printed : goal.returns-clause-printed
@@ -59,13 +59,13 @@ returns-clause-printed g c =
     let input = c.args.input.now in
     let harts = c.harts_or_one-harts.result in
     let has = c.in_ok-check_harts_below.ensures.found in
-    leads_on (WritesListing asked.format input.only harts input.program.now (names_in input) input.bytes.now)
-    (WritesListed asked.format asked.salvage input.only asked.harts input.program.now (names_in input) input.bytes.now)
+    leads_on (WritesListing asked.format asked.rows input.only harts input.program.now (names_in input) input.bytes.now)
+    (WritesListed asked.format asked.rows asked.salvage input.only asked.harts input.program.now (names_in input) input.bytes.now)
     ⊤ (CanWriteListed asked.salvage input.only asked.harts input.bytes.now) c.write_listing.result
     (g.O.Write.contents c.args.out.now) (g.O.Write.contents c.write_listing.new.out)
-    (lists asked.format asked.salvage input.only asked.harts input.program.now (names_in input) input.bytes.now
+    (lists asked.format asked.rows asked.salvage input.only asked.harts input.program.now (names_in input) input.bytes.now
     c.if-asked.false harts c.harts_or_one-harts.ensures tt has)
-    (can_lists asked.format asked.salvage input.only asked.harts input.program.now (names_in input) input.bytes.now
+    (can_lists asked.format asked.rows asked.salvage input.only asked.harts input.program.now (names_in input) input.bytes.now
     c.if-asked.false harts c.harts_or_one-harts.ensures tt has) c.write_listing.ensures.printed
 
 pub returns-clause-begun : goal.returns-clause-begun
@@ -73,9 +73,9 @@ returns-clause-begun g c = λ memory.
     let asked = c.args.asked.now in
     let input = c.args.input.now in
     let harts = c.harts_or_one-harts.result in
-    memory_leads (WritesListing asked.format input.only harts input.program.now (names_in input) input.bytes.now)
-    (WritesListed asked.format asked.salvage input.only asked.harts input.program.now (names_in input) input.bytes.now)
-    (lists asked.format asked.salvage input.only asked.harts input.program.now (names_in input) input.bytes.now
+    memory_leads (WritesListing asked.format asked.rows input.only harts input.program.now (names_in input) input.bytes.now)
+    (WritesListed asked.format asked.rows asked.salvage input.only asked.harts input.program.now (names_in input) input.bytes.now)
+    (lists asked.format asked.rows asked.salvage input.only asked.harts input.program.now (names_in input) input.bytes.now
     c.if-asked.false harts c.harts_or_one-harts.ensures tt c.in_ok-check_harts_below.ensures.found)
     (g.O.Write.contents c.args.out.now) (g.O.Write.contents c.write_listing.new.out)
     (c.write_listing.ensures.begun memory)
@@ -85,9 +85,9 @@ returns-clause-cut g c =
     let asked = c.args.asked.now in
     let input = c.args.input.now in
     let harts = c.harts_or_one-harts.result in
-    cut_leads (WritesPart asked.format input.only harts input.program.now (names_in input) input.bytes.now)
-    (WritesListedPart asked.format asked.salvage input.only asked.harts input.program.now (names_in input)
+    cut_leads (WritesPart asked.format asked.rows input.only harts input.program.now (names_in input) input.bytes.now)
+    (WritesListedPart asked.format asked.rows asked.salvage input.only asked.harts input.program.now (names_in input)
     input.bytes.now) (g.O.Write.contents c.args.out.now) (g.O.Write.contents c.write_listing.new.out)
-    (lists_part asked.format asked.salvage input.only asked.harts input.program.now (names_in input) input.bytes.now
+    (lists_part asked.format asked.rows asked.salvage input.only asked.harts input.program.now (names_in input) input.bytes.now
     c.if-asked.false harts c.harts_or_one-harts.ensures tt c.in_ok-check_harts_below.ensures.found)
     c.write_listing.ensures.cut

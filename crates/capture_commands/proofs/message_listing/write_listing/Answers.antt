@@ -23,7 +23,7 @@ returns-in_err-listed-clause-printed g c =
     let files = names_in c.args.input.now in
     let why = c.in_err-listed.field-0.0 in
     let is : c.from_residual.result ≡ Err (write_fault why) = grind (arith, common_steps) in
-    subst (λ r. PrintsUnlessDenied (WritesListing c.args.format c.args.input.now.only c.args.harts c.args.input.now.program.now files c.args.input.now.bytes.now) ⊤ r
+    subst (λ r. PrintsUnlessDenied (WritesListing c.args.asked.now.format c.args.asked.now.rows c.args.input.now.only c.args.harts c.args.input.now.program.now files c.args.input.now.bytes.now) ⊤ r
     (g.O.Write.contents c.args.out.now) (g.O.Write.contents c.show_listing.new.out)) (sym is) (inl (write_denied why))
 
 pub returns-in_err-listed-clause-begun : goal.returns-in_err-listed-clause-begun
@@ -37,7 +37,7 @@ returns-in_err-listed-clause-begun g c = λ memory.
 
 pub returns-in_err-listed-clause-cut : goal.returns-in_err-listed-clause-cut
 returns-in_err-listed-clause-cut g c =
-    part_cut c.args.format c.args.input.now.only c.args.harts c.args.input.now.program.now (names_in c.args.input.now)
+    part_cut c.args.asked.now.format c.args.asked.now.rows c.args.input.now.only c.args.harts c.args.input.now.program.now (names_in c.args.input.now)
     c.args.input.now.bytes.now (g.O.Write.contents c.args.out.now) (g.O.Write.contents c.show_listing.new.out)
     c.in_err-listed.ensures.begun
 
@@ -52,9 +52,9 @@ module _ (g : _) (c : After-flush g) where
   new = g.O.Write.contents c.flush.new.self
 
   -- Whatever the flush answers, the whole listing was written.
-  cut : IsCutOf (WritesPart c.args.format c.args.input.now.only c.args.harts c.args.input.now.program.now symbols c.args.input.now.bytes.now) old new
+  cut : IsCutOf (WritesPart c.args.asked.now.format c.args.asked.now.rows c.args.input.now.only c.args.harts c.args.input.now.program.now symbols c.args.input.now.bytes.now) old new
   cut =
-      whole_cut c.args.format c.args.input.now.only c.args.harts c.args.input.now.program.now symbols c.args.input.now.bytes.now c.in_ok-listed.listed.closed.items
+      whole_cut c.args.asked.now.format c.args.asked.now.rows c.args.input.now.only c.args.harts c.args.input.now.program.now symbols c.args.input.now.bytes.now c.in_ok-listed.listed.closed.items
       c.in_ok-listed.listed.fault old (g.O.Write.contents c.show_listing.new.out) new c.in_ok-listed.ensures.listed
       c.flush.ensures.bytes
 
@@ -62,7 +62,7 @@ pub returns-in_err-flush-clause-printed : goal.returns-in_err-flush-clause-print
 returns-in_err-flush-clause-printed g c =
     let files = names_in c.args.input.now in
     let is : c.from_residual-in_err-flush.result ≡ Err fault.Output = grind (arith, common_steps) in
-    output_failed (WritesListing c.args.format c.args.input.now.only c.args.harts c.args.input.now.program.now files c.args.input.now.bytes.now) ⊤
+    output_failed (WritesListing c.args.asked.now.format c.args.asked.now.rows c.args.input.now.only c.args.harts c.args.input.now.program.now files c.args.input.now.bytes.now) ⊤
     c.from_residual-in_err-flush.result (g.O.Write.contents c.args.out.now) (g.O.Write.contents c.flush.new.self) is tt
 
 pub returns-in_err-flush-clause-begun : goal.returns-in_err-flush-clause-begun
@@ -81,11 +81,11 @@ module _ (g : _) (c : After-ended_of g) where
   ends : c.ended_of.result ≡ end_of_capture_of c.args.input.now.only c.in_ok-listed.listed.fault c.in_ok-listed.listed.closed.items
   ends = c.ended_of.ensures.value ∙ ap (end_of_capture_of c.args.input.now.only c.in_ok-listed.listed.fault) c.as_slice.ensures.value
 
-  whole : IsPrinted (WritesListing c.args.format c.args.input.now.only c.args.harts c.args.input.now.program.now
+  whole : IsPrinted (WritesListing c.args.asked.now.format c.args.asked.now.rows c.args.input.now.only c.args.harts c.args.input.now.program.now
       (names_in c.args.input.now) c.args.input.now.bytes.now) c.ended_of.result
       (g.O.Write.contents c.args.out.now) (g.O.Write.contents c.flush.new.self)
   whole =
-      whole_printed c.args.format c.args.input.now.only c.args.harts c.args.input.now.program.now (names_in c.args.input.now)
+      whole_printed c.args.asked.now.format c.args.asked.now.rows c.args.input.now.only c.args.harts c.args.input.now.program.now (names_in c.args.input.now)
       c.args.input.now.bytes.now c.in_ok-listed.listed.closed.items c.in_ok-listed.listed.fault
       (g.O.Write.contents c.args.out.now) (g.O.Write.contents c.show_listing.new.out)
       (g.O.Write.contents c.flush.new.self) c.in_ok-listed.ensures.listed c.flush.ensures.bytes c.ended_of.result ends
@@ -93,13 +93,13 @@ module _ (g : _) (c : After-ended_of g) where
 pub returns-clause-printed : goal.returns-clause-printed
 returns-clause-printed g c =
     let files = names_in c.args.input.now in
-    prints (WritesListing c.args.format c.args.input.now.only c.args.harts c.args.input.now.program.now files c.args.input.now.bytes.now) ⊤ c.ended_of.result
+    prints (WritesListing c.args.asked.now.format c.args.asked.now.rows c.args.input.now.only c.args.harts c.args.input.now.program.now files c.args.input.now.bytes.now) ⊤ c.ended_of.result
     (g.O.Write.contents c.args.out.now) (g.O.Write.contents c.flush.new.self)
     (whole g (goal.at.returns-clause-printed g c).After-ended_of)
 
 pub returns-clause-begun : goal.returns-clause-begun
 returns-clause-begun g c = λ memory.
     let files = names_in c.args.input.now in
-    inr (subst (λ ended. IsPrinted (WritesListing c.args.format c.args.input.now.only c.args.harts c.args.input.now.program.now files c.args.input.now.bytes.now) ended
+    inr (subst (λ ended. IsPrinted (WritesListing c.args.asked.now.format c.args.asked.now.rows c.args.input.now.only c.args.harts c.args.input.now.program.now files c.args.input.now.bytes.now) ended
     (g.O.Write.contents c.args.out.now) (g.O.Write.contents c.flush.new.self)) memory
     (whole g (goal.at.returns-clause-begun g c).After-ended_of))

@@ -19,7 +19,7 @@ returns-in_err-found-clause-printed g c =
     let symbols = names_in c.args.input.now in
     let why = c.in_err-found.field-0.0 in
     let is : c.from_residual.result ≡ Err why = grind (arith, common_steps) in
-    ends_silently (TreatsHarts c.args.asked.now.format c.args.input.now.only c.args.asked.now.harts c.args.input.now.program.now symbols c.args.input.now.bytes.now)
+    ends_silently (TreatsHarts c.args.asked.now.format c.args.asked.now.rows c.args.input.now.only c.args.asked.now.harts c.args.input.now.program.now symbols c.args.input.now.bytes.now)
     (CanTreat c.args.input.now.only c.args.asked.now.harts c.args.input.now.bytes.now)
     (HasHartFound c.args.asked.now.harts c.args.input.now.only c.args.input.now.bytes.now (Err why)) why c.from_residual.result
     (g.O.Write.contents c.args.out.now) is c.in_err-found.ensures.lacked (λ none. (Err why, none, refl))
@@ -33,27 +33,27 @@ module _ (g : _) (c : After-write_treated_in g) where
 
   abbrev text : List ℕ
   text =
-      treated_in c.args.asked.now.format c.args.input.now.only (names_in c.args.input.now)
+      treated_in c.args.asked.now.format c.args.asked.now.rows c.args.input.now.only (names_in c.args.input.now)
       c.in_ok-found.found.header c.args.input.now.bytes.now c.in_ok-treated.treated.items
 
   -- The buffer of treatments is handed over as a slice.
   begun : AppendsBeginning text old mid
   begun =
-      subst (λ treated. AppendsBeginning (treated_in c.args.asked.now.format c.args.input.now.only
+      subst (λ treated. AppendsBeginning (treated_in c.args.asked.now.format c.args.asked.now.rows c.args.input.now.only
       (names_in c.args.input.now) c.in_ok-found.found.header c.args.input.now.bytes.now
       treated) old mid) c.as_slice.ensures.value c.write_treated_in.ensures.begun
 
 pub returns-in_err-write_treated_in-clause-cut : goal.returns-in_err-write_treated_in-clause-cut
 returns-in_err-write_treated_in-clause-cut g c =
     let new = g.O.Write.contents c.write_treated_in.new.sink in
-    treated_cut c.args.asked.now.format c.args.input.now.only c.args.asked.now.harts c.args.input.now.program.now (names_in c.args.input.now)
+    treated_cut c.args.asked.now.format c.args.asked.now.rows c.args.input.now.only c.args.asked.now.harts c.args.input.now.program.now (names_in c.args.input.now)
     c.args.input.now.bytes.now c.in_ok-found.found c.in_ok-found.ensures.found c.in_ok-treated.treated.items c.in_ok-treated.ensures
     (g.O.Write.contents c.args.out.now) new new
     (begun g (goal.at.returns-in_err-write_treated_in-clause-cut g c).After-write_treated_in) (Keeps-refl new)
 
 pub returns-in_err-flush-clause-cut : goal.returns-in_err-flush-clause-cut
 returns-in_err-flush-clause-cut g c =
-    treated_cut c.args.asked.now.format c.args.input.now.only c.args.asked.now.harts c.args.input.now.program.now (names_in c.args.input.now)
+    treated_cut c.args.asked.now.format c.args.asked.now.rows c.args.input.now.only c.args.asked.now.harts c.args.input.now.program.now (names_in c.args.input.now)
     c.args.input.now.bytes.now c.in_ok-found.found c.in_ok-found.ensures.found c.in_ok-treated.treated.items c.in_ok-treated.ensures
     (g.O.Write.contents c.args.out.now) (g.O.Write.contents c.write_treated_in.new.sink)
     (g.O.Write.contents c.flush.new.self)
@@ -61,7 +61,7 @@ returns-in_err-flush-clause-cut g c =
 
 pub returns-clause-cut : goal.returns-clause-cut
 returns-clause-cut g c =
-    treated_cut c.args.asked.now.format c.args.input.now.only c.args.asked.now.harts c.args.input.now.program.now (names_in c.args.input.now)
+    treated_cut c.args.asked.now.format c.args.asked.now.rows c.args.input.now.only c.args.asked.now.harts c.args.input.now.program.now (names_in c.args.input.now)
     c.args.input.now.bytes.now c.in_ok-found.found c.in_ok-found.ensures.found c.in_ok-treated.treated.items c.in_ok-treated.ensures
     (g.O.Write.contents c.args.out.now) (g.O.Write.contents c.write_treated_in.new.sink)
     (g.O.Write.contents c.flush.new.self)
@@ -77,13 +77,13 @@ returns-clause-printed g c =
     let old = g.O.Write.contents c.args.out.now in
     let mid = g.O.Write.contents c.write_treated_in.new.sink in
     let new = g.O.Write.contents c.flush.new.self in
-    let text = treated_in c.args.asked.now.format only symbols found.header bytes treated in
-    prints (TreatsHarts c.args.asked.now.format only c.args.asked.now.harts c.args.input.now.program.now symbols bytes)
+    let text = treated_in c.args.asked.now.format c.args.asked.now.rows only symbols found.header bytes treated in
+    prints (TreatsHarts c.args.asked.now.format c.args.asked.now.rows only c.args.asked.now.harts c.args.input.now.program.now symbols bytes)
     (CanTreat only c.args.asked.now.harts bytes) c.ended.result old new (record {
       text = text;
-      prints = treated_printed c.args.asked.now.format only c.args.asked.now.harts c.args.input.now.program.now symbols bytes found
+      prints = treated_printed c.args.asked.now.format c.args.asked.now.rows only c.args.asked.now.harts c.args.input.now.program.now symbols bytes found
           c.in_ok-found.ensures.found treated c.in_ok-treated.ensures c.ended.result c.ended.ensures.value;
       appended = appends-keeps old mid new text
-          (subst (λ treated. Appends old mid (treated_in c.args.asked.now.format only symbols found.header bytes treated))
+          (subst (λ treated. Appends old mid (treated_in c.args.asked.now.format c.args.asked.now.rows only symbols found.header bytes treated))
           c.as_slice.ensures.value c.in_ok-write_treated_in.ensures.text) c.flush.ensures.bytes;
     })

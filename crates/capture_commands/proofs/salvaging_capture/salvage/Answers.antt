@@ -1,5 +1,7 @@
 -- The prover tries no chain of steps by itself: what each step found is handed to it, in order.
-use Rattle.std.proofs.Common.{Err, Ok, arith, inr, refl, subst, ◌≡◌, ◌∙◌, ◌⊎◌}
+use Rattle.std.proofs.Common.{Err, List, Ok, arith, inr, refl, subst, sym, ℕ, ◌≡◌, ◌∙◌, ◌⊎◌}
+use Rattle.std.specs.Borrow.{Bor}
+use Rattle.std.specs.Prelude.{option_map}
 use Rattle.std.proofs.lemmas.Grind.{common_steps}
 use Rattle.command_inputs.specs.Begun.{IsCutOf}
 use Rattle.command_inputs.specs.Found.{IsAskedBase, IsProgramAt, IsRead}
@@ -11,6 +13,7 @@ use Rattle.command_inputs.proofs.Formats.{found_ends, none_ends}
 use Rattle.command_inputs.specs.FurtherPieces.{base_number}
 use Rattle.command_inputs.proofs.Runs.{ends_silently}
 use Rattle.capture_commands.specs.Salvaging.{CanSalvage, CanSalvageOf, Salvages, SalvagesOf}
+use Rattle.capture_commands.specs.Symbols.{AreSymbols}
 use Rattle.capture_commands.specs.declared.reason.CaptureReason.{CaptureReason}
 use Rattle.capture_commands.proofs.OnlyOrders.{format_base_first, only_next}
 use Rattle.capture_commands.proofs.SalvageRuns.{capture_cut, capture_printed}
@@ -82,6 +85,37 @@ returns-in_err-program-clause-printed g c =
       (Ok only, c.in_ok-only.ensures.found, (Err why, none, refl)),
     ))
 
+pub returns-in_err-symbols-clause-early : goal.returns-in_err-symbols-clause-early
+returns-in_err-symbols-clause-early g c =
+    let asked = c.args.asked.now in
+    let number = base_number asked.program in
+    let next = only_next asked.format number (asked_harts asked.only) c.in_ok-base.ensures.number in
+    none_ends (format_base_or_only_fault asked.format number (asked_harts asked.only))
+    c.from_residual-in_err-symbols.result (next ∙ c.in_ok-only.ensures.some)
+
+pub returns-in_err-symbols-clause-printed : goal.returns-in_err-symbols-clause-printed
+returns-in_err-symbols-clause-printed g c =
+    let asked = c.args.asked.now in
+    let content = g.F.Files.content c.args.files.now in
+    let base = c.in_ok-base.base in
+    let only = c.in_ok-only.only in
+    let program = c.in_ok-program.program in
+    let why = c.in_err-symbols.field-0.0 in
+    let is : c.from_residual-in_err-symbols.result ≡ Err why = grind (arith, common_steps) in
+    let lacked = subst (λ known. (why ≡ fault.Memory) ⊎ AreSymbols known asked.symbols (Err why))
+    c.in_ok-program.ensures.kept c.in_err-symbols.ensures.fault in
+    ends_silently (Salvages content asked) (CanSalvage content asked) (AreSymbols content asked.symbols (Err why)) why
+    c.from_residual-in_err-symbols.result (g.O.Write.contents c.args.out.now) is lacked
+    (λ none. (
+      Ok base,
+      c.in_ok-base.ensures.found,
+      (
+        Ok only,
+        c.in_ok-only.ensures.found,
+        (Ok program, c.in_ok-program.ensures.program, (Err why, none, refl)),
+      ),
+    ))
+
 pub returns-in_err-bytes-clause-early : goal.returns-in_err-bytes-clause-early
 returns-in_err-bytes-clause-early g c =
     let asked = c.args.asked.now in
@@ -99,8 +133,11 @@ returns-in_err-bytes-clause-printed g c =
     let program = c.in_ok-program.program in
     let why = c.in_err-bytes.field-0.0 in
     let is : c.from_residual-in_err-bytes.result ≡ Err why = grind (arith, common_steps) in
+    let symbols = c.in_ok-symbols.symbols in
     let lacked = subst (λ known. (why ≡ fault.Memory) ⊎ IsRead known asked.capture (Err why))
-    c.in_ok-program.ensures.kept c.in_err-bytes.ensures.lacked in
+    (c.in_ok-symbols.ensures.kept ∙ c.in_ok-program.ensures.kept) c.in_err-bytes.ensures.lacked in
+    let named = subst (λ known. AreSymbols known asked.symbols (Ok symbols)) c.in_ok-program.ensures.kept
+    c.in_ok-symbols.ensures.symbols in
     ends_silently (Salvages content asked) (CanSalvage content asked) (IsRead content asked.capture (Err why)) why
     c.from_residual-in_err-bytes.result (g.O.Write.contents c.args.out.now) is lacked
     (λ none. (
@@ -109,7 +146,7 @@ returns-in_err-bytes-clause-printed g c =
       (
         Ok only,
         c.in_ok-only.ensures.found,
-        (Ok program, c.in_ok-program.ensures.program, (Err why, none, refl)),
+        (Ok program, c.in_ok-program.ensures.program, (Ok symbols, named, (Err why, none, refl))),
       ),
     ))
 
@@ -129,12 +166,15 @@ returns-clause-printed g c =
     let program = c.in_ok-program.program in
     let old = g.O.Write.contents c.args.out.now in
     let new = g.O.Write.contents c.salvage_capture.new.out in
+    let symbols = option_map (λ (file : Bor (List ℕ)). file.now) c.as_ref.result in
+    let named = subst (λ symbols. AreSymbols content asked.symbols (Ok symbols)) (sym c.as_ref.ensures.value)
+    (subst (λ known. AreSymbols known asked.symbols (Ok c.in_ok-symbols.symbols)) c.in_ok-program.ensures.kept
+    c.in_ok-symbols.ensures.symbols) in
     let read = subst (λ known. IsRead {W = CaptureReason} known asked.capture (Ok c.in_ok-bytes.bytes.items))
-    c.in_ok-program.ensures.kept
-    c.in_ok-bytes.ensures.held in
-    capture_printed content asked c.in_ok-base.base only program c.in_ok-bytes.bytes.items c.in_ok-base.ensures.found
-    c.in_ok-only.ensures.found c.in_ok-program.ensures.program read c.salvage_capture.result old new
-    (subst (λ bytes. PrintsUnlessDenied (SalvagesOf only asked.format asked.harts asked.summary program bytes)
+    (c.in_ok-symbols.ensures.kept ∙ c.in_ok-program.ensures.kept) c.in_ok-bytes.ensures.held in
+    capture_printed content asked c.in_ok-base.base only program symbols c.in_ok-bytes.bytes.items
+    c.in_ok-base.ensures.found c.in_ok-only.ensures.found c.in_ok-program.ensures.program named read c.salvage_capture.result old new
+    (subst (λ bytes. PrintsUnlessDenied (SalvagesOf only asked.format asked.harts asked.summary program symbols bytes)
     (CanSalvageOf only asked.harts bytes) c.salvage_capture.result old new) c.as_slice.ensures.value
     c.salvage_capture.ensures.printed)
 
@@ -146,10 +186,13 @@ returns-clause-cut g c =
     let program = c.in_ok-program.program in
     let old = g.O.Write.contents c.args.out.now in
     let new = g.O.Write.contents c.salvage_capture.new.out in
+    let symbols = option_map (λ (file : Bor (List ℕ)). file.now) c.as_ref.result in
+    let named = subst (λ symbols. AreSymbols content asked.symbols (Ok symbols)) (sym c.as_ref.ensures.value)
+    (subst (λ known. AreSymbols known asked.symbols (Ok c.in_ok-symbols.symbols)) c.in_ok-program.ensures.kept
+    c.in_ok-symbols.ensures.symbols) in
     let read = subst (λ known. IsRead {W = CaptureReason} known asked.capture (Ok c.in_ok-bytes.bytes.items))
-    c.in_ok-program.ensures.kept
-    c.in_ok-bytes.ensures.held in
-    capture_cut content asked c.in_ok-base.base only program c.in_ok-bytes.bytes.items c.in_ok-base.ensures.found
-    c.in_ok-only.ensures.found c.in_ok-program.ensures.program read old new
-    (subst (λ bytes. IsCutOf (SalvagesOf only asked.format asked.harts asked.summary program bytes) old new)
+    (c.in_ok-symbols.ensures.kept ∙ c.in_ok-program.ensures.kept) c.in_ok-bytes.ensures.held in
+    capture_cut content asked c.in_ok-base.base only program symbols c.in_ok-bytes.bytes.items
+    c.in_ok-base.ensures.found c.in_ok-only.ensures.found c.in_ok-program.ensures.program named read old new
+    (subst (λ bytes. IsCutOf (SalvagesOf only asked.format asked.harts asked.summary program symbols bytes) old new)
     c.as_slice.ensures.value c.salvage_capture.ensures.cut)

@@ -12,6 +12,7 @@ use Rattle.capture_commands.specs.HartsFound.{HasHartFound}
 use Rattle.capture_commands.specs.SalvagedFormats.{layout_of, salvaged_in}
 use Rattle.capture_commands.specs.Salvaging.{CanSalvageOf, SalvagesOf}
 use Rattle.capture_commands.proofs.SalvageRuns.{salvaged_cut, salvaged_printed, text_same}
+use Rattle.capture_commands.specs.steps.Names.{names_in}
 use Rattle.output.specs.Begun.{AppendsBeginning}
 use Rattle.salvage_reports.specs.Layouts.{found_as}
 use Rattle.capture_commands.proofs.salvaging_capture.salvage_capture.Goals.{After-write_found}
@@ -19,10 +20,11 @@ use Rattle.capture_commands.proofs.salvaging_capture.salvage_capture.Goals as go
 
 module _ (g : _) (c : After-write_found g) where
   -- A beginning of what was found was written, in the layout that was asked for.
-  begun : AppendsBeginning (found_as (layout_of c.args.asked.now.format c.args.asked.now.summary) c.in_ok-found.found c.args.input.now.bytes.now)
+  begun : AppendsBeginning (found_as (layout_of c.args.asked.now.format c.args.asked.now.summary) (names_in c.args.input.now)
+      c.in_ok-found.found c.args.input.now.bytes.now)
       (g.O.Write.contents c.args.out.now) (g.O.Write.contents c.write_found.new.out)
   begun =
-      subst (λ layout. AppendsBeginning (found_as layout c.in_ok-found.found c.args.input.now.bytes.now)
+      subst (λ layout. AppendsBeginning (found_as layout (names_in c.args.input.now) c.in_ok-found.found c.args.input.now.bytes.now)
       (g.O.Write.contents c.args.out.now) (g.O.Write.contents c.write_found.new.out)) c.layout_of-layout.ensures
       c.write_found.ensures.begun
 
@@ -30,7 +32,7 @@ pub returns-in_err-found-clause-printed : goal.returns-in_err-found-clause-print
 returns-in_err-found-clause-printed g c =
     let why = c.in_err-found.field-0.0 in
     let is : c.from_residual.result ≡ Err why = grind (arith, common_steps) in
-    ends_silently (SalvagesOf c.args.input.now.only c.args.asked.now.format c.args.asked.now.harts c.args.asked.now.summary c.args.input.now.program.now c.args.input.now.bytes.now)
+    ends_silently (SalvagesOf c.args.input.now.only c.args.asked.now.format c.args.asked.now.harts c.args.asked.now.summary c.args.input.now.program.now (names_in c.args.input.now) c.args.input.now.bytes.now)
     (CanSalvageOf c.args.input.now.only c.args.asked.now.harts c.args.input.now.bytes.now)
     (HasHartFound c.args.asked.now.harts c.args.input.now.only c.args.input.now.bytes.now (Err why)) why c.from_residual.result
     (g.O.Write.contents c.args.out.now) is c.in_err-found.ensures.lacked (λ none. (Err why, none, refl))
@@ -49,7 +51,7 @@ returns-in_err-write_found-clause-printed g c =
     let can : CanSalvageOf c.args.input.now.only c.args.asked.now.harts c.args.input.now.bytes.now =
     (tt, c.in_ok-found.ensures.found.has, tt) in
     subst (λ ended. PrintsUnlessDenied
-    (SalvagesOf c.args.input.now.only c.args.asked.now.format c.args.asked.now.harts c.args.asked.now.summary c.args.input.now.program.now c.args.input.now.bytes.now)
+    (SalvagesOf c.args.input.now.only c.args.asked.now.format c.args.asked.now.harts c.args.asked.now.summary c.args.input.now.program.now (names_in c.args.input.now) c.args.input.now.bytes.now)
     (CanSalvageOf c.args.input.now.only c.args.asked.now.harts c.args.input.now.bytes.now) ended (g.O.Write.contents c.args.out.now)
     (g.O.Write.contents c.write_found.new.out)) (sym failed)
     (inl (write_denied_once (CanSalvageOf c.args.input.now.only c.args.asked.now.harts c.args.input.now.bytes.now) can why))
@@ -58,14 +60,14 @@ pub returns-in_err-write_found-clause-cut : goal.returns-in_err-write_found-clau
 returns-in_err-write_found-clause-cut g c =
     let found = c.in_ok-found.found in
     let new = g.O.Write.contents c.write_found.new.out in
-    salvaged_cut c.args.input.now.only c.args.asked.now.format c.args.asked.now.harts c.args.asked.now.summary c.args.input.now.program.now c.args.input.now.bytes.now found
+    salvaged_cut c.args.input.now.only c.args.asked.now.format c.args.asked.now.harts c.args.asked.now.summary c.args.input.now.program.now (names_in c.args.input.now) c.args.input.now.bytes.now found
     c.in_ok-found.ensures.found (g.O.Write.contents c.args.out.now) new new
     (begun g (goal.at.returns-in_err-write_found-clause-cut g c).After-write_found) (Keeps-refl new)
 
 pub returns-in_err-flush-clause-cut : goal.returns-in_err-flush-clause-cut
 returns-in_err-flush-clause-cut g c =
     let found = c.in_ok-found.found in
-    salvaged_cut c.args.input.now.only c.args.asked.now.format c.args.asked.now.harts c.args.asked.now.summary c.args.input.now.program.now c.args.input.now.bytes.now found
+    salvaged_cut c.args.input.now.only c.args.asked.now.format c.args.asked.now.harts c.args.asked.now.summary c.args.input.now.program.now (names_in c.args.input.now) c.args.input.now.bytes.now found
     c.in_ok-found.ensures.found (g.O.Write.contents c.args.out.now) (g.O.Write.contents c.write_found.new.out)
     (g.O.Write.contents c.flush.new.self) (begun g (goal.at.returns-in_err-flush-clause-cut g c).After-write_found)
     c.flush.ensures.bytes
@@ -73,7 +75,7 @@ returns-in_err-flush-clause-cut g c =
 pub returns-clause-cut : goal.returns-clause-cut
 returns-clause-cut g c =
     let found = c.in_ok-found.found in
-    salvaged_cut c.args.input.now.only c.args.asked.now.format c.args.asked.now.harts c.args.asked.now.summary c.args.input.now.program.now c.args.input.now.bytes.now found
+    salvaged_cut c.args.input.now.only c.args.asked.now.format c.args.asked.now.harts c.args.asked.now.summary c.args.input.now.program.now (names_in c.args.input.now) c.args.input.now.bytes.now found
     c.in_ok-found.ensures.found (g.O.Write.contents c.args.out.now) (g.O.Write.contents c.write_found.new.out)
     (g.O.Write.contents c.flush.new.self) (begun g (goal.at.returns-clause-cut g c).After-write_found)
     c.flush.ensures.bytes
@@ -85,16 +87,16 @@ returns-clause-printed g c =
     let bytes = c.args.input.now.bytes.now in
     let old = g.O.Write.contents c.args.out.now in
     let new = g.O.Write.contents c.flush.new.self in
-    let text = salvaged_in c.args.asked.now.format c.args.asked.now.summary only found.header (spans_of found.header bytes) found.salvaged in
-    prints (SalvagesOf only c.args.asked.now.format c.args.asked.now.harts c.args.asked.now.summary c.args.input.now.program.now bytes)
+    let text = salvaged_in c.args.asked.now.format c.args.asked.now.summary (names_in c.args.input.now) only found.header (spans_of found.header bytes) found.salvaged in
+    prints (SalvagesOf only c.args.asked.now.format c.args.asked.now.harts c.args.asked.now.summary c.args.input.now.program.now (names_in c.args.input.now) bytes)
     (CanSalvageOf only c.args.asked.now.harts bytes) c.ended.result old new (record {
       text = text;
-      prints = salvaged_printed only c.args.asked.now.format c.args.asked.now.harts c.args.asked.now.summary c.args.input.now.program.now bytes found
+      prints = salvaged_printed only c.args.asked.now.format c.args.asked.now.harts c.args.asked.now.summary c.args.input.now.program.now (names_in c.args.input.now) bytes found
           c.in_ok-found.ensures.found c.ended.result c.ended.ensures.value;
       appended = appends-keeps old (g.O.Write.contents c.write_found.new.out) new text
           (subst (Appends old (g.O.Write.contents c.write_found.new.out))
-          (text_same only c.args.asked.now.format c.args.asked.now.harts c.args.asked.now.summary c.args.input.now.program.now bytes found
+          (text_same only c.args.asked.now.format c.args.asked.now.harts c.args.asked.now.summary c.args.input.now.program.now (names_in c.args.input.now) bytes found
           c.in_ok-found.ensures.found)
-          (subst (λ layout. Appends old (g.O.Write.contents c.write_found.new.out) (found_as layout found bytes))
+          (subst (λ layout. Appends old (g.O.Write.contents c.write_found.new.out) (found_as layout (names_in c.args.input.now) found bytes))
           c.layout_of-layout.ensures c.in_ok-write_found.ensures.text)) c.flush.ensures.bytes;
     })

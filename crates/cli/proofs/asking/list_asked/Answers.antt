@@ -6,11 +6,12 @@ pub returns : goal.returns
 returns c = (
   refl,
   c.in_ok-program_args.ensures,
-  c.given_harts.ensures,
+  c.given_up_to.ensures,
   c.given_text.ensures,
   c.given_text-2.ensures,
   c.flag.ensures,
-  c.format.ensures,
   c.flag-2.ensures,
+  c.format.ensures,
+  c.flag-3.ensures,
   c.text.ensures,
 )

@@ -2,8 +2,8 @@
 use Rattle.std.proofs.Common.{◌≡◌, ◌∙◌, length, map, ap, subst, arith}
 use Rattle.std.proofs.lemmas.Grind.{common_steps}
 use Rattle.auditing.specs.Sent.{harts_of}
-use Rattle.path_match.specs.Aligned.{AreAligned}
-use Rattle.path_match.specs.Counted.{total_of}
+use Rattle.auditing.specs.Aligned.{AreAligned}
+use Rattle.auditing.specs.Counted.{total_of}
 use Rattle.ffi.specs.AuditedUnnumbered.{aligned_end, aligned_reported, singles_of, strangers_among}
 use Rattle.ffi.specs.AuditedUnnumbered.{unmatched_from}
 use Rattle.ffi.proofs.aligned_audit.audit_aligned.Goals as goal

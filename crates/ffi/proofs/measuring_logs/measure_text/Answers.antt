@@ -2,7 +2,7 @@
 use Rattle.std.proofs.Common.{ap, subst, sym, ◌∙◌}
 use Rattle.legalpath.specs.Legal.{Legal}
 use Rattle.legalpath.specs.ProgramLog.{program_log}
-use Rattle.measuring.specs.Measures.{measures_of}
+use Rattle.captures.specs.Measures.{measures_of}
 use Rattle.rvclass.specs.Fetch.{words_of}
 use Rattle.ffi.proofs.measuring_logs.measure_text.Goals as goal
 

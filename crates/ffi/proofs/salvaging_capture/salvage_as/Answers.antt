@@ -1,5 +1,5 @@
 -- What was found is put together with what was written: the steps are handed on, in order, which no tactic does.
-use Rattle.std.proofs.Common.{ℕ, List, ◌++◌, ◌∙◌, ap}
+use Rattle.std.proofs.Common.{ℕ, List, None, ◌++◌, ◌∙◌, ap}
 use Rattle.message.specs.Range.{every_hart}
 use Rattle.message.specs.declared.range.HartRange.{HartRange}
 use Rattle.frames.specs.Start.{spans_of}
@@ -20,7 +20,7 @@ returns-in-Ok-written c =
       made = c.in-Ok.is;
       found = is.salvaged;
       laid_out = c.in-Ok-written.ensures.text
-          ∙ ap (λ (before : List ℕ). before ++ salvaged_as c.args.layout every_hart found.header
+          ∙ ap (λ (before : List ℕ). before ++ salvaged_as c.args.layout None every_hart found.header
           (spans_of found.header c.args.capture.now) found.salvaged) c.new-text.ensures.items;
       ended = c.end_of_found-end.ensures
           ∙ ap (λ (r : HartRange). salvage_end r found.fault found.frames.runs found.salvaged) is.only_is

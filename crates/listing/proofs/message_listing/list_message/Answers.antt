@@ -15,10 +15,10 @@ use Rattle.listing.proofs.TakenMessages.{is_taken, no_shorter}
 use Rattle.listing.specs.Entries.{effect_entry}
 use Rattle.listing.specs.Listing.{names_in}
 use Rattle.listing.specs.steps.Message.{IsRefused, IsTaken, Judged, Passed, effect_of, fault_entry}
-use Rattle.listing.proofs.message_listing.list_message.Goals.{After-events_of, In-Err}
+use Rattle.listing.proofs.message_listing.list_message.Goals.{After-events_of-events, In-Err}
 use Rattle.listing.proofs.message_listing.list_message.Goals as goal
 
-module _ (g : _) (c : After-events_of g) where
+module _ (g : _) (c : After-events_of-events g) where
   abbrev words : Words
   words = words_of c.args.input.now.program.now
 
@@ -30,7 +30,7 @@ module _ (g : _) (c : After-events_of g) where
   chosen = sym c.selects.ensures ∙ c.if-not-selects.false
 
   -- No event is gone.
-  longer : count ≤ length c.events_of.result.now
+  longer : count ≤ length c.events_of-events.result.now
   longer =
       let messages = c.requires.messages in
       let longer = no_shorter words (words_of-IsProgram c.args.input.now.program.now c.base.ensures.kept)
@@ -38,7 +38,7 @@ module _ (g : _) (c : After-events_of g) where
       messages c.args.message.now c.args.receiver.now c.receive.new.self c.requires.has
       (c.in-Ok.ensures.received (λ hart. words) c.requires.harts messages refl c.requires.has) in
       let was = ap length c.events_of-before.ensures in
-      let now = ap length c.events_of.ensures in
+      let now = ap length c.events_of-events.ensures in
       omega (arith, longer, was, now)
 
   -- The entry shows the events behind those.
@@ -46,14 +46,14 @@ module _ (g : _) (c : After-events_of g) where
       → IsTaken c.args.input.now harts c.args.announced c.args.at messages c.args.message.now c.receive.new.self
       (effect_entry c.args.input.now.form (names_in c.args.input.now) c.naming_mode-mode.result c.args.at.number
       c.args.at.offset c.args.message.now
-      (effect_of (take (length c.events_of.result.now - count) (drop count c.events_of.result.now))
-      (reading c.args.message.now.payload)))
+      (effect_of (take (length c.events_of-events.result.now - count) (drop count c.events_of-events.result.now))
+      (length c.events_of-events.result.now) (reading c.args.message.now.payload)))
   taken harts messages has =
       is_taken c.args.input.now (words_of-IsProgram c.args.input.now.program.now c.base.ensures.kept) harts messages
       c.args.message.now c.args.receiver.now c.receive.new.self has
       (c.in-Ok.ensures.received (λ hart. words) harts messages refl has) c.args.announced c.args.at
-      c.naming_mode-mode.result count c.events_of.result.now _ c.naming_mode-mode.ensures
-      (ap length c.events_of-before.ensures) c.events_of.ensures (take_rest c.events_of.result.now count)
+      c.naming_mode-mode.result count c.events_of-events.result.now _ c.naming_mode-mode.ensures
+      (ap length c.events_of-before.ensures) c.events_of-events.ensures (take_rest c.events_of-events.result.now count)
       c.in-Ok.ensures.agrees
 
 module _ (g : _) (c : In-Err g) where
@@ -74,19 +74,19 @@ module _ (g : _) (c : In-Err g) where
   }
 
 pub slice_bounds-added-count : goal.slice_bounds-added-count
-slice_bounds-added-count g c = longer g (goal.at.slice_bounds-added-count g c).After-events_of
+slice_bounds-added-count g c = longer g (goal.at.slice_bounds-added-count g c).After-events_of-events
 
 pub slice_bounds-added-start : goal.slice_bounds-added-start
-slice_bounds-added-start g c = longer g (goal.at.slice_bounds-added-start g c).After-events_of
+slice_bounds-added-start g c = longer g (goal.at.slice_bounds-added-start g c).After-events_of-events
 
 pub returns-in_ok-write_effect-in-Ok-clause-listed : goal.returns-in_ok-write_effect-in-Ok-clause-listed
 returns-in_ok-write_effect-in-Ok-clause-listed g c = λ harts messages has.
-    let after = (goal.at.returns-in_ok-write_effect-in-Ok-clause-listed g c).After-events_of in
+    let after = (goal.at.returns-in_ok-write_effect-in-Ok-clause-listed g c).After-events_of-events in
     (_, Judged (chosen g after) (taken g after harts messages has), c.in_ok-write_effect-in-Ok.ensures.text)
 
 pub returns-in_err-write_effect-in-Ok-clause-begun : goal.returns-in_err-write_effect-in-Ok-clause-begun
 returns-in_err-write_effect-in-Ok-clause-begun g c = λ harts messages has.
-    let after = (goal.at.returns-in_err-write_effect-in-Ok-clause-begun g c).After-events_of in
+    let after = (goal.at.returns-in_err-write_effect-in-Ok-clause-begun g c).After-events_of-events in
     let made = err_from_is_err_and c.from_residual.result c.from_residual.ensures.1 in
     rw made.1 (None, _, Judged (chosen g after) (taken g after harts messages has), c.write_effect.ensures.begun)
 

@@ -22,8 +22,8 @@ module _ (g : _) (c : After-write_text g) where
   front =
       message_cells (codes "message") c.args.mode c.args.at.number c.args.at.offset c.args.message.now
       c.unpack-unpacked.result
-      ++ tail_cells c.read_waits.result c.read_closes.result (length c.args.added.now) c.first_of-first.result
-      c.last_of-last.result
+      ++ tail_cells c.read_waits.result c.read_closes.result c.args.added.rows (length c.args.added.events.now)
+      c.first_of-first.result c.last_of-last.result
 
   abbrev back : List ℕ
   back = names_end symbols c.first_of-first.result c.last_of-last.result
@@ -31,14 +31,14 @@ module _ (g : _) (c : After-write_text g) where
   abbrev row : List ℕ
   row =
       effect_row symbols c.args.mode c.args.at.number c.args.at.offset c.args.message.now
-      (effect_of c.args.added.now (reading c.args.message.now.payload))
+      (effect_of c.args.added.events.now c.args.added.rows (reading c.args.message.now.payload))
 
   is_row : front ++ back ≡ row
   is_row =
-      row_by symbols c.args.mode c.args.at.number c.args.at.offset c.args.message.now c.args.added.now
-      c.unpack-unpacked.result
+      row_by symbols c.args.mode c.args.at.number c.args.at.offset c.args.message.now c.args.added.events.now
+      c.args.added.rows c.unpack-unpacked.result
       (c.unpack-unpacked.ensures.value ∙ ap reading c.bytes.ensures.same) c.read_waits.result c.read_closes.result
-      (length c.args.added.now) c.first_of-first.result c.last_of-last.result c.read_waits.ensures c.read_closes.ensures
+      (length c.args.added.events.now) c.first_of-first.result c.last_of-last.result c.read_waits.ensures c.read_closes.ensures
       refl c.first_of-first.ensures c.last_of-last.ensures
 
 pub returns-in_err-write_text-clause-begun : goal.returns-in_err-write_text-clause-begun

@@ -11,7 +11,7 @@ use Rattle.listing.proofs.rows.write_refused_row.Goals as goal
 
 module _ (g : _) (c : After-unpack-unpacked g) where
   same : message_cells (codes "refused") c.args.mode c.args.at.number c.args.at.offset c.args.message.now
-      c.unpack-unpacked.result ++ codes ",,,,,,,,,,,,\n"
+      c.unpack-unpacked.result ++ codes ",,,,,,,,,,,,,,\n"
       ≡ refused_row c.args.mode c.args.at.number c.args.at.offset c.args.message.now
   same =
       refused_parts c.args.mode c.args.at.number c.args.at.offset c.args.message.now c.unpack-unpacked.result

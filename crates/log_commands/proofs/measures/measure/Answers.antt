@@ -4,8 +4,8 @@ use Rattle.std.proofs.lemmas.Grind.{common_steps}
 use Rattle.std.specs.Io.KnownBytes.{Appends}
 use Rattle.std.specs.Prelude.{⊤, OnOk}
 use Rattle.legalpath.specs.ProgramLog.{ProgramLog}
-use Rattle.measuring.specs.Bounds.{AreWithin, most_counted}
-use Rattle.measuring.specs.Table.{measures_table, table_of}
+use Rattle.captures.specs.Bounds.{AreWithin, most_counted}
+use Rattle.captures.specs.Table.{measures_table, table_of}
 use Rattle.message.specs.Version.{most_harts}
 use Rattle.message.specs.declared.header.Version.TheVariants.{Two}
 use Rattle.output.specs.Begun.{AppendsBeginning}

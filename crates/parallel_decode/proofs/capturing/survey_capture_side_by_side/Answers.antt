@@ -2,8 +2,8 @@
 use Rattle.std.proofs.Common.{subst, sym}
 use Rattle.rvclass.specs.Fetch.{words_of}
 use Rattle.captures.specs.OfHarts.{IsDecodedOf}
-use Rattle.capture_index.proofs.CaptureLemmas.{never_memory_at}
-use Rattle.capture_index.specs.Surveyed.{NeverMemory}
+use Rattle.parallel_decode.proofs.CaptureLemmas.{never_memory_at}
+use Rattle.parallel_decode.specs.Surveyed.{NeverMemory}
 use Rattle.parallel_decode.proofs.capturing.survey_capture_side_by_side.Goals as goal
 
 pub returns : goal.returns

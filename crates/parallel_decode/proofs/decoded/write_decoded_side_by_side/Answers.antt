@@ -1,7 +1,7 @@
 -- What is written is what the survey found: by lemmas, which no tactic finds.
 use Rattle.std.proofs.Common.{inr}
 use Rattle.output.proofs.Beginnings.{whole_begun}
-use Rattle.capture_index.specs.HartsText.{harts_text_of}
+use Rattle.parallel_decode.specs.HartsText.{harts_text_of}
 use Rattle.parallel_decode.proofs.decoded.write_decoded_side_by_side.Goals as goal
 
 pub write_harts_side_by_side-requires-clause-marked : goal.write_harts_side_by_side-requires-clause-marked

@@ -2,7 +2,7 @@
 use Rattle.std.proofs.Common.{◌≡◌, ◌∙◌, None, Ok, ap, arith, sym}
 use Rattle.rvclass.specs.Fetch.{words_of}
 use Rattle.parallel_decode.proofs.EndLemmas.{received-end}
-use Rattle.capture_index.proofs.PlaceLemmas.{places-length}
+use Rattle.parallel_decode.proofs.PlaceLemmas.{places-length}
 use Rattle.parallel_decode.specs.steps.Starts.{StartsAt}
 use Rattle.parallel_decode.proofs.hart.receive_hart.Goals as goal
 

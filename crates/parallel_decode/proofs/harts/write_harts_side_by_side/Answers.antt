@@ -3,9 +3,9 @@ use Rattle.std.proofs.Common.{List, subst, sym}
 use Rattle.rvclass.proofs.WordsLemmas.{words_of-IsProgram}
 use Rattle.rvclass.specs.Fetch.{words_of}
 use Rattle.retire.specs.declared.event.Event.{Event}
-use Rattle.capture_index.proofs.PutLemmas.{put_begun, put_never_memory, put_whole}
-use Rattle.capture_index.specs.HartsText.{harts_text_of}
-use Rattle.capture_index.specs.Marks.{AreMarkedLogs}
+use Rattle.parallel_decode.proofs.PutLemmas.{put_begun, put_never_memory, put_whole}
+use Rattle.parallel_decode.specs.HartsText.{harts_text_of}
+use Rattle.parallel_decode.specs.Marks.{AreMarkedLogs}
 use Rattle.parallel_decode.proofs.PuttingLemmas.{left_all}
 use Rattle.parallel_decode.proofs.ShelfLemmas.{shelves_hold}
 use Rattle.parallel_decode.specs.steps.Stretches.{HaveText}

@@ -3,8 +3,8 @@ use Rattle.std.proofs.Common.{◌≡◌, ◌+◌, ◌∷◌, ◌++◌, ◌∙◌
 use Rattle.std.proofs.lemmas.List.{drop_more}
 use Rattle.std.proofs.lemmas.List.Elements.{All-get_or}
 use Rattle.retire.specs.LogText.{log_text}
-use Rattle.capture_index.specs.EachHart.{hart_line}
-use Rattle.capture_index.specs.Marks.{IsMark}
+use Rattle.parallel_decode.specs.EachHart.{hart_line}
+use Rattle.parallel_decode.specs.Marks.{IsMark}
 use Rattle.parallel_decode.proofs.PlanLemmas.{Cut, cut_all, cut_more, cut_none}
 use Rattle.parallel_decode.specs.declared.stretch.Stretch.{Stretch}
 use Rattle.parallel_decode.specs.steps.Stretches.{HaveText}

@@ -2,8 +2,8 @@
 use Rattle.std.proofs.Common.{◌∙◌, ◌+◌, ◌<◌, [], ap, arith, get_or, length, refl, subst, sym, take}
 use Rattle.std.proofs.lemmas.List.{take_all}
 use Rattle.std.proofs.lemmas.Option.{slice_get-get_or, slice_get_read}
-use Rattle.capture_index.specs.HartsText.{harts_text_of}
-use Rattle.capture_index.specs.Marks.{IsMarkedLog}
+use Rattle.parallel_decode.specs.HartsText.{harts_text_of}
+use Rattle.parallel_decode.specs.Marks.{IsMarkedLog}
 use Rattle.parallel_decode.proofs.HartLemmas.{hart_more, hart_none}
 use Rattle.parallel_decode.specs.steps.Planning.{IsMarkedHart}
 use Rattle.parallel_decode.specs.steps.Stretches.{HaveText}

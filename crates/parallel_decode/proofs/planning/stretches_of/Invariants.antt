@@ -2,8 +2,8 @@
 use Rattle.std.proofs.Common.{ℕ, List, take}
 use Rattle.retire.specs.declared.event.Event.{Event}
 use Rattle.rvclass.specs.Words.{IsProgram, Words}
-use Rattle.capture_index.specs.HartsText.{harts_text_of}
-use Rattle.capture_index.specs.Marks.{AreMarkedLogs}
+use Rattle.parallel_decode.specs.HartsText.{harts_text_of}
+use Rattle.parallel_decode.specs.Marks.{AreMarkedLogs}
 use Rattle.parallel_decode.specs.steps.Stretches.{HaveText}
 use Rattle.parallel_decode.proofs.planning.stretches_of.Given as goal
 

@@ -4,7 +4,7 @@ use Rattle.std.proofs.lemmas.Grind.{common_steps}
 use Rattle.std.specs.Io.KnownBytes.{Appends}
 use Rattle.message.proofs.Elements.{slice_get-some}
 use Rattle.retire.specs.declared.event.Event.{Event}
-use Rattle.capture_index.specs.Put.{IsPut}
+use Rattle.parallel_decode.specs.Put.{IsPut}
 use Rattle.parallel_decode.proofs.PuttingLemmas.{stretch_fails, stretch_more}
 use Rattle.parallel_decode.specs.declared.stretch.Stretch.{Stretch}
 use Rattle.parallel_decode.specs.steps.Putting.{IsPutUpTo}

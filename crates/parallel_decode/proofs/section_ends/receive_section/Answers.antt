@@ -1,10 +1,10 @@
 -- What is received of a section's places: by lemmas on sections.
 use Rattle.std.proofs.Common.{◌≡◌, ◌+◌, ◌<◌, ℕ, Global, List, Vec, arith, get_or, length, subst}
 use Rattle.rvclass.specs.Fetch.{words_of}
-use Rattle.capture_index.proofs.PlaceLemmas.{any_message}
+use Rattle.parallel_decode.proofs.PlaceLemmas.{any_message}
 use Rattle.message.specs.declared.message.Message.{Message}
 use Rattle.parallel_decode.proofs.SectionLemmas.{added-section, on_ok-as, passed-none, said-of, section-next}
-use Rattle.capture_index.proofs.PlaceLemmas.{message-at}
+use Rattle.parallel_decode.proofs.PlaceLemmas.{message-at}
 use Rattle.parallel_decode.specs.declared.own.Own.{Own}
 use Rattle.parallel_decode.specs.declared.section_ends.SectionEnd.{SectionEnd}
 use Rattle.parallel_decode.specs.steps.Sections.{AreAdded, IsSectionEnd}

@@ -2,7 +2,7 @@
 use Rattle.std.proofs.Common.{◌≡◌, All, None, Vec, Global, ℕ, ap, arith, drop, length, refl, subst, sym}
 use Rattle.rvclass.specs.Fetch.{words_of}
 use Rattle.captures.specs.OfHarts.{StopsOf}
-use Rattle.capture_index.specs.Surveyed.{NeverMemory}
+use Rattle.parallel_decode.specs.Surveyed.{NeverMemory}
 use Rattle.parallel_decode.proofs.Merging.{merged, merged-accepted, stop-end, stop-fault}
 use Rattle.parallel_decode.specs.declared.hart.HartEnd.{HartEnd}
 use Rattle.parallel_decode.specs.steps.Ends.{AreEnds}

@@ -1,8 +1,8 @@
 -- One message more: by lemmas on captures, which no tactic finds.
 use Rattle.std.proofs.Common.{◌<◌, ◌++◌, ◌∙◌, [], ◌∷◌, ap, arith, length, subst, sym}
 use Rattle.message.specs.Range.{selected, selects}
-use Rattle.capture_index.proofs.PlaceLemmas.{listed_selected}
-use Rattle.capture_index.specs.Places.{IsAdded}
+use Rattle.parallel_decode.proofs.PlaceLemmas.{listed_selected}
+use Rattle.parallel_decode.specs.Places.{IsAdded}
 use Rattle.parallel_decode.proofs.WalkLemmas.{one_of_harts, walked-next, walked-none}
 use Rattle.parallel_decode.specs.steps.Starts.{AreStarts, StartsAt}
 use Rattle.parallel_decode.proofs.walking.walk_over.Goals as goal

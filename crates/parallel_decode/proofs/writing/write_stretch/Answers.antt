@@ -2,10 +2,10 @@
 use Rattle.std.proofs.Common.{◌≡◌, Err, arith, subst, sym}
 use Rattle.std.proofs.lemmas.Grind.{common_steps}
 use Rattle.rvclass.specs.Fetch.{words_of}
-use Rattle.capture_index.proofs.PutLemmas.{put_behind, put_in_front}
-use Rattle.capture_index.proofs.SplitLemmas.{rows}
-use Rattle.capture_index.specs.Parts.{IsPart}
-use Rattle.capture_index.specs.Put.{IsPut}
+use Rattle.parallel_decode.proofs.PutLemmas.{put_behind, put_in_front}
+use Rattle.parallel_decode.proofs.SplitLemmas.{rows}
+use Rattle.parallel_decode.specs.Parts.{IsPart}
+use Rattle.parallel_decode.specs.Put.{IsPut}
 use Rattle.parallel_decode.specs.steps.Stretches.{head_if, stretch_text}
 use Rattle.parallel_decode.proofs.writing.write_stretch.Goals as goal
 

@@ -3,7 +3,7 @@ use Rattle.std.proofs.Common.{◌∙◌, ◌++◌, ◌∷◌, [], ap, append-nil
 use Rattle.std.specs.Prelude.{OnOk}
 use Rattle.message.proofs.Selecting.{none_selected, one_selected, selected-append}
 use Rattle.message.specs.Range.{selected}
-use Rattle.path_match.specs.Split.{AreSplit}
+use Rattle.auditing.specs.Split.{AreSplit}
 use Rattle.path_commands.proofs.by_hart.add_selected.Goals as goal
 
 pub returns-then-selects-clause-split : goal.returns-then-selects-clause-split

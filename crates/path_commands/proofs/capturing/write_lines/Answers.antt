@@ -1,6 +1,6 @@
 -- Whether the text has a capture decides what is printed: by lemmas that go by its cases, which no tactic finds.
 use Rattle.std.proofs.Common.{ap, Err}
-use Rattle.capture_lines.specs.Capture.{capture_of_text}
+use Rattle.captures.specs.Capture.{capture_of_text}
 use Rattle.path_commands.proofs.CaptureRuns.{all_cut, all_printed, fault_cut, fault_printed}
 use Rattle.path_commands.proofs.capturing.write_lines.Goals as goal
 

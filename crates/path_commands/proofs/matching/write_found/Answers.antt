@@ -7,7 +7,7 @@ use Rattle.output.specs.Begun.{AppendsBeginning}
 use Rattle.message.specs.declared.message.Message.{Message}
 use Rattle.std.specs.List.{filter}
 use Rattle.message.specs.Range.{selects}
-use Rattle.path_match.specs.Arrivals.{arrival_lines}
+use Rattle.auditing.specs.Arrivals.{arrival_lines}
 use Rattle.path_commands.proofs.ByHartLemmas.{strangers_are}
 use Rattle.path_commands.proofs.MatchedRuns.{none_begun}
 use Rattle.path_commands.specs.MatchedRows.{matched_report}

@@ -3,8 +3,8 @@ use Rattle.std.proofs.Common.{◌∙◌, List, subst, sym}
 use Rattle.auditing.specs.Sent.{harts_of}
 use Rattle.message.specs.Range.{selected}
 use Rattle.message.specs.declared.message.Message.{Message}
-use Rattle.path_match.specs.Aligned.{AreAligned}
-use Rattle.path_match.specs.Split.{AreSplit}
+use Rattle.auditing.specs.Aligned.{AreAligned}
+use Rattle.auditing.specs.Split.{AreSplit}
 use Rattle.path_commands.proofs.MatchedRuns.{matched_cut, matched_printed}
 use Rattle.path_commands.specs.Sides.{Sent, by_packets}
 use Rattle.path_commands.specs.steps.Matching.{IsKept, came_with}

@@ -1,4 +1,5 @@
 -- The prover does not part a text in four: the lemmas on it are handed to it.
+use Rattle.std.specs.Prelude.{option_map}
 use Rattle.std.proofs.Common.{◌++◌, ◌∙◌, Global, List, ap, subst, ℕ}
 use Rattle.std.specs.Io.KnownBytes.{Appends}
 use Rattle.output.specs.Begun.{AppendsBeginning}
@@ -15,19 +16,21 @@ use Rattle.salvage_reports.proofs.found_writing.write_hart.Goals as goal
 module _ (g : _) (c : After-write_item g) where
   -- The item of the hart; the mode that the header says; the parts by their offsets; and the counts.
   abbrev head : List ℕ
-  head = item_text c.args.layout (item.Hart c.args.hart c.args.own.now.mode c.args.own.now.closed)
+  head = item_text c.args.style.layout (item.Hart c.args.hart c.args.own.now.mode c.args.own.now.closed)
 
   abbrev said : List ℕ
-  said = text_if c.args.layout (said_of c.args.hart c.args.found.now.header c.args.own.now.mode)
+  said = text_if c.args.style.layout (said_of c.args.hart c.args.found.now.header c.args.own.now.mode)
 
   abbrev parts_by : List ℕ → List (Part Global) → List ℕ
-  parts_by offsets parts = parts_text c.args.layout c.args.hart offsets parts
+  parts_by offsets parts =
+      parts_text c.args.style.layout (option_map (λ file. file.now) c.args.style.symbols) c.args.hart offsets
+      parts
 
   abbrev parts : List ℕ
   parts = parts_by (own_offsets c.args.found.now.frames.offsets.items c.args.hart) c.args.own.now.parts.items
 
   abbrev counts : List ℕ
-  counts = counts_text c.args.layout c.args.hart c.args.own.now
+  counts = counts_text c.args.style.layout c.args.hart c.args.own.now
 
 pub returns-in_err-write_item-clause-begun : goal.returns-in_err-write_item-clause-begun
 returns-in_err-write_item-clause-begun g c =
@@ -42,7 +45,7 @@ returns-in_err-write_if-clause-begun g c =
     let new = g.O.Write.contents c.write_if.new.out in
     begun_between (head g at) (said g at) (parts g at ++ counts g at) (g.O.Write.contents c.args.out.now) mid new
     c.in_ok-write_item.ensures.text
-    (subst (λ one. AppendsBeginning (text_if c.args.layout one) mid new) c.said_of.ensures c.write_if.ensures.begun)
+    (subst (λ one. AppendsBeginning (text_if c.args.style.layout one) mid new) c.said_of.ensures c.write_if.ensures.begun)
 
 pub returns-in_err-write_parts-clause-begun : goal.returns-in_err-write_parts-clause-begun
 returns-in_err-write_parts-clause-begun g c =
@@ -53,7 +56,7 @@ returns-in_err-write_parts-clause-begun g c =
     begun_behind (head g at) (said g at ++ (parts g at ++ counts g at)) (g.O.Write.contents c.args.out.now) first new
     c.in_ok-write_item.ensures.text
     (begun_between (said g at) (parts g at) (counts g at) first second new
-    (subst (λ one. Appends first second (text_if c.args.layout one)) c.said_of.ensures c.in_ok-write_if.ensures.text)
+    (subst (λ one. Appends first second (text_if c.args.style.layout one)) c.said_of.ensures c.in_ok-write_if.ensures.text)
     (subst (λ list. AppendsBeginning (parts_by g at list c.args.own.now.parts.items) second new)
     (c.offsets_of-offsets.ensures ∙ ap (λ l. own_offsets l c.args.hart) c.as_slice.ensures.value)
     (subst (λ list. AppendsBeginning (parts_by g at c.offsets_of-offsets.result.now list) second new)
@@ -70,7 +73,7 @@ returns-clause-text g c =
     ok_behind (head g at) (said g at ++ (parts g at ++ counts g at)) (g.O.Write.contents c.args.out.now) first new ended
     c.in_ok-write_item.ensures.text
     (ok_behind (said g at) (parts g at ++ counts g at) first second new ended
-    (subst (λ one. Appends first second (text_if c.args.layout one)) c.said_of.ensures c.in_ok-write_if.ensures.text)
+    (subst (λ one. Appends first second (text_if c.args.style.layout one)) c.said_of.ensures c.in_ok-write_if.ensures.text)
     (ok_behind (parts g at) (counts g at) second third new ended
     (subst (λ list. Appends second third (parts_by g at list c.args.own.now.parts.items))
     (c.offsets_of-offsets.ensures ∙ ap (λ l. own_offsets l c.args.hart) c.as_slice.ensures.value)
@@ -87,7 +90,7 @@ returns-clause-begun g c =
     begun_behind (head g at) (said g at ++ (parts g at ++ counts g at)) (g.O.Write.contents c.args.out.now) first new
     c.in_ok-write_item.ensures.text
     (begun_behind (said g at) (parts g at ++ counts g at) first second new
-    (subst (λ one. Appends first second (text_if c.args.layout one)) c.said_of.ensures c.in_ok-write_if.ensures.text)
+    (subst (λ one. Appends first second (text_if c.args.style.layout one)) c.said_of.ensures c.in_ok-write_if.ensures.text)
     (begun_behind (parts g at) (counts g at) second third new
     (subst (λ list. Appends second third (parts_by g at list c.args.own.now.parts.items))
     (c.offsets_of-offsets.ensures ∙ ap (λ l. own_offsets l c.args.hart) c.as_slice.ensures.value)

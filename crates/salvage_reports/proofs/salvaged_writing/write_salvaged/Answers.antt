@@ -1,5 +1,5 @@
 -- What was found is put together with what was written: the steps are handed on, in order, which no tactic does.
-use Rattle.std.proofs.Common.{◌⊎◌, inr, subst}
+use Rattle.std.proofs.Common.{◌⊎◌, None, inr, subst}
 use Rattle.std.specs.Io.KnownBytes.{Appends, Keeps}
 use Rattle.output.specs.Begun.{AppendsBeginning}
 use Rattle.salvage_reports.specs.Found.{IsFound}
@@ -28,7 +28,7 @@ module _ (g : _) (c : After-write_found g) where
     found = is.salvaged;
     begun = subst (λ text. AppendsBeginning text (g.O.Write.contents c.args.out.now)
         (g.O.Write.contents c.write_found.new.out))
-        (text_same c.args.only c.args.harts c.args.program.now c.args.bytes.now c.in_ok-found.found is c.args.layout)
+        (text_same c.args.only c.args.harts c.args.program.now c.args.bytes.now c.in_ok-found.found is c.args.layout None)
         c.write_found.ensures.begun;
   })
 
@@ -40,7 +40,7 @@ pub returns-clause-text : goal.returns-clause-text
 returns-clause-text g c =
     subst (Appends (g.O.Write.contents c.args.out.now) (g.O.Write.contents c.write_found.new.out))
     (text_same c.args.only c.args.harts c.args.program.now c.args.bytes.now c.in_ok-found.found
-    (is g (goal.at.returns-clause-text g c).After-write_found) c.args.layout) c.in_ok-write_found.ensures.text
+    (is g (goal.at.returns-clause-text g c).After-write_found) c.args.layout None) c.in_ok-write_found.ensures.text
 
 pub returns-clause-begun : goal.returns-clause-begun
 returns-clause-begun g c = begun g (goal.at.returns-clause-begun g c).After-write_found

@@ -1,8 +1,9 @@
 -- What is salvaged is put together from the steps, by lemmas.
-use Rattle.std.proofs.Common.{◌≡◌, ◌<◌, ◌++◌, drop, length, map, take, sym, ap, subst, ◌∙◌, arith}
+use Rattle.std.proofs.Common.{◌≡◌, ◌<◌, ◌++◌, drop, false, length, map, take, sym, ap, subst, ◌∙◌, arith}
 use Rattle.std.proofs.Math.Seq.{take-append_seam}
 use Rattle.std.proofs.lemmas.Grind.{common_steps}
-use Rattle.std.proofs.lemmas.List.Sorted.{All-permutation}
+use Rattle.std.proofs.lemmas.List.{length-map}
+use Rattle.std.proofs.lemmas.List.Sorted.{All-permutation, length_permutation}
 use Rattle.std.specs.List.Sorted.{IsPermutation}
 use Rattle.rvclass.specs.Fetch.{words_of}
 use Rattle.losses.specs.Apart.{AreRising}
@@ -13,15 +14,18 @@ use Rattle.salvaging.specs.Entries.{entry_number}
 use Rattle.salvaging.specs.Late.{late}
 use Rattle.salvaging.specs.Leaving.{own_mode}
 use Rattle.salvaging.specs.PartsIn.{parts_in}
+use Rattle.salvaging.specs.Tallies.{good_count, passed}
 use Rattle.salvaging.specs.steps.Ending.{TakesBeyond}
-use Rattle.salvaging.specs.steps.Arrivals.{Arrival, AreOrdered, HaveNumbers, arrivals_in}
+use Rattle.salvaging.specs.steps.Arrivals.{Arrival, AreOrdered, HaveNumbers, arrival_of, arrivals_in, placed_from}
 use Rattle.salvaging.specs.steps.Grouping.{AreSmall, entries_by}
 use Rattle.salvaging.proofs.CutLemmas.{goods_count, hart_left, rising_front, small_front}
+use Rattle.salvaging.proofs.Distributed.{length-placed}
 use Rattle.salvaging.proofs.EntriesTaken.{all_taken}
 use Rattle.salvaging.proofs.GroupedEntries.{entries_are}
 use Rattle.salvaging.proofs.GroupedMessages.{copies_of_messages, entries_of_messages}
 use Rattle.salvaging.proofs.SmallEntries.{entries_small}
 use Rattle.salvaging.proofs.TakenSoFar.{behind-is}
+use Rattle.salvaging.proofs.TallySteps.{used_most}
 use Rattle.salvaging.proofs.hart.salvage_hart.Goals.{After-as_slice-ordered}
 use Rattle.salvaging.proofs.hart.salvage_hart.Goals as goal
 
@@ -84,12 +88,51 @@ late-late-requires g c =
     let t = c.in_ok-trail.ensures.taken in
     let ends = c.in_ok-end_run.ensures.ends words (own_mode mode upto) t.run old.next t.closed t.under_way in
     let left = all_taken words mode upto old gone t ends (ap (λ (v : _). v.items) c.in_ok-end_run.ensures.goods) in
-    ap length c.deref.ensures.value
+    ap length c.as_slice-goods.ensures.value
     ∙ goods_count words c.own_mode-own.result mode (entries_by (arrivals_in ordered)) upto
     (entries_by (arrivals_in (drop end ordered))) gone c.take_beyond.new.trail c.in_ok-end.ensures.cut
     c.own_mode-own.ensures left
     (subst (λ l. TakesBeyond words c.own_mode-own.result (entries_by (arrivals_in l)) gone c.take_beyond.new.trail)
     (behind-is ordered end) c.in_ok-take_beyond.ensures)
+
+pub tally-tally-requires-clause-long : goal.tally-tally-requires-clause-long
+tally-tally-requires-clause-long g c =
+    let words = words_of c.args.program.now in
+    let mode = c.args.mode in
+    let ordered = c.as_slice-ordered.result.now in
+    let end = c.in_ok-end.end in
+    let upto = entries_by (arrivals_in (take end ordered)) in
+    let old = c.in_ok-trail.trail in
+    let gone = c.end_run.new.self in
+    let t = c.in_ok-trail.ensures.taken in
+    let ends = c.in_ok-end_run.ensures.ends words (own_mode mode upto) t.run old.next t.closed t.under_way in
+    let left = all_taken words mode upto old gone t ends (ap (λ (v : _). v.items) c.in_ok-end_run.ensures.goods) in
+    ap length c.as_slice-goods.ensures.value
+    ∙ goods_count words c.own_mode-own.result mode (entries_by (arrivals_in ordered)) upto
+    (entries_by (arrivals_in (drop end ordered))) gone c.take_beyond.new.trail c.in_ok-end.ensures.cut
+    c.own_mode-own.ensures left
+    (subst (λ l. TakesBeyond words c.own_mode-own.result (entries_by (arrivals_in l)) gone c.take_beyond.new.trail)
+    (behind-is ordered end) c.in_ok-take_beyond.ensures)
+
+pub tally-tally-requires-clause-small : goal.tally-tally-requires-clause-small
+tally-tally-requires-clause-small g c =
+    small g ((goal.at.tally-tally-requires-clause-small g c).After-as_slice-ordered)
+
+-- The copies and the used messages are no more than all.
+pub overflow_sub-result : goal.overflow_sub-result
+overflow_sub-result g c =
+    let few = used_most (arrivals_in c.as_slice-ordered.result.now) in
+    let copies = c.copies-copies.ensures in
+    let same = length-map c.as_slice-ordered.result.now arrival_of in
+    omega (arith, few, copies, same)
+
+pub overflow_sub-result-2 : goal.overflow_sub-result-2
+overflow_sub-result-2 g c =
+    let few = used_most (arrivals_in c.as_slice-ordered.result.now) in
+    let copies = c.copies-copies.ensures in
+    let used = c.tally-tally.ensures.used in
+    let same = length-map c.as_slice-ordered.result.now arrival_of in
+    omega (arith, few, copies, used, same)
 
 pub returns-clause-salvaged : goal.returns-clause-salvaged
 returns-clause-salvaged g c = λ messages placed.
@@ -125,6 +168,18 @@ returns-clause-salvaged g c = λ messages placed.
           (behind-is ordered_list end) c.in_ok-take_beyond.ensures));
       copies = subst (AreCopies messages) (sym c.copies-copies.ensures)
           (copies_of_messages messages came permuted in_order);
-      late = c.late-late.ensures ∙ ap (late all) c.deref.ensures.value;
+      late = c.late-late.ensures ∙ ap (late all) c.as_slice-goods.ensures.value;
       closed = c.is_closed.ensures;
+      tallied =
+          let few = used_most came in
+          let copies = c.copies-copies.ensures in
+          let used = c.tally-tally.ensures.used in
+          let same = length-map ordered_list arrival_of in
+          let long = length_permutation (placed_from 0 messages) came permuted in
+          let placed_count = length-placed 0 messages in
+          record {
+            passed = c.tally-tally.ensures.passed ∙ ap (passed false 0 all) c.as_slice-goods.ensures.value;
+            decoded = c.tally-tally.ensures.decoded ∙ ap good_count c.as_slice-goods.ensures.value;
+            doubtful = omega (arith, few, copies, used, same, long, placed_count);
+          };
     }

@@ -2,7 +2,7 @@
 
 use super::{RETIRED, ROW, text_of_rows};
 use crate::same::same_at;
-use fault_injection::{FailingReader, FailingWriter};
+use cases::{FailingReader, FailingWriter};
 use linked_list_allocator::LocalHeap;
 use retire::{Event, LogFault, WriteFault, read_log, read_log_from_slice, write_log};
 use std::io::ErrorKind;

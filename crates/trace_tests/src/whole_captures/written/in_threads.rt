@@ -2,14 +2,13 @@
 
 use super::told::Told;
 use super::written;
-use crate::fixtures::{BRANCH_LOOP, program_of, short_log, short_words};
+use crate::fixtures::{BRANCH_LOOP, program_of, short_words};
 use crate::refused_captures::{CAPTURE, FULL};
 use crate::same::same_at;
-use crate::whole_captures::{capture_of, copies_of};
-use capture_index::Selection;
-use fault_injection::FailingWriter;
-use message::HartRange;
-use parallel_decode::{DecodedHarts, Sharing, write_decoded_side_by_side};
+use crate::whole_captures::short_capture;
+use cases::FailingWriter;
+use message::{HartRange, Version};
+use parallel_decode::{DecodedHarts, Selection, Sharing, write_decoded_side_by_side};
 use payload::Mode;
 use retire::WriteFault;
 use rvclass::Program;
@@ -105,6 +104,9 @@ fn small_harts(rt: HostRuntime) {
     is_same(&rt, 145usize, &program, 2, &FULL, &SHARINGS);
 }
 
+/// How captures are written.
+const DIFFERENTIAL: (Version, Mode) = (Version::Two, Mode::Differential);
+
 /// Of many small harts: buffers for a row or two, and for each hart.
 const MANY_SHARINGS: [(usize, usize); 4] = [(2, 31), (3, 4_096), (4, 20_000), (3, 1 << 20)];
 
@@ -112,8 +114,7 @@ const MANY_SHARINGS: [(usize, usize); 4] = [(2, 31), (3, 4_096), (4, 20_000), (3
 #[test]
 fn many_harts(rt: HostRuntime) {
     let program = short_words(&rt, 100);
-    let logs = copies_of(&rt, &program, &short_log(&rt, 100), 60);
-    let capture = capture_of(&rt, &logs, 16, Mode::Differential);
+    let capture = short_capture(&rt, &program, (60, 100), 16, DIFFERENTIAL);
     is_same(&rt, true, &program, 60, &capture, &MANY_SHARINGS);
     let front = capture.get(..capture.len() / 2).unwrap_or(&[]);
     is_same(&rt, false, &program, 60, front, &MANY_SHARINGS);
@@ -130,8 +131,7 @@ const SHORTER: u32 = 70_000;
 fn long_harts(rt: HostRuntime) {
     for (harts, events, period) in [(1u16, LONG, 20_000), (2, SHORTER, 20_000), (1, LONG, 9)] {
         let program = short_words(&rt, events);
-        let logs = copies_of(&rt, &program, &short_log(&rt, events), harts);
-        let capture = capture_of(&rt, &logs, period, Mode::Differential);
+        let capture = short_capture(&rt, &program, (harts, events), period, DIFFERENTIAL);
         is_same(
             &rt,
             (harts, period, false),
@@ -147,32 +147,38 @@ fn long_harts(rt: HostRuntime) {
     }
 }
 
-/// An output that takes 1,000 bytes a call at most, and fails after this many calls, holds a prefix of the text: none, a part
-/// of the first stretch, and of the second hart.
+/// Ends the test unless an output that takes 1,000 bytes a call at most, and fails after this many calls, holds a prefix of
+/// the text of a capture of two harts.
+fn holds_a_prefix<R: Threads + Sync + Abort + AllocGlobal>(
+    rt: &R,
+    program: &Program,
+    capture: &[u8],
+    whole: &[u8],
+    at: (usize, (usize, usize)),
+) {
+    let mut out = FailingWriter {
+        held: Vec::new(rt.alloc()),
+        most: 1_000,
+        calls: at.0,
+    };
+    let fault = write_shared(rt, at.1, program, 2, capture, &Told::new(), &mut out).err();
+    same_at(rt, at, fault, Some(WriteFault::Write));
+    let held = out.held.as_slice();
+    let is_prefix = Some(held) == whole.get(..held.len());
+    assert!(rt; is_prefix, "at {at:?}: {} bytes", held.len());
+    assert!(rt; (at.0 == 0) == held.is_empty(), "at {at:?}: nothing");
+}
+
+/// It holds none, a part of the first stretch, and of the second hart.
 #[test]
 fn output_fails(rt: HostRuntime) {
     let program = short_words(&rt, SHORTER);
-    let logs = copies_of(&rt, &program, &short_log(&rt, SHORTER), 2);
-    let capture = capture_of(&rt, &logs, 5_000, Mode::Full);
+    let form = (Version::Two, Mode::Full);
+    let capture = short_capture(&rt, &program, (2, SHORTER), 5_000, form);
     let (whole, _) = written(&rt, &program, 2, &capture);
     for calls in [0, 1, 700, 1_500] {
         for sharing in LONG_SHARINGS {
-            let mut out = FailingWriter {
-                held: Vec::new(rt.alloc()),
-                most: 1_000,
-                calls,
-            };
-            let told = Told::new();
-            let fault = write_shared(&rt, sharing, &program, 2, &capture, &told, &mut out).err();
-            let at = (calls, sharing);
-            same_at(&rt, at, fault, Some(WriteFault::Write));
-            let held = out.held.as_slice();
-            assert!(rt;
-                Some(held) == whole.get(..held.len()),
-                "at {at:?}: {} bytes",
-                held.len()
-            );
-            assert!(rt; (calls == 0) == held.is_empty(), "at {at:?}: nothing");
+            holds_a_prefix(&rt, &program, &capture, &whole, (calls, sharing));
         }
     }
 }
@@ -203,8 +209,7 @@ impl<R: Clock> Write for Slow<'_, R> {
 #[test]
 fn output_is_slow(rt: HostRuntime) {
     let program = short_words(&rt, 100);
-    let logs = copies_of(&rt, &program, &short_log(&rt, 100), 60);
-    let capture = capture_of(&rt, &logs, 16, Mode::Differential);
+    let capture = short_capture(&rt, &program, (60, 100), 16, DIFFERENTIAL);
     let (whole, _) = written(&rt, &program, 60, &capture);
     for sharing in [(2, 31), (3, 4_096)] {
         let mut out = Slow {

@@ -3,13 +3,13 @@
 use super::in_threads::write_shared;
 use super::told::Told;
 use super::written;
-use crate::fixtures::{BRANCH_LOOP, program_of, short_log, short_words};
+use crate::fixtures::{BRANCH_LOOP, program_of, short_words};
 use crate::refused_captures::{CAPTURE, FULL};
 use crate::same::same_at;
-use crate::whole_captures::{capture_of, copies_of};
-use capture_index::{Selection, survey_capture};
-use fault_injection::{FailingWriter, Refusing};
-use message::{HartRange, NoProgress};
+use crate::whole_captures::short_capture;
+use cases::{FailingWriter, Refusing};
+use message::{HartRange, NoProgress, Version};
+use parallel_decode::{Selection, survey_capture};
 use payload::Mode;
 use retire::WriteFault;
 use rvclass::Program;
@@ -49,9 +49,9 @@ fn each_request(rt: HostRuntime) {
 #[test]
 fn long_logs_request_no_more(rt: HostRuntime) {
     let program = short_words(&rt, 70_000);
-    let logs = copies_of(&rt, &program, &short_log(&rt, 70_000), 2);
+    let form = (Version::Two, Mode::Differential);
     for period in [7, 20_000] {
-        let capture = capture_of(&rt, &logs, period, Mode::Differential);
+        let capture = short_capture(&rt, &program, (2, 70_000), period, form);
         are_refused(&rt, &program, &capture);
     }
 }

@@ -1,6 +1,6 @@
 -- The hart's messages are at the places that are handed on.
 use Rattle.std.proofs.Common.{subst, sym}
-use Rattle.capture_index.specs.Placed.{IsPlacedLog}
+use Rattle.parallel_decode.specs.Placed.{IsPlacedLog}
 use Rattle.rvclass.specs.Fetch.{words_of}
 use Rattle.capture_commands.specs.steps.Places.{places_in}
 use Rattle.capture_commands.proofs.task.AgainstMessagesLogTaskExplainedHart.begin.Goals as goal

@@ -2,7 +2,7 @@
 use Rattle.std.proofs.Common.{◌≡◌, ◌+◌, ◌<◌, ◌++◌, ◌∙◌, [], ◌∷◌, ap, arith, length, refl, subst, sym, take}
 use Rattle.std.proofs.lemmas.List.{length-take-le, length_push}
 use Rattle.rvclass.specs.Fetch.{words_of}
-use Rattle.capture_index.proofs.PlaceLemmas.{place-at, places-length}
+use Rattle.parallel_decode.proofs.PlaceLemmas.{place-at, places-length}
 use Rattle.parallel_decode.specs.steps.Ends.{IsTrail}
 use Rattle.parallel_decode.specs.steps.OwnMessages.{IsOwn}
 use Rattle.parallel_decode.specs.steps.Starts.{StartsAt}

@@ -5,7 +5,7 @@ use Rattle.rvclass.specs.Fetch.{words_of}
 use Rattle.decoder.specs.declared.fault.DecodeFault.TheVariants.{Memory}
 use Rattle.message.proofs.HartMessages.{last_is_closing-next}
 use Rattle.receiver.proofs.AcceptLemmas.{not_decoded}
-use Rattle.capture_index.proofs.TrackLemmas.{same_err}
+use Rattle.parallel_decode.proofs.TrackLemmas.{same_err}
 use Rattle.parallel_decode.proofs.own.Own.decode.Goals as goal
 
 pub returns-in-Ok-clause-decoded : goal.returns-in-Ok-clause-decoded

@@ -1,9 +1,0 @@
--- As many empty lists as were counted, and room for the rest.
-use Rattle.std.proofs.Common.{◌≡◌, ◌≤◌, All, [], length}
-use Rattle.std.specs.Vec.{vec_capacity}
-use Rattle.capture_index.proofs.placing.empty_lists.Given as goal
-
-abbrev pub invariant-loop-count : goal.invariant-loop-count
-invariant-loop-count g l =
-    (length l.lists.items ≡ l.count-index) × (length l.counts ≤ vec_capacity l.lists)
-    × All (λ list. list.items ≡ []) l.lists.items

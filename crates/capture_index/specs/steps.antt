@@ -1,4 +1,0 @@
-pub mod Tracking
-pub mod Surveying
-pub mod Handing
-pub mod Rows

@@ -1,6 +1,0 @@
--- Numbers are recovered: by a lemma on them.
-use Rattle.capture_lines.proofs.Recovering.{low_numbers}
-use Rattle.capture_lines.proofs.laws.low_numbers_are_recovered.Goals as goal
-
-pub returns : goal.returns
-returns c = low_numbers

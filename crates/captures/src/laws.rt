@@ -1,0 +1,23 @@
+//! Facts that follow from the definition of a text's capture.
+
+ghost use Rattle.captures.specs.ReadBack.{LinesBecomeTheCapture, LinesSayTheirMessages};
+ghost use Rattle.captures.specs.Recovered.{LowNumbersAreRecovered};
+
+/// The lines of hexadecimal that are written for legal logs, long ones among them, become the capture that is written
+/// for them, in the same version and mode and at the same period.
+pub fn hex_lines_become_the_capture()
+    ensures { LinesBecomeTheCapture }
+{}
+
+/// The lines of hexadecimal of any messages say these messages.
+pub fn hex_lines_say_their_messages()
+    ensures { LinesSayTheirMessages }
+{}
+
+/// All of a hart's numbers are recovered from their low bits exactly when each of them is near those before it.
+///
+/// With B bits, that is: it is late by less than 2^(B-1), or a repeat so; it skips fewer than 2^(B-1); or it is below
+/// 2^B, and those before it are below 2^(B-1), or there are none.
+pub fn low_numbers_are_recovered()
+    ensures { LowNumbersAreRecovered }
+{}

@@ -1,4 +1,0 @@
--- What only private functions cite.
-pub mod Counting
-pub mod LogsAt
-pub mod Name

@@ -1,0 +1,188 @@
+-- What captures of harts whose messages are mixed are to an audit.
+use Rattle.std.proofs.Common.{◌≡◌, ◌∙◌, ◌+◌, ◌<◌, ◌≤◌, ◌^◌, All, ap, arith, refl, subst, sym, ℕ, List, [], ◌∷◌, ◌++◌}
+use Rattle.std.proofs.Common.{Bool, true, false, ◌&&◌, ◌||◌, cond, eqb, ltb, not, Option, Some, None, length, zero-add}
+use Rattle.std.proofs.lemmas.Bool.{eq-eqb, le-ltb, lt-ltb, ltb-false, ltb-true, true≢false}
+use Rattle.std.proofs.lemmas.List.{append-nil, append_assoc}
+use Rattle.std.proofs.lemmas.List.Elements.{All-cons, All-nil, All-weaker}
+use Rattle.std.proofs.lemmas.List.Sums.{sum_by-cons}
+use Rattle.std.specs.List.{count_by, list_any}
+use Rattle.rvclass.specs.Image.{Image}
+use Rattle.legalpath.specs.ProgramLog.{ProgramLog, program_log}
+use Rattle.encoder.specs.Payloads.{payloads}
+use Rattle.message.proofs.OfHartLemmas.{of_hart-append, of_hart-own}
+use Rattle.message.specs.Cut.{IsMessage}
+use Rattle.message.specs.Header.{IsHeader}
+use Rattle.message.specs.Numbered.{messages_from}
+use Rattle.message.specs.OfHart.{of_hart}
+use Rattle.message.specs.declared.fault.DemuxFault.TheVariants as demux
+use Rattle.message.specs.declared.header.Header.{Header}
+use Rattle.message.specs.declared.header.Version.TheVariants.{Two}
+use Rattle.message.specs.declared.message.Message.{Message}
+use Rattle.captures.proofs.Elements.{All-middle}
+use Rattle.captures.proofs.LogMessages.{IsSent as IsSentByHart, all_sent, number-front}
+use Rattle.captures.proofs.SoundLogs.{sound_logs}
+use Rattle.captures.specs.Messages.{messages_of_harts}
+use Rattle.captures.specs.Returned.{IsLongLegalLog}
+use Rattle.stimulus.specs.Mixed.{IsMixedCapture, SendsLog}
+use Rattle.auditing.proofs.AllWhole.{untouched_same, whole_untouched}
+use Rattle.auditing.specs.DecodedAgain.{AreAllWhole}
+use Rattle.auditing.specs.Judged.{Judged, is_fate, judged, strangers_in}
+use Rattle.auditing.specs.Sent.{AreInTurn, IsSent, misplaced, misplaced_at}
+use Rattle.auditing.specs.Untouched.{is_touched}
+use Rattle.auditing.specs.declared.fate.Fate.{Fate}
+use Rattle.auditing.specs.declared.fate.Fate.TheVariants as fate
+
+-- A list with an element in its middle has one.
+no_middle : {X : Type 0} (front : List X) (x : X) (rest : List X) → front ++ x ∷ rest ≡ [] → ⊥
+no_middle [] x rest is = cc
+no_middle (y ∷ front) x rest is = cc
+
+-- A message with the number that comes next is in its place.
+in_place : (next number : ℕ) → number ≡ next → misplaced_at (Some next) number ≡ None
+in_place next number is =
+    let low : ltb number next ≡ false = le-ltb number next (omega (arith, is)) in
+    let high : ltb next number ≡ false = le-ltb next number (omega (arith, is)) in
+    ap (λ b. cond b (Some demux.Repeat) (cond (ltb next number) (Some (demux.Gap next)) None)) low
+    ∙ ap (λ b. cond b (Some (demux.Gap next)) None) high
+
+-- The messages of a hart have these payloads, and are numbered from 0.
+pub record IsNumbered (hart : ℕ) (messages : List Message) : Type 0 where
+  pub payloads : List (List ℕ)
+  pub own : of_hart hart messages ≡ messages_from hart 0 payloads
+
+-- The messages of a hart, around one of its own.
+parted : (before : List Message) (message : Message) (later : List Message)
+    → of_hart message.hart (before ++ message ∷ later)
+    ≡ of_hart message.hart before ++ message ∷ of_hart message.hart later
+parted before message later =
+    of_hart-append message.hart before (message ∷ later)
+    ∙ ap (λ rest. of_hart message.hart before ++ rest) (of_hart-own message later)
+
+module _ (harts : ℕ) where
+  -- No hart but the first ones has a message.
+  abbrev pub NoOthers : List Message → Type 0
+  NoOthers messages = (hart : ℕ) → harts ≤ hart → of_hart hart messages ≡ []
+
+  -- So each message is of one of these.
+  known : (before : List Message) (message : Message) (later : List Message) → NoOthers (before ++ message ∷ later)
+      → message.hart < harts
+  known before message later none = go (ltb message.hart harts) refl
+    where
+      go : (b : Bool) → ltb message.hart harts ≡ b → message.hart < harts
+      go true is = ltb-true message.hart harts is
+      go false is = absurd (no_middle (of_hart message.hart before) message (of_hart message.hart later)
+          (sym (parted before message later) ∙ none message.hart (ltb-false message.hart harts is)))
+
+  here_in_turn : (before : List Message) (message : Message) (later : List Message)
+      → IsNumbered message.hart (before ++ message ∷ later) → message.hart < harts
+      → misplaced harts before message ≡ None
+  here_in_turn before message later numbered within =
+      let number = number-front message.hart 0 numbered.payloads (of_hart message.hart before) message
+      (of_hart message.hart later) (sym numbered.own ∙ parted before message later) in
+      let is : ltb message.hart harts ≡ true = lt-ltb message.hart harts within in
+      ap (λ b. misplaced_at (cond b (Some (length (of_hart message.hart before))) None) message.number) is
+      ∙ in_place (length (of_hart message.hart before)) message.number (omega (arith, number))
+
+  -- Each of the messages is the next one of its hart, where those of each hart are numbered from 0.
+  pub all_in_turn : (before later : List Message)
+      → ((hart : ℕ) → hart < harts → IsNumbered hart (before ++ later)) → NoOthers (before ++ later)
+      → AreInTurn harts before later
+  all_in_turn before [] each none = tt
+  all_in_turn before (message ∷ later) each none =
+      let within = known before message later none in
+      let again = sym (append_assoc before (message ∷ []) later) in (
+        here_in_turn before message later (each message.hart within) within,
+        all_in_turn (before ++ message ∷ []) later (λ hart is. subst (IsNumbered hart) again (each hart is))
+            (subst NoOthers again none),
+      )
+
+  module _ (P : Message → Type 0) where
+    -- What holds of the messages of each hart holds of all.
+    pub all_hold : (before later : List Message)
+        → ((hart : ℕ) → hart < harts → All P (of_hart hart (before ++ later))) → NoOthers (before ++ later)
+        → All P later
+    all_hold before [] each none = All-nil P
+    all_hold before (message ∷ later) each none =
+        let within = known before message later none in
+        let again = sym (append_assoc before (message ∷ []) later) in
+        All-cons P message later
+        (All-middle P (of_hart message.hart before) message (of_hart message.hart later)
+        (subst (All P) (parted before message later) (each message.hart within)))
+        (all_hold (before ++ message ∷ []) later
+        (λ hart is. subst (λ messages. All P (of_hart hart messages)) again (each hart is)) (subst NoOthers again none))
+
+-- What came in order is no stranger.
+no_stranger : (its : Fate) → not (is_fate fate.InOrder its) ≡ false → is_fate fate.Stranger its ≡ false
+no_stranger fate.Stranger is = absurd (true≢false is)
+no_stranger fate.Changed is = refl
+no_stranger fate.Repeat is = refl
+no_stranger fate.Late is = refl
+no_stranger fate.InOrder is = refl
+
+first_false : (a b : Bool) → (a || b) ≡ false → a ≡ false
+first_false true b is = absurd (true≢false is)
+first_false false b is = refl
+
+second_false : (a b : Bool) → (a || b) ≡ false → b ≡ false
+second_false true b is = absurd (true≢false is)
+second_false false b is = is
+
+-- Where nothing befell the messages of any hart, none is a stranger.
+no_strangers : (ones : List Judged) → ((hart : ℕ) → list_any (is_touched hart) ones ≡ false)
+    → count_by (λ (one : Judged). is_fate fate.Stranger one.fate) ones ≡ 0
+no_strangers [] untouched = refl
+no_strangers (one ∷ ones) untouched =
+    let hart = one.message.hart in
+    let here = first_false (is_touched hart one) (list_any (is_touched hart) ones) (untouched hart) in
+    let own : not (is_fate fate.InOrder one.fate) ≡ false =
+    sym (ap (λ b. b && not (is_fate fate.InOrder one.fate)) (eq-eqb hart hart refl)) ∙ here in
+    let later = no_strangers ones (λ other. second_false (is_touched other one) (list_any (is_touched other) ones)
+    (untouched other)) in
+    let none = no_stranger one.fate own in
+    sum_by-cons (λ (one : Judged). cond (is_fate fate.Stranger one.fate) 1 0) one ones
+    ∙ ap (λ b. cond b 1 0 + count_by (λ (one : Judged). is_fate fate.Stranger one.fate) ones) none
+    ∙ zero-add (count_by (λ (one : Judged). is_fate fate.Stranger one.fate) ones) ∙ later
+
+module _ (harts : ℕ) (messages : List Message) (turn : AreInTurn harts [] messages) where
+  -- Messages that are in turn are whole against themselves.
+  pub whole_itself : (header : Header) → AreAllWhole (Some header) messages messages
+  whole_itself header = record {
+    harts = λ hart is. (whole_untouched harts hart messages messages turn).1
+        ((untouched_same harts hart messages messages turn).1 refl);
+    strangers = no_strangers (judged messages messages)
+        (λ hart. ((untouched_same harts hart messages messages turn).1 refl).in_order);
+  }
+
+module _ (program : Image) (header : Header) (start : IsHeader header) (bytes : List ℕ)
+    (made : IsMixedCapture program Two header bytes) where
+  numbered : (hart : ℕ) → hart < header.harts → IsNumbered hart made.messages
+  numbered hart is =
+      let sends = made.each hart is in
+      record { payloads = payloads header.period header.mode (program_log program sends.events); own = sends.own }
+
+  -- The messages of a hart are within their ranges.
+  ranges_of : (hart : ℕ) → hart < header.harts → All IsMessage (of_hart hart made.messages)
+  ranges_of hart is =
+      let sends = made.each hart is in
+      let log = program_log program sends.events in
+      let few = start.harts in
+      let sent = all_sent header.period header.mode header.harts hart (log ∷ []) (omega (arith, is))
+      (omega (arith, few)) (sound_logs header.period header.mode (log ∷ [])
+      (All-cons IsLongLegalLog log [] sends.legal (All-nil IsLongLegalLog))) in
+      subst (All IsMessage) (append-nil (messages_from hart 0 (payloads header.period header.mode log)) ∙ sym sends.own)
+      (All-weaker (IsSentByHart header.harts) IsMessage (λ message is. is.ranges)
+      (messages_of_harts header.period header.mode hart (log ∷ [])) sent)
+
+  -- The capture may be what was sent.
+  pub mixed_sent : IsSent bytes (Some header) made.messages
+  mixed_sent = record {
+    whole = record {
+      ranges = all_hold header.harts IsMessage [] made.messages ranges_of made.none;
+      whole = (start, made.whole);
+    };
+    in_turn = all_in_turn header.harts [] made.messages numbered made.none;
+  }
+
+  -- And it is whole against itself.
+  pub mixed_whole : AreAllWhole (Some header) made.messages made.messages
+  mixed_whole = whole_itself header.harts made.messages mixed_sent.in_turn header

@@ -1,0 +1,9 @@
+-- The laws are recursions over the messages, which no search makes.
+use Rattle.path_commands.proofs.GeneratedCaptures.{mixed_sent, mixed_whole}
+use Rattle.path_commands.proofs.laws.generated_captures_are_whole.Goals as goal
+
+pub returns-clause-sent : goal.returns-clause-sent
+returns-clause-sent c = λ program header bytes start made. mixed_sent program header start bytes made
+
+pub returns-clause-whole : goal.returns-clause-whole
+returns-clause-whole c = λ program header bytes start made. mixed_whole program header start bytes made

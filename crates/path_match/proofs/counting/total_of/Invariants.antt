@@ -1,8 +1,0 @@
--- The sums are those of the first harts, and not too great.
-use Rattle.std.proofs.Common.{◌≡◌, take}
-use Rattle.path_match.specs.Counted.{total_of}
-use Rattle.path_match.specs.steps.Summing.{HasFew}
-use Rattle.path_match.proofs.counting.total_of.Given as goal
-
-abbrev pub invariant-loop-hart : goal.invariant-loop-hart
-invariant-loop-hart g l = (l.total ≡ total_of (take l.hart l.all)) × HasFew l.hart l.total

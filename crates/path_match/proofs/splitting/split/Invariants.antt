@@ -1,7 +1,0 @@
--- The first messages are split.
-use Rattle.std.proofs.Common.{take}
-use Rattle.path_match.specs.Split.{AreSplit}
-use Rattle.path_match.proofs.splitting.split.Given as goal
-
-abbrev pub invariant-loop-message : goal.invariant-loop-message
-invariant-loop-message g l = AreSplit l.by l.harts (take l.message-index l.messages) l.lists.items

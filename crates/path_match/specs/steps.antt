@@ -1,3 +1,0 @@
-pub mod Splitting
-pub mod Summing
-pub mod Growing
