@@ -1,7 +1,6 @@
 mod DecodedRuns
 mod ListedRuns
 mod OnlyOrders
-mod PlacesAmong
 mod SalvageRuns
 mod SymbolsFound
 mod TreatedRuns

@@ -7,7 +7,6 @@ mod EventsCopied
 mod EventsPassed
 mod EventsRead
 mod FedInTurn
-mod FirstUnclosed
 mod FrontStarts
 mod HartsListed
 mod HartsWritten
