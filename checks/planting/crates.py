@@ -4,7 +4,7 @@ import os
 import crate_list
 
 # The crates that play files of cases, and those of test functions, small ones before large ones.
-FIRST = ("channel_vectors", "path_vectors", "vectors", "channel_tests", "trace_tests", "ffi_vectors")
+FIRST = ("channel_vectors", "path_vectors", "vectors", "trace_tests", "ffi_vectors")
 
 # The program, which `checks/second-runs` runs. These runs are for its own crate: `transcripts` plays all below it.
 PROGRAM = "tracebench"

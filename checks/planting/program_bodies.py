@@ -23,9 +23,10 @@ SCHEDULE = "    let bytes = start_of(files, path, Some(LARGEST_SCHEDULE + 1))?;\
 PIECE = "    let buffer = match PieceBuffer::new(alloc) {\n"
 CONFIG = "    let config = Config {\n"
 CAPTURE = "    let bytes = content_of(files, asked.capture)?;\n"
+INPUT = "    let input = read_input(alloc, files, &wanted)?;\n"
 IMAGE = "    let bytes = start_of(files, image, Some(LARGEST_PIECE + 1))?;\n"
 SENT = "    let sent = content_of(files, asked.sent)?;\n"
-RECEIVED = "    let received = content_of(files, asked.received)?;\n"
+RECEIVED = "    let received = received_of(files, asked, harts, sent.payloads.harts())?;\n"
 LINES = "    let text = content_of(files, asked.lines)?;\n"
 TREATED = "    let treated = treat_watched(alloc, program, harts, mode, messages, progress);\n"
 
@@ -84,7 +85,7 @@ BODIES = [
     ("measure --long Memory past 100,000 rows", "log_commands", "measures.rt",
         *memory_first(TABLE, "asked.long && measures.as_slice()[0].events > 100_000")),
     ("compare --long Memory past 1 MiB", "capture_commands", "against_logs.rt",
-        *memory_first("    let lines = lines_of_logs(alloc, rt, files, asked, input, &found)?;\n",
+        *memory_first("    let lines = lines_of_logs(alloc, rt, files, asked, input, found)?;\n",
                       "asked.long && input.bytes.len() > 1 << 20")),
     ("capture Memory past 4,096 bytes", "path_commands", "capturing.rt",
         *memory_first("    write_lines(settings, asked.lines, text.as_slice(), out)\n", "text.len() > 4096")),
@@ -105,9 +106,7 @@ BODIES = [
     # Files that are read again, of which `/dev/stdin` has nothing the second time.
     ("the image is read twice", "command_inputs", "inputs.rt", *read_twice(IMAGE, "image")),
     ("dump reads its capture twice", "capture_commands", "dumping.rt", *read_twice(CAPTURE, "asked.capture")),
-    ("decode reads its capture twice", "capture_commands", "decoding.rt", *read_twice(CAPTURE, "asked.capture")),
-    ("list reads its capture twice", "capture_commands", "message_listing.rt", *read_twice(CAPTURE, "asked.capture")),
-    ("salvage reads its capture twice", "capture_commands", "salvaging_capture.rt",
+    ("decode, list, salvage and compare read their capture twice", "capture_commands", "input.rt",
         *read_twice(CAPTURE, "asked.capture")),
     ("audit reads SENT twice", "path_commands", "comparing.rt", *read_twice(SENT, "asked.sent")),
     ("capture reads its lines twice", "path_commands", "capturing.rt", *read_twice(LINES, "asked.lines")),
@@ -125,17 +124,17 @@ BODIES = [
         "        search_harts(bytes, harts, out, progress)\n",
         "        let _ = bytes;\n        Err(WriteFault::Write)\n"),
     ("salvage --summary always Memory", "capture_commands", "salvaging_capture.rt",
-        *memory_first(CAPTURE, "asked.summary")),
+        *memory_first(INPUT, "asked.summary")),
     ("audit --packets always Memory", "path_commands", "comparing.rt", *memory_first(SENT, "asked.packets")),
     ("audit --summary always Memory", "path_commands", "comparing.rt", *memory_first(SENT, "asked.summary")),
     *(
         (f"{command} --only always Memory", crate, file, *memory_first(line, "asked.only.is_some()"))
         for command, crate, file, line in (
             ("dump", "capture_commands", "dumping.rt", CAPTURE),
-            ("decode", "capture_commands", "decoding.rt", CAPTURE),
-            ("list", "capture_commands", "message_listing.rt", CAPTURE),
-            ("salvage", "capture_commands", "salvaging_capture.rt", CAPTURE),
-            ("compare", "capture_commands", "against_logs.rt", CAPTURE),
+            ("decode", "capture_commands", "decoding.rt", INPUT),
+            ("list", "capture_commands", "message_listing.rt", INPUT),
+            ("salvage", "capture_commands", "salvaging_capture.rt", INPUT),
+            ("compare", "capture_commands", "against_logs.rt", INPUT),
             ("audit", "path_commands", "comparing.rt", SENT),
             ("audit --unnumbered", "path_commands", "matching.rt", RECEIVED),
         )

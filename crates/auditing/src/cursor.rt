@@ -8,7 +8,7 @@ use crate::arrivals::Arrival;
 use std::marker::Model;
 
 /// What is left of a hart's messages.
-#[derive(Debug, Drop)]
+#[derive(Drop)]
 pub(crate) struct Cursor<'a> {
     /// The number of SENT that follows the last one matched.
     number: u64,

@@ -20,7 +20,7 @@ pub struct Lost {
 }
 
 /// The longest runs of numbers of a hart that were lost, one at a time. A clause sees those that are left.
-#[derive(Debug, Drop)]
+#[derive(Drop)]
 pub struct LostRuns<'a> {
     /// Whether a true message came, from the next number on.
     came: &'a [bool],

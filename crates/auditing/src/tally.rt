@@ -20,7 +20,7 @@ pub struct Tally {
 }
 
 /// How many messages of a hart came, and how many of them have each fate. A count of 2^64 - 1 stays.
-#[derive(Clone, Copy, Debug, PartialEq, Eq)]
+#[derive(Clone, Copy, PartialEq, Eq)]
 pub(crate) struct Counts {
     pub(crate) came: u64,
     pub(crate) strange: u64,

@@ -3,9 +3,11 @@ use Rattle.std.proofs.Common.{◌≡◌, ◌∙◌, ◌<◌, ◌≤◌, ℕ, Boo
 use Rattle.std.proofs.Common.{slice_get, refl, sym, ap, subst, arith}
 use Rattle.std.specs.Prelude.{IsFalse, IsSomeAnd, IsTrue}
 use Rattle.std.proofs.lemmas.Option.{get_or_from_slice_get, same_Some, slice_get-get_or, slice_get_within}
-use Rattle.bench.specs.Stopping.{AreClosed, ClosedUnlessRefused, IsOpenHart, IsOpenNotRefused}
+use Rattle.bench.specs.Stopping.{AreClosed, ClosedUnlessRefused, IfHandedBack, IsOpenHart, IsOpenNotRefused, NamesOpen}
 use Rattle.bench.specs.declared.outcome.HartOutcome.{HartOutcome}
-use Rattle.bench.specs.steps.Stopping.{IsHandedBack, IsOfNone}
+use Rattle.bench.specs.declared.stop.Stop.{Stop}
+use Rattle.bench.specs.declared.stop.Stop.TheVariants as stop
+use Rattle.bench.specs.steps.Stopping.{IsHandedBack, IsOfNone, NamesFirst}
 
 is_on : (b : Bool) → (b ≡ false → ⊥) → b ≡ true
 is_on true off = refl
@@ -92,6 +94,21 @@ module _ {A : Type 0} (harts : List (HartOutcome A)) where
           is_on came.refused (λ going. apart came.closed
           (subst (λ (came : HartOutcome A). came.refused ≡ false → came.closed ≡ true)
           (get_or_from_slice_get harts h came came at) (none h came (slice_get_within harts h came at)) going) opened)
+
+  -- The stop names an open hart by its kind.
+  pub names_open : (flags : List Bool) (why : Option Stop) → NamesFirst harts flags why → NamesOpen why harts
+  names_open flags None first = first
+  names_open flags (Some (stop.HandedBack hart)) first = first.0.0
+  names_open flags (Some (stop.Ended hart)) first = first.0
+  names_open flags (Some (stop.Memory hart)) first = (first.0, open_refused hart first.1 first.0.0, first.1)
+
+  -- And where it is of that kind, one of which a payload was handed back.
+  pub names_back : (flags : List Bool) (why : Option Stop) → NamesFirst harts flags why
+      → IfHandedBack (λ hart. slice_get flags hart ≡ Some true) why
+  names_back flags None first = tt
+  names_back flags (Some (stop.HandedBack hart)) first = first.0.1
+  names_back flags (Some (stop.Ended hart)) first = tt
+  names_back flags (Some (stop.Memory hart)) first = tt
 
   -- Of none of them a payload was handed back.
   pub none_back : (flags : List Bool) (n : ℕ) → length harts ≤ n

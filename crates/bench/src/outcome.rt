@@ -6,7 +6,7 @@ use retire::Event;
 use std::alloc::{Allocator, Global};
 
 /// What was decoded of a hart.
-#[derive(Debug, Drop)]
+#[derive(Drop)]
 pub struct HartOutcome<A: Allocator = Global> {
     /// The packets that were decoded, where they are kept, and else none.
     pub packets: Vec<Packet, A>,
@@ -23,7 +23,7 @@ pub struct HartOutcome<A: Allocator = Global> {
 }
 
 /// What was decoded of all harts.
-#[derive(Debug, Drop)]
+#[derive(Drop)]
 pub struct Outcome<A: Allocator = Global> {
     /// The outcome of each hart, at the hart's place.
     pub harts: Vec<HartOutcome<A>, A>,

@@ -6,7 +6,7 @@ ghost use Rattle.bench.specs.Report.{stop_text};
 use std::fmt;
 
 /// Why some hart's packets were not all decoded. Where several stops arose, one of them is returned.
-#[derive(Clone, Copy, Debug, PartialEq, Eq)]
+#[derive(Clone, Copy, PartialEq, Eq)]
 pub enum Stop {
     /// Memory for this hart, or the thread of its worker, was refused.
     Memory(u16),

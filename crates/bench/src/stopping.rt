@@ -1,9 +1,8 @@
 //! What stopped a run.
 
-ghost use Rattle.std.specs.Prelude.{◌≡◌, ◌≤◌, IfNone, IfSome, Some, length, slice_get, true};
+ghost use Rattle.std.specs.Prelude.{◌≡◌, ◌≤◌, IfNone, IfSome, length};
 ghost use Rattle.funnel.specs.Limits.{most_ports};
-ghost use Rattle.bench.specs.Stopping.{AreClosed, ClosedUnlessRefused, IfHandedBack, IsFirst, IsOpenHart};
-ghost use Rattle.bench.specs.Stopping.{IsOpenNotRefused, NamesOpen};
+ghost use Rattle.bench.specs.Stopping.{AreClosed, ClosedUnlessRefused, IsFirst, IsOpenHart, IsOpenNotRefused};
 ghost use Rattle.bench.specs.steps.Stopping.{IsHandedBack, IsOfNone, NamesFirst};
 
 use crate::outcome::HartOutcome;
@@ -14,9 +13,7 @@ use std::alloc::Allocator;
 /// that before memory or a thread that was refused.
 pub(crate) fn stop_of<A: Allocator>(harts: &[HartOutcome<A>], handed_back: &[bool]) -> Option<Stop>
     requires { (length harts.now ≡ length handed_back.now) × (length harts.now ≤ most_ports) }
-    ensures first { NamesFirst harts.now handed_back.now result }
-    ensures names { NamesOpen result harts.now }
-    ensures back { IfHandedBack (λ hart. slice_get handed_back.now hart ≡ Some true) result }
+    ensures { NamesFirst harts.now handed_back.now result }
 {
     if let Some(hart) = first_handed_back(harts, handed_back) {
         return Some(Stop::HandedBack(hart as u16));

@@ -20,20 +20,15 @@ use Rattle.command_inputs.specs.declared.words.Compare.{Compare}
 use Rattle.command_inputs.proofs.Beginnings.{cut_leads, printed_begun}
 use Rattle.command_inputs.proofs.Runs.{ends_silently, leads_on}
 use Rattle.command_inputs.specs.Begun.{IsCutOf}
-use Rattle.command_inputs.specs.Found.{IsBase, IsProgramAt, IsRead}
 use Rattle.command_inputs.specs.FoundLogs.{AreLegalLogsUpTo}
-use Rattle.command_inputs.specs.OnlyHarts.{IsOnly}
 use Rattle.command_inputs.specs.Printed.{PrintsUnlessDenied}
 use Rattle.command_inputs.specs.declared.fault.Fault.TheVariants as fault
 use Rattle.command_inputs.specs.declared.status.Status.{Status}
 use Rattle.log_streams.specs.Known.{Content}
 use Rattle.capture_commands.specs.CountedHarts.{HasHartBelow}
 use Rattle.capture_commands.specs.Faults.{Fault, Printed}
-use Rattle.capture_commands.specs.declared.reason.CaptureReason.{CaptureReason}
-use Rattle.capture_commands.specs.Comparing.{CanCompare, CanCompareCapture, CanCompareHarts, Compares, ComparesCapture}
-use Rattle.capture_commands.specs.Comparing.{ComparesHarts}
+use Rattle.capture_commands.specs.Comparing.{CanCompareCapture, CanCompareHarts, ComparesCapture, ComparesHarts}
 use Rattle.capture_commands.specs.Comparison.{AreAsMany, comparison_end, end_of_stop, rows_of}
-use Rattle.capture_commands.specs.Symbols.{AreSymbols}
 use Rattle.capture_commands.specs.steps.Lines.{AreLinesOfLogs, WritesLines}
 
 -- There are as many logs as harts.
@@ -50,38 +45,6 @@ pub lines_numbered : (rows : ℕ) (content : Content) (program : Image) (paths :
     (lines : List ExplainedHart) → AreLinesOfLogs rows content program paths hart gots lines → AreNumbered hart lines
 lines_numbered rows content program paths hart gots lines are =
     subst (AreNumbered hart) (sym are.each) (harts_numbered hart gots are.logs)
-
-module _ (content : Content) (asked : Compare) (base : ℕ) (range : HartRange) (program : Image)
-    (symbols : Option (List ℕ)) (bytes : List ℕ)
-    (based : IsBase {W = CaptureReason} asked.program (Ok base))
-    (chosen : IsOnly {W = CaptureReason} asked.only (Ok range))
-    (found : IsProgramAt {W = CaptureReason} content base asked.program (Ok program))
-    (named : AreSymbols content asked.symbols (Ok symbols))
-    (read : IsRead {W = CaptureReason} content asked.capture (Ok bytes)) where
-  -- What is written of the harts is what `compare` prints.
-  harts_lead : (printed : Printed) → ComparesHarts content asked range program symbols bytes printed
-      → Compares content asked printed
-  harts_lead printed writes =
-      (Ok base, based, (Ok range, chosen, (Ok program, found, (Ok symbols, named, (Ok bytes, read, writes)))))
-
-  -- And once that can be written, `compare` writes.
-  can_lead : CanCompareHarts content asked range program bytes → CanCompare content asked
-  can_lead can = (base, based, (range, chosen, (program, found, (symbols, named, (bytes, read, can)))))
-
-  -- What is printed of the harts is what `compare` prints.
-  pub harts_printed : (ended : Result Status Fault) (old new : Option (List ℕ))
-      → PrintsUnlessDenied (ComparesHarts content asked range program symbols bytes)
-      (CanCompareHarts content asked range program bytes) ended old new
-      → PrintsUnlessDenied (Compares content asked) (CanCompare content asked) ended old new
-  harts_printed ended old new =
-      leads_on (ComparesHarts content asked range program symbols bytes) (Compares content asked)
-      (CanCompareHarts content asked range program bytes) (CanCompare content asked) ended old new harts_lead can_lead
-
-  -- And a cut of it is one of that.
-  pub harts_cut : (old new : Option (List ℕ)) → IsCutOf (ComparesHarts content asked range program symbols bytes) old new
-      → IsCutOf (Compares content asked) old new
-  harts_cut old new =
-      cut_leads (ComparesHarts content asked range program symbols bytes) (Compares content asked) old new harts_lead
 
 module _ (content : Content) (asked : Compare) (range : HartRange) (program : Image) (symbols : Option (List ℕ))
     (bytes : List ℕ) where

@@ -9,19 +9,15 @@ use Rattle.command_inputs.specs.declared.words.Decode.{Decode}
 use Rattle.command_inputs.proofs.Beginnings.{cut_leads}
 use Rattle.command_inputs.proofs.Runs.{leads_on}
 use Rattle.command_inputs.specs.Begun.{IsCutOf}
-use Rattle.command_inputs.specs.Found.{IsBase, IsProgramAt, IsRead}
-use Rattle.command_inputs.specs.OnlyHarts.{IsOnly}
-use Rattle.log_streams.specs.Known.{Content}
 use Rattle.command_inputs.specs.Printed.{PrintsUnlessDenied}
 use Rattle.capture_commands.specs.CountedHarts.{HasHartBelow}
 use Rattle.capture_commands.specs.Faults.{Fault, Printed}
 use Rattle.command_inputs.specs.declared.status.Status.{Status}
 use Rattle.parallel_decode.specs.HartsText.{harts_text_of}
 use Rattle.captures.specs.OfHarts.{IsDecodedOf}
-use Rattle.capture_commands.specs.Decoded.{CanDecode, CanWriteLogs, CanWriteLogsOf, Decodes, WritesDecoded}
+use Rattle.capture_commands.specs.Decoded.{CanWriteLogs, CanWriteLogsOf, WritesDecoded}
 use Rattle.capture_commands.specs.Decoded.{WritesLogs, WritesLogsOf}
 use Rattle.capture_commands.specs.Decoding.{end_of_capture_of}
-use Rattle.capture_commands.specs.declared.reason.CaptureReason.{CaptureReason}
 
 -- The logs are printed, and the end is that of decoding.
 pub decodes : (harts : ℕ) (range : HartRange) (program : Image) (bytes : List ℕ) (lists : List (List Event))
@@ -37,31 +33,6 @@ decodes harts range program bytes lists closed stop decoded = record {
   text = refl;
   ended = refl;
 }
-
-module _ (content : Content) (asked : Decode) (base : ℕ) (range : HartRange) (program : Image) (bytes : List ℕ)
-    (based : IsBase {W = CaptureReason} asked.program (Ok base))
-    (chosen : IsOnly {W = CaptureReason} asked.only (Ok range))
-    (found : IsProgramAt {W = CaptureReason} content base asked.program (Ok program))
-    (read : IsRead {W = CaptureReason} content asked.capture (Ok bytes)) where
-  abbrev Own : Printed → Type 0
-  Own = WritesLogsOf asked.lossy asked.harts range program bytes
-
-  -- What is written of the capture is what `decode` prints.
-  leads : (printed : Printed) → Own printed → Decodes content asked printed
-  leads printed writes = (Ok base, based, (Ok range, chosen, (Ok program, found, (Ok bytes, read, writes))))
-
-  -- What is printed of the capture is what `decode` prints.
-  pub capture_printed : (ended : Result Status Fault) (old new : Option (List ℕ))
-      → PrintsUnlessDenied Own (CanWriteLogsOf asked.lossy asked.harts range program bytes) ended old new
-      → PrintsUnlessDenied (Decodes content asked) (CanDecode content asked) ended old new
-  capture_printed ended old new =
-      leads_on Own (Decodes content asked) (CanWriteLogsOf asked.lossy asked.harts range program bytes)
-      (CanDecode content asked) ended old new leads
-      (λ can. (base, based, (range, chosen, (program, found, (bytes, read, can)))))
-
-  -- And a cut of it is one of that.
-  pub capture_cut : (old new : Option (List ℕ)) → IsCutOf Own old new → IsCutOf (Decodes content asked) old new
-  capture_cut old new = cut_leads Own (Decodes content asked) old new leads
 
 module _ (asked : Decode) (range : HartRange) (program : Image) (bytes : List ℕ) (lossy : Bool)
     (is : asked.lossy ≡ lossy) (u : Unit {0}) (has : HasHartBelow asked.harts range bytes (Ok u)) where

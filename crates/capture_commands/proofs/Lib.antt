@@ -1,6 +1,6 @@
 mod DecodedRuns
 mod ListedRuns
-mod OnlyOrders
+mod InputRuns
 mod SalvageRuns
 mod SymbolsFound
 mod TreatedRuns

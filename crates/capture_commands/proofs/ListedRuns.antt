@@ -10,24 +10,18 @@ use Rattle.listing.specs.Listing.{AppendsListing}
 use Rattle.captures.specs.declared.outcome.CaptureFault.{CaptureFault}
 use Rattle.output.proofs.Beginnings.{begun_kept, whole_begun}
 use Rattle.command_inputs.specs.declared.words.Format.{Format}
-use Rattle.command_inputs.specs.declared.words.Listing.{Listing}
-use Rattle.command_inputs.proofs.Beginnings.{cut_leads}
-use Rattle.command_inputs.proofs.Runs.{appends-keeps, leads_on}
+use Rattle.command_inputs.proofs.Runs.{appends-keeps}
 use Rattle.command_inputs.specs.Begun.{IsCutOf}
-use Rattle.command_inputs.specs.Found.{IsProgramAt, IsRead}
-use Rattle.log_streams.specs.Known.{Content}
-use Rattle.command_inputs.specs.Printed.{IsPrinted, PrintsUnlessDenied, silent}
+use Rattle.command_inputs.specs.Printed.{IsPrinted, silent}
 use Rattle.capture_commands.specs.CountedHarts.{HasHartBelow}
 use Rattle.capture_commands.specs.Faults.{Fault, Printed}
-use Rattle.capture_commands.specs.Symbols.{AreSymbols}
 use Rattle.command_inputs.specs.declared.fault.Fault.TheVariants as fault
 use Rattle.command_inputs.specs.declared.status.Status.{Status}
 use Rattle.capture_commands.specs.Decoding.{end_of_capture_of}
-use Rattle.capture_commands.specs.Listed.{CanListBelow, CanListHarts, CanWriteListed, ListsBelow, ListsHarts}
-use Rattle.capture_commands.specs.Listed.{ListsHartsInPart, ListsPartBelow, ListsUpToMemory, WritesListed}
+use Rattle.capture_commands.specs.Listed.{CanListBelow, CanWriteListed, ListsBelow, ListsPartBelow, ListsUpToMemory}
+use Rattle.capture_commands.specs.Listed.{WritesListed}
 use Rattle.capture_commands.specs.Listed.{WritesListedPart, WritesListing, WritesPart, harts_or_one}
 use Rattle.capture_commands.specs.ListedFormats.{IsListedIn, IsPartListedIn}
-use Rattle.capture_commands.specs.declared.reason.CaptureReason.{CaptureReason}
 
 -- What is written where an allocation fails is what the run writes then, where it leads there.
 pub memory_leads : (Own Prints : Printed → Type 0) → ((printed : Printed) → Own printed → Prints printed)
@@ -38,44 +32,6 @@ memory_leads Own Prints leads old new (inr is) = inr (record {
   prints = leads (record { text = is.text; ended = Err fault.Memory }) is.prints;
   appended = is.appended;
 })
-
-module _ (content : Content) (asked : Listing) (base : ℕ) (only : HartRange) (program : Image)
-    (symbols : Option (List ℕ)) (bytes : List ℕ)
-    (found : IsProgramAt {W = CaptureReason} content base asked.program (Ok program))
-    (named : AreSymbols content asked.symbols (Ok symbols))
-    (read : IsRead {W = CaptureReason} content asked.capture (Ok bytes)) where
-  abbrev Own : Printed → Type 0
-  Own = WritesListed asked.format asked.rows asked.salvage only asked.harts program symbols bytes
-
-  abbrev OwnPart : Printed → Type 0
-  OwnPart = WritesListedPart asked.format asked.rows asked.salvage only asked.harts program symbols bytes
-
-  -- What is written of the capture is what `list` prints.
-  list_leads : (printed : Printed) → Own printed → ListsHarts content asked base only printed
-  list_leads printed writes = (Ok program, found, (Ok symbols, named, (Ok bytes, read, writes)))
-
-  -- A part of the capture's listing is a part of what `list` prints.
-  part_leads : (printed : Printed) → OwnPart printed → ListsHartsInPart content asked base only printed
-  part_leads printed part = (program, found, (symbols, named, (bytes, read, part)))
-
-  -- What is printed of the capture is what `list` prints.
-  pub list_printed : (ended : Result Status Fault) (old new : Option (List ℕ))
-      → PrintsUnlessDenied Own (CanWriteListed asked.salvage only asked.harts bytes) ended old new
-      → PrintsUnlessDenied (ListsHarts content asked base only) (CanListHarts content asked base only) ended old new
-  list_printed ended old new =
-      leads_on Own (ListsHarts content asked base only) (CanWriteListed asked.salvage only asked.harts bytes)
-      (CanListHarts content asked base only) ended old new list_leads
-      (λ can. (program, found, (symbols, named, (bytes, read, can))))
-
-  -- What is written where an allocation fails is what `list` writes then.
-  pub list_begun : (old new : Option (List ℕ)) → ListsUpToMemory Own old new
-      → ListsUpToMemory (ListsHarts content asked base only) old new
-  list_begun old new = memory_leads Own (ListsHarts content asked base only) list_leads old new
-
-  -- A cut of it is one of what `list` prints.
-  pub list_cut : (old new : Option (List ℕ)) → IsCutOf OwnPart old new
-      → IsCutOf (ListsHartsInPart content asked base only) old new
-  list_cut old new = cut_leads OwnPart (ListsHartsInPart content asked base only) old new part_leads
 
 -- Where salvaging is not asked for.
 module _ (format : Format) (rows : Bool) (salvage : Bool) (only : HartRange) (given : Option ℕ) (program : Image)

@@ -1,5 +1,5 @@
 -- What `compare` prints, and how it ends.
-use Rattle.std.specs.Prelude.{⊤, ℕ, ◌≡◌, ◌≢◌, Bool, List, Option, Err, length}
+use Rattle.std.specs.Prelude.{⊤, ℕ, ◌≡◌, ◌≢◌, Bool, List, Option, Result, Err, length}
 use Rattle.bench.specs.Got.{Got}
 use Rattle.captures.specs.declared.outcome.CaptureFault.{CaptureFault}
 use Rattle.comparing.specs.Compared.{AreGotOf, is_compared_whole}
@@ -13,17 +13,17 @@ use Rattle.rvclass.specs.Fetch.{words_of}
 use Rattle.rvclass.specs.Image.{Image}
 use Rattle.rvclass.specs.Words.{Words}
 use Rattle.command_inputs.specs.declared.words.Compare.{Compare}
-use Rattle.command_inputs.specs.Found.{IsBase, IsProgramAt, IsRead}
+use Rattle.command_inputs.specs.declared.words.Format.TheVariants.{Text}
 use Rattle.command_inputs.specs.FurtherPieces.{base_number}
 use Rattle.command_inputs.specs.Meaning.{writing_at_once}
-use Rattle.command_inputs.specs.OnlyHarts.{IsOnly, asked_harts}
+use Rattle.command_inputs.specs.OnlyHarts.{asked_harts}
 use Rattle.command_inputs.specs.Order.{base_or_only_fault}
 use Rattle.command_inputs.specs.Printed.{First}
 use Rattle.command_inputs.specs.declared.fault.Fault.TheVariants as fault
+use Rattle.capture_commands.specs.CaptureInput.{CaptureInput, IsCaptureInput}
 use Rattle.capture_commands.specs.CountedHarts.{HasHartBelow}
-use Rattle.capture_commands.specs.Faults.{Meaning, Once, Printed}
+use Rattle.capture_commands.specs.Faults.{Fault, Meaning, Once, Printed}
 use Rattle.capture_commands.specs.Comparison.{AreLogsOfHarts, comparison_end, end_of_stop, rows_of}
-use Rattle.capture_commands.specs.Symbols.{AreSymbols}
 
 -- The report of a comparison that says where logs differ, and which messages of the capture the rows come from, is written,
 -- whose first hart has this number, and the run ends as that says. The rows before the first difference are written if they
@@ -54,15 +54,17 @@ abbrev pub ComparesHarts : Content → Compare → HartRange → Image → Optio
 ComparesHarts content asked range program symbols bytes =
     First (HasHartBelow asked.harts range bytes) (λ _. ComparesCapture content asked range program symbols bytes)
 
--- The bases are looked at first, then the harts that are asked for, then the image with its further pieces, the symbols, if
--- they are given, and the capture. Where there is no fault, what the capture has of these harts is compared.
+-- The input of `compare` is found. It has no format.
+abbrev pub IsCompareInput : Content → Compare → Result CaptureInput Fault → Type 0
+IsCompareInput content asked = IsCaptureInput content Text asked.program asked.only asked.symbols asked.capture
+
+-- What an input has of its harts is compared with the logs that are asked for.
+abbrev pub ComparesInput : Content → Compare → CaptureInput → Printed → Type 0
+ComparesInput content asked input = ComparesHarts content asked input.only input.program input.symbols input.bytes
+
+-- The input is found first. Where there is no fault, what it has of its harts is compared.
 abbrev pub Compares : Content → Compare → Printed → Type 0
-Compares content asked =
-    First (IsBase asked.program) (λ base.
-    First (IsOnly asked.only) (λ range.
-    First (IsProgramAt content base asked.program) (λ program.
-    First (AreSymbols content asked.symbols) (λ symbols.
-    First (IsRead content asked.capture) (ComparesHarts content asked range program symbols)))))
+Compares content asked = First (IsCompareInput content asked) (ComparesInput content asked)
 
 -- A capture's bytes decode to something of each of these harts without want of memory, and the logs of as many harts
 -- are found.
@@ -79,14 +81,12 @@ abbrev pub CanCompareHarts : Content → Compare → HartRange → Image → Lis
 CanCompareHarts content asked range program bytes =
     Once (HasHartBelow asked.harts range bytes) (λ _. CanCompareCapture content asked range program bytes)
 
+abbrev pub CanCompareInput : Content → Compare → CaptureInput → Type 0
+CanCompareInput content asked input = CanCompareHarts content asked input.only input.program input.bytes
+
 -- `compare` writes once it has the legal logs.
 abbrev pub CanCompare : Content → Compare → Type 0
-CanCompare content asked =
-    Once (IsBase asked.program) (λ base.
-    Once (IsOnly asked.only) (λ range.
-    Once (IsProgramAt content base asked.program) (λ program.
-    Once (AreSymbols content asked.symbols) (λ _.
-    Once (IsRead content asked.capture) (CanCompareHarts content asked range program)))))
+CanCompare content asked = Once (IsCompareInput content asked) (CanCompareInput content asked)
 
 -- What `compare` means. Where allocation fails, it wrote nothing.
 abbrev pub compare_meaning : Compare → Meaning

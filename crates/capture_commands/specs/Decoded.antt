@@ -1,5 +1,5 @@
 -- What `decode` prints, and how it ends.
-use Rattle.std.specs.Prelude.{⊤, ◌⊎◌, ◌≡◌, ℕ, Bool, true, false, List, Option}
+use Rattle.std.specs.Prelude.{⊤, ◌⊎◌, ◌≡◌, ℕ, Bool, true, false, List, Option, None, Result}
 use Rattle.std.specs.Io.KnownBytes.{Keeps}
 use Rattle.captures.specs.declared.outcome.CaptureFault.{CaptureFault}
 use Rattle.message.specs.declared.range.HartRange.{HartRange}
@@ -7,15 +7,16 @@ use Rattle.retire.specs.declared.event.Event.{Event}
 use Rattle.rvclass.specs.Fetch.{words_of}
 use Rattle.rvclass.specs.Image.{Image}
 use Rattle.command_inputs.specs.declared.words.Decode.{Decode}
+use Rattle.command_inputs.specs.declared.words.Format.TheVariants.{Text}
 use Rattle.command_inputs.specs.Begun.{BeginsPrinted}
-use Rattle.command_inputs.specs.Found.{IsBase, IsProgramAt, IsRead}
 use Rattle.command_inputs.specs.FurtherPieces.{base_number}
 use Rattle.log_streams.specs.Known.{Content}
-use Rattle.command_inputs.specs.OnlyHarts.{IsOnly, asked_harts}
+use Rattle.command_inputs.specs.OnlyHarts.{asked_harts}
 use Rattle.command_inputs.specs.Order.{base_or_only_fault}
 use Rattle.command_inputs.specs.Printed.{First}
+use Rattle.capture_commands.specs.CaptureInput.{CaptureInput, IsCaptureInput}
 use Rattle.capture_commands.specs.CountedHarts.{HasHartBelow}
-use Rattle.capture_commands.specs.Faults.{Meaning, Once, Printed}
+use Rattle.capture_commands.specs.Faults.{Fault, Meaning, Once, Printed}
 use Rattle.capture_commands.specs.Decoding.{end_of_capture_of}
 use Rattle.parallel_decode.specs.HartsText.{harts_text_of}
 use Rattle.captures.specs.OfHarts.{IsDecodedOf}
@@ -43,14 +44,17 @@ abbrev pub WritesLogsOf : Bool → ℕ → HartRange → Image → List ℕ → 
 WritesLogsOf lossy harts range program bytes =
     First (HasHartBelow harts range bytes) (λ _. WritesLogs lossy harts range program bytes)
 
--- The bases are looked at first, then the harts that are asked for, the image with its further pieces, and the capture.
--- Where there is no fault, what the capture has of the logs of these harts is written.
+-- The input of `decode` is found. It has no format and no symbols.
+abbrev pub IsDecodeInput : Content → Decode → Result CaptureInput Fault → Type 0
+IsDecodeInput content asked = IsCaptureInput content Text asked.program asked.only None asked.capture
+
+-- What an input has of the logs of its harts is written, as it is asked for.
+abbrev pub DecodesInput : Decode → CaptureInput → Printed → Type 0
+DecodesInput asked input = WritesLogsOf asked.lossy asked.harts input.only input.program input.bytes
+
+-- The input is found first. Where there is no fault, what it has of the logs of its harts is written.
 abbrev pub Decodes : Content → Decode → Printed → Type 0
-Decodes content asked =
-    First (IsBase asked.program) (λ base.
-    First (IsOnly asked.only) (λ range.
-    First (IsProgramAt content base asked.program) (λ program.
-    First (IsRead content asked.capture) (WritesLogsOf asked.lossy asked.harts range program))))
+Decodes content asked = First (IsDecodeInput content asked) (DecodesInput asked)
 
 -- Where messages may be lost, what is left of the logs is written once it is collected.
 abbrev pub CanWriteLogs : Bool → ℕ → HartRange → Image → List ℕ → Type 0
@@ -62,13 +66,12 @@ abbrev pub CanWriteLogsOf : Bool → ℕ → HartRange → Image → List ℕ �
 CanWriteLogsOf lossy harts range program bytes =
     Once (HasHartBelow harts range bytes) (λ _. CanWriteLogs lossy harts range program bytes)
 
--- `decode` writes once it has the program and the capture, and that has one of the harts.
+abbrev pub CanDecodeInput : Decode → CaptureInput → Type 0
+CanDecodeInput asked input = CanWriteLogsOf asked.lossy asked.harts input.only input.program input.bytes
+
+-- `decode` writes once it has its input, and that has one of the harts.
 abbrev pub CanDecode : Content → Decode → Type 0
-CanDecode content asked =
-    Once (IsBase asked.program) (λ base.
-    Once (IsOnly asked.only) (λ range.
-    Once (IsProgramAt content base asked.program) (λ program.
-    Once (IsRead content asked.capture) (CanWriteLogsOf asked.lossy asked.harts range program))))
+CanDecode content asked = Once (IsDecodeInput content asked) (CanDecodeInput asked)
 
 -- What `decode` means. Only where messages may be lost does it take memory for the text of a log once the logs before
 -- it are written.

@@ -1,5 +1,5 @@
 -- What `list` prints, and how it ends.
-use Rattle.std.specs.Prelude.{⊤, ◌≡◌, ◌⊎◌, ℕ, Bool, true, false, List, Option, Err}
+use Rattle.std.specs.Prelude.{⊤, ◌≡◌, ◌⊎◌, ℕ, Bool, true, false, List, Option, Result, Err}
 use Rattle.std.specs.Io.KnownBytes.{Keeps}
 use Rattle.std.specs.Option.{unwrap_or}
 use Rattle.captures.specs.declared.outcome.CaptureFault.{CaptureFault}
@@ -8,14 +8,13 @@ use Rattle.rvclass.specs.Fetch.{words_of}
 use Rattle.rvclass.specs.Image.{Image}
 use Rattle.command_inputs.specs.declared.words.Format.{Format}
 use Rattle.command_inputs.specs.declared.words.Listing.{Listing}
-use Rattle.command_inputs.specs.Found.{IsAskedBase, IsProgramAt, IsRead}
 use Rattle.command_inputs.specs.FurtherPieces.{base_number}
 use Rattle.log_streams.specs.Known.{Content}
-use Rattle.command_inputs.specs.OnlyHarts.{IsOnly, asked_harts}
+use Rattle.command_inputs.specs.OnlyHarts.{asked_harts}
 use Rattle.command_inputs.specs.Order.{format_base_or_only_fault}
 use Rattle.command_inputs.specs.Printed.{First, IsPrinted}
-use Rattle.capture_commands.specs.Faults.{Meaning, Once, Printed}
-use Rattle.capture_commands.specs.Symbols.{AreSymbols}
+use Rattle.capture_commands.specs.CaptureInput.{CaptureInput, IsCaptureInput}
+use Rattle.capture_commands.specs.Faults.{Fault, Meaning, Once, Printed}
 use Rattle.command_inputs.specs.declared.fault.Fault.TheVariants as fault
 use Rattle.capture_commands.specs.CountedHarts.{HasHartBelow}
 use Rattle.capture_commands.specs.Decoding.{end_of_capture_of}
@@ -47,27 +46,18 @@ WritesListed format rows true only harts program symbols bytes = TreatsHarts for
 WritesListed format rows false only harts program symbols bytes =
     ListsBelow format rows only (harts_or_one harts) program symbols bytes
 
--- The image with its further pieces is looked at, the symbols, if they are given, and then the capture. Where there is
--- no fault, what is listed of these harts of the capture is written.
-abbrev pub ListsHarts : Content → Listing → ℕ → HartRange → Printed → Type 0
-ListsHarts content asked base only =
-    First (IsProgramAt content base asked.program) (λ program.
-    First (AreSymbols content asked.symbols) (λ symbols.
-    First (IsRead content asked.capture) (WritesListed asked.format asked.rows asked.salvage only asked.harts program symbols)))
+-- The input of `list` is found.
+abbrev pub IsListInput : Content → Listing → Result CaptureInput Fault → Type 0
+IsListInput content asked = IsCaptureInput content asked.format asked.program asked.only asked.symbols asked.capture
 
--- The format is looked at first, then the bases, and then the harts that are asked for. Where there is no fault, what
--- is listed of these harts is written.
+-- What is listed of an input is written, as it is asked for.
+abbrev pub ListsInput : Listing → CaptureInput → Printed → Type 0
+ListsInput asked input =
+    WritesListed asked.format asked.rows asked.salvage input.only asked.harts input.program input.symbols input.bytes
+
+-- The input is found first. Where there is no fault, what is listed of it is written.
 abbrev pub Lists : Content → Listing → Printed → Type 0
-Lists content asked =
-    First (IsAskedBase asked.format asked.program) (λ base.
-    First (IsOnly asked.only) (ListsHarts content asked base))
-
--- The program, the symbols and the bytes of the capture are found, and this holds of them.
-abbrev pub OnceListed : Content → Listing → ℕ → (Image → Option (List ℕ) → List ℕ → Type 0) → Type 0
-OnceListed content asked base Holds =
-    Once (IsProgramAt content base asked.program) (λ program.
-    Once (AreSymbols content asked.symbols) (λ symbols.
-    Once (IsRead content asked.capture) (Holds program symbols)))
+Lists content asked = First (IsListInput content asked) (ListsInput asked)
 
 -- What is listed is written once the capture has one of these harts.
 abbrev pub CanListBelow : HartRange → ℕ → List ℕ → Type 0
@@ -80,15 +70,12 @@ abbrev pub CanWriteListed : Bool → HartRange → Option ℕ → List ℕ → T
 CanWriteListed true only harts bytes = CanTreat only harts bytes
 CanWriteListed false only harts bytes = CanListBelow only (harts_or_one harts) bytes
 
--- `list` writes once it has the program, the symbols and the capture, and that has one of the harts.
-abbrev pub CanListHarts : Content → Listing → ℕ → HartRange → Type 0
-CanListHarts content asked base only =
-    OnceListed content asked base (λ program symbols bytes. CanWriteListed asked.salvage only asked.harts bytes)
+abbrev pub CanListInput : Listing → CaptureInput → Type 0
+CanListInput asked input = CanWriteListed asked.salvage input.only asked.harts input.bytes
 
+-- `list` writes once it has its input, and that has one of the harts.
 abbrev pub CanList : Content → Listing → Type 0
-CanList content asked =
-    Once (IsAskedBase asked.format asked.program) (λ base.
-    Once (IsOnly asked.only) (CanListHarts content asked base))
+CanList content asked = Once (IsListInput content asked) (CanListInput asked)
 
 -- A part of the listing of these harts of a capture, which has one of them, is written in a format, however the run
 -- ends.
@@ -107,16 +94,13 @@ WritesListedPart format rows true only harts program symbols bytes = TreatsHarts
 WritesListedPart format rows false only harts program symbols bytes =
     ListsPartBelow format rows only (harts_or_one harts) program symbols bytes
 
--- The program, the symbols and the capture were found, and a part of what is listed of these harts is written.
-abbrev pub ListsHartsInPart : Content → Listing → ℕ → HartRange → Printed → Type 0
-ListsHartsInPart content asked base only printed =
-    OnceListed content asked base
-    (λ program symbols bytes. WritesListedPart asked.format asked.rows asked.salvage only asked.harts program symbols bytes printed)
+abbrev pub ListsInputInPart : Listing → CaptureInput → Printed → Type 0
+ListsInputInPart asked input =
+    WritesListedPart asked.format asked.rows asked.salvage input.only asked.harts input.program input.symbols input.bytes
 
+-- The input was found, and a part of what is listed of it is written.
 abbrev pub ListsInPart : Content → Listing → Printed → Type 0
-ListsInPart content asked printed =
-    Once (IsAskedBase asked.format asked.program) (λ base.
-    Once (IsOnly asked.only) (λ only. ListsHartsInPart content asked base only printed))
+ListsInPart content asked printed = Once (IsListInput content asked) (λ input. ListsInputInPart asked input printed)
 
 -- Nothing was written, or all lines before the message at which allocation failed.
 abbrev pub ListsUpToMemory : (Printed → Type 0) → Option (List ℕ) → Option (List ℕ) → Type 0

@@ -16,20 +16,19 @@ use Rattle.salvage_reports.specs.Frames.{is_run}
 use Rattle.salvage_reports.specs.HartItems.{items_of}
 use Rattle.command_inputs.specs.declared.words.Format.{Format}
 use Rattle.command_inputs.specs.declared.words.Salvage.{Salvage}
-use Rattle.command_inputs.specs.Found.{IsAskedBase, IsProgramAt, IsRead}
 use Rattle.command_inputs.specs.FurtherPieces.{base_number}
 use Rattle.log_streams.specs.Known.{Content}
 use Rattle.command_inputs.specs.Meaning.{writing_at_once}
-use Rattle.command_inputs.specs.OnlyHarts.{IsOnly, asked_harts}
+use Rattle.command_inputs.specs.OnlyHarts.{asked_harts}
 use Rattle.command_inputs.specs.Order.{format_base_or_only_fault}
 use Rattle.command_inputs.specs.Printed.{First}
+use Rattle.capture_commands.specs.CaptureInput.{CaptureInput, IsCaptureInput}
 use Rattle.capture_commands.specs.Faults.{Fault, Meaning, Once, Printed, capture_fault}
 use Rattle.command_inputs.specs.declared.status.Status.{Status}
 use Rattle.capture_commands.specs.Decoding.{end_of_harts}
 use Rattle.capture_commands.specs.HartsFound.{HasHartFound}
 use Rattle.capture_commands.specs.Pieces.{end_with_gaps}
 use Rattle.capture_commands.specs.SalvagedFormats.{salvaged_in}
-use Rattle.capture_commands.specs.Symbols.{AreSymbols}
 
 -- The fault of a header that is cut short or not valid, if there is one: it comes before the first message. Else the
 -- fault names the first hart that is not closed, of these harts, from this one on. If all are closed, the end is by
@@ -65,29 +64,29 @@ abbrev pub SalvagesOf : HartRange → Format → Option ℕ → Bool → Image �
 SalvagesOf only format asked summary program symbols bytes =
     First (HasHartFound asked only bytes) (λ _. WritesSalvaged only format asked summary program symbols bytes)
 
--- The format is looked at first, then the bases, the harts that are asked for, the image with its further pieces, the
--- symbols, if they are given, and the capture. Where there is no fault, what is salvaged of these harts of the capture is
--- written in that format.
+-- The input of `salvage` is found.
+abbrev pub IsSalvageInput : Content → Salvage → Result CaptureInput Fault → Type 0
+IsSalvageInput content asked = IsCaptureInput content asked.format asked.program asked.only asked.symbols asked.capture
+
+-- What is salvaged of an input is written, as it is asked for.
+abbrev pub SalvagesInput : Salvage → CaptureInput → Printed → Type 0
+SalvagesInput asked input =
+    SalvagesOf input.only asked.format asked.harts asked.summary input.program input.symbols input.bytes
+
+-- The input is found first. Where there is no fault, what is salvaged of it is written.
 abbrev pub Salvages : Content → Salvage → Printed → Type 0
-Salvages content asked =
-    First (IsAskedBase asked.format asked.program) (λ base.
-    First (IsOnly asked.only) (λ only.
-    First (IsProgramAt content base asked.program) (λ program.
-    First (AreSymbols content asked.symbols) (λ symbols.
-    First (IsRead content asked.capture) (SalvagesOf only asked.format asked.harts asked.summary program symbols)))))
+Salvages content asked = First (IsSalvageInput content asked) (SalvagesInput asked)
 
 -- What is salvaged is written once the capture has one of these harts.
 abbrev pub CanSalvageOf : HartRange → Option ℕ → List ℕ → Type 0
 CanSalvageOf only asked bytes = Once (HasHartFound asked only bytes) (λ _. ⊤)
 
--- `salvage` writes once it has the program, the symbols and the capture, and that has one of the harts.
+abbrev pub CanSalvageInput : Salvage → CaptureInput → Type 0
+CanSalvageInput asked input = CanSalvageOf input.only asked.harts input.bytes
+
+-- `salvage` writes once it has its input, and that has one of the harts.
 abbrev pub CanSalvage : Content → Salvage → Type 0
-CanSalvage content asked =
-    Once (IsAskedBase asked.format asked.program) (λ base.
-    Once (IsOnly asked.only) (λ only.
-    Once (IsProgramAt content base asked.program) (λ program.
-    Once (AreSymbols content asked.symbols) (λ symbols.
-    Once (IsRead content asked.capture) (CanSalvageOf only asked.harts)))))
+CanSalvage content asked = Once (IsSalvageInput content asked) (CanSalvageInput asked)
 
 -- What `salvage` means.
 abbrev pub salvage_meaning : Salvage → Meaning

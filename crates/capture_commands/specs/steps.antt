@@ -1,4 +1,4 @@
-pub mod Names
+pub mod Inputs
 pub mod Reading
 pub mod Places
 pub mod Beside

@@ -1,6 +1,6 @@
 //! The subcommand `compare`.
 
-ghost use Rattle.std.specs.Prelude.{◌≡◌, Err, IfErr, IfOk, IfSome};
+ghost use Rattle.std.specs.Prelude.{◌≡◌, ◌≢◌, Err, IfErr, IfOk, IfSome};
 ghost use Rattle.command_inputs.specs.Begun.{IsCutOf};
 ghost use Rattle.command_inputs.specs.FurtherPieces.{base_number};
 ghost use Rattle.command_inputs.specs.OnlyHarts.{asked_harts};
@@ -8,22 +8,22 @@ ghost use Rattle.command_inputs.specs.Order.{base_or_only_fault};
 ghost use Rattle.command_inputs.specs.Printed.{PrintsUnlessDenied};
 ghost use Rattle.command_inputs.specs.declared.fault.Fault.TheVariants as Fault;
 ghost use Rattle.capture_commands.specs.Faults.{final_status};
-ghost use Rattle.capture_commands.specs.Comparing.{CanCompare, CanCompareHarts, Compares, ComparesHarts};
-ghost use Rattle.capture_commands.specs.steps.Names.{names_in};
+ghost use Rattle.capture_commands.specs.Comparing.{CanCompare, CanCompareCapture, CanCompareInput, Compares};
+ghost use Rattle.capture_commands.specs.Comparing.{ComparesCapture, ComparesInput};
+ghost use Rattle.capture_commands.specs.Comparison.{end_of_stop};
+ghost use Rattle.capture_commands.specs.steps.Inputs.{lent_in, names_in};
+ghost use Rattle.capture_commands.specs.steps.Surveyed.{IsSurveyed};
 ghost use Rattle.comparing.specs.Sourced.{AreNumbered, AreSourced};
 ghost use Rattle.rvclass.specs.Fetch.{words_of};
 
 use crate::hart_check::check_harts_below;
 use crate::hart_lines::{check_count, lines_of_logs};
-use crate::input::Input;
+use crate::input::{Input, InputArgs, read_input};
 use crate::reason::Fault;
 use crate::report::write_report;
-use crate::surveyed::{harts_below, surveyed_of};
-use crate::symbols_input::symbols_of;
+use crate::surveyed::{Surveyed, harts_below, surveyed_of};
 use captures::CaptureFault;
-use command_inputs::{
-    Compare, MessageProgress, Status, base_of, content_of, harts_asked, program_of,
-};
+use command_inputs::{Compare, Format, MessageProgress, Status};
 use comparing::{ExplainedHart, Explaining, SourcedHart, sources_of};
 use log_streams::Files;
 use std::alloc::Global;
@@ -67,18 +67,16 @@ where
         (O.contents out.old) (O.contents out.new) }
     ensures cut { IsCutOf (Compares (F.content files.old) asked.now) (O.contents out.old) (O.contents out.new) }
 {
-    let base = base_of(&asked.program)?;
-    let only = harts_asked(asked.only)?;
-    let program = program_of(alloc, files, base, &asked.program)?;
-    let symbols = symbols_of(alloc, files, asked.symbols)?;
-    let bytes = content_of(files, asked.capture)?;
-    let input = Input {
-        program: &program,
-        symbols: symbols.as_ref(),
-        bytes: bytes.as_slice(),
-        only,
+    let wanted = InputArgs {
+        format: Format::Text,
+        program: &asked.program,
+        only: asked.only,
+        symbols: asked.symbols,
+        capture: asked.capture,
     };
-    compare_input(alloc, rt, &*files, asked, &input, out)
+    let input = read_input(alloc, files, &wanted)?;
+    let lent = input.lent();
+    compare_input(alloc, rt, &*files, asked, &lent, out)
 }
 
 /// Compares what the capture has of the harts of an input with the logs that are asked for, where it has any of them,
@@ -95,21 +93,47 @@ where
     F::Reader: Send,
     ensures refused { final_status result ≡ Status.Refused → out.new ≡ out.old }
     ensures untouched { result ≡ Err Fault.Memory → out.new ≡ out.old }
-    ensures printed { PrintsUnlessDenied
-        (ComparesHarts (F.content files.now) asked.now input.now.only input.now.program.now (names_in input.now)
-        input.now.bytes.now)
-        (CanCompareHarts (F.content files.now) asked.now input.now.only input.now.program.now input.now.bytes.now) result
+    ensures printed { PrintsUnlessDenied (ComparesInput (F.content files.now) asked.now (lent_in input.now))
+        (CanCompareInput (F.content files.now) asked.now (lent_in input.now)) result
         (O.contents out.old) (O.contents out.new) }
-    ensures cut { IsCutOf
-        (ComparesHarts (F.content files.now) asked.now input.now.only input.now.program.now (names_in input.now)
-        input.now.bytes.now) (O.contents out.old) (O.contents out.new) }
+    ensures cut { IsCutOf (ComparesInput (F.content files.now) asked.now (lent_in input.now))
+        (O.contents out.old) (O.contents out.new) }
 {
     check_harts_below(asked.harts, input.only, input.bytes)?;
     let progress = MessageProgress::new(files, asked.progress);
     let found = surveyed_of(alloc, &progress, asked.harts, input)?;
+    compare_found(alloc, rt, files, asked, input, &found, out)
+}
+
+/// Compares what was found of the harts of an input with the logs that are asked for, and writes the report.
+fn compare_found<'a, F: Files + Sync, O: Write, R: Threads + Sync>(
+    alloc: Global,
+    rt: &R,
+    files: &F,
+    asked: &Compare<'a>,
+    input: &Input,
+    found: &Surveyed,
+    out: &mut O,
+) -> Result<Status, Fault<'a>>
+where
+    F::Reader: Send,
+    requires found { IsSurveyed input.now.only (words_of input.now.program.now) asked.now.harts input.now.bytes.now
+        found.now }
+    requires no_memory { end_of_stop found.now.stop ≢ Err Fault.Memory }
+    ensures refused { final_status result ≡ Status.Refused → out.new ≡ out.old }
+    ensures untouched { result ≡ Err Fault.Memory → out.new ≡ out.old }
+    ensures printed { PrintsUnlessDenied
+        (ComparesCapture (F.content files.now) asked.now input.now.only input.now.program.now (names_in input.now)
+        input.now.bytes.now)
+        (CanCompareCapture (F.content files.now) asked.now input.now.only input.now.program.now input.now.bytes.now)
+        result (O.contents out.old) (O.contents out.new) }
+    ensures cut { IsCutOf
+        (ComparesCapture (F.content files.now) asked.now input.now.only input.now.program.now (names_in input.now)
+        input.now.bytes.now) (O.contents out.old) (O.contents out.new) }
+{
     let paths = asked.logs.as_slice();
     check_count(harts_below(input.only, found.places.len()), paths)?;
-    let lines = lines_of_logs(alloc, rt, files, asked, input, &found)?;
+    let lines = lines_of_logs(alloc, rt, files, asked, input, found)?;
     let said = lines.as_slice();
     let sourced = sourced_lines(alloc, input, found.stop, said)?;
     let harts = sourced.as_slice();

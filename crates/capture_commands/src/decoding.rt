@@ -8,19 +8,18 @@ ghost use Rattle.command_inputs.specs.OnlyHarts.{asked_harts};
 ghost use Rattle.command_inputs.specs.Order.{base_or_only_fault};
 ghost use Rattle.command_inputs.specs.Printed.{PrintsUnlessDenied};
 ghost use Rattle.capture_commands.specs.Faults.{final_status};
-ghost use Rattle.capture_commands.specs.Decoded.{CanDecode, CanWriteLogsOf, Decodes, WritesDecoded, WritesLogsOf};
+ghost use Rattle.capture_commands.specs.Decoded.{CanDecode, CanDecodeInput, Decodes, DecodesInput, WritesDecoded};
+ghost use Rattle.capture_commands.specs.steps.Inputs.{lent_in};
 ghost use Rattle.command_inputs.specs.declared.fault.Fault.TheVariants as Fault;
 
 use crate::counting::begin_messages;
 use crate::ending::ended_of;
 use crate::hart_check::check_harts_below;
-use crate::input::Input;
+use crate::input::{Input, InputArgs, read_input};
 use crate::lossy_decoding::decode_lossy;
 use crate::reason::Fault;
 use crate::survey_progress::SurveyProgress;
-use command_inputs::{
-    Decode, Files, MessageProgress, Status, base_of, content_of, harts_asked, program_of,
-};
+use command_inputs::{Decode, Files, Format, MessageProgress, Status};
 use parallel_decode::{Selection, Sharing, write_decoded_side_by_side};
 use std::alloc::Global;
 use std::io::Write;
@@ -58,18 +57,17 @@ pub fn decode<'a, F: Files, O: Write, R: Threads + Sync>(
         × BeginsPrinted (Decodes (F.content files.old) asked.now) (O.contents out.old) (O.contents out.new)) }
     ensures cut { IsCutOf (Decodes (F.content files.old) asked.now) (O.contents out.old) (O.contents out.new) }
 {
-    let base = base_of(&asked.program)?;
-    let only = harts_asked(asked.only)?;
-    let program = program_of(alloc, files, base, &asked.program)?;
-    let bytes = content_of(files, asked.capture)?;
-    let progress = MessageProgress::new(&*files, asked.progress);
-    let input = Input {
-        program: &program,
+    let wanted = InputArgs {
+        format: Format::Text,
+        program: &asked.program,
+        only: asked.only,
         symbols: None,
-        bytes: bytes.as_slice(),
-        only,
+        capture: asked.capture,
     };
-    decode_capture(alloc, rt, &progress, asked, &input, out)
+    let input = read_input(alloc, files, &wanted)?;
+    let progress = MessageProgress::new(&*files, asked.progress);
+    let lent = input.lent();
+    decode_capture(alloc, rt, &progress, asked, &lent, out)
 }
 
 /// Writes what an input has of the logs of its harts, where the capture has one of them.
@@ -82,14 +80,11 @@ fn decode_capture<'a, F: Files, O: Write, R: Threads + Sync>(
     out: &mut O,
 ) -> Result<Status, Fault<'a>>
     ensures never_refused { final_status result ≢ Status.Refused }
-    ensures printed { PrintsUnlessDenied
-        (WritesLogsOf asked.now.lossy asked.now.harts input.now.only input.now.program.now input.now.bytes.now)
-        (CanWriteLogsOf asked.now.lossy asked.now.harts input.now.only input.now.program.now input.now.bytes.now) result
+    ensures printed { PrintsUnlessDenied (DecodesInput asked.now (lent_in input.now))
+        (CanDecodeInput asked.now (lent_in input.now)) result
         (O.contents out.old) (O.contents out.new) }
     ensures untouched { asked.now.lossy ≡ false → result ≡ Err Fault.Memory → out.new ≡ out.old }
-    ensures cut { IsCutOf
-        (WritesLogsOf asked.now.lossy asked.now.harts input.now.only input.now.program.now input.now.bytes.now)
-        (O.contents out.old) (O.contents out.new) }
+    ensures cut { IsCutOf (DecodesInput asked.now (lent_in input.now)) (O.contents out.old) (O.contents out.new) }
 {
     check_harts_below(asked.harts, input.only, input.bytes)?;
     if asked.lossy {

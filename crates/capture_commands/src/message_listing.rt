@@ -10,25 +10,20 @@ ghost use Rattle.command_inputs.specs.OnlyHarts.{asked_harts};
 ghost use Rattle.command_inputs.specs.Order.{format_base_or_only_fault};
 ghost use Rattle.command_inputs.specs.Printed.{PrintsUnlessDenied};
 ghost use Rattle.capture_commands.specs.Faults.{final_status};
-ghost use Rattle.capture_commands.specs.Listed.{CanList, CanListHarts, CanWriteListed, Lists, ListsHarts};
-ghost use Rattle.capture_commands.specs.Listed.{ListsHartsInPart, ListsInPart, ListsUpToMemory, WritesListed};
-ghost use Rattle.capture_commands.specs.Listed.{WritesListedPart, WritesListing, WritesPart, harts_or_one};
+ghost use Rattle.capture_commands.specs.Listed.{CanList, CanListInput, Lists, ListsInPart, ListsInput};
+ghost use Rattle.capture_commands.specs.Listed.{ListsInputInPart, ListsUpToMemory, WritesListing, WritesPart, harts_or_one};
 ghost use Rattle.capture_commands.specs.ListedFormats.{IsListedIn, IsPartListedIn};
-ghost use Rattle.capture_commands.specs.steps.Names.{names_in};
+ghost use Rattle.capture_commands.specs.steps.Inputs.{lent_in, names_in};
 ghost use Rattle.command_inputs.specs.declared.fault.Fault.TheVariants as Fault;
 
 use crate::counting::begin_messages;
 use crate::ending::ended_of;
 use crate::hart_check::check_harts_below;
-use crate::input::Input;
+use crate::input::{Input, InputArgs, read_input};
 use crate::reason::Fault;
 use crate::salvaged_listing::{form_of, list_salvaged};
-use crate::symbols_input::symbols_of;
-use command_inputs::{
-    Files, Listing, MessageProgress, Status, asked_base, content_of, harts_asked, program_of,
-};
+use command_inputs::{Files, Listing, MessageProgress, Status};
 use listing::{Form, ListInput, Listed, list_capture};
-use message::HartRange;
 use retire::WriteFault;
 use std::alloc::Global;
 use std::io::Write;
@@ -69,42 +64,17 @@ pub fn list<'a, F: Files, O: Write>(
         → ListsUpToMemory (Lists (F.content files.old) asked.now) (O.contents out.old) (O.contents out.new) }
     ensures cut { IsCutOf (ListsInPart (F.content files.old) asked.now) (O.contents out.old) (O.contents out.new) }
 {
-    let base = asked_base(asked.format, &asked.program)?;
-    let only = harts_asked(asked.only)?;
-    list_harts(alloc, files, asked, base, only, out)
-}
-
-/// Writes what is listed of these harts of a capture, by the program at this base.
-fn list_harts<'a, F: Files, O: Write>(
-    alloc: Global,
-    files: &mut F,
-    asked: &Listing<'a>,
-    base: u64,
-    only: HartRange,
-    out: &mut O,
-) -> Result<Status, Fault<'a>>
-    ensures refused { final_status result ≡ Status.Refused → out.new ≡ out.old }
-    ensures untouched { asked.now.salvage ≡ true → result ≡ Err Fault.Memory → out.new ≡ out.old }
-    ensures printed { PrintsUnlessDenied (ListsHarts (F.content files.old) asked.now base only)
-        (CanListHarts (F.content files.old) asked.now base only) result
-        (O.contents out.old) (O.contents out.new) }
-    ensures begun { result ≡ Err Fault.Memory
-        → ListsUpToMemory (ListsHarts (F.content files.old) asked.now base only)
-        (O.contents out.old) (O.contents out.new) }
-    ensures cut { IsCutOf (ListsHartsInPart (F.content files.old) asked.now base only)
-        (O.contents out.old) (O.contents out.new) }
-{
-    let program = program_of(alloc, files, base, &asked.program)?;
-    let symbols = symbols_of(alloc, files, asked.symbols)?;
-    let bytes = content_of(files, asked.capture)?;
-    let progress = MessageProgress::new(&*files, asked.progress);
-    let input = Input {
-        program: &program,
-        symbols: symbols.as_ref(),
-        bytes: bytes.as_slice(),
-        only,
+    let wanted = InputArgs {
+        format: asked.format,
+        program: &asked.program,
+        only: asked.only,
+        symbols: asked.symbols,
+        capture: asked.capture,
     };
-    write_listed(alloc, &progress, asked, &input, out)
+    let input = read_input(alloc, files, &wanted)?;
+    let progress = MessageProgress::new(&*files, asked.progress);
+    let lent = input.lent();
+    write_listed(alloc, &progress, asked, &lent, out)
 }
 
 /// Writes what is listed of an input, where the capture has one of its harts: what salvaging does with each of their
@@ -118,15 +88,12 @@ fn write_listed<'a, F: Files, O: Write>(
 ) -> Result<Status, Fault<'a>>
     ensures never_refused { final_status result ≢ Status.Refused }
     ensures untouched { asked.now.salvage ≡ true → result ≡ Err Fault.Memory → out.new ≡ out.old }
-    ensures printed { PrintsUnlessDenied (WritesListed asked.now.format asked.now.rows asked.now.salvage input.now.only asked.now.harts
-        input.now.program.now (names_in input.now) input.now.bytes.now)
-        (CanWriteListed asked.now.salvage input.now.only asked.now.harts input.now.bytes.now) result
+    ensures printed { PrintsUnlessDenied (ListsInput asked.now (lent_in input.now))
+        (CanListInput asked.now (lent_in input.now)) result
         (O.contents out.old) (O.contents out.new) }
-    ensures begun { result ≡ Err Fault.Memory → ListsUpToMemory
-        (WritesListed asked.now.format asked.now.rows asked.now.salvage input.now.only asked.now.harts input.now.program.now
-        (names_in input.now) input.now.bytes.now) (O.contents out.old) (O.contents out.new) }
-    ensures cut { IsCutOf (WritesListedPart asked.now.format asked.now.rows asked.now.salvage input.now.only asked.now.harts
-        input.now.program.now (names_in input.now) input.now.bytes.now) (O.contents out.old) (O.contents out.new) }
+    ensures begun { result ≡ Err Fault.Memory
+        → ListsUpToMemory (ListsInput asked.now (lent_in input.now)) (O.contents out.old) (O.contents out.new) }
+    ensures cut { IsCutOf (ListsInputInPart asked.now (lent_in input.now)) (O.contents out.old) (O.contents out.new) }
 {
     if asked.salvage {
         return list_salvaged(alloc, progress, asked, input, out);

@@ -1,6 +1,6 @@
 //! What only a subcommand that reads a capture stops at.
 
-ghost use Rattle.std.specs.Prelude.{◌≡◌, Some, refl};
+ghost use Rattle.std.specs.Prelude.{Some, refl};
 ghost use Rattle.capture_commands.specs.FaultText.{capture_reason_text};
 ghost use Rattle.capture_commands.specs.Faults.{capture_reason_status};
 
@@ -14,7 +14,7 @@ use symbols::SymbolsFault;
 pub type Fault<'a> = command_inputs::Fault<'a, CaptureReason<'a>>;
 
 /// What only a subcommand that reads a capture stops at.
-#[derive(Clone, Copy, Debug, PartialEq, Eq)]
+#[derive(Clone, Copy)]
 pub enum CaptureReason<'a> {
     /// The capture begins as one of version 2 does, and its header is not valid.
     Header,

@@ -11,7 +11,7 @@ ghost use Rattle.capture_commands.specs.Faults.{final_status};
 ghost use Rattle.capture_commands.specs.ListedFormats.{form_of, treated_in};
 ghost use Rattle.capture_commands.specs.Listed.{CanTreat};
 ghost use Rattle.capture_commands.specs.ListedSalvaged.{AreTreatedIn, TreatsHarts};
-ghost use Rattle.capture_commands.specs.steps.Names.{names_in};
+ghost use Rattle.capture_commands.specs.steps.Inputs.{names_in};
 ghost use Rattle.capture_commands.specs.steps.Reading.{IsFoundOf};
 ghost use Rattle.command_inputs.specs.declared.fault.Fault.TheVariants as Fault;
 
@@ -52,10 +52,32 @@ pub(crate) fn list_salvaged<'a, F: Files, O: Write>(
         input.now.program.now (names_in input.now) input.now.bytes.now) (O.contents out.old) (O.contents out.new) }
 {
     let found = find(alloc, progress, 2, asked.harts, input)?;
-    let treated = treat_found(alloc, progress, asked.harts, input, &found)?;
+    list_found(alloc, progress, asked, input, &found, out)
+}
+
+/// Writes what salvaging does with each message that was found of an input, and returns how salvaging them ends.
+fn list_found<'a, F: Files, O: Write>(
+    alloc: Global,
+    progress: &MessageProgress<'_, F>,
+    asked: &Listing<'a>,
+    input: &Input,
+    found: &Found,
+    out: &mut O,
+) -> Result<Status, Fault<'a>>
+    requires { IsFoundOf input.now.only asked.now.harts input.now.program.now input.now.bytes.now found.now }
+    ensures never_refused { final_status result ≢ Status.Refused }
+    ensures untouched { result ≡ Err Fault.Memory → out.new ≡ out.old }
+    ensures printed { PrintsUnlessDenied (TreatsHarts asked.now.format asked.now.rows input.now.only asked.now.harts
+        input.now.program.now (names_in input.now) input.now.bytes.now)
+        (CanTreat input.now.only asked.now.harts input.now.bytes.now) result
+        (O.contents out.old) (O.contents out.new) }
+    ensures cut { IsCutOf (TreatsHarts asked.now.format asked.now.rows input.now.only asked.now.harts
+        input.now.program.now (names_in input.now) input.now.bytes.now) (O.contents out.old) (O.contents out.new) }
+{
+    let treated = treat_found(alloc, progress, asked.harts, input, found)?;
     write_treated_in(asked, input, found.header, treated.as_slice(), out)?;
     out.flush()?;
-    ended(&found)
+    ended(found)
 }
 
 /// Writes what salvaging does with each message of an input in a format.

@@ -11,24 +11,20 @@ ghost use Rattle.command_inputs.specs.Printed.{PrintsUnlessDenied};
 ghost use Rattle.capture_commands.specs.Faults.{final_status, status_of};
 ghost use Rattle.capture_commands.specs.Decoding.{end_of_harts};
 ghost use Rattle.capture_commands.specs.HartsFound.{HasHartFound};
-ghost use Rattle.capture_commands.specs.Salvaging.{CanSalvage, CanSalvageOf, Salvages, SalvagesOf};
+ghost use Rattle.capture_commands.specs.Salvaging.{CanSalvage, CanSalvageInput, Salvages, SalvagesInput};
 ghost use Rattle.capture_commands.specs.Salvaging.{end_of_salvage_of};
 ghost use Rattle.capture_commands.specs.SalvagedFormats.{layout_of};
-ghost use Rattle.capture_commands.specs.steps.Names.{names_in};
+ghost use Rattle.capture_commands.specs.steps.Inputs.{lent_in};
 ghost use Rattle.capture_commands.specs.steps.Reading.{IsFoundOf};
 ghost use Rattle.command_inputs.specs.declared.fault.Fault.TheVariants as Fault;
 
 use crate::hart_check::hart_below;
-use crate::input::Input;
+use crate::input::{Input, InputArgs, read_input};
 use crate::reason::{CaptureReason, Fault};
 use crate::salvage_progress::SalvageProgress;
 use crate::stopping::capture_fault;
-use crate::symbols_input::symbols_of;
 use captures::CaptureFault;
-use command_inputs::{
-    Files, Format, MessageProgress, Salvage, Status, asked_base, content_of, harts_asked,
-    program_of,
-};
+use command_inputs::{Files, Format, MessageProgress, Salvage, Status};
 use frames::{harts_counted, start_of};
 use salvage_reports::{Found, Layout, find_salvaged, write_found};
 use std::alloc::Global;
@@ -62,19 +58,17 @@ pub fn salvage<'a, F: Files, O: Write>(
         (O.contents out.old) (O.contents out.new) }
     ensures cut { IsCutOf (Salvages (F.content files.old) asked.now) (O.contents out.old) (O.contents out.new) }
 {
-    let base = asked_base(asked.format, &asked.program)?;
-    let only = harts_asked(asked.only)?;
-    let program = program_of(alloc, files, base, &asked.program)?;
-    let symbols = symbols_of(alloc, files, asked.symbols)?;
-    let bytes = content_of(files, asked.capture)?;
-    let progress = MessageProgress::new(&*files, asked.progress);
-    let input = Input {
-        program: &program,
-        symbols: symbols.as_ref(),
-        bytes: bytes.as_slice(),
-        only,
+    let wanted = InputArgs {
+        format: asked.format,
+        program: &asked.program,
+        only: asked.only,
+        symbols: asked.symbols,
+        capture: asked.capture,
     };
-    salvage_capture(alloc, &progress, asked, &input, out)
+    let input = read_input(alloc, files, &wanted)?;
+    let progress = MessageProgress::new(&*files, asked.progress);
+    let lent = input.lent();
+    salvage_capture(alloc, &progress, asked, &lent, out)
 }
 
 /// Writes what is salvaged of an input.
@@ -87,12 +81,10 @@ fn salvage_capture<'a, F: Files, O: Write>(
 ) -> Result<Status, Fault<'a>>
     ensures never_refused { final_status result ≢ Status.Refused }
     ensures untouched { result ≡ Err Fault.Memory → out.new ≡ out.old }
-    ensures printed { PrintsUnlessDenied (SalvagesOf input.now.only asked.now.format asked.now.harts asked.now.summary
-        input.now.program.now (names_in input.now) input.now.bytes.now)
-        (CanSalvageOf input.now.only asked.now.harts input.now.bytes.now) result
+    ensures printed { PrintsUnlessDenied (SalvagesInput asked.now (lent_in input.now))
+        (CanSalvageInput asked.now (lent_in input.now)) result
         (O.contents out.old) (O.contents out.new) }
-    ensures cut { IsCutOf (SalvagesOf input.now.only asked.now.format asked.now.harts asked.now.summary
-        input.now.program.now (names_in input.now) input.now.bytes.now) (O.contents out.old) (O.contents out.new) }
+    ensures cut { IsCutOf (SalvagesInput asked.now (lent_in input.now)) (O.contents out.old) (O.contents out.new) }
 {
     let found = find(alloc, progress, 1, asked.harts, input)?;
     let layout = layout_of(asked.format, asked.summary);

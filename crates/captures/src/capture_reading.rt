@@ -13,7 +13,7 @@ use std::error::Error;
 use std::fmt;
 
 /// All that a capture holds.
-#[derive(Debug, Drop)]
+#[derive(Drop)]
 pub struct WholeCapture<A: Allocator = Global> {
     /// The header. A capture of version 1 has none.
     pub header: Option<Header>,
@@ -22,7 +22,7 @@ pub struct WholeCapture<A: Allocator = Global> {
 }
 
 /// What a capture holds before the first place where there is no complete message.
-#[derive(Debug, Drop)]
+#[derive(Drop)]
 pub struct CaptureFront<A: Allocator = Global> {
     /// The header. A capture of version 1 has none, nor has one whose header is cut short or bad.
     pub header: Option<Header>,

@@ -17,7 +17,7 @@ use retire::WriteFault;
 use std::io::Write;
 
 /// What was found in a capture that was dumped.
-#[derive(Clone, Copy, Debug, PartialEq, Eq)]
+#[derive(Clone, Copy, PartialEq, Eq)]
 pub struct Dumped {
     /// Whether the payload of some message is no packet.
     pub bad: bool,

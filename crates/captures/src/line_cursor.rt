@@ -7,7 +7,7 @@ use crate::line_field::{Stop, first_place};
 use std::marker::Model;
 
 /// The lines of a text that are left to read. A clause sees the bytes that are left.
-#[derive(Debug, Drop)]
+#[derive(Drop)]
 pub(crate) struct Lines<'a> {
     rest: &'a [u8],
 }

@@ -54,7 +54,7 @@ impl From<ReceiveFault> for CaptureFault {
 }
 
 /// What the messages of a capture decode to.
-#[derive(Debug, Drop)]
+#[derive(Drop)]
 pub struct CaptureOutcome<A: Allocator = Global> {
     /// The events of each hart, as far as its messages settle them.
     pub harts: Vec<Vec<Event, A>, A>,

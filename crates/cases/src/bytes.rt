@@ -1,7 +1,6 @@
 //! Bytes and texts.
 
 use crate::case::{Case, cut};
-use std::alloc::{AllocError, Global};
 
 /// Where programs begin that name no base.
 const BASE: u64 = 0x8000_0000;
@@ -32,33 +31,15 @@ pub fn bytes_of(case: &mut Case<'_>, words: &str) -> Vec<u8> {
     bytes
 }
 
-/// Adds bytes so often.
-fn add_again(
-    alloc: Global,
-    bytes: &mut Vec<u8>,
-    again: &[u8],
-    count: u64,
-) -> Result<(), AllocError> {
-    if let [byte] = again {
-        let many = Vec::from_elem(alloc, *byte, count as usize)?;
-        return bytes.extend_from_slice(many.as_slice());
-    }
-    for _ in 0..count {
-        bytes.extend_from_slice(again)?;
-    }
-    Ok(())
-}
-
 /// Adds the bytes of a number, the lowest first: as many as it has pairs of digits.
 fn add_number(case: &mut Case<'_>, bytes: &mut Vec<u8>, word: &str) {
     let (count, digits) = case.times(word);
     let all = case.hex(digits).to_le_bytes();
-    match all.get(..digits.len() / 2) {
-        Some(first) => {
-            let done = add_again(case.alloc, bytes, first, count);
-            case.note(done);
-        }
-        None => case.unread(),
+    let Some(first) = all.get(..digits.len() / 2) else {
+        return case.unread();
+    };
+    for _ in 0..count {
+        case.extend(bytes, first);
     }
 }
 
@@ -77,18 +58,12 @@ pub fn piece_of(case: &mut Case<'_>, text: &str) -> (u64, Vec<u8>) {
 }
 
 /// Adds a text so often, with this after it each time.
-fn add_texts(case: &mut Case<'_>, bytes: &mut Vec<u8>, text: &str, end: &str) {
+fn add_texts(case: &mut Case<'_>, bytes: &mut Vec<u8>, text: &str, end: &[u8]) {
     let (count, again) = case.times(text);
     for _ in 0..count {
-        add_plain(case, bytes, again);
-        add_plain(case, bytes, end);
+        case.extend(bytes, again.as_bytes());
+        case.extend(bytes, end);
     }
-}
-
-/// Adds a text.
-fn add_plain(case: &mut Case<'_>, bytes: &mut Vec<u8>, text: &str) {
-    let done = bytes.extend_from_slice(text.as_bytes());
-    case.note(done);
 }
 
 /// Adds lines that each begin with a hexadecimal number: `N*FIRST+STEP`, and what comes after the number.
@@ -97,73 +72,58 @@ fn add_rising(case: &mut Case<'_>, bytes: &mut Vec<u8>, text: &str) {
     let (place, fields) = cut(line, ',');
     let (first, step) = cut(place, '+');
     let (mut number, step) = (case.hex(first), case.hex(step));
+    let mut digits = case.again();
     for _ in 0..count {
-        let mut line = case.again();
-        line.put_hex(number);
-        line.put(",");
-        line.put(fields);
-        line.put("\n");
-        add_plain(case, bytes, line.came.as_str());
+        digits.came.clear();
+        digits.put_hex(number);
+        case.extend(bytes, digits.came.as_bytes());
+        case.extend(bytes, b",");
+        case.extend(bytes, fields.as_bytes());
+        case.extend(bytes, b"\n");
         number = number.wrapping_add(step);
-    }
-}
-
-/// Adds what an escape of this kind stands for.
-fn add_kind(case: &mut Case<'_>, bytes: &mut Vec<u8>, kind: u8, inner: &str) {
-    match kind {
-        b'n' => case.push(bytes, b'\n'),
-        b'r' => case.push(bytes, b'\r'),
-        b't' => case.push(bytes, b'\t'),
-        b'x' => add_pairs(case, bytes, inner),
-        b'{' => add_texts(case, bytes, inner, ""),
-        b'[' => add_texts(case, bytes, inner, "\n"),
-        b'(' => add_rising(case, bytes, inner),
-        _ => case.unread(),
-    }
-}
-
-/// What belongs to an escape of this kind, and what comes after it.
-fn split_kind(kind: u8, rest: &str) -> (&str, &str) {
-    match kind {
-        b'x' => rest.split_at_checked(2).unwrap_or(("?", "")),
-        b'{' => cut(rest, '}'),
-        b'[' => cut(rest, ']'),
-        b'(' => cut(rest, ')'),
-        _ => ("", rest),
     }
 }
 
 /// Adds what comes after a `\` of a text, and returns the rest.
 fn add_escaped<'t>(case: &mut Case<'_>, bytes: &mut Vec<u8>, text: &'t str) -> &'t str {
     let kind = text.bytes().next().unwrap_or(0);
-    let (inner, rest) = split_kind(kind, text.get(1..).unwrap_or(""));
-    add_kind(case, bytes, kind, inner);
-    rest
-}
-
-/// What is between the quotes at the end of the arguments.
-fn inner_of<'t>(case: &mut Case<'t>) -> &'t str {
-    match cut(case.text, '"').1.strip_suffix('"') {
-        Some(text) => text,
-        None => {
-            case.unread();
-            ""
-        }
+    let after = text.get(1..).unwrap_or("");
+    let (inner, rest) = match kind {
+        b'x' => after.split_at_checked(2).unwrap_or(("?", "")),
+        b'{' => cut(after, '}'),
+        b'[' => cut(after, ']'),
+        b'(' => cut(after, ')'),
+        _ => ("", after),
+    };
+    match kind {
+        b'n' => case.push(bytes, b'\n'),
+        b'r' => case.push(bytes, b'\r'),
+        b't' => case.push(bytes, b'\t'),
+        b'x' => add_pairs(case, bytes, inner),
+        b'{' => add_texts(case, bytes, inner, b""),
+        b'[' => add_texts(case, bytes, inner, b"\n"),
+        b'(' => add_rising(case, bytes, inner),
+        _ => case.unread(),
     }
+    rest
 }
 
 /// The bytes of the text between quotes at the end of the arguments.
 pub fn text_of(case: &mut Case<'_>) -> Vec<u8> {
     let mut bytes = Vec::new(case.alloc);
-    let text = inner_of(case);
+    let quoted = cut(case.text, '"').1.strip_suffix('"');
+    if quoted.is_none() {
+        case.unread();
+    }
+    let text = quoted.unwrap_or("");
     let mut rest = text;
     for _ in 0..text.len().saturating_add(1) {
         let Some((plain, escaped)) = rest.split_once('\\') else {
             break;
         };
-        add_plain(case, &mut bytes, plain);
+        case.extend(&mut bytes, plain.as_bytes());
         rest = add_escaped(case, &mut bytes, escaped);
     }
-    add_plain(case, &mut bytes, rest);
+    case.extend(&mut bytes, rest.as_bytes());
     bytes
 }

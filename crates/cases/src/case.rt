@@ -24,7 +24,8 @@ pub struct Case<'a> {
     first: String,
     is_unread: bool,
     wants_memory: bool,
-    sets: bool,
+    /// The case only sets something for those after it.
+    pub(crate) is_setting: bool,
 }
 
 /// A text up to a character, and what comes after it.
@@ -43,7 +44,7 @@ impl<'a> Case<'a> {
             first: String::new(alloc),
             is_unread: false,
             wants_memory: false,
-            sets: false,
+            is_setting: false,
         }
     }
 
@@ -59,29 +60,34 @@ impl<'a> Case<'a> {
 
     /// Notes where allocation failed.
     pub fn note(&mut self, done: Result<(), AllocError>) {
-        if done.is_err() {
-            self.wants_memory = true;
-        }
+        self.wants_memory |= done.is_err();
+    }
+
+    /// What a call returned. Its error is noted as one of allocation.
+    pub fn granted<T: Drop, E: Drop>(&mut self, done: Result<T, E>) -> Option<T> {
+        self.wants_memory |= done.is_err();
+        done.ok()
+    }
+
+    /// What an argument was read as. That it was not read is noted.
+    pub fn read<T: Drop, E: Drop>(&mut self, read: Result<T, E>) -> Option<T> {
+        self.is_unread |= read.is_err();
+        read.ok()
     }
 
     /// Notes that the case only sets something for those after it. It is not counted.
     pub fn sets(&mut self) {
-        self.sets = true;
+        self.is_setting = true;
     }
 
-    /// Whether the case only sets something.
-    pub(crate) fn is_setting(&self) -> bool {
-        self.sets
-    }
-
-    /// Ends the case: joins what came, and appends that an argument was not read.
-    pub(crate) fn end(&mut self) -> Result<(), AllocError> {
-        self.keep();
-        if !self.is_read()? {
-            self.before.push_str(", and its arguments are not read")?;
+    /// Ends the case: joins what came, and appends that an argument was not read. It is an error where allocation failed.
+    pub(crate) fn end(&mut self) -> Result<bool, AllocError> {
+        if self.is_unread {
+            self.put(", and its arguments are not read");
         }
+        self.keep();
         mem::swap(&mut self.came, &mut self.before);
-        Ok(())
+        self.is_read()
     }
 
     /// Whether an argument was not read, or allocation failed.
@@ -104,8 +110,8 @@ impl<'a> Case<'a> {
 
     /// Takes over what another case noted.
     pub fn join(&mut self, other: &Case<'_>) {
-        self.is_unread = self.is_unread || other.is_unread;
-        self.wants_memory = self.wants_memory || other.wants_memory;
+        self.is_unread |= other.is_unread;
+        self.wants_memory |= other.wants_memory;
     }
 
     /// Keeps what came, so that it belongs to no way.
@@ -130,8 +136,11 @@ impl<'a> Case<'a> {
     /// Ends another way: what came is shown under its name where it is not what came in the first one.
     pub fn end_way(&mut self, way: &str) {
         if self.came.as_str() != self.first.as_str() {
-            let done = write!(self.before, ", {way}: {}", self.came);
-            self.note(done);
+            let own = mem::replace(&mut self.came, String::new(self.alloc));
+            for text in [", ", way, ": ", own.as_str()] {
+                self.put(text);
+            }
+            self.keep();
         }
         self.came.clear();
     }
@@ -146,10 +155,9 @@ impl<'a> Case<'a> {
     pub fn put_other(&mut self, way: &str, other: &Case<'_>, first: &str) {
         self.join(other);
         if other.came.as_str() != first {
-            self.put(", ");
-            self.put(way);
-            self.put(": ");
-            self.put(other.came.as_str());
+            for text in [", ", way, ": ", other.came.as_str()] {
+                self.put(text);
+            }
         }
     }
 
@@ -220,6 +228,18 @@ impl<'a> Case<'a> {
         }
     }
 
+    /// Reads the next word, a decimal number.
+    pub fn next_decimal(&mut self) -> u64 {
+        let digits = self.word();
+        self.decimal(digits)
+    }
+
+    /// Reads the next word, a decimal number below 2^16.
+    pub fn next_short(&mut self) -> u16 {
+        let digits = self.word();
+        self.short(digits)
+    }
+
     /// The number of hexadecimal digits.
     pub fn hex(&mut self, digits: &str) -> u64 {
         match u64::from_str_radix(digits, 16) {
@@ -260,6 +280,13 @@ impl<'a> Case<'a> {
     /// Adds an element to a list.
     pub fn push<T: Drop>(&mut self, list: &mut Vec<T>, item: T) {
         if list.push(item).is_err() {
+            self.wants_memory = true;
+        }
+    }
+
+    /// Adds elements to a list.
+    pub fn extend<T: Copy + Drop>(&mut self, list: &mut Vec<T>, items: &[T]) {
+        if list.extend_from_slice(items).is_err() {
             self.wants_memory = true;
         }
     }
@@ -322,14 +349,6 @@ impl<'a> Case<'a> {
             self.put(" ");
         }
         self.put_shown(word);
-    }
-
-    /// Appends a text in a line of its own.
-    pub(crate) fn put_line(&mut self, line: &str) {
-        if !self.came.is_empty() {
-            self.put("\n");
-        }
-        self.put(line);
     }
 
     /// Appends a part, with a comma before it where there is one before.

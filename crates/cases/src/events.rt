@@ -31,16 +31,8 @@ fn event_at(case: &mut Case<'_>, place: u64, fields: &str) -> Event {
     }
 }
 
-/// The event of a row, `ADDR,ITYPE,PRIV,CAUSE,TVAL`, and how far after it the next one is: by the step of `ADDR+STEP`.
-fn event_of(case: &mut Case<'_>, row: &str) -> (Event, u64) {
-    let (place, fields) = cut(row, ',');
-    let (first, step) = cut(place, '+');
-    let (first, step) = (case.hex(first), case.hex_or_0(step));
-    (event_at(case, first, fields), step)
-}
-
 /// The event at another place.
-pub fn moved(event: &Event, to: u64) -> Event {
+fn moved(event: &Event, to: u64) -> Event {
     match *event {
         Event::Retire {
             itype,
@@ -67,12 +59,16 @@ pub fn moved(event: &Event, to: u64) -> Event {
     }
 }
 
-/// Adds the events of rows, with a `/` between two of them, at a time of several.
+/// Adds the events of rows, `ADDR,ITYPE,PRIV,CAUSE,TVAL` with a `/` between two of them, at a time of several: each further
+/// time comes so far after the one before it as the step of `ADDR+STEP` says.
 fn add_events(case: &mut Case<'_>, events: &mut Vec<Event>, rows: &str, time: u64) {
     for row in rows.split('/') {
-        let (event, step) = event_of(case, row);
-        let place = event.place().wrapping_add(step.wrapping_mul(time));
-        case.push(events, moved(&event, place));
+        let (place, fields) = cut(row, ',');
+        let (first, step) = cut(place, '+');
+        let (first, step) = (case.hex(first), case.hex_or_0(step));
+        let place = first.wrapping_add(step.wrapping_mul(time));
+        let event = event_at(case, place, fields);
+        case.push(events, event);
     }
 }
 

@@ -1,7 +1,9 @@
 //! The allocator.
 
 use crate::count::Count;
+use crate::hold::Hold;
 use std::alloc::{AllocError, Allocator};
+use std::cell::Cell;
 use std::sync::Arc;
 use std::sync::atomic::AtomicU64;
 
@@ -20,7 +22,11 @@ impl<B: Allocator> Refusing<B> {
     pub fn new(inner: B, refused: u64) -> Refusing<B> {
         Refusing {
             inner,
-            count: Count::new(refused),
+            count: Count {
+                place: refused,
+                made: Cell::new(0),
+                hold: None,
+            },
         }
     }
 
@@ -30,23 +36,34 @@ impl<B: Allocator> Refusing<B> {
     pub fn holding(inner: B, held: u64, count: Arc<AtomicU64>, wanted: u64) -> Refusing<B> {
         Refusing {
             inner,
-            count: Count::holding(held, count, wanted),
+            count: Count {
+                place: held,
+                made: Cell::new(0),
+                hold: Some(Hold {
+                    count,
+                    wanted,
+                    seen: Cell::new(None),
+                }),
+            },
         }
     }
 
     /// How many requests came, the refused one among them.
     pub fn requests(&self) -> u64 {
-        self.count.made()
+        self.count.made.get()
     }
 
     /// Whether a request was refused.
     pub fn has_refused(&self) -> bool {
-        self.count.has_refused()
+        self.count.hold.is_none() && self.count.made.get() > self.count.place
     }
 
     /// What the count was when the request that was held back was granted; `None` before.
     pub fn seen(&self) -> Option<u64> {
-        self.count.seen()
+        match &self.count.hold {
+            Some(hold) => hold.seen.get(),
+            None => None,
+        }
     }
 }
 

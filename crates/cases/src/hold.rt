@@ -16,22 +16,13 @@ const MORE: u32 = 50;
 /// they may add to it.
 #[derive(Drop)]
 pub(crate) struct Hold {
-    count: Arc<AtomicU64>,
-    wanted: u64,
-    /// What the count was when the request was granted.
-    seen: Cell<Option<u64>>,
+    pub(crate) count: Arc<AtomicU64>,
+    pub(crate) wanted: u64,
+    /// What the count was when the request was granted; `None` before.
+    pub(crate) seen: Cell<Option<u64>>,
 }
 
 impl Hold {
-    /// Holds a request back until the count is this or more.
-    pub(crate) fn until(count: Arc<AtomicU64>, wanted: u64) -> Hold {
-        Hold {
-            count,
-            wanted,
-            seen: Cell::new(None),
-        }
-    }
-
     /// Holds the request back.
     pub(crate) fn wait(&self) {
         for _ in 0..LOOKS {
@@ -44,10 +35,5 @@ impl Hold {
             yield_now();
         }
         self.seen.set(Some(self.count.load(Ordering::SeqCst)));
-    }
-
-    /// What the count was when the request was granted; `None` before.
-    pub(crate) fn seen(&self) -> Option<u64> {
-        self.seen.get()
     }
 }

@@ -47,12 +47,13 @@ mod writer;
 
 pub use bytes::{bytes_of, piece_of, text_of};
 pub use case::{Case, cut};
-pub use events::{events_of, moved, put_rows};
+pub use events::{events_of, put_rows};
 pub use files::{DataFile, data_files};
 pub use heap::Refusing;
 pub use lines::{Line, lines_of};
 pub use packets::{
-    add_message, message_of, messages_of, mode_of, outcomes_of, packet_of, payload_of,
+    add_message, message_of, messages_of, mode_of, next_mode, outcomes_of, packet_of, payload_of,
+    report_of,
 };
 pub use playing::{Verbs, play};
 pub use quoted::put_quoted;

@@ -11,6 +11,8 @@ pub struct Line<'a> {
     pub file: &'a str,
     /// The number of the line, from 1.
     pub number: usize,
+    /// The case and what is wanted in its line.
+    parts: (&'a str, &'a str),
     /// The text of the file from this line on.
     text: &'a str,
 }
@@ -21,23 +23,20 @@ fn begins_case(line: &str) -> bool {
 }
 
 impl<'a> Line<'a> {
-    /// The case and what is wanted in its line.
-    fn parts(&self) -> (&'a str, &'a str) {
-        let line = self.text.lines().next().unwrap_or("");
-        line.split_once(" -> ").unwrap_or((line, ""))
-    }
-
     /// The case: its verb and its arguments.
     pub fn case(&self) -> &'a str {
-        self.parts().0
+        self.parts.0
     }
 
     /// Appends what is wanted.
     pub(crate) fn put_wanted(&self, wanted: &mut Case<'_>) {
-        wanted.put(self.parts().1);
+        wanted.put(self.parts.1);
         for line in self.text.lines().skip(1) {
             if let Some(further) = line.strip_prefix("> ") {
-                wanted.put_line(further);
+                if !wanted.came.is_empty() {
+                    wanted.put("\n");
+                }
+                wanted.put(further);
             } else if begins_case(line) {
                 return;
             }
@@ -53,6 +52,7 @@ fn add_lines<'a>(notes: &mut Case<'_>, lines: &mut Vec<Line<'a>>, file: &'a Data
             let case = Line {
                 file: file.name.as_str(),
                 number: file.numbers.get(place).copied().unwrap_or(0),
+                parts: line.split_once(" -> ").unwrap_or((line, "")),
                 text: file.text.get(offset..).unwrap_or(line),
             };
             notes.push(lines, case);

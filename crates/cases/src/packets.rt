@@ -17,6 +17,12 @@ pub fn mode_of(case: &mut Case<'_>, name: &str) -> Mode {
     }
 }
 
+/// Reads the next word, a mode.
+pub fn next_mode(case: &mut Case<'_>) -> Mode {
+    let name = case.word();
+    mode_of(case, name)
+}
+
 /// The outcomes of digits, the oldest first: 0 where a branch was taken; `-` is none.
 pub fn outcomes_of(digits: &str) -> Outcomes {
     let mut outcomes = Outcomes::new();
@@ -39,83 +45,59 @@ fn field<'t>(case: &mut Case<'_>, text: &'t str, name: &str) -> &'t str {
     ""
 }
 
-/// Whether an address of a synchronisation or a trap has a branch that was taken.
-fn is_taken(case: &mut Case<'_>, text: &str) -> bool {
-    field(case, text, "branch=") == "0"
-}
-
-/// The field that is a hexadecimal number below 256.
-fn byte_in(case: &mut Case<'_>, text: &str, name: &str) -> u8 {
-    let digits = field(case, text, name);
-    case.byte_or_0(digits)
-}
-
 /// The field that is a hexadecimal number.
 fn hex_in(case: &mut Case<'_>, text: &str, name: &str) -> u64 {
     let digits = field(case, text, name);
     case.hex(digits)
 }
 
-/// The trap packet of a text.
-fn trap_of(case: &mut Case<'_>, text: &str) -> Packet {
+/// The trap packet of a text, with this privilege.
+fn trap_of(case: &mut Case<'_>, text: &str, taken: bool, privilege: u8) -> Packet {
     let interrupt = text.starts_with("trap interrupt ");
     let handler = text.contains(" handler=");
     let name = if handler { "handler=" } else { "epc=" };
-    let taken = is_taken(case, text);
-    let privilege = byte_in(case, text, "priv=");
-    let cause = byte_in(case, text, "cause=");
-    let address = hex_in(case, text, name);
-    let tval = if interrupt && !text.contains("tval=") {
-        0
-    } else {
-        hex_in(case, text, "tval=")
-    };
+    let has_tval = !interrupt || text.contains("tval=");
+    let cause = field(case, text, "cause=");
     Packet::Trap {
         taken,
         privilege,
-        cause,
+        cause: case.byte_or_0(cause),
         interrupt,
         handler,
-        address,
-        tval,
+        address: hex_in(case, text, name),
+        tval: if has_tval {
+            hex_in(case, text, "tval=")
+        } else {
+            0
+        },
     }
 }
 
-/// Why an address packet of a text reports its address.
-fn report_of(case: &mut Case<'_>, text: &str) -> Report {
-    if text.ends_with(" updiscon") {
-        return Report::Updiscon;
-    }
-    if text.ends_with(" notify") {
-        return Report::Notify;
-    }
-    if !text.ends_with(" plain") {
-        case.unread();
-    }
-    Report::Plain
-}
-
-/// The address packet of a text.
-fn address_of(case: &mut Case<'_>, text: &str) -> Packet {
-    let outcomes = outcomes_of(field(case, text, "map="));
-    let delta = hex_in(case, text, "diff=");
-    let report = report_of(case, text);
-    Packet::Address {
-        outcomes,
-        delta,
-        report,
+/// The report of an address packet with this name.
+pub fn report_of(case: &mut Case<'_>, name: &str) -> Report {
+    match name {
+        "plain" => Report::Plain,
+        "updiscon" => Report::Updiscon,
+        "notify" => Report::Notify,
+        _ => {
+            case.unread();
+            Report::Plain
+        }
     }
 }
 
-/// The synchronisation packet of a text.
-fn sync_of(case: &mut Case<'_>, text: &str) -> Packet {
-    let taken = is_taken(case, text);
-    let privilege = byte_in(case, text, "priv=");
-    let address = hex_in(case, text, "addr=");
+/// The synchronisation or the trap packet of a text.
+fn placed_of(case: &mut Case<'_>, text: &str) -> Packet {
+    let taken = field(case, text, "branch=") == "0";
+    let privilege = field(case, text, "priv=");
+    let privilege = case.byte_or_0(privilege);
+    if text.starts_with("trap ") {
+        return trap_of(case, text, taken, privilege);
+    }
     Packet::Sync {
         taken,
         privilege,
-        address,
+        address: hex_in(case, text, "addr="),
     }
 }
 
@@ -137,9 +119,12 @@ fn support_of(case: &mut Case<'_>, text: &str) -> Packet {
 pub fn packet_of(case: &mut Case<'_>, text: &str) -> Packet {
     let (kind, rest) = cut(text, ' ');
     match kind {
-        "sync" => sync_of(case, text),
-        "trap" => trap_of(case, text),
-        "address" => address_of(case, text),
+        "sync" | "trap" => placed_of(case, text),
+        "address" => Packet::Address {
+            outcomes: outcomes_of(field(case, text, "map=")),
+            delta: hex_in(case, text, "diff="),
+            report: report_of(case, text.rsplit_once(' ').unwrap_or(("", "")).1),
+        },
         "map" => Packet::Map(outcomes_of(rest)),
         _ => support_of(case, text),
     }
@@ -147,11 +132,7 @@ pub fn packet_of(case: &mut Case<'_>, text: &str) -> Packet {
 
 /// The payload of bytes, if they are one.
 pub fn payload_of(case: &mut Case<'_>, bytes: &[u8]) -> Option<Payload> {
-    let payload = Payload::new(bytes).ok();
-    if payload.is_none() {
-        case.unread();
-    }
-    payload
+    case.read(Payload::new(bytes))
 }
 
 /// The hart, the number and the payload's bytes of `HART.NUMBER:PAYLOAD`.

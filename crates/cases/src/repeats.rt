@@ -11,76 +11,62 @@ pub(crate) struct Numbered {
     pub(crate) numbers: Vec<usize>,
 }
 
-/// How a number is written.
+/// A line with its number.
 #[derive(Clone, Copy)]
-enum Form {
-    Decimal,
-    Hex,
-    /// As so many bytes in hexadecimal, the highest first.
-    HighFirst(usize),
-    /// As so many bytes in hexadecimal, the lowest first.
-    LowFirst(usize),
+struct Line<'t> {
+    number: usize,
+    text: &'t str,
 }
 
-/// The form of a field, and what comes before it.
-fn form_of(field: &str) -> (Form, &str) {
-    if let Some((number, count)) = field.split_once('/') {
-        return (Form::HighFirst(count.parse::<usize>().unwrap_or(0)), number);
-    }
-    if let Some((number, count)) = field.split_once('<') {
-        return (Form::LowFirst(count.parse::<usize>().unwrap_or(0)), number);
-    }
-    match field.strip_suffix('x') {
-        Some(number) => (Form::Hex, number),
-        None => (Form::Decimal, field),
-    }
+/// What is done with lines: the outermost blocks are written out, or lines that go on are joined to those before them.
+#[derive(Clone, Copy)]
+enum Pass {
+    Blocks,
+    Joins,
+}
+
+/// The base in which numbers are written.
+#[derive(Clone, Copy)]
+enum Base {
+    Ten,
+    Sixteen,
 }
 
 /// The number of digits; 0 where they are none.
-fn number_of(form: Form, digits: &str) -> u64 {
-    let base = if let Form::Decimal = form { 10 } else { 16 };
+fn number_of(base: Base, digits: &str) -> u64 {
+    let base = if let Base::Ten = base { 10 } else { 16 };
     u64::from_str_radix(digits, base).unwrap_or(0)
 }
 
 /// The number of `FIRST+STEP`, `FIRST-STEP` or `FIRST+^STEP` by this time.
-fn number_by(form: Form, field: &str, time: u64) -> u64 {
+fn number_by(base: Base, field: &str, time: u64) -> u64 {
     if let Some((first, step)) = field.split_once("+^") {
-        let added = number_of(form, step).wrapping_shl(time.min(63) as u32);
-        return number_of(form, first).wrapping_add(added);
+        let added = number_of(base, step).wrapping_shl(time.min(63) as u32);
+        return number_of(base, first).wrapping_add(added);
     }
     if let Some((first, step)) = field.split_once('-') {
-        return number_of(form, first).wrapping_sub(number_of(form, step).wrapping_mul(time));
+        return number_of(base, first).wrapping_sub(number_of(base, step).wrapping_mul(time));
     }
-    let (first, step) = field.split_once('+').unwrap_or((field, ""));
-    number_of(form, first).wrapping_add(number_of(form, step).wrapping_mul(time))
+    let (first, step) = cut(field, '+');
+    number_of(base, first).wrapping_add(number_of(base, step).wrapping_mul(time))
 }
 
 /// Appends the number of a field by this time.
 fn put_field(lines: &mut Case<'_>, field: &str, time: u64) {
-    let (form, field) = form_of(field);
-    let number = number_by(form, field, time);
-    match form {
-        Form::Decimal => lines.put_shown(number),
-        Form::Hex => lines.put_hex(number),
-        Form::HighFirst(count) => {
-            let from = 8usize.saturating_sub(count);
-            lines.put_digits(number.to_be_bytes().get(from..).unwrap_or(&[]));
-        }
-        Form::LowFirst(count) => {
-            lines.put_digits(number.to_le_bytes().get(..count).unwrap_or(&[]));
-        }
+    if let Some((field, count)) = field.split_once('/') {
+        let from = 8usize.saturating_sub(count.parse::<usize>().unwrap_or(0));
+        let bytes = number_by(Base::Sixteen, field, time).to_be_bytes();
+        return lines.put_digits(bytes.get(from..).unwrap_or(&[]));
     }
-}
-
-/// Appends what begins with a field, after its `{`, up to the text after it, which is returned.
-fn put_begun<'t>(lines: &mut Case<'_>, text: &'t str, time: u64) -> &'t str {
-    if let Some(inner) = text.strip_prefix('{') {
-        lines.put("{");
-        return inner;
+    if let Some((field, count)) = field.split_once('<') {
+        let count = count.parse::<usize>().unwrap_or(0);
+        let bytes = number_by(Base::Sixteen, field, time).to_le_bytes();
+        return lines.put_digits(bytes.get(..count).unwrap_or(&[]));
     }
-    let (field, after) = cut(text, '}');
-    put_field(lines, field, time);
-    after
+    match field.strip_suffix('x') {
+        Some(field) => lines.put_hex(number_by(Base::Sixteen, field, time)),
+        None => lines.put_shown(number_by(Base::Ten, field, time)),
+    }
 }
 
 /// Appends a line with the numbers of its fields by this time.
@@ -91,20 +77,19 @@ fn put_line(lines: &mut Case<'_>, line: &str, time: u64) {
             break;
         };
         lines.put(plain);
-        rest = put_begun(lines, begun, time);
+        if let Some(inner) = begun.strip_prefix('{') {
+            lines.put("{");
+            rest = inner;
+        } else {
+            let (field, after) = cut(begun, '}');
+            put_field(lines, field, time);
+            rest = after;
+        }
     }
     lines.put(rest);
 }
 
 impl Numbered {
-    /// No line.
-    fn new(alloc: Global) -> Numbered {
-        Numbered {
-            lines: Case::new(alloc, ""),
-            numbers: Vec::new(alloc),
-        }
-    }
-
     /// Begins a line with this number.
     fn begin(&mut self, number: usize) {
         if !self.numbers.is_empty() {
@@ -113,56 +98,50 @@ impl Numbered {
         self.lines.push(&mut self.numbers, number);
     }
 
-    /// Adds a line.
-    fn add_line(&mut self, line: Line<'_>) {
+    /// Adds a line. Where lines are joined, one that begins with `< ` goes on in the last line after a space, and one that
+    /// begins with `>> `, at once.
+    fn add_line(&mut self, line: Line<'_>, pass: Pass) {
+        if let Pass::Joins = pass {
+            if let Some(further) = line.text.strip_prefix(">> ") {
+                return self.lines.put(further);
+            }
+            if let Some(further) = line.text.strip_prefix("< ") {
+                self.lines.put(" ");
+                return self.lines.put(further);
+            }
+        }
         self.begin(line.number);
         self.lines.put(line.text);
     }
 
-    /// Adds a line. Where it begins with `< ` it goes on in the last line after a space, and where with `>> `, at once.
-    fn join_line(&mut self, line: Line<'_>) {
-        if let Some(further) = line.text.strip_prefix(">> ") {
-            return self.lines.put(further);
-        }
-        match line.text.strip_prefix("< ") {
-            Some(further) => {
-                self.lines.put(" ");
-                self.lines.put(further);
+    /// Adds the line at a place, or the block that begins there so often as it says. Returns the place of its last line.
+    fn add_at(&mut self, lines: &[Line<'_>], place: usize, pass: Pass) -> usize {
+        let Some(line) = lines.get(place) else {
+            return place;
+        };
+        let Some(count) = line.text.strip_prefix("repeat ") else {
+            self.add_line(*line, pass);
+            return place;
+        };
+        let end = end_of(lines, place);
+        let block = lines.get(place.saturating_add(1)..end).unwrap_or(&[]);
+        for time in 0..count.parse::<u64>().unwrap_or(0) {
+            for line in block {
+                self.begin(line.number);
+                put_line(&mut self.lines, line.text, time);
             }
-            None => self.add_line(line),
         }
+        end
     }
-
-    /// Adds lines with the numbers of their fields by this time.
-    fn add_block(&mut self, lines: &[Line<'_>], time: u64) {
-        for line in lines {
-            self.begin(line.number);
-            put_line(&mut self.lines, line.text, time);
-        }
-    }
-
-    /// Adds lines so often.
-    fn add_times(&mut self, lines: &[Line<'_>], times: &str) {
-        for time in 0..times.parse::<u64>().unwrap_or(0) {
-            self.add_block(lines, time);
-        }
-    }
-}
-
-/// A line with its number.
-#[derive(Clone, Copy)]
-struct Line<'t> {
-    number: usize,
-    text: &'t str,
 }
 
 /// The place of the `end` of the block that begins at a place, or the count of lines.
 fn end_of(lines: &[Line<'_>], from: usize) -> usize {
     let mut depth: usize = 0;
-    for (place, line) in lines.iter().enumerate().skip(from) {
-        if line.text.starts_with("repeat ") {
+    for place in from..lines.len() {
+        if lines[place].text.starts_with("repeat ") {
             depth = depth.saturating_add(1);
-        } else if line.text == "end" {
+        } else if lines[place].text == "end" {
             depth = depth.saturating_sub(1);
             if depth == 0 {
                 return place;
@@ -172,65 +151,22 @@ fn end_of(lines: &[Line<'_>], from: usize) -> usize {
     lines.len()
 }
 
-/// Adds the line at a place, or the block that begins there so often as it says. Returns the place of its last line.
-fn add_at(all: &mut Numbered, lines: &[Line<'_>], place: usize) -> usize {
-    let Some(line) = lines.get(place) else {
-        return place;
+/// The lines after a pass. What was noted of them is taken over.
+fn passed(before: &Numbered, pass: Pass) -> Numbered {
+    let alloc = before.lines.alloc;
+    let mut all = Numbered {
+        lines: Case::new(alloc, ""),
+        numbers: Vec::new(alloc),
     };
-    match line.text.strip_prefix("repeat ") {
-        Some(count) => {
-            let end = end_of(lines, place);
-            let first = place.saturating_add(1);
-            all.add_times(lines.get(first..end).unwrap_or(&[]), count);
-            end
-        }
-        None => {
-            all.add_line(*line);
-            place
-        }
+    all.lines.join(&before.lines);
+    let mut lines = Vec::new(alloc);
+    for (number, text) in before.numbers.iter().zip(before.lines.came.lines()) {
+        let number = *number;
+        all.lines.push(&mut lines, Line { number, text });
     }
-}
-
-/// The lines, with those in each outermost block so often as it says.
-fn unrolled(alloc: Global, before: &Numbered) -> Numbered {
-    let mut all = Numbered::new(alloc);
-    let lines = lines_in(&mut all.lines, before);
     let mut place: usize = 0;
     for _ in 0..lines.len() {
-        place = add_at(&mut all, lines.as_slice(), place).saturating_add(1);
-    }
-    all
-}
-
-/// The lines of a text with their numbers. What was noted of the text is taken over.
-fn lines_in<'t>(notes: &mut Case<'_>, before: &'t Numbered) -> Vec<Line<'t>> {
-    notes.join(&before.lines);
-    let mut lines = Vec::new(notes.alloc);
-    for (number, text) in before.numbers.iter().zip(before.lines.came.lines()) {
-        let line = Line {
-            number: *number,
-            text,
-        };
-        notes.push(&mut lines, line);
-    }
-    lines
-}
-
-/// The lines of a text, numbered from 1.
-fn lines_of_text(alloc: Global, text: &str) -> Numbered {
-    let mut all = Numbered::new(alloc);
-    for (before, text) in text.lines().enumerate() {
-        let number = before.saturating_add(1);
-        all.add_line(Line { number, text });
-    }
-    all
-}
-
-/// The lines, of which those that go on are in one with the line before them.
-fn joined(alloc: Global, before: &Numbered) -> Numbered {
-    let mut all = Numbered::new(alloc);
-    for line in &lines_in(&mut all.lines, before) {
-        all.join_line(*line);
+        place = all.add_at(lines.as_slice(), place, pass).saturating_add(1);
     }
     all
 }
@@ -238,6 +174,14 @@ fn joined(alloc: Global, before: &Numbered) -> Numbered {
 /// The text of a file with all its lines written out: those between `repeat N` and `end` come N times, where a block may be
 /// in another one; and those that go on are in one with the line before them.
 pub(crate) fn written_out(alloc: Global, text: &str) -> Numbered {
-    let once = unrolled(alloc, &lines_of_text(alloc, text));
-    joined(alloc, &unrolled(alloc, &once))
+    let (mut lines, mut numbers) = (Case::new(alloc, ""), Vec::new(alloc));
+    lines.put(text);
+    for before in 0..text.lines().count() {
+        lines.push(&mut numbers, before.saturating_add(1));
+    }
+    let mut all = Numbered { lines, numbers };
+    for pass in [Pass::Blocks, Pass::Blocks, Pass::Joins] {
+        all = passed(&all, pass);
+    }
+    all
 }

@@ -46,10 +46,10 @@ impl Tally {
     ) -> io::Result<()> {
         let mut wanted = Case::new(rt.alloc(), "");
         line.put_wanted(&mut wanted);
-        wanted.is_read()?;
+        case.join(&wanted);
         case.end()?;
         let came = case.came.trim_end_matches('\n');
-        if case.is_setting() && wanted.came.as_str() == came {
+        if case.is_setting && wanted.came.as_str() == came {
             return Ok(());
         }
         self.count(rt, (line.file, line.number), wanted.came.as_str(), came)

@@ -33,34 +33,24 @@ impl Kind {
 
 /// A file.
 #[derive(Drop)]
-struct File {
-    kind: Kind,
-    bytes: Vec<u8>,
-    /// How often it was opened.
-    opens: AtomicU64,
-    /// How many files were opened before it was opened last.
-    place: AtomicU64,
-}
-
-/// How a file was opened.
-#[derive(Clone, Copy)]
-pub(crate) struct Opens {
+pub(crate) struct File {
     pub(crate) kind: Kind,
+    text: String,
     /// How often it was opened.
-    pub(crate) count: u64,
+    pub(crate) opens: AtomicU64,
     /// How many files were opened before it was opened last.
-    pub(crate) place: u64,
+    pub(crate) place: AtomicU64,
 }
 
 /// Files, by their numbers.
 #[derive(Drop)]
 pub(crate) struct Table {
     alloc: Global,
-    files: Vec<File>,
+    pub(crate) files: Vec<File>,
     /// Whether a pipe is open that was not read to its end.
     is_pipe_open: AtomicBool,
-    /// How often a pipe was opened meanwhile.
-    early: AtomicU64,
+    /// How often a pipe was opened before the one that was opened last was read to its end.
+    pub(crate) early: AtomicU64,
     /// How many files were opened.
     opened: AtomicU64,
 }
@@ -78,19 +68,14 @@ impl Table {
     }
 
     /// Adds a file.
-    pub(crate) fn put(&mut self, case: &mut Case<'_>, kind: Kind, bytes: Vec<u8>) {
+    pub(crate) fn put(&mut self, case: &mut Case<'_>, kind: Kind, text: String) {
         let file = File {
             kind,
-            bytes,
+            text,
             opens: AtomicU64::new(0),
             place: AtomicU64::new(0),
         };
         case.push(&mut self.files, file);
-    }
-
-    /// How many files there are.
-    pub(crate) fn count(&self) -> usize {
-        self.files.len()
     }
 
     /// The file at this path.
@@ -99,25 +84,6 @@ impl Table {
             Ok(number) => self.files.get(number),
             Err(_) => None,
         }
-    }
-
-    /// How each file was opened.
-    pub(crate) fn opens(&self, case: &mut Case<'_>) -> Vec<Opens> {
-        let mut all = Vec::new(case.alloc);
-        for file in &self.files {
-            let opens = Opens {
-                kind: file.kind,
-                count: file.opens.load(Ordering::SeqCst),
-                place: file.place.load(Ordering::SeqCst),
-            };
-            case.push(&mut all, opens);
-        }
-        all
-    }
-
-    /// How often a pipe was opened before the one that was opened last was read to its end.
-    pub(crate) fn early_pipes(&self) -> u64 {
-        self.early.load(Ordering::SeqCst)
     }
 
     /// Notes that a pipe is opened.
@@ -174,7 +140,7 @@ impl Files for Table {
             Kind::Pipe => self.open_pipe(),
             Kind::Regular | Kind::Failing => {}
         }
-        let Ok(bytes) = Vec::from_slice(self.alloc, file.bytes.as_slice()) else {
+        let Ok(bytes) = Vec::from_slice(self.alloc, file.text.as_bytes()) else {
             return Err(FileFault::Memory);
         };
         Ok(Opened {

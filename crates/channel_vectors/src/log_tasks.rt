@@ -1,53 +1,12 @@
-//! What is made of logs: how many events they have, or the events themselves.
+//! What is made of logs: their events.
 
-ghost use Rattle.std.specs.Prelude.{⊤};
+ghost use Rattle.std.specs.Prelude.{⊤, ◌≡◌, true};
 
 use legalpath::PathFault;
 use log_streams::{IllegalRow, LogTask};
 use retire::Event;
 use rvclass::ProgramOver;
 use std::alloc::{AllocError, Global};
-
-/// Counts the events. Nothing is made of an illegal log.
-#[derive(Drop)]
-pub(crate) struct Counting;
-
-impl LogTask<usize> for Counting {
-    type State = usize;
-
-    ghost Keeps = { λ _ _ _ _ _. ⊤ };
-
-    ghost Makes = { λ _ _ _ _ _. ⊤ };
-
-    ghost MakesOfIllegal = { λ _ _ _ _ _. ⊤ };
-
-    fn begin(&self, program: &ProgramOver, hart: usize) -> Result<usize, AllocError> {
-        let _ = program;
-        let _ = hart;
-        Ok(0)
-    }
-
-    fn add(
-        &self,
-        program: &ProgramOver,
-        state: &mut usize,
-        events: &[Event],
-    ) -> Result<(), AllocError> {
-        let _ = program;
-        *state = state.wrapping_add(events.len());
-        Ok(())
-    }
-
-    fn finish(&self, program: &ProgramOver, state: usize) -> Result<usize, AllocError> {
-        let _ = program;
-        Ok(state)
-    }
-
-    fn refuse(&self, program: &ProgramOver, row: IllegalRow) -> Result<usize, PathFault> {
-        let _ = program;
-        Err(row.fault)
-    }
-}
 
 /// What was collected of a log.
 #[derive(Drop)]
@@ -59,10 +18,12 @@ pub(crate) struct Collected {
     pub(crate) row: Option<IllegalRow>,
 }
 
-/// Collects the events, or the first illegal row.
+/// Collects the events of legal logs.
 #[derive(Drop)]
 pub(crate) struct Collecting {
     pub(crate) alloc: Global,
+    /// Whether an illegal log is refused. Else its first illegal row is collected.
+    pub(crate) refuses: bool,
 }
 
 impl LogTask<Collected> for Collecting {
@@ -74,7 +35,7 @@ impl LogTask<Collected> for Collecting {
 
     ghost MakesOfIllegal = { λ _ _ _ _ _. ⊤ };
 
-    ghost MayRefuse = { λ _. ⊥ };
+    ghost MayRefuse = { λ task. task.refuses ≡ true };
 
     fn begin(&self, program: &ProgramOver, hart: usize) -> Result<Collected, AllocError> {
         let _ = program;
@@ -102,6 +63,9 @@ impl LogTask<Collected> for Collecting {
 
     fn refuse(&self, program: &ProgramOver, row: IllegalRow) -> Result<Collected, PathFault> {
         let _ = program;
+        if self.refuses {
+            return Err(row.fault);
+        }
         Ok(Collected {
             hart: 0,
             events: Vec::new(self.alloc),

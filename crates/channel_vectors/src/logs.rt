@@ -1,13 +1,13 @@
 //! A program of five instructions, the logs of harts that run it, and how they are sent.
 
 use bench::Config;
-use cases::{Case, Refusing, events_of, mode_of, piece_of};
+use cases::{Case, Refusing, cut, events_of, mode_of, piece_of};
 use legalpath::LegalLog;
 use rvclass::Program;
 use std::alloc::Global;
 
 /// Two `nop`, a jump to the address in `ra`, a branch to itself, and a jump to itself.
-const WORDS: &str = "00000013 00000013 00008067 00000063 0000006f";
+pub(crate) const WORDS: &str = "00000013 00000013 00008067 00000063 0000006f";
 
 /// The rows of logs of four kinds: branches, a jump to `ra`, traps, and jumps of an instruction to itself.
 const KINDS: [&str; 4] = [
@@ -17,22 +17,23 @@ const KINDS: [&str; 4] = [
     "3*80000010,0,3,,",
 ];
 
-/// The program.
-pub(crate) fn program(alloc: Global) -> Option<Program> {
-    let (base, image) = piece_of(&mut Case::new(alloc, ""), WORDS);
+/// The program of these words.
+pub(crate) fn program_of(alloc: Global, words: &str) -> Option<Program> {
+    let (base, image) = piece_of(&mut Case::new(alloc, ""), words);
     Program::new(base, image).ok()
 }
 
 /// Adds the log of these rows.
-fn add_log<'p>(
-    case: &mut Case<'_>,
+fn add_log<'a, 'p>(
+    case: &mut Case<'a>,
     program: &'p Program,
-    rows: &str,
+    rows: &'a str,
     logs: &mut Vec<LegalLog<'p>>,
 ) {
-    let mut rows = Case::new(case.alloc, rows);
-    let events = events_of(&mut rows);
-    case.join(&rows);
+    let unread = case.text;
+    case.text = rows;
+    let events = events_of(case);
+    case.text = unread;
     if events.len() <= 1 << 24 {
         if let Ok(log) = LegalLog::new(program, events) {
             return case.push(logs, log);
@@ -42,11 +43,11 @@ fn add_log<'p>(
 }
 
 /// The logs of this many harts, of the four kinds in turn, and then one of these rows if there are some.
-pub(crate) fn logs_of<'p>(
-    case: &mut Case<'_>,
+pub(crate) fn logs_of<'a, 'p>(
+    case: &mut Case<'a>,
     program: &'p Program,
     harts: u16,
-    long: &str,
+    long: &'a str,
 ) -> Vec<LegalLog<'p>> {
     let mut logs = Vec::new(case.alloc);
     for hart in 0..usize::from(harts) {
@@ -66,36 +67,21 @@ pub(crate) fn logs_in<'p>(case: &mut Case<'_>, program: &'p Program) -> Vec<Lega
     logs_of(case, program, harts, long)
 }
 
-/// Whether a setting has this name.
-fn is_setting(name: &str) -> bool {
-    matches!(
-        name,
-        "harts"
-            | "long"
-            | "period"
-            | "mode"
-            | "capacity"
-            | "keep"
-            | "rooms"
-            | "room"
-            | "turns"
-            | "each"
-            | "last"
-            | "take"
-            | "refuse"
-            | "fails"
-            | "held"
-            | "requests"
-            | "first"
-            | "report"
-    )
-}
+/// The names of settings.
+const SETTINGS: [&str; 18] = [
+    "harts", "long", "period", "mode", "capacity", "keep", "rooms", "room", "turns", "each",
+    "last", "take", "refuse", "fails", "held", "requests", "first", "report",
+];
 
 /// Notes an argument that has not the name of a setting.
 fn check_names(case: &mut Case<'_>) {
     for word in case.text.split_whitespace() {
-        let name = word.split_once('=').unwrap_or(("", "")).0;
-        if !is_setting(name) {
+        let name = cut(word, '=').0;
+        let mut known = false;
+        for setting in SETTINGS {
+            known = known || setting == name;
+        }
+        if !known {
             case.unread();
         }
     }

@@ -56,7 +56,7 @@ fn play<R: Env + Files + Print + Eprint + AllocGlobal + Threads + Wait + Sync>(
 }
 
 fn main(rt: HostRuntime) -> io::Result<ExitCode> {
-    match logs::program(rt.alloc()) {
+    match logs::program_of(rt.alloc(), logs::WORDS) {
         Some(program) => play(&rt, &mut Vectors::new(&program)),
         None => Ok(ExitCode::FAILURE),
     }

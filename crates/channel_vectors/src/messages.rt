@@ -128,25 +128,21 @@ fn put_rest(case: &mut Case<'_>, mut rest: &[u8]) {
     case.put_part("no end");
 }
 
-/// `stream BYTES`: what `read_start` returns, then messages by `read_message` up to a fault or the end.
-pub(crate) fn from_start(case: &mut Case<'_>) {
+/// `stream BYTES`: what `read_start` returns, then messages by `read_message` up to a fault or the end. `messages BYTES`:
+/// those from the first byte on.
+pub(crate) fn from_stream(case: &mut Case<'_>, verb: &str) {
     let digits = case.text;
     let bytes = bytes_of(case, digits);
     let mut rest = bytes.as_slice();
-    match read_start(&mut rest) {
-        Ok(Start::Version2(header)) => put_header(case, header),
-        Ok(Start::Version1(Some(message))) => put_message(case, &message),
-        Ok(Start::Version1(None)) => case.put_part("no message"),
-        Err(fault) => return case.put_part(fault),
+    if verb == "stream" {
+        match read_start(&mut rest) {
+            Ok(Start::Version2(header)) => put_header(case, header),
+            Ok(Start::Version1(Some(message))) => put_message(case, &message),
+            Ok(Start::Version1(None)) => case.put_part("no message"),
+            Err(fault) => return case.put_part(fault),
+        }
     }
     put_rest(case, rest);
-}
-
-/// `messages BYTES`: messages by `read_message` from the first byte on, up to a fault or the end.
-pub(crate) fn from_stream(case: &mut Case<'_>) {
-    let digits = case.text;
-    let bytes = bytes_of(case, digits);
-    put_rest(case, bytes.as_slice());
 }
 
 /// `fault NAME`: the text of a fault that no other case has.

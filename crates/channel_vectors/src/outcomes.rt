@@ -13,8 +13,7 @@ pub(crate) fn put_counts(case: &mut Case<'_>, name: &str, counts: &[u64]) {
         if hart < 4 {
             case.put_word(*count);
         } else if counts.get(hart - 4) != Some(count) {
-            let done = write!(case.came, ", hart {hart} {count}");
-            case.note(done);
+            case.put_filled(", hart # #", &[hart as u64, *count]);
         }
     }
 }

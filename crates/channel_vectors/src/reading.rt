@@ -88,8 +88,7 @@ pub(crate) fn piece(case: &mut Case<'_>) {
     if reader.next(&mut events).is_err() {
         case.unread();
     }
-    let (count, bytes) = (events.len(), given.get());
-    let done = write!(case.came, "{count} events of {bytes} bytes");
-    case.note(done);
+    let read = [events.len() as u64, given.get() as u64];
+    case.put_filled("# events of # bytes", &read);
     case.join(&text);
 }

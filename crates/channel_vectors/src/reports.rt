@@ -26,19 +26,17 @@ fn stop_of(case: &mut Case<'_>, word: &str) -> Option<Stop> {
 }
 
 /// The outcome of a hart, by `PACKETS BYTES closed|open` and then its events.
-fn hart_of(case: &mut Case<'_>, words: &str) -> HartOutcome {
-    let mut hart = Case::new(case.alloc, words.trim());
-    let (taken, bytes, closed) = (hart.word(), hart.word(), hart.word());
-    let outcome = HartOutcome {
+fn hart_of<'a>(case: &mut Case<'a>, words: &'a str) -> HartOutcome {
+    case.text = words.trim();
+    let (taken, bytes, closed) = (case.word(), case.word(), case.word());
+    HartOutcome {
         packets: Vec::new(case.alloc),
-        taken: hart.decimal(taken),
-        bytes: hart.decimal(bytes),
-        decoded: events_of(&mut hart),
+        taken: case.decimal(taken),
+        bytes: case.decimal(bytes),
+        decoded: events_of(case),
         closed: closed == "closed",
         refused: false,
-    };
-    case.join(&hart);
-    outcome
+    }
 }
 
 /// The outcome of two harts, by `STOP | HART | HART`.

@@ -1,11 +1,12 @@
 //! Cases of logs in files that are read side by side (`log_streams`): logs of a loop of two instructions.
 
-use crate::files_in_memory::{Kind, Opens, Table};
-use crate::log_tasks::{Collected, Collecting, Counting};
-use cases::{Case, cut, piece_of, put_rows};
+use crate::files_in_memory::{Kind, Table};
+use crate::log_tasks::{Collected, Collecting};
+use crate::logs::program_of;
+use cases::{Case, cut, put_rows};
 use log_streams::{Files, IllegalRow, LogsFault, Stop, made_of_logs};
 use retire::{Event, MOST_ROWS};
-use rvclass::Program;
+use std::sync::atomic::Ordering;
 use std::thread::Threads;
 
 /// The loop: a `nop`, and a jump back to it.
@@ -31,12 +32,6 @@ struct Log<'t> {
     last: &'t str,
 }
 
-/// The program with the loop.
-fn program_of(case: &mut Case<'_>) -> Option<Program> {
-    let (base, image) = piece_of(case, WORDS);
-    Program::new(base, image).ok()
-}
-
 /// The value of a part `NAME=VALUE` of a word, or an empty text.
 fn value_in<'t>(word: &'t str, name: &str) -> &'t str {
     for part in word.split(':') {
@@ -47,8 +42,9 @@ fn value_in<'t>(word: &'t str, name: &str) -> &'t str {
     ""
 }
 
-/// The number of digits, or 0 where there are none.
-fn number_in(case: &mut Case<'_>, digits: &str) -> u64 {
+/// The same as a number, or 0 where there is none.
+fn number_in(case: &mut Case<'_>, word: &str, name: &str) -> u64 {
+    let digits = value_in(word, name);
     if digits.is_empty() {
         return 0;
     }
@@ -59,33 +55,27 @@ fn number_in(case: &mut Case<'_>, digits: &str) -> u64 {
 fn log_in<'t>(case: &mut Case<'_>, word: &'t str) -> Log<'t> {
     Log {
         rows: case.decimal(cut(word, ':').0),
-        twice: number_in(case, value_in(word, "twice=")),
-        bad: number_in(case, value_in(word, "bad=")),
+        twice: number_in(case, word, "twice="),
+        bad: number_in(case, word, "bad="),
         last: value_in(word, "last="),
     }
 }
 
-/// Adds a text.
-fn add(case: &mut Case<'_>, bytes: &mut Vec<u8>, text: &str) {
-    let done = bytes.extend_from_slice(text.as_bytes());
-    case.note(done);
-}
-
-/// The text of a log.
-fn text_of(case: &mut Case<'_>, log: Log<'_>) -> Vec<u8> {
-    let mut text = Vec::new(case.alloc);
-    add(case, &mut text, HEADER);
+/// The text of a log, which came in a case of its own.
+fn text_of<'a>(case: &Case<'a>, log: Log<'_>) -> Case<'a> {
+    let mut text = case.again();
+    text.put(HEADER);
     let mut second = 0;
     for row in 1..log.rows.saturating_add(1) {
         let kind = if row == log.bad { 2 } else { second };
-        add(case, &mut text, ROWS[kind % 3]);
+        text.put(ROWS[kind % 3]);
         if row != log.twice {
             second = 1 - second % 2;
         }
     }
     if !log.last.is_empty() {
-        add(case, &mut text, log.last);
-        add(case, &mut text, "\n");
+        text.put(log.last);
+        text.put("\n");
     }
     text
 }
@@ -107,41 +97,45 @@ fn kind_of(case: &mut Case<'_>, name: &str) -> Kind {
     }
 }
 
+/// Adds a file, `KIND:LOG`.
+fn add_file(case: &mut Case<'_>, table: &mut Table, file: &str) {
+    let (name, rest) = cut(file, ':');
+    let kind = kind_of(case, name);
+    let log = log_in(case, rest);
+    let text = text_of(case, log);
+    case.join(&text);
+    table.put(case, kind, text.came);
+}
+
 /// The files of arguments, each `KIND:LOG`.
 fn table_of(case: &mut Case<'_>) -> Table {
     let mut table = Table::new(case.alloc);
     for word in case.text.split_whitespace() {
         if !word.starts_with("most=") {
             let (count, file) = case.times(word);
-            let (name, rest) = cut(file, ':');
-            let kind = kind_of(case, name);
-            let log = log_in(case, rest);
             for _ in 0..count {
-                let text = text_of(case, log);
-                table.put(case, kind, text);
+                add_file(case, &mut table, file);
             }
         }
     }
     table
 }
 
-/// The paths of so many files.
-fn names_of(case: &mut Case<'_>, count: usize) -> Vec<String> {
-    let mut names = Vec::new(case.alloc);
+/// The paths of so many files, as words that came in a case of its own.
+fn names_of<'a>(case: &Case<'a>, count: usize) -> Case<'a> {
+    let mut names = case.again();
     for number in 0..count {
-        let mut name = String::new(case.alloc);
-        let done = write!(name, "{number}");
-        case.note(done);
-        case.push(&mut names, name);
+        names.put_word(number);
     }
     names
 }
 
 /// The paths as they are handed over.
-fn paths_of<'n>(case: &mut Case<'_>, names: &'n [String]) -> Vec<&'n str> {
+fn paths_of<'n>(case: &mut Case<'_>, names: &'n Case<'_>) -> Vec<&'n str> {
+    case.join(names);
     let mut paths = Vec::new(case.alloc);
-    for name in names {
-        case.push(&mut paths, name.as_str());
+    for name in names.came.split_whitespace() {
+        case.push(&mut paths, name);
     }
     paths
 }
@@ -165,22 +159,24 @@ fn put_end(case: &mut Case<'_>, end: Result<(), LogsFault<'_>>) {
 fn put_opens(case: &mut Case<'_>, table: &Table, made: usize) {
     let mut is_over = false;
     let mut after = 0;
-    for (number, opens) in table.opens(case).iter().enumerate() {
+    for (number, file) in table.files.iter().enumerate() {
+        let count = file.opens.load(Ordering::SeqCst);
+        let place = file.place.load(Ordering::SeqCst);
         let least = u64::from(number <= made);
-        let most = u64::from(opens.kind.is_regular() || !is_over);
-        if opens.count < least || most < opens.count {
+        let most = u64::from(file.kind.is_regular() || !is_over);
+        if count < least || most < count {
             case.put_word(number);
             case.put(" is opened otherwise");
         }
-        if opens.kind == Kind::Pipe && opens.count > 0 {
-            if opens.place < after {
+        if file.kind == Kind::Pipe && count > 0 {
+            if place < after {
                 case.put_word("pipes in another order");
             }
-            after = opens.place;
+            after = place;
         }
-        is_over = is_over || number == made && !opens.kind.is_regular();
+        is_over = is_over || number == made && !file.kind.is_regular();
     }
-    if table.early_pipes() > 0 {
+    if table.early.load(Ordering::SeqCst) > 0 {
         case.put_word("pipes that are opened early");
     }
 }
@@ -189,33 +185,6 @@ fn put_opens(case: &mut Case<'_>, table: &Table, made: usize) {
 fn most_of(case: &mut Case<'_>) -> u32 {
     case.number("most", u64::from(MOST_ROWS))
         .min(u64::from(u32::MAX)) as u32
-}
-
-/// `logs [most=N] FILES`: how many events the logs of files have, and the first fault. Where a file is opened otherwise than
-/// it has to be, that is said.
-pub(crate) fn counted<R: Threads + Sync>(case: &mut Case<'_>, rt: &R) {
-    let table = table_of(case);
-    let most = most_of(case);
-    let names = names_of(case, table.count());
-    let paths = paths_of(case, names.as_slice());
-    let Some(program) = program_of(case) else {
-        return case.unread();
-    };
-    let alloc = case.alloc;
-    let found = made_of_logs(
-        alloc,
-        rt,
-        &table,
-        &program,
-        most,
-        paths.as_slice(),
-        &Counting,
-    );
-    for rows in found.made.as_slice() {
-        case.put_word(*rows);
-    }
-    put_end(case, found.end);
-    put_opens(case, &table, found.made.len());
 }
 
 /// Whether events are those of the loop.
@@ -256,26 +225,23 @@ fn put_collected(case: &mut Case<'_>, hart: usize, one: &Collected) {
     }
 }
 
-/// `logs-collected FILES`: how many events of the loop the logs of files have, or their illegal rows, by a task that
-/// refuses no log.
-pub(crate) fn collected<R: Threads + Sync>(case: &mut Case<'_>, rt: &R) {
+/// `logs [most=N] FILES` and `logs-collected FILES`: how many events of the loop the logs of files have, and the first fault;
+/// or illegal rows by a task that refuses no log. Where a file is opened otherwise than it has to be, that is said.
+pub(crate) fn made<R: Threads + Sync>(case: &mut Case<'_>, rt: &R, verb: &str) {
     let table = table_of(case);
-    let names = names_of(case, table.count());
-    let paths = paths_of(case, names.as_slice());
-    let Some(program) = program_of(case) else {
+    let most = most_of(case);
+    let names = names_of(case, table.files.len());
+    let paths = paths_of(case, &names);
+    let Some(program) = program_of(case.alloc, WORDS) else {
         return case.unread();
     };
     let alloc = case.alloc;
-    let task = Collecting { alloc };
-    let found = made_of_logs(
+    let task = Collecting {
         alloc,
-        rt,
-        &table,
-        &program,
-        MOST_ROWS,
-        paths.as_slice(),
-        &task,
-    );
+        refuses: verb == "logs",
+    };
+    let paths = paths.as_slice();
+    let found = made_of_logs(alloc, rt, &table, &program, most, paths, &task);
     for (hart, one) in found.made.iter().enumerate() {
         put_collected(case, hart, one);
     }
@@ -288,8 +254,8 @@ pub(crate) fn collected<R: Threads + Sync>(case: &mut Case<'_>, rt: &R) {
 pub(crate) fn early(case: &mut Case<'_>) {
     let mut table = Table::new(case.alloc);
     for _ in 0..3u32 {
-        let bytes = Vec::new(case.alloc);
-        table.put(case, Kind::Pipe, bytes);
+        let text = String::new(case.alloc);
+        table.put(case, Kind::Pipe, text);
     }
     for step in case.text.split_whitespace() {
         match step.split_once('=') {
@@ -303,5 +269,5 @@ pub(crate) fn early(case: &mut Case<'_>) {
             _ => case.unread(),
         }
     }
-    case.put_shown(table.early_pipes());
+    case.put_shown(table.early.load(Ordering::SeqCst));
 }

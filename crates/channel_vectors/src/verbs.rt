@@ -29,12 +29,7 @@ impl<'p> Vectors<'p> {
     /// Appends what a case of messages, the demultiplexer or the queue gives.
     fn answer_alone(&mut self, case: &mut Case<'_>, verb: &str) {
         match verb {
-            "message" => messages::written(case),
-            "header" => messages::header_written(case),
-            "limits" => queue::limits(case),
-            "memory" => messages::in_memory(case),
-            "stream" => messages::from_start(case),
-            "messages" => messages::from_stream(case),
+            "stream" | "messages" => messages::from_stream(case, verb),
             "fault" => messages::fault(case),
             "demux" => self.demux = split::begin(case),
             "accept" => split::accept(case, &mut self.demux),
@@ -46,17 +41,33 @@ impl<'p> Vectors<'p> {
         }
     }
 
+    /// Appends what a case that starts threads gives, or one of those.
+    fn answer_in_threads<R: Threads + Wait + Sync>(
+        &mut self,
+        rt: &R,
+        case: &mut Case<'_>,
+        verb: &str,
+    ) {
+        let program = self.program;
+        match verb {
+            "run" => runs::run_over_threads(case, rt, program),
+            "alike" => runs::alike(case, rt, program),
+            "bench" => runs::benched(case, rt, program),
+            "heap" => runs::in_heap(case, rt, program),
+            "logs" | "logs-collected" => streams::made(case, rt, verb),
+            "message" => messages::written(case),
+            "header" => messages::header_written(case),
+            "limits" => queue::limits(case),
+            "memory" => messages::in_memory(case),
+            _ => self.answer_alone(case, verb),
+        }
+    }
+
     /// Appends what a case gives. Where there is no such verb, or its arguments are not read, that is noted.
     pub(crate) fn answer<R: Threads + Wait + Sync>(&mut self, rt: &R, case: &mut Case<'_>) {
         let program = self.program;
         match case.word() {
             "replay" => runs::replayed(case, program),
-            "run" => runs::run_over_threads(case, rt, program),
-            "alike" => runs::alike(case, rt, program),
-            "bench" => runs::benched(case, rt, program),
-            "heap" => runs::in_heap(case, rt, program),
-            "logs" => streams::counted(case, rt),
-            "logs-collected" => streams::collected(case, rt),
             "collect" => collecting::collected(case, program),
             "told" => reading::told(case, program),
             "piece" => reading::piece(case),
@@ -64,7 +75,7 @@ impl<'p> Vectors<'p> {
             "grown" => reports::grown(case, program),
             "cut" => reports::cut_at_each(case, program),
             "legal" => logs::kept(case, program),
-            verb => self.answer_alone(case, verb),
+            verb => self.answer_in_threads(rt, case, verb),
         }
     }
 }

@@ -14,7 +14,7 @@ use std::fmt;
 pub type Fault<'a> = command_inputs::Fault<'a, CommandReason<'a>>;
 
 /// What the program stops at, beside what any subcommand may stop at.
-#[derive(Clone, Copy, Debug, PartialEq, Eq)]
+#[derive(Clone, Copy)]
 pub enum CommandReason<'a> {
     /// The arguments are no text. No subcommand stops at this.
     Words,

@@ -14,7 +14,7 @@ const EXCEPTION: u8 = 1;
 const INTERRUPT: u8 = 2;
 
 /// What a comparison says of a hart, and where its log and what is decoded of it first differ.
-#[derive(Clone, Copy, Debug)]
+#[derive(Clone, Copy)]
 pub struct ExplainedHart {
     /// What its line says.
     pub line: ComparedHart,

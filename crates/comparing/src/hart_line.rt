@@ -7,7 +7,7 @@ use bench::Verdict;
 use std::fmt;
 
 /// What a comparison says of a hart. Its text is the line of the hart without the line's end.
-#[derive(Clone, Copy, Debug, PartialEq, Eq)]
+#[derive(Clone, Copy, PartialEq, Eq)]
 pub struct ComparedHart {
     /// The number of the hart.
     pub hart: usize,

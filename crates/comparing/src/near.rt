@@ -7,7 +7,7 @@ use retire::Event;
 
 /// The rows of a log and of what is decoded of its hart at the first place where they differ or one of them has ended,
 /// and up to three rows before it, which both have.
-#[derive(Clone, Copy, Debug)]
+#[derive(Clone, Copy)]
 pub struct NearRows {
     /// The row of the log at the place, if there is one.
     pub log: Option<Event>,

@@ -14,7 +14,7 @@ use bench::Verdict;
 use retire::Event;
 
 /// How far the events of a log are those that were decoded of its hart. Both come piece by piece, side by side.
-#[derive(Clone, Copy, Debug)]
+#[derive(Clone, Copy)]
 pub struct Comparing {
     /// How many events of the log came.
     pub(crate) events: usize,

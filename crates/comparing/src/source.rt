@@ -8,7 +8,7 @@ use message::MessageFault;
 use std::fmt;
 
 /// Which message of a capture it is.
-#[derive(Clone, Copy, Debug, PartialEq, Eq)]
+#[derive(Clone, Copy, PartialEq, Eq)]
 pub struct SourceMessage {
     /// How many messages of all harts come before it.
     pub place: u64,
@@ -19,7 +19,7 @@ pub struct SourceMessage {
 }
 
 /// Where a row of a hart comes from, or why it is not decoded.
-#[derive(Clone, Copy, Debug, PartialEq, Eq)]
+#[derive(Clone, Copy, PartialEq, Eq)]
 pub enum RowSource {
     /// The row is decoded: this is the first message of its hart after which it is.
     Settles {

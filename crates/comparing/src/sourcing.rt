@@ -20,7 +20,7 @@ use rvclass::ProgramOver;
 use std::alloc::{AllocError, Allocator};
 
 /// What a comparison says of a hart, and where the row comes from in which its log and what is decoded first differ.
-#[derive(Clone, Copy, Debug)]
+#[derive(Clone, Copy)]
 pub struct SourcedHart {
     /// What is said of the hart.
     pub hart: ExplainedHart,

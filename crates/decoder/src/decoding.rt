@@ -36,7 +36,7 @@ use std::alloc::Allocator;
 ///
 /// Where packets were lost, [`Decoder::resume`] lets the decoder begin a new stretch. It passes over packets until a
 /// synchronisation comes. From there on it decodes as if the trace began with this synchronisation.
-#[derive(Clone, Copy, Debug)]
+#[derive(Clone, Copy)]
 pub struct Decoder {
     pub(crate) phase: Phase,
     pub(crate) waiting: Option<Waiting>,

@@ -22,7 +22,7 @@ use rvclass::ProgramOver;
 use std::alloc::Allocator;
 
 /// An address packet with plain bits, which waits for the packet that follows it.
-#[derive(Clone, Copy, Debug, PartialEq, Eq)]
+#[derive(Clone, Copy, PartialEq, Eq)]
 pub struct Waiting {
     /// The outcomes of its branches.
     pub outcomes: Outcomes,

@@ -5,7 +5,7 @@ use payload::Mode;
 use retire::Event;
 
 /// How far a trace has come.
-#[derive(Clone, Copy, Debug, PartialEq, Eq)]
+#[derive(Clone, Copy, PartialEq, Eq)]
 pub enum Phase {
     /// No packet came.
     Unopened,
@@ -19,7 +19,7 @@ pub enum Phase {
 
 /// All that a decoder remembers of the packets that it took. [`Decoder::state`](crate::Decoder::state) returns it, and
 /// [`Decoder::from_state`](crate::Decoder::from_state) makes the decoder from it again.
-#[derive(Clone, Copy, Debug, PartialEq, Eq)]
+#[derive(Clone, Copy, PartialEq, Eq)]
 pub struct DecoderState {
     /// How far the trace has come.
     pub phase: Phase,

@@ -1,7 +1,7 @@
 //! What came, where it is in the bytes.
 
 /// A message whose payload is left where it is.
-#[derive(Clone, Copy, Debug)]
+#[derive(Clone, Copy)]
 pub struct BorrowedMessage<'a> {
     /// The hart whose trace the payload belongs to.
     pub hart: u16,
@@ -13,7 +13,7 @@ pub struct BorrowedMessage<'a> {
 
 /// What is at a place of the bytes that came, where it is in them. The offset counts from the first of all bytes, from
 /// 0.
-#[derive(Clone, Copy, Debug)]
+#[derive(Clone, Copy)]
 pub enum BorrowedSpan<'a> {
     /// A message that is taken.
     Message {

@@ -35,7 +35,7 @@ use std::marker::Model;
 /// Whether a message was sent is asked at most three times at each place: after a message that no other follows, before
 /// a run of bytes, and inside one. Whether a message is complete is asked three times more. So time is linear in the
 /// bytes, whatever they are. Takes no memory.
-#[derive(Debug, Drop)]
+#[derive(Drop)]
 pub struct GuidedScan<'a> {
     bytes: &'a [u8],
     at: usize,

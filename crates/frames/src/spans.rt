@@ -23,7 +23,7 @@ use std::marker::Model;
 /// It asks at most twice for each byte whether a frame is taken there. Each answer takes at most 59 looks whether a
 /// frame begins at a place: there, twice, and after that frame; and at each of the 28 places inside it, and after the
 /// frame there. So time is linear in the bytes, whatever they are. Takes no memory.
-#[derive(Debug, Drop)]
+#[derive(Drop)]
 pub struct Spans<'a> {
     bytes: &'a [u8],
     at: usize,

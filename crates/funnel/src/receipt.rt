@@ -31,7 +31,7 @@ impl<A: Allocator> Model for Receipt<A> {
 }
 
 /// What the outlet and a receipt say of one hart.
-#[derive(Clone, Copy, Debug, PartialEq, Eq)]
+#[derive(Clone, Copy, PartialEq, Eq)]
 pub struct Settled {
     /// The hart.
     pub hart: u16,

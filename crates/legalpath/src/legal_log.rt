@@ -17,7 +17,7 @@ use std::alloc::{Allocator, Global};
 use std::marker::Model;
 
 /// A log that is legal for the program that it ran, of at most 2^24 events. It never changes.
-#[derive(Debug, Drop)]
+#[derive(Drop)]
 pub struct LegalLog<'p, A: Allocator = Global> {
     program: &'p Program,
     events: Vec<Event, A>,

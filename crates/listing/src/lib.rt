@@ -12,6 +12,7 @@
 #![tactic(auto)]
 
 mod capture_listing;
+mod cell;
 mod cells;
 mod endings;
 mod entries;

@@ -4,7 +4,7 @@ use captures::CaptureFault;
 use std::alloc::{Allocator, Global};
 
 /// What was found in a capture that was listed.
-#[derive(Debug, Drop)]
+#[derive(Drop)]
 pub struct Listed<A: Allocator = Global> {
     /// Whether the closing packet of each hart was decoded.
     pub closed: Vec<bool, A>,

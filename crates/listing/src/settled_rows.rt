@@ -5,6 +5,7 @@ ghost use Rattle.listing.specs.SettledRows.{first_row, last_row, row_field, rows
 
 use crate::form::Form;
 use std::fmt;
+use std::fmt::Display;
 
 /// The rows of a message's events. Its text is `, rows A to B`, or `, row A` of one event, or nothing of none.
 #[derive(Clone, Copy)]
@@ -61,7 +62,7 @@ impl fmt::Display for ShownRows {
 
     fn fmt<W: fmt::Write>(&self, f: &mut fmt::Formatter<W>) -> fmt::Result {
         if self.form.shows_rows() {
-            return write!(f, "{}", self.settled);
+            return self.settled.fmt(f);
         }
         f.write_str("")
     }

@@ -13,7 +13,7 @@ use std::fmt;
 pub type Fault<'a> = command_inputs::Fault<'a, LogReason>;
 
 /// An option of `generate` that is given and does not go with what is made.
-#[derive(Clone, Copy, Debug, PartialEq, Eq)]
+#[derive(Clone, Copy, PartialEq, Eq)]
 pub enum Stray {
     /// `--hart`, which goes with a log.
     Hart,
@@ -34,7 +34,7 @@ pub enum Stray {
 }
 
 /// What only a subcommand that reads or makes logs stops at.
-#[derive(Clone, Copy, Debug, PartialEq, Eq)]
+#[derive(Clone, Copy, PartialEq, Eq)]
 pub enum LogReason {
     /// The text of the schedule is no schedule.
     Schedule(ScheduleFault),

@@ -38,7 +38,7 @@ use Rattle.losses.specs.declared.hart_trace.HartTrace.{HartTrace}
 use Rattle.losses.specs.declared.part.HartPieces.{HartPieces}
 use Rattle.losses.proofs.MessageSteps.{IsTaken, message_more, message_not_decoded, taken_by, messages_describe}
 use Rattle.losses.proofs.RunLemmas.{describes_nothing}
-use Rattle.losses.proofs.TraceSteps.{state_laws}
+use Rattle.losses.proofs.StateLaws.{state_laws}
 
 module _ {A : Type 0} (words : Words) (mode : Mode) (messages : List Message) (message : Message) (harts : Harts)
     (traces : List (HartTrace A)) (pieces : List (HartPieces A))

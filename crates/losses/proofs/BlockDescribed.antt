@@ -1,8 +1,7 @@
--- The packets of a block describe its stretch.
-use Rattle.std.proofs.Common.{◌≡◌, ℕ, zero, suc, List, [], ◌∷◌, ◌++◌, drop, take, Option, Some, None, refl, sym, ap}
+-- The last packets of a log, and what they describe from one on that begins a stretch.
+use Rattle.std.proofs.Common.{◌≡◌, ℕ, zero, suc, List, [], ◌∷◌, ◌++◌, drop, Option, Some, None, refl, sym, ap}
 use Rattle.std.proofs.Common.{subst}
 use Rattle.std.proofs.Common.{◌∙◌}
-use Rattle.std.proofs.lemmas.List.{take-append-drop}
 use Rattle.std.specs.List.{last_or}
 use Rattle.retire.specs.declared.event.Event.{Event}
 use Rattle.rvclass.specs.Words.{Words, IsProgram}
@@ -21,9 +20,7 @@ use Rattle.decoder.specs.Order.{MayPrecede, first}
 use Rattle.decoder.specs.Pieces.{Pieces, reported_after}
 use Rattle.roundtrip.proofs.FirstPackets.{join-stretches, packets_have_stretches}
 use Rattle.roundtrip.specs.Reach.{stretches}
-use Rattle.losses.specs.Blocks.{Block}
-use Rattle.losses.specs.Parts.{stretch_of, stretch_of_block}
-use Rattle.losses.specs.steps.Traces.{from_start, DescribesFrom}
+use Rattle.losses.specs.Parts.{stretch_of}
 
 -- Events that follow on another are legal by themselves.
 legal_alone : (words : Words) (before : Option Event) (events : List Event) → FollowOn words before events
@@ -85,11 +82,11 @@ module _ (words : Words) (mode : Mode) where
   rest_drop (suc count) (p ∷ ps) (piece ∷ pieces) r = rest_drop count ps pieces (rest_behind p ps piece pieces r)
 
   -- From a synchronisation on.
-  from_sync : (taken : _) (priv address : ℕ) (ps more : List Packet) (piece : List Event) (pieces : List (List Event))
+  pub sync_described : (taken : _) (priv address : ℕ) (ps more : List Packet) (piece : List Event) (pieces : List (List Event))
       → Rest words mode (packet.Sync taken priv address ∷ ps ++ more) (piece ∷ pieces)
       → Describes words (packet.Support (support.Open mode) ∷ packet.Sync taken priv address ∷ ps)
       (stretch_of (packet.Sync taken priv address ∷ ps) (piece ∷ pieces))
-  from_sync taken priv address ps more piece pieces r =
+  sync_described taken priv address ps more piece pieces r =
       let sync = packet.Sync taken priv address in
       let open_packet = packet.Support (support.Open mode) in
       let fits = r.each.1 in
@@ -104,11 +101,11 @@ module _ (words : Words) (mode : Mode) where
       (front_describes words (open_packet ∷ sync ∷ ps) more (join (piece ∷ pieces)) all).0
 
   -- From the packet on that opens the trace.
-  from_open : (announced : Mode) (ps more : List Packet) (piece : List Event) (pieces : List (List Event))
+  pub open_described : (announced : Mode) (ps more : List Packet) (piece : List Event) (pieces : List (List Event))
       → Rest words mode (packet.Support (support.Open announced) ∷ ps ++ more) (piece ∷ pieces)
       → Describes words (packet.Support (support.Open announced) ∷ ps)
       (stretch_of (packet.Support (support.Open announced) ∷ ps) (piece ∷ pieces))
-  from_open announced ps more piece pieces r =
+  open_described announced ps more piece pieces r =
       let opens = packet.Support (support.Open announced) in
       let is = r.opening announced refl in
       let by_mode = subst (λ m. Pieces words m r.before r.reported (opens ∷ ps ++ more) None (piece ∷ pieces))
@@ -125,26 +122,6 @@ module _ (words : Words) (mode : Mode) where
       } in
       (front_describes words (opens ∷ ps) more (join (piece ∷ pieces)) all).0
 
-  -- Some of the last packets describe their stretch.
-  pub stretch_described : (ps more : List Packet) (pieces : List (List Event)) → Rest words mode (ps ++ more) pieces
-      → DescribesFrom words mode (from_start ps) (stretch_of ps pieces)
-  stretch_described [] more pieces r = refl
-  stretch_described (p ∷ ps) more [] r = absurd r.each
-  stretch_described (packet.Sync taken priv address ∷ ps) more (piece ∷ pieces) r =
-      from_sync taken priv address ps more piece pieces r
-  stretch_described (packet.Trap taken priv cause interrupt handler address tval ∷ ps) more (piece ∷ pieces) r =
-      stretch_described ps more pieces (rest_behind _ (ps ++ more) piece pieces r)
-  stretch_described (packet.Support (support.Open announced) ∷ ps) more (piece ∷ pieces) r =
-      from_open announced ps more piece pieces r
-  stretch_described (packet.Support support.EndedRep ∷ ps) more (piece ∷ pieces) r =
-      stretch_described ps more pieces (rest_behind _ (ps ++ more) piece pieces r)
-  stretch_described (packet.Support support.EndedNtr ∷ ps) more (piece ∷ pieces) r =
-      stretch_described ps more pieces (rest_behind _ (ps ++ more) piece pieces r)
-  stretch_described (packet.Address taken delta report ∷ ps) more (piece ∷ pieces) r =
-      stretch_described ps more pieces (rest_behind _ (ps ++ more) piece pieces r)
-  stretch_described (packet.Map taken ∷ ps) more (piece ∷ pieces) r =
-      stretch_described ps more pieces (rest_behind _ (ps ++ more) piece pieces r)
-
 -- The packets of a legal log, with its stretches.
 pub rest_of_log : (words : Words) → IsProgram words → (period : ℕ) (mode : Mode) (log : List Event) → Legal words log
     → Rest words mode (packets words period mode log) (stretches words period log)
@@ -160,16 +137,3 @@ rest_of_log words program period mode log legal = record {
         ≡ Some (packet.Support (support.Open announced))
         → announced ≡ mode
     same announced is = cc
-
--- The packets of a block of a legal log describe its stretch.
-pub block_described : (words : Words) → IsProgram words → (period : ℕ) (mode : Mode) (log : List Event)
-    → Legal words log → (block : Block)
-    → DescribesFrom words mode (from_start (take block.count (drop block.first (packets words period mode log))))
-    (stretch_of_block (packets words period mode log) (stretches words period log) block)
-block_described words program period mode log legal block =
-    let all = drop block.first (packets words period mode log) in
-    let pieces = drop block.first (stretches words period log) in
-    let rest = rest_drop words mode block.first (packets words period mode log) (stretches words period log)
-    (rest_of_log words program period mode log legal) in
-    stretch_described words mode (take block.count all) (drop block.count all) pieces
-    (subst (λ l. Rest words mode l pieces) (sym (take-append-drop block.count all)) rest)

@@ -1,11 +1,9 @@
 -- Blocks of numbers, one number after the other.
-use Rattle.std.proofs.Common.{◌≡◌, ℕ, zero, suc, ◌+◌, ◌-◌, List, [], ◌∷◌, ◌++◌, refl, sym, ap, ◌∙◌, arith}
-use Rattle.std.proofs.Common.{append_assoc}
-use Rattle.std.proofs.lemmas.List.{append-nil}
+use Rattle.std.proofs.Common.{◌≡◌, ℕ, zero, suc, ◌+◌, ◌-◌, List, [], ◌∷◌, refl, sym, ap, ◌∙◌, arith}
 use Rattle.retire.specs.declared.event.Event.{Event}
 use Rattle.payload.specs.declared.packet.Packet.{Packet}
 use Rattle.losses.specs.Blocks.{Block, block_before, blocks_from, joined_or_apart}
-use Rattle.losses.specs.Parts.{LogPart, gap, stretch, stretch_of_block, parts_of_blocks}
+use Rattle.losses.specs.Parts.{gap, parts_of_blocks}
 
 abbrev pub block_of : ℕ → ℕ → ℕ → Block
 block_of missing first count = record { missing = missing; first = first; count = count }
@@ -73,11 +71,3 @@ module _ (ps : List Packet) (pieces : List (List Event)) where
       missing
       ∙ ap (parts_of_blocks ps pieces) (set_apart (block_of 0 0 0) number (suc number) 1 rest)
       ∙ ap (λ n. parts_of_blocks ps pieces (block_before (block_of n (suc number) 1) rest)) (sym missing)
-
-  -- Of a last block there are the gap and the stretch.
-  pub parts_of_last : (block : Block) (done : List LogPart)
-      → done ++ parts_of_blocks ps pieces (block ∷ [])
-      ≡ (done ++ gap block.missing) ++ stretch (stretch_of_block ps pieces block)
-  parts_of_last block done =
-      ap (λ l. done ++ (gap block.missing ++ l)) (append-nil (stretch (stretch_of_block ps pieces block)))
-      ∙ sym (append_assoc done (gap block.missing) (stretch (stretch_of_block ps pieces block)))

@@ -1,15 +1,28 @@
 -- Messages that are taken in turn.
-use Rattle.std.proofs.Common.{◌≡◌, ℕ, ◌+◌, ◌<◌, List, [], ◌∷◌, ◌++◌, drop, length, take, Option, Some, None, get_or}
+use Rattle.std.proofs.Common.{◌≡◌, ◌≢◌, ◌⊎◌, inl, inr, ℕ, ◌+◌, ◌-◌, ◌<◌, ◌≤◌, ◌^◌, All, false, List, [], ◌∷◌, ◌++◌}
+use Rattle.std.proofs.Common.{drop, length, map, take, Option, Some, None, Ok, get_or}
 use Rattle.std.proofs.Common.{refl, sym, ap, subst, ◌∙◌, arith, slice_get}
-use Rattle.std.specs.Prelude.{IsOk}
+use Rattle.std.specs.Prelude.{IsOk, is_ok, slice_set}
+use Rattle.std.proofs.lemmas.Bool.{lt-ltb}
 use Rattle.std.proofs.lemmas.List.{drop_more, length-set, length-take-le, take-append-drop}
+use Rattle.std.proofs.lemmas.List.Elements.{All-head, All-tail}
 use Rattle.rvclass.specs.Words.{Words}
+use Rattle.payload.specs.Reading.{reading}
 use Rattle.payload.specs.declared.mode.Mode.{Mode}
+use Rattle.payload.specs.declared.packet.Packet.{Packet}
+use Rattle.message.proofs.AcceptedLemmas.{slice_get-set}
+use Rattle.message.proofs.AnsweringLossy.{answer_lossy-next}
+use Rattle.message.proofs.Elements.{slice_get-some}
+use Rattle.message.proofs.OfHartLemmas.{of_hart-own, of_hart-others}
 use Rattle.message.specs.Accepted.{newcomers}
-use Rattle.message.specs.Harts.{Harts}
-use Rattle.message.specs.Lossy.{accepting_lossy, harts_after_lossy, harts_after_found_lossy, state_after_lossy}
+use Rattle.message.specs.Accepting.{next_of}
+use Rattle.message.specs.Harts.{Harts, is_over}
+use Rattle.message.specs.Lossy.{accepting_lossy, answer_lossy, answer_lossy_of, harts_after_found_lossy}
+use Rattle.message.specs.Lossy.{harts_after_lossy, state_after_lossy, state_by_lossy}
+use Rattle.message.specs.OfHart.{of_hart}
 use Rattle.message.specs.declared.hart.Hart.{Hart}
 use Rattle.message.specs.declared.message.Message.{Message}
+use Rattle.losses.specs.Apart.{AreRising}
 use Rattle.losses.specs.Stops.{AreAcceptedLossy, CollectingStopsBy, expected_lossy}
 use Rattle.losses.specs.DescribedParts.{EachHartDescribes}
 use Rattle.losses.specs.steps.Collecting.{IsNotCollected}
@@ -35,6 +48,96 @@ length-harts_after harts message = by_hart (slice_get harts message.hart)
     by_hart : (hart : Option Hart) → length (harts_after_found_lossy harts message hart) ≡ length harts
     by_hart None = refl
     by_hart (Some hart) = length-set harts message.hart (state_after_lossy hart message)
+
+-- A message is taken, where this is expected of its hart.
+pub record IsTakenHere (expects : Hart) (message : Message) : Type 0 where
+  pub goes : expects.closed ≡ false
+  pub least : expects.expected ≤ message.number
+  pub small : message.number < 2 ^ 63
+  pub packet : Packet
+  pub read : reading message.payload ≡ Ok packet
+
+-- A hart's messages are taken, each in its turn.
+abbrev pub AreTakenFrom : Hart → List Message → Type 0
+AreTakenFrom expects [] = Unit {0}
+AreTakenFrom expects (message ∷ messages) =
+    (taken : IsTakenHere expects message) × AreTakenFrom (next_of message.number taken.packet) messages
+
+-- Their numbers rise.
+pub taken_rise : (expects : Hart) (messages : List Message) → AreTakenFrom expects messages
+    → AreRising expects.expected (map (λ (m : Message). m.number) messages)
+taken_rise expects [] taken = tt
+taken_rise expects (message ∷ messages) (taken, later) =
+    (taken.least, taken_rise (next_of message.number taken.packet) messages later)
+
+-- A message that is taken is accepted.
+taken_accepted : (harts : Harts) (message : Message) (expects : Hart) → slice_get harts message.hart ≡ Some expects
+    → (taken : IsTakenHere expects message)
+    → (accepting_lossy harts message ≡ Ok (taken.packet, message.number - expects.expected))
+    × (harts_after_lossy harts message ≡ slice_set harts message.hart (next_of message.number taken.packet))
+taken_accepted harts message expects at taken = (
+  ap (λ o. answer_lossy_of o message) at ∙ answered,
+  ap (harts_after_found_lossy harts message) at
+      ∙ ap (λ r. slice_set harts message.hart (state_by_lossy expects message.number r)) answered,
+)
+  where
+    goes : is_over expects ≡ false
+    goes =
+        let stays = taken.goes in
+        let least = taken.least in
+        let small = taken.small in
+        let few = lt-ltb expects.expected (2 ^ 63) (omega (arith, least, small)) in
+        rw (stays, few) refl
+
+    answered : answer_lossy expects message ≡ Ok (taken.packet, message.number - expects.expected)
+    answered = answer_lossy-next expects message taken.packet goes taken.least taken.small taken.read
+
+-- Messages are accepted where those of each hart are taken, each in its turn.
+pub accepted_from : (messages : List Message) (harts : Harts)
+    → All (λ (m : Message). m.hart < length harts) messages
+    → ((hart : ℕ) (expects : Hart) → slice_get harts hart ≡ Some expects
+    → AreTakenFrom expects (of_hart hart messages)) → AreAcceptedLossy harts messages
+accepted_from [] harts known taken = tt
+accepted_from (message ∷ messages) harts known taken =
+    (ap is_ok is.0, accepted_from messages (harts_after_lossy harts message) known_later taken_later)
+  where
+    within : message.hart < length harts
+    within = All-head (λ (m : Message). m.hart < length harts) message messages known
+
+    found : (expects : Hart) × (slice_get harts message.hart ≡ Some expects)
+    found = slice_get-some harts message.hart within
+
+    own : AreTakenFrom found.0 (message ∷ of_hart message.hart messages)
+    own = subst (AreTakenFrom found.0) (of_hart-own message messages) (taken message.hart found.0 found.1)
+
+    is : (accepting_lossy harts message ≡ Ok (own.0.packet, message.number - found.0.expected))
+        × (harts_after_lossy harts message ≡ slice_set harts message.hart (next_of message.number own.0.packet))
+    is = taken_accepted harts message found.0 found.1 own.0
+
+    known_later : All (λ (m : Message). m.hart < length (harts_after_lossy harts message)) messages
+    known_later = subst (λ n. All (λ (m : Message). m.hart < n) messages) (sym (length-harts_after harts message))
+        (All-tail (λ (m : Message). m.hart < length harts) message messages known)
+
+    taken_later : (hart : ℕ) (expects : Hart) → slice_get (harts_after_lossy harts message) hart ≡ Some expects
+        → AreTakenFrom expects (of_hart hart messages)
+    taken_later hart expects at =
+        by_place (slice_get-set harts message.hart (next_of message.number own.0.packet) hart expects
+        (ap (λ hs. slice_get hs hart) (sym is.1) ∙ at))
+      where
+        by_place : ((message.hart ≡ hart) × (expects ≡ next_of message.number own.0.packet))
+            ⊎ ((message.hart ≢ hart) × (slice_get harts hart ≡ Some expects))
+            → AreTakenFrom expects (of_hart hart messages)
+        by_place (inl (same, next)) = subst (λ h. AreTakenFrom expects (of_hart h messages)) same
+            (subst (λ e. AreTakenFrom e (of_hart message.hart messages)) (sym next) own.1)
+        by_place (inr (apart, stood)) =
+            subst (AreTakenFrom expects) (of_hart-others hart message messages apart) (taken hart expects stood)
+
+-- So each of them is, where it stands.
+pub accepted_at : (harts : Harts) (front later : List Message) (message : Message)
+    → AreAcceptedLossy harts (front ++ message ∷ later) → IsOk (accepting_lossy (expected_lossy harts front) message)
+accepted_at harts [] later message accepted = accepted.0
+accepted_at harts (first ∷ front) later message accepted =
+    accepted_at (harts_after_lossy harts first) front later message accepted.1
 
 -- What stands at a place, and what is behind it.
 pub split_at : (messages : List Message) (place : ℕ) (message : Message) → place < length messages

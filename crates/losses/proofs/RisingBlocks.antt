@@ -110,7 +110,7 @@ blocks_joined numbers from block (next ∷ blocks) above missing some skipped ca
         )
 
 -- Rising numbers are not below the one from which they rise.
-not_below : (from : ℕ) (numbers : List ℕ) (number : ℕ) → AreRising from numbers → NumberCame number numbers
+pub not_below : (from : ℕ) (numbers : List ℕ) (number : ℕ) → AreRising from numbers → NumberCame number numbers
     → from ≤ number
 not_below from [] number rising came = absurd came
 not_below from (first ∷ numbers) number rising (inl is) = let least = rising.0 in omega (arith, is, least)

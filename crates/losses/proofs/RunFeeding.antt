@@ -14,13 +14,13 @@ use Rattle.decoder.specs.declared.decoding.Decoder.{Decoder}
 use Rattle.decoder.specs.declared.fault.DecodeFault.{DecodeFault}
 use Rattle.decoder.specs.declared.fault.DecodeFault.TheVariants.{Memory, NotOpened}
 use Rattle.decoder.proofs.NextPacket.{opening_of}
+use Rattle.message.proofs.HartMessages.{last_is_closing-next}
 use Rattle.losses.specs.Runs.{from_sync, mode_of_first, mode_or, opened}
 use Rattle.losses.specs.steps.DecoderSteps.{Feeds}
 use Rattle.losses.specs.steps.FollowingRuns.{FollowsRun, IsNotDecodedInRun, Refuses, StandsAfter}
 use Rattle.losses.proofs.RunLemmas.{Kind, Syncs, Closes, Passed, kind_of, describes_nothing, describes_none}
 use Rattle.losses.proofs.RunLemmas.{from_sync-begun, from_sync-none, open_last}
-use Rattle.losses.proofs.TraceLemmas.{last_is_closing-last}
-use Rattle.losses.proofs.TraceSteps.{state_laws}
+use Rattle.losses.proofs.StateLaws.{state_laws}
 
 -- The run with the packet is followed, or the packet is not decoded.
 pub record FedRun (words : Words) (mode reads : Mode) (missing : ℕ) (ps : List Packet) (p : Packet) (new : Decoder)
@@ -34,7 +34,7 @@ module _ (words : Words) (mode : Mode) (p : Packet) (old new : Decoder) (before 
       → ¬ IsClosed new
   open_still trace stands stays closed =
       let ended = (state_laws.closed words (trace ++ p ∷ []) after new stands).0 closed in
-      let is = last_is_closing-last trace p in
+      let is = last_is_closing-next trace p in
       cc
 
   -- In the run from number 0 on.

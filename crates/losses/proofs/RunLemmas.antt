@@ -1,11 +1,12 @@
 -- Runs of packets, and one packet more.
-use Rattle.std.proofs.Common.{◌≡◌, ℕ, suc, true, false, List, [], ◌∷◌, ◌++◌, drop, length, None, refl, sym, ap}
+use Rattle.std.proofs.Common.{◌≡◌, ℕ, zero, suc, ◌+◌, ◌-◌, true, false, List, [], ◌∷◌, ◌++◌, drop, length, None, refl, sym, ap}
 use Rattle.std.proofs.Common.{◌∙◌, append_assoc}
 use Rattle.std.proofs.lemmas.List.{append-nil}
 use Rattle.retire.specs.declared.event.Event.{Event}
 use Rattle.rvclass.specs.Words.{Words}
 use Rattle.legalpath.specs.Join.{join}
 use Rattle.payload.specs.Closing.{is_closing_packet}
+use Rattle.payload.specs.Reading.{reading}
 use Rattle.payload.specs.declared.mode.Mode.{Mode}
 use Rattle.payload.specs.declared.packet.Packet.{Packet}
 use Rattle.payload.specs.declared.packet.Packet.TheVariants as packet
@@ -15,8 +16,11 @@ use Rattle.decoder.specs.ModeOf.{mode_of}
 use Rattle.decoder.specs.Order.{IsOpen}
 use Rattle.decoder.specs.Pieces.{Pieces}
 use Rattle.decoder.specs.Resuming.{IsSync}
+use Rattle.message.specs.OfHart.{packet_or_none}
+use Rattle.message.specs.declared.message.Message.{Message}
 use Rattle.losses.specs.Parts.{LogPart, gap, stretch}
-use Rattle.losses.specs.Runs.{Run, from_sync, mode_in, run_of, trace_of_run}
+use Rattle.losses.specs.Runs.{Run, from_sync, longer, mode_in, mode_or, over_before, run_behind, run_of, runs_on}
+use Rattle.losses.specs.Runs.{trace_of_run}
 use Rattle.losses.specs.DescribedParts.{RunsDescribe}
 use Rattle.losses.proofs.TraceLemmas.{none_opens_behind}
 
@@ -89,6 +93,23 @@ pub mode_behind : (mode : Mode) (done : List Run) (run next : Run)
     → mode_in mode ((done ++ run ∷ []) ++ next ∷ []) ≡ mode_in mode (done ++ run ∷ [])
 mode_behind mode [] run next = refl
 mode_behind mode (first ∷ done) run next = refl
+
+-- The first run announces the mode.
+pub mode_kept : (mode : Mode) (packet : Packet) (packets : List Packet) (next : ℕ) (messages : List Message)
+    → mode_in mode (runs_on (run_of 0 (packet ∷ packets)) next messages) ≡ mode_or mode packet
+mode_kept mode packet packets next [] = refl
+mode_kept mode packet packets next (message ∷ messages) =
+    by_missed (message.number - next) (mode_kept mode packet (packets ++ packet_or_none (reading message.payload))
+    (message.number + 1) messages)
+  where
+    by_missed : (missed : ℕ)
+        → mode_in mode (runs_on (run_of 0 (packet ∷ (packets ++ packet_or_none (reading message.payload))))
+        (message.number + 1) messages) ≡ mode_or mode packet
+        → mode_in mode (over_before missed (run_of 0 (packet ∷ packets))
+        ++ runs_on (longer (run_behind missed (run_of 0 (packet ∷ packets)))
+        (packet_or_none (reading message.payload))) (message.number + 1) messages) ≡ mode_or mode packet
+    by_missed zero later = later
+    by_missed (suc missed) later = refl
 
 -- The parts of a run that is over stand behind those of the runs before it.
 pub describe_push : (words : Words) (mode : Mode) (done : List Run) (run : Run) (front : List LogPart)

@@ -17,7 +17,7 @@ use Rattle.losses.specs.steps.DecoderSteps.{Feeds, Resumes}
 use Rattle.losses.specs.steps.FollowingRuns.{FedRuns, FollowsRun, FollowsRuns, Refuses}
 use Rattle.losses.proofs.RunLemmas.{describes_nothing, mode_behind, mode_later, describe_push}
 use Rattle.losses.proofs.RunFeeding.{FedRun, feeds_first, feeds_later}
-use Rattle.losses.proofs.TraceSteps.{state_laws}
+use Rattle.losses.proofs.StateLaws.{state_laws}
 
 module _ (words : Words) (mode : Mode) (p : Packet) (old new : Decoder) (before after : List Event)
     (seen : List LogPart) (packets : List Packet) (next : ℕ) where

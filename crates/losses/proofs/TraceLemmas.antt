@@ -1,6 +1,6 @@
 -- One packet more of a block.
-use Rattle.std.proofs.Common.{◌≡◌, ℕ, zero, suc, ◌+◌, Bool, true, false, List, [], ◌∷◌, ◌++◌, drop, take, Option, Some}
-use Rattle.std.proofs.Common.{None, refl, ap, subst, ◌∙◌, arith}
+use Rattle.std.proofs.Common.{◌≡◌, ℕ, zero, suc, ◌+◌, false, List, [], ◌∷◌, ◌++◌, drop, take, Option, Some}
+use Rattle.std.proofs.Common.{None, ap, subst, ◌∙◌, arith}
 use Rattle.retire.specs.declared.event.Event.{Event}
 use Rattle.rvclass.specs.Words.{Words}
 use Rattle.payload.specs.declared.mode.Mode.{Mode}
@@ -8,12 +8,9 @@ use Rattle.payload.specs.declared.packet.Packet.{Packet}
 use Rattle.payload.specs.declared.packet.Packet.TheVariants as packet
 use Rattle.payload.specs.declared.packet.Support.TheVariants as support
 use Rattle.payload.specs.Closing.{is_closing_packet}
-use Rattle.payload.specs.ClosedTrace.{closes, last_is_closing}
 use Rattle.std.specs.List.{last_or}
-use Rattle.decoder.specs.Order.{IsOpen, MayPrecede, first}
+use Rattle.decoder.specs.Order.{IsOpen, MayPrecede}
 use Rattle.decoder.specs.Pieces.{Pieces, reported_after}
-use Rattle.losses.specs.Parts.{begins_stretch, here_or_later}
-use Rattle.losses.specs.steps.Traces.{from_start, trace_of}
 use Rattle.losses.proofs.BlockDescribed.{Rest}
 
 -- One item more is taken.
@@ -43,47 +40,6 @@ pub drop_one_more : {X : Type 0} (count : ℕ) (xs : List X) (x : X) (later : Li
 drop_one_more count xs x later is =
     let next : count + 1 ≡ suc count = omega arith in
     ap (λ n. drop n xs) next ∙ drop_one_more-suc count xs x later is
-
--- A stretch that has begun goes on.
-pub from_start-begun : (ps : List Packet) (p q : Packet) (qs : List Packet) → from_start ps ≡ q ∷ qs
-    → from_start (ps ++ p ∷ []) ≡ (q ∷ qs) ++ p ∷ []
-from_start-begun [] p q qs is = cc
-from_start-begun (first ∷ ps) p q qs is = by_test (begins_stretch first) (from_start-begun ps p q qs) is
-  where
-    by_test : (begins : Bool) → (from_start ps ≡ q ∷ qs → from_start (ps ++ p ∷ []) ≡ (q ∷ qs) ++ p ∷ [])
-        → here_or_later begins (first ∷ ps) (from_start ps) ≡ q ∷ qs
-        → here_or_later begins (first ∷ ps ++ p ∷ []) (from_start (ps ++ p ∷ [])) ≡ (q ∷ qs) ++ p ∷ []
-    by_test true later is = ap (λ l. l ++ p ∷ []) is
-    by_test false later is = later is
-
--- One that has not begins where this packet begins one.
-pub from_start-none : (ps : List Packet) (p : Packet) → from_start ps ≡ []
-    → from_start (ps ++ p ∷ []) ≡ from_start (p ∷ [])
-from_start-none [] p is = refl
-from_start-none (first ∷ ps) p is = by_test (begins_stretch first) (from_start-none ps p) is
-  where
-    by_test : (begins : Bool) → (from_start ps ≡ [] → from_start (ps ++ p ∷ []) ≡ from_start (p ∷ [])) → here_or_later
-        begins (first ∷ ps) (from_start ps) ≡ []
-        → here_or_later begins (first ∷ ps ++ p ∷ []) (from_start (ps ++ p ∷ [])) ≡ from_start (p ∷ [])
-    by_test true later is = cc
-    by_test false later is = later is
-
--- A trace of a stretch that goes on.
-pub trace_of-more : (mode : Mode) (q : Packet) (qs : List Packet) (p : Packet)
-    → trace_of mode ((q ∷ qs) ++ p ∷ []) ≡ trace_of mode (q ∷ qs) ++ p ∷ []
-trace_of-more mode (packet.Sync taken priv address) qs p = refl
-trace_of-more mode (packet.Trap taken priv cause interrupt handler address tval) qs p = refl
-trace_of-more mode (packet.Support support) qs p = refl
-trace_of-more mode (packet.Address taken delta report) qs p = refl
-trace_of-more mode (packet.Map taken) qs p = refl
-
-last_or-last : (before : Option Packet) (ps : List Packet) (p : Packet) → last_or before (ps ++ p ∷ []) ≡ Some p
-last_or-last before [] p = refl
-last_or-last before (q ∷ ps) p = last_or-last (Some q) ps p
-
--- Packets have ended where the last of them closes the trace.
-pub last_is_closing-last : (ps : List Packet) (p : Packet) → last_is_closing (ps ++ p ∷ []) ≡ is_closing_packet p
-last_is_closing-last ps p = ap closes (last_or-last None ps p)
 
 -- A packet before another closes nothing.
 pub before_another : (words : Words) (mode : Mode) (p q : Packet) (ps : List Packet) (pieces : List (List Event))

@@ -1,5 +1,3 @@
-pub mod Traces
-pub mod Following
 pub mod DecoderSteps
 pub mod Collecting
 pub mod FollowingRuns

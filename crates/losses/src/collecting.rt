@@ -1,6 +1,6 @@
 //! From the messages of several harts to what is left of each hart's log.
 
-ghost use Rattle.std.specs.Prelude.{ℕ, ◌≡◌, ◌⊎◌, All, List, [], IsOk, IfErr, IfOk, OnOk, length};
+ghost use Rattle.std.specs.Prelude.{ℕ, ◌≡◌, ◌⊎◌, All, List, IsOk, IfErr, IfOk, OnOk, length};
 ghost use Rattle.rvclass.specs.Fetch.{words_of};
 ghost use Rattle.legalpath.specs.ProgramLog.{ProgramLog};
 ghost use Rattle.payload.specs.Closing.{is_closing_packet};
@@ -12,7 +12,7 @@ ghost use Rattle.losses.specs.Losses.{AreOfLogs};
 ghost use Rattle.losses.specs.Stops.{AreAcceptedLossy, CollectingStopsBy};
 ghost use Rattle.losses.specs.DescribedParts.{AreDescribed};
 ghost use Rattle.losses.specs.steps.Collecting.{AreEnded, IsNewPieces, IsNewTrace, IsNotCollected, IsNotTaken};
-ghost use Rattle.losses.specs.steps.Taking.{Collects, CollectsLogs, HasEachHart, HoldsUnless, IsNewCollection};
+ghost use Rattle.losses.specs.steps.Taking.{Collects, HasEachHart, IsNewCollection};
 ghost use Rattle.losses.specs.steps.Taking.{CollectsMessage, TakesPacket};
 
 use crate::fault::LossyFault;
@@ -60,7 +60,6 @@ fn new_pieces<A: Allocator + Copy>(
 /// The fault for a message at this place whose packet the decoder refuses with this fault.
 fn fault_at(place: usize, fault: DecodeFault) -> LossyFault
     ensures fault { IsNotTaken place result }
-    ensures memory { fault ≡ DecodeFault.Memory → result ≡ LossyFault.Memory }
     ensures either { (result ≡ LossyFault.Memory) ⊎ (result ≡ LossyFault.Decode place fault) }
 {
     match fault {
@@ -157,9 +156,6 @@ fn take_all<A: Allocator + Copy, V: ProgressSink>(
     messages: &[Message],
     watch: &V,
 ) -> Result<Collection<A>, LossyFault>
-    ensures of_logs { (period : ℕ) (own : ℕ → AnyMode) (logs : List ProgramLog)
-        → AreOfLogs program.now period mode own logs messages.now → length logs ≡ harts
-        → HoldsUnless result LossyFault.Memory (CollectsLogs program.now period mode own logs messages.now []) }
     ensures of_any { IfOk result (Collects program.now mode messages.now) }
     ensures each_hart { IfOk result HasEachHart }
     ensures count { IfOk result (λ collection. length collection.demux ≡ harts) }

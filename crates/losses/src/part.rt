@@ -4,7 +4,7 @@ use retire::Event;
 use std::alloc::{Allocator, Global};
 
 /// A part of what is left of a hart's log.
-#[derive(Debug, Drop)]
+#[derive(Drop)]
 pub enum Part<A: Allocator = Global> {
     /// A stretch: events that follow one another in the log, one at least.
     Stretch(Vec<Event, A>),
@@ -13,7 +13,7 @@ pub enum Part<A: Allocator = Global> {
 }
 
 /// What is left of a hart's log, and whether the hart is closed.
-#[derive(Debug, Drop)]
+#[derive(Drop)]
 pub struct HartPieces<A: Allocator = Global> {
     /// The parts, in the order of the log.
     pub parts: Vec<Part<A>, A>,

@@ -15,7 +15,7 @@ use std::alloc::{AllocError, Allocator, Global};
 use std::marker::Model;
 
 /// Splits the messages of several harts by hart, and accepts only those that come in each hart's order.
-#[derive(Debug, Drop)]
+#[derive(Drop)]
 pub struct Demux<A: Allocator = Global> {
     harts: Vec<Hart, A>,
 }

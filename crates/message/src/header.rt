@@ -36,7 +36,7 @@ impl Version {
 }
 
 /// The header of a capture of version 2: what holds for all its messages.
-#[derive(Clone, Copy, Debug, PartialEq, Eq)]
+#[derive(Clone, Copy, PartialEq, Eq)]
 pub struct Header {
     /// What the address fields of the packets hold.
     pub mode: Mode,
@@ -47,7 +47,7 @@ pub struct Header {
 }
 
 /// What a capture begins with.
-#[derive(Debug, PartialEq, Eq, Drop)]
+#[derive(PartialEq, Eq, Drop)]
 pub enum Start {
     /// The header of a capture of version 2; its messages follow.
     Version2(Header),

@@ -17,7 +17,7 @@ use crate::{Header, Message, MessageFault};
 use std::marker::Model;
 
 /// The messages of bytes in memory, one at a time. A clause sees the bytes that are left.
-#[derive(Debug, Drop)]
+#[derive(Drop)]
 pub struct Messages<'a> {
     rest: &'a [u8],
 }

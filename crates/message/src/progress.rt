@@ -8,7 +8,7 @@ pub trait ProgressSink {
 }
 
 /// Nobody is told.
-#[derive(Clone, Copy, Debug, PartialEq, Eq)]
+#[derive(Clone, Copy, PartialEq, Eq)]
 pub struct NoProgress;
 
 impl ProgressSink for NoProgress {

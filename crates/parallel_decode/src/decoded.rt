@@ -17,7 +17,7 @@ use std::io::Write;
 use std::thread::Threads;
 
 /// How the decoding of a capture ended.
-#[derive(Debug, Drop)]
+#[derive(Drop)]
 pub struct DecodedHarts {
     /// Whether the closing packet of each hart was decoded. Of a hart whose messages are passed over none was.
     pub closed: Vec<bool>,

@@ -3,7 +3,7 @@
 use decoder::Decoder;
 
 /// The decoder of a hart after some of the hart's messages. Decoding can go on from it.
-#[derive(Clone, Copy, Debug)]
+#[derive(Clone, Copy)]
 pub struct Mark {
     /// How many of the hart's messages were decoded.
     pub taken: usize,

@@ -4,7 +4,7 @@ use side_by_side::processors;
 use std::thread::Threads;
 
 /// How threads share the decoding of a capture. It changes nothing about what is written.
-#[derive(Clone, Copy, Debug)]
+#[derive(Clone, Copy)]
 pub struct Sharing {
     /// How many threads decode at once. Where there are fewer than 2, the calling thread decodes all.
     pub threads: usize,

@@ -1,13 +1,13 @@
 -- What captures of harts whose messages are mixed are to an audit.
-use Rattle.std.proofs.Common.{◌≡◌, ◌∙◌, ◌+◌, ◌<◌, ◌≤◌, ◌^◌, All, ap, arith, refl, subst, sym, ℕ, List, [], ◌∷◌, ◌++◌}
-use Rattle.std.proofs.Common.{Bool, true, false, ◌&&◌, ◌||◌, cond, eqb, ltb, not, Option, Some, None, length, zero-add}
+use Rattle.std.proofs.Common.{◌≡◌, ◌∙◌, ◌+◌, ◌<◌, ◌≤◌, All, ap, arith, refl, subst, sym, ℕ, List, [], ◌∷◌, ◌++◌}
+use Rattle.std.proofs.Common.{Bool, true, false, ◌&&◌, ◌||◌, cond, eqb, ltb, not, Some, None, length, zero-add}
 use Rattle.std.proofs.lemmas.Bool.{eq-eqb, le-ltb, lt-ltb, ltb-false, ltb-true, true≢false}
 use Rattle.std.proofs.lemmas.List.{append-nil, append_assoc}
 use Rattle.std.proofs.lemmas.List.Elements.{All-cons, All-nil, All-weaker}
 use Rattle.std.proofs.lemmas.List.Sums.{sum_by-cons}
 use Rattle.std.specs.List.{count_by, list_any}
 use Rattle.rvclass.specs.Image.{Image}
-use Rattle.legalpath.specs.ProgramLog.{ProgramLog, program_log}
+use Rattle.legalpath.specs.ProgramLog.{program_log}
 use Rattle.encoder.specs.Payloads.{payloads}
 use Rattle.message.proofs.OfHartLemmas.{of_hart-append, of_hart-own}
 use Rattle.message.specs.Cut.{IsMessage}
@@ -23,10 +23,10 @@ use Rattle.captures.proofs.LogMessages.{IsSent as IsSentByHart, all_sent, number
 use Rattle.captures.proofs.SoundLogs.{sound_logs}
 use Rattle.captures.specs.Messages.{messages_of_harts}
 use Rattle.captures.specs.Returned.{IsLongLegalLog}
-use Rattle.stimulus.specs.Mixed.{IsMixedCapture, SendsLog}
+use Rattle.stimulus.specs.Mixed.{IsMixedCapture}
 use Rattle.auditing.proofs.AllWhole.{untouched_same, whole_untouched}
 use Rattle.auditing.specs.DecodedAgain.{AreAllWhole}
-use Rattle.auditing.specs.Judged.{Judged, is_fate, judged, strangers_in}
+use Rattle.auditing.specs.Judged.{Judged, is_fate, judged}
 use Rattle.auditing.specs.Sent.{AreInTurn, IsSent, misplaced, misplaced_at}
 use Rattle.auditing.specs.Untouched.{is_touched}
 use Rattle.auditing.specs.declared.fate.Fate.{Fate}

@@ -69,6 +69,13 @@ abbrev pub run_fields : ℕ → Lost → List (List ℕ)
 run_fields hart run =
     codes "run" ∷ [] ∷ [] ∷ decimal hart ∷ decimal run.first ∷ decimal run.last ∷ [] ∷ [] ∷ [] ∷ [] ∷ no_counts
 
+-- The fields of these counts, from `sent` to `strange`, with a comma between each two.
+abbrev pub counts_fields : Total → List ℕ
+counts_fields total =
+    decimal total.sent ++ (codes "," ++ (decimal total.came ++ (codes "," ++ (decimal total.lost ++ (codes ","
+    ++ (decimal total.repeated ++ (codes "," ++ (decimal total.late ++ (codes "," ++ (decimal total.changed
+    ++ (codes "," ++ decimal total.strange)))))))))))
+
 -- How many messages are lost, and nothing came in their place, where so many of the lost ones are counted, and so many
 -- that came changed.
 abbrev pub missing_field : ℕ → ℕ → List ℕ

@@ -58,20 +58,27 @@ abbrev pub verdict_text : Bool → List ℕ
 verdict_text true = codes "whole"
 verdict_text false = codes "not whole"
 
+-- What the row of a hart counts.
+abbrev pub row_total : HartRow → Total
+row_total row = record {
+  sent = row.tally.sent;
+  came = row.tally.came;
+  lost = row.tally.lost;
+  repeated = row.tally.repeated;
+  late = row.tally.late;
+  changed = row.tally.changed;
+  strange = row.strange;
+  whole = row.tally.whole;
+}
+
 -- How many messages were sent and came, how many numbers are lost, how many messages were repeated, late, changed and
 -- strange, and whether all is whole.
-abbrev pub counts_text : ℕ → ℕ → ℕ → ℕ → ℕ → ℕ → ℕ → Bool → List ℕ
-counts_text sent came lost repeated late changed strange whole =
-    decimal sent ++ (codes " sent, " ++ (decimal came ++ (codes " came, " ++ (decimal lost ++ (codes " lost, "
-    ++ (decimal repeated ++ (codes " repeated, " ++ (decimal late ++ (codes " late, "
-    ++ (decimal changed ++ (codes " changed, " ++ (decimal strange ++ (codes " strange, "
-    ++ (verdict_text whole ++ codes "\n"))))))))))))))
-
--- The counts of a hart.
-abbrev pub row_counts : HartRow → List ℕ
-row_counts row =
-    counts_text row.tally.sent row.tally.came row.tally.lost row.tally.repeated row.tally.late row.tally.changed
-    row.strange row.tally.whole
+abbrev pub counts_text : Total → List ℕ
+counts_text total =
+    decimal total.sent ++ (codes " sent, " ++ (decimal total.came ++ (codes " came, "
+    ++ (decimal total.lost ++ (codes " lost, " ++ (decimal total.repeated ++ (codes " repeated, "
+    ++ (decimal total.late ++ (codes " late, " ++ (decimal total.changed ++ (codes " changed, "
+    ++ (decimal total.strange ++ (codes " strange, " ++ (verdict_text total.whole ++ codes "\n"))))))))))))))
 
 -- The line of the runs of a hart's lost numbers, where there are any.
 abbrev pub runs_line : ℕ → ℕ → ℕ → List ℕ
@@ -97,7 +104,7 @@ exchanged_line hart (Some its) =
 -- most of those are that are not true.
 abbrev pub row_text : ℕ → HartRow → List ℕ
 row_text hart row =
-    codes "hart " ++ (decimal hart ++ (codes ": " ++ (row_counts row
+    codes "hart " ++ (decimal hart ++ (codes ": " ++ (counts_text (row_total row)
     ++ (runs_line hart row.runs row.longest ++ (late_line hart row.latest ++ exchanged_line hart row.exchanged)))))
 
 -- The line of strangers, where there are any.
@@ -128,8 +135,7 @@ headers_line false = []
 abbrev pub all_line : ℕ → Total → List ℕ
 all_line harts total =
     if nat_lt 1 harts then
-    codes "all: "
-    ++ counts_text total.sent total.came total.lost total.repeated total.late total.changed total.strange total.whole
+    codes "all: " ++ counts_text total
     else []
 
 -- The line of the first message that is not in order or skips a number, where there is one.

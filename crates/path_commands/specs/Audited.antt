@@ -1,8 +1,10 @@
 -- What `audit` prints, and how it ends.
-use Rattle.std.specs.Prelude.{◌≡◌, ⊤, ℕ, Bool, true, false, List}
+use Rattle.std.specs.Prelude.{◌≡◌, ⊤, ℕ, Bool, true, false, List, Result}
+use Rattle.auditing.specs.Sent.{harts_of}
 use Rattle.message.specs.declared.range.HartRange.{HartRange}
 use Rattle.command_inputs.specs.declared.words.Audit.{Audit}
 use Rattle.command_inputs.specs.declared.words.Format.{Format}
+use Rattle.command_inputs.specs.Finding.{After}
 use Rattle.command_inputs.specs.Found.{IsFormat, IsRead}
 use Rattle.log_streams.specs.Known.{Content}
 use Rattle.command_inputs.specs.Meaning.{writing_at_once}
@@ -10,7 +12,7 @@ use Rattle.command_inputs.specs.OnlyHarts.{IsOnly, asked_harts}
 use Rattle.command_inputs.specs.Order.{format_or_only_fault}
 use Rattle.command_inputs.specs.Printed.{First}
 use Rattle.path_commands.specs.ReceivedCapture.{ReceivedCapture, IsReceivedCapture, is_whole_result}
-use Rattle.path_commands.specs.Faults.{Meaning, Once, Printed}
+use Rattle.path_commands.specs.Faults.{Fault, Meaning, Once, Printed}
 use Rattle.path_commands.specs.OnlyHarts.{HasHart}
 use Rattle.path_commands.specs.Rows.{audit_rows, report_of}
 use Rattle.path_commands.specs.Sides.{IsFoundSent, Sent, by_packets, end_of_audit}
@@ -26,14 +28,23 @@ pub record WritesNumbered (format : Format) (asked : Audit) (harts : HartRange) 
   pub ended : printed.ended
       ≡ end_of_audit asked.received came.fault (is_whole_result (by_packets asked.packets) harts sent came)
 
--- SENT is read and checked, and whether it has one of these harts is looked at. Then RECEIVED is read. Where there is
--- no fault, this is written of both.
+-- SENT is read and checked.
+abbrev pub IsSentOf : Content → Audit → Result Sent Fault → Type 0
+IsSentOf content asked = After (IsRead content asked.sent) (IsFoundSent asked.sent)
+
+-- Whether SENT, which has so many harts, has one of these harts is looked at, and then RECEIVED is read.
+abbrev pub IsReceivedOf : Content → Audit → HartRange → ℕ → Result (List ℕ) Fault → Type 0
+IsReceivedOf content asked harts count =
+    After (HasHart asked.sent asked.only harts count) (λ _. IsRead content asked.received)
+
+-- RECEIVED is read where SENT has one of these harts, and this is written of both.
+abbrev pub AuditsSent : (Sent → List ℕ → Printed → Type 0) → Content → Audit → HartRange → Sent → Printed → Type 0
+AuditsSent Writes content asked harts sent =
+    First (IsReceivedOf content asked harts (harts_of sent.header sent.messages)) (Writes sent)
+
+-- SENT is read first, and then RECEIVED. Where there is no fault, this is written of both.
 abbrev pub AuditsBy : (Sent → List ℕ → Printed → Type 0) → Content → Audit → HartRange → Printed → Type 0
-AuditsBy Writes content asked harts =
-    First (IsRead content asked.sent) (λ bytes.
-    First (IsFoundSent asked.sent bytes) (λ sent.
-    First (HasHart asked.sent asked.only harts sent) (λ _.
-    First (IsRead content asked.received) (Writes sent))))
+AuditsBy Writes content asked harts = First (IsSentOf content asked) (AuditsSent Writes content asked harts)
 
 -- What became of the messages of these harts is written, by their numbers or by their payloads alone.
 abbrev pub Writes : Format → Bool → Audit → HartRange → Sent → List ℕ → Printed → Type 0
@@ -56,10 +67,8 @@ Audits content asked =
 -- `audit` writes once it has SENT, which is whole and has one of the harts that are asked for, and RECEIVED.
 abbrev pub CanAuditHarts : Content → Audit → HartRange → Type 0
 CanAuditHarts content asked harts =
-    Once (IsRead content asked.sent) (λ bytes.
-    Once (IsFoundSent asked.sent bytes) (λ sent.
-    Once (HasHart asked.sent asked.only harts sent) (λ _.
-    Once (IsRead content asked.received) (λ _. ⊤))))
+    Once (IsSentOf content asked) (λ sent.
+    Once (IsReceivedOf content asked harts (harts_of sent.header sent.messages)) (λ _. ⊤))
 
 abbrev pub CanAudit : Content → Audit → Type 0
 CanAudit content asked = Once (IsOnly asked.only) (CanAuditHarts content asked)

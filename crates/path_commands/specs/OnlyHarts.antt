@@ -7,11 +7,9 @@ use Rattle.message.specs.declared.range.HartRange.{HartRange}
 use Rattle.message.specs.declared.message.Message.{Message}
 use Rattle.auditing.specs.Findings.{Found, findings, is_plain}
 use Rattle.auditing.specs.Judged.{Judged, is_fate, judged}
-use Rattle.auditing.specs.Sent.{harts_of}
 use Rattle.auditing.specs.declared.fate.Fate.TheVariants.{Stranger}
 use Rattle.command_inputs.specs.Faults.{Path}
 use Rattle.path_commands.specs.Faults.{Fault, no_hart_fault}
-use Rattle.path_commands.specs.Sides.{Sent}
 
 -- Those of these harts that are below this count: from the first of them on.
 abbrev pub harts_among : HartRange → ℕ → List ℕ
@@ -26,9 +24,9 @@ has_asked (Some only) harts count = has_below harts count
 abbrev pub hart_at : Path → Option Path → HartRange → ℕ → Result (Unit {0}) Fault
 hart_at path only harts count = if has_asked only harts count then Ok tt else Err (no_hart_fault path harts)
 
--- Whether SENT has one of the harts that are asked for is found.
-abbrev pub HasHart : Path → Option Path → HartRange → Sent → Result (Unit {0}) Fault → Type 0
-HasHart path only harts sent found = found ≡ hart_at path only harts (harts_of sent.header sent.messages)
+-- Whether SENT, which has so many harts, has one of those that are asked for is found.
+abbrev pub HasHart : Path → Option Path → HartRange → ℕ → Result (Unit {0}) Fault → Type 0
+HasHart path only harts count found = found ≡ hart_at path only harts count
 
 -- How many messages of these harts in RECEIVED are strangers.
 abbrev pub strangers_of : HartRange → List Message → List Message → ℕ

@@ -19,7 +19,7 @@ ghost use Rattle.path_commands.specs.steps.Ending.{EndsRest, HasReceived};
 ghost use Rattle.command_inputs.specs.declared.fault.Fault.TheVariants as Fault;
 
 use crate::ending::Ending;
-use crate::hart_check::{check_hart, count_among, past_among};
+use crate::hart_check::{count_among, past_among, received_of};
 use crate::lost_rows::write_lost;
 use crate::noting::Noted;
 use crate::reason::{Fault, sent_fault};
@@ -60,8 +60,7 @@ pub(crate) fn audit_numbered<'a, F: Files, O: Write>(
         Ok(path) => path,
         Err(why) => return Err(sent_fault(asked.sent, why)),
     };
-    check_hart(asked, harts, path.harts())?;
-    let received = content_of(files, asked.received)?;
+    let received = received_of(files, asked, harts, path.harts())?;
     let progress = MessageProgress::new(&*files, asked.progress);
     write_audit(&progress, &mut path, asked, harts, received.as_slice(), out)
 }

@@ -4,6 +4,7 @@ ghost use Rattle.std.specs.Prelude.{◌≡◌, ◌++◌, Some};
 ghost use Rattle.path_commands.specs.AuditText.{all_line, damage_line, ending_text, first_line, headers_line, result_line};
 ghost use Rattle.path_commands.specs.AuditText.{strangers_line, verdict_text};
 
+use crate::lines::CountsText;
 use crate::total::Total;
 use std::fmt;
 
@@ -69,20 +70,9 @@ impl fmt::Display for AllLine {
     ghost output = { λ line. Some (all_line line.harts line.total) };
 
     fn fmt<W: fmt::Write>(&self, f: &mut fmt::Formatter<W>) -> fmt::Result {
-        let sent = self.total.sent;
-        let came = self.total.came;
-        let lost = self.total.lost;
-        let repeated = self.total.repeated;
-        let late = self.total.late;
-        let changed = self.total.changed;
-        let strange = self.total.strange;
-        let verdict = verdict_text(self.total.whole);
         if self.harts > 1 {
-            write!(f, "all: {sent} sent, {came} came, {lost} lost, ")?;
-            write!(
-                f,
-                "{repeated} repeated, {late} late, {changed} changed, {strange} strange, {verdict}\n"
-            )
+            let counts = CountsText(self.total);
+            write!(f, "all: {counts}")
         } else {
             f.write_str("")
         }

@@ -1,22 +1,35 @@
 //! Which harts of SENT are asked for.
 
-ghost use Rattle.std.specs.Prelude.{◌≡◌, ◌≢◌, ◌≤◌, ◌+◌, IfErr, length, min};
+ghost use Rattle.std.specs.Prelude.{◌≡◌, ◌⊎◌, ◌≤◌, ◌+◌, Err, IfErr, IfOk, Ok, length, min};
 ghost use Rattle.message.specs.Range.{has_below, selects};
-ghost use Rattle.path_commands.specs.OnlyHarts.{hart_at, harts_among};
+ghost use Rattle.path_commands.specs.Audited.{IsReceivedOf};
+ghost use Rattle.path_commands.specs.OnlyHarts.{HasHart, harts_among};
 ghost use Rattle.command_inputs.specs.declared.fault.Fault.TheVariants as Fault;
 
 use crate::reason::{Fault, PathReason};
-use command_inputs::Audit as Asked;
+use command_inputs::{Audit as Asked, Files, content_of};
 use message::HartRange;
 
-/// Stops where SENT, which has so many harts, has none of those that are asked for.
-pub(crate) fn check_hart<'a>(
+/// Reads RECEIVED, where SENT, which has so many harts, has one of those that are asked for.
+pub(crate) fn received_of<'a, F: Files>(
+    files: &mut F,
     asked: &Asked<'a>,
     harts: HartRange,
     count: usize,
-) -> Result<(), Fault<'a>>
-    ensures found { result ≡ hart_at asked.now.sent asked.now.only harts count }
-    ensures no_memory { IfErr result (λ why. why ≢ Fault.Memory) }
+) -> Result<Vec<u8>, Fault<'a>>
+    ensures found { IfOk result
+        (λ bytes. IsReceivedOf (F.content files.old) asked.now harts count (Ok bytes.items)) }
+    ensures lacked { IfErr result (λ why. (why ≡ Fault.Memory)
+        ⊎ IsReceivedOf (F.content files.old) asked.now harts count (Err why)) }
+{
+    check_hart(asked, harts, count)?;
+    let bytes = content_of(files, asked.received)?;
+    Ok(bytes)
+}
+
+/// Stops where SENT, which has so many harts, has none of those that are asked for.
+fn check_hart<'a>(asked: &Asked<'a>, harts: HartRange, count: usize) -> Result<(), Fault<'a>>
+    ensures { HasHart asked.now.sent asked.now.only harts count result }
 {
     match asked.only {
         None => Ok(()),

@@ -3,8 +3,8 @@
 ghost use Rattle.std.specs.Prelude.{◌≡◌, ◌⊎◌, ℕ, Err, IfErr, IfOk, List, Ok, length};
 ghost use Rattle.message.specs.declared.message.Message.{Message as AnyMessage};
 ghost use Rattle.auditing.specs.Sent.{IsSent, harts_of};
-ghost use Rattle.command_inputs.specs.Finding.{After};
 ghost use Rattle.command_inputs.specs.Found.{IsRead};
+ghost use Rattle.path_commands.specs.Audited.{IsSentOf};
 ghost use Rattle.path_commands.specs.Sides.{IsFoundSent, by_packets};
 ghost use Rattle.path_commands.specs.Unnumbered.{IsUnnumberedCame, is_read_whole};
 ghost use Rattle.path_commands.specs.declared.reason.PathReason.{PathReason as AnyReason};
@@ -62,8 +62,7 @@ pub(crate) fn read_sent<'a, F: Files>(
     ensures held { IfOk result (λ own. (bytes : List ℕ)
         × IsRead {W = AnyReason} (F.content files.old) asked.now.sent (Ok bytes)
         × KeepsSent (by_packets asked.now.packets) harts bytes own) }
-    ensures lacked { IfErr result (λ why. (why ≡ Fault.Memory)
-        ⊎ After (IsRead (F.content files.old) asked.now.sent) (IsFoundSent asked.now.sent) (Err why)) }
+    ensures lacked { IfErr result (λ why. (why ≡ Fault.Memory) ⊎ IsSentOf (F.content files.old) asked.now (Err why)) }
     ensures kept { F.content files.new ≡ F.content files.old }
 {
     let bytes = content_of(files, asked.sent)?;

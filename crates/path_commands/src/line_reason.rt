@@ -12,7 +12,7 @@ use std::fmt;
 pub type Fault<'a> = command_inputs::Fault<'a, LineReason<'a>>;
 
 /// What only `capture` stops at.
-#[derive(Clone, Copy, Debug, PartialEq, Eq)]
+#[derive(Clone, Copy)]
 pub enum LineReason<'a> {
     /// More harts are asked for than this many, the most that a capture of the version has.
     ManyHarts(u16),

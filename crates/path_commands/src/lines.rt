@@ -1,10 +1,11 @@
 //! What is in the lines of messages and of harts.
 
-ghost use Rattle.std.specs.Prelude.{◌≡◌, Some, option_map};
-ghost use Rattle.path_commands.specs.AuditText.{exchanged_line, finding_text, late_line, row_counts, runs_line};
+ghost use Rattle.std.specs.Prelude.{Some, option_map};
+ghost use Rattle.path_commands.specs.AuditText.{counts_text, exchanged_line, finding_text, late_line, runs_line};
 
 use crate::ending::verdict_text;
-use auditing::{Exchanged, Finding, HartRow};
+use crate::total::Total;
+use auditing::{Exchanged, Finding};
 use output::Digits;
 use std::fmt;
 
@@ -35,24 +36,22 @@ impl fmt::Display for FindingText<'_> {
     }
 }
 
-/// What the line of a hart says after the hart.
+/// What is counted of a hart, or of all of them together.
 #[derive(Clone, Copy)]
-pub(crate) struct RowCounts {
-    pub(crate) row: HartRow,
-}
+pub(crate) struct CountsText(pub(crate) Total);
 
-impl fmt::Display for RowCounts {
-    ghost output = { λ counts. Some (row_counts counts.row) };
+impl fmt::Display for CountsText {
+    ghost output = { λ text. Some (counts_text text.0) };
 
     fn fmt<W: fmt::Write>(&self, f: &mut fmt::Formatter<W>) -> fmt::Result {
-        let sent = self.row.tally.sent;
-        let came = self.row.tally.came;
-        let lost = self.row.tally.lost;
-        let repeated = self.row.tally.repeated;
-        let late = self.row.tally.late;
-        let changed = self.row.tally.changed;
-        let strange = self.row.strange;
-        let verdict = verdict_text(self.row.tally.whole);
+        let sent = self.0.sent;
+        let came = self.0.came;
+        let lost = self.0.lost;
+        let repeated = self.0.repeated;
+        let late = self.0.late;
+        let changed = self.0.changed;
+        let strange = self.0.strange;
+        let verdict = verdict_text(self.0.whole);
         write!(f, "{sent} sent, {came} came, {lost} lost, ")?;
         write!(
             f,

@@ -20,7 +20,7 @@ ghost use Rattle.path_commands.specs.steps.Matching.{EndsUnnumbered, IsByHart, I
 ghost use Rattle.command_inputs.specs.declared.fault.Fault.TheVariants as Fault;
 
 use crate::by_hart::ByHart;
-use crate::hart_check::{check_hart, count_among};
+use crate::hart_check::{count_among, received_of};
 use crate::keeping::{KeptSent, Received, read_received, read_sent};
 use crate::matched_lines::hart_of;
 use crate::matched_report::{first_of, write_report};
@@ -29,7 +29,7 @@ use crate::reason::{Fault, unread_fault};
 use crate::report::Report;
 use crate::sides::{are_unlike, by_packets, ended, is_whole};
 use auditing::{Alignment, Line, lines_by_hart, total_of};
-use command_inputs::{Audit as Asked, Files, MessageProgress, Status, content_of};
+use command_inputs::{Audit as Asked, Files, MessageProgress, Status};
 use message::{HartRange, Header, MessageFault, ProgressSink};
 use std::alloc::{AllocError, Global};
 use std::io::Write;
@@ -53,8 +53,7 @@ pub(crate) fn audit_unnumbered<'a, F: Files, O: Write>(
         (O.contents out.old) (O.contents out.new) }
 {
     let sent = read_sent(alloc, files, asked, harts)?;
-    check_hart(asked, harts, sent.payloads.harts())?;
-    let received = content_of(files, asked.received)?;
+    let received = received_of(files, asked, harts, sent.payloads.harts())?;
     let progress = MessageProgress::new(&*files, asked.progress);
     write_matched(
         alloc,

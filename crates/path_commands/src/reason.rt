@@ -13,7 +13,7 @@ use std::fmt;
 pub type Fault<'a> = command_inputs::Fault<'a, PathReason<'a>>;
 
 /// What only `audit` stops at.
-#[derive(Clone, Copy, Debug, PartialEq, Eq)]
+#[derive(Clone, Copy)]
 pub enum PathReason<'a> {
     /// RECEIVED, at this path, begins as a capture of version 2 does, and its header is cut or not valid.
     Damaged(&'a str),

@@ -12,7 +12,7 @@ ghost use Rattle.frames.specs.Borrowed.{message_of, span_of};
 ghost use Rattle.frames.specs.Counted.{bytes_in, messages_in, runs_in};
 ghost use Rattle.frames.specs.Passages.{spans_left};
 ghost use Rattle.path_commands.specs.AuditText.{unless_summary};
-ghost use Rattle.path_commands.specs.Rows.{bytes_row, found_row, front_rows, span_row};
+ghost use Rattle.path_commands.specs.Rows.{bytes_row, found_row, front_rows, row_or_none, span_row};
 ghost use Rattle.path_commands.specs.steps.Noting.{none_noted, noted_more, noted_of};
 ghost use Rattle.path_commands.specs.steps.Reading.{progress_after};
 
@@ -238,10 +238,7 @@ fn write_passage<O: Write>(
                 return Ok(());
             }
             *noted = noted.after(place, finding);
-            if report.summary || finding.is_plain() {
-                return Ok(());
-            }
-            write_finding(path, place, message, finding, report.format, out)
+            write_message(path, place, message, finding, report, out)
         }
         BorrowedSpan::Bytes { offset, count } => write_run(
             offset as u64,
@@ -250,6 +247,32 @@ fn write_passage<O: Write>(
             out,
         ),
     }
+}
+
+/// Writes the row of a message at this place, but none in a summary, and none of one that is in order and skips no
+/// number.
+#[inline(always)]
+fn write_message<O: Write>(
+    path: &Audit<'_>,
+    place: u64,
+    message: BorrowedMessage<'_>,
+    finding: Finding,
+    report: Report,
+    out: &mut O,
+) -> Result<(), WriteFault>
+    ensures text { (sent received : List AnyMessage) → IsAudit sent received path.now
+        → OnOk result (Appends (O.contents out.old) (O.contents out.new)
+        (row_or_none report sent place (record { message = message_of message.entry; finding = finding }))) }
+    ensures begun { (sent received : List AnyMessage) → IsAudit sent received path.now
+        → AppendsBeginning
+        (row_or_none report sent place (record { message = message_of message.entry; finding = finding }))
+        (O.contents out.old) (O.contents out.new) }
+    ensures fault { IfErr result (λ fault. fault ≡ WriteFault.Write) }
+{
+    if report.summary || finding.is_plain() {
+        return Ok(());
+    }
+    write_finding(path, place, message, finding, report.format, out)
 }
 
 /// Writes the row of a run of bytes of no message, but none in a summary.

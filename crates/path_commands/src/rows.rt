@@ -4,10 +4,11 @@ ghost use Rattle.std.specs.Prelude.{Some, option_map};
 ghost use Rattle.path_commands.specs.Rows.{ending_row, front_row, hart_row, message_row, run_row};
 
 use crate::ending::{Ending, EndingLines, verdict_text};
-use crate::lines::{ExchangedLine, FindingText, LateLine, RowCounts, RunsLine};
+use crate::lines::{CountsText, ExchangedLine, FindingText, LateLine, RunsLine};
 use crate::table_rows::{
-    AllFields, ByField, CamePayload, ExchangedRow, ResultRow, SentPayload, fate_field,
+    AllFields, ByField, CamePayload, CountsFields, ExchangedRow, ResultRow, SentPayload, fate_field,
 };
+use crate::total::Total;
 use auditing::{Finding, HartRow, Lost};
 use command_inputs::Format;
 use std::fmt;
@@ -122,37 +123,28 @@ impl fmt::Display for CountsRow {
         let runs = self.row.runs;
         let longest = self.row.longest;
         let latest = self.row.latest;
+        let exchanged = self.row.exchanged;
+        let total = Total::of(self.row);
         match self.format {
             Format::Csv => {
-                let sent = self.row.tally.sent;
-                let came = self.row.tally.came;
-                let lost = self.row.tally.lost;
-                let repeated = self.row.tally.repeated;
-                let late = self.row.tally.late;
-                let changed = self.row.tally.changed;
-                let strange = self.row.strange;
+                let counts = CountsFields(total);
                 let verdict = verdict_text(self.row.tally.whole);
-                let missing = lost.saturating_sub(changed);
-                let other = ExchangedRow {
-                    hart,
-                    exchanged: self.row.exchanged,
-                };
-                write!(f, "hart,,,{hart},,,,,,,{sent},{came},{lost},")?;
-                write!(f, "{repeated},{late},{changed},{strange},")?;
-                write!(f, "{runs},{longest},{latest},{verdict},{missing}\n{other}")
+                let missing = self.row.tally.lost.saturating_sub(self.row.tally.changed);
+                let other = ExchangedRow { hart, exchanged };
+                write!(
+                    f,
+                    "hart,,,{hart},,,,,,,{counts},{runs},{longest},{latest},{verdict},{missing}\n{other}"
+                )
             }
             Format::Text | Format::Other => {
-                let counts = RowCounts { row: self.row };
+                let counts = CountsText(total);
                 let lost = RunsLine {
                     hart,
                     runs,
                     longest,
                 };
                 let late = LateLine { hart, latest };
-                let other = ExchangedLine {
-                    hart,
-                    exchanged: self.row.exchanged,
-                };
+                let other = ExchangedLine { hart, exchanged };
                 write!(f, "hart {hart}: {counts}{lost}{late}{other}")
             }
         }

@@ -1,8 +1,8 @@
 //! What is in the rows of the table of an audit.
 
 ghost use Rattle.std.specs.Prelude.{◌≡◌, Some, option_map};
-ghost use Rattle.path_commands.specs.AuditRows.{all_fields, by_field, bytes_fields, came_field, fate_field};
-ghost use Rattle.path_commands.specs.AuditRows.{headers_field, result_fields, sent_field};
+ghost use Rattle.path_commands.specs.AuditRows.{all_fields, by_field, bytes_fields, came_field, counts_fields};
+ghost use Rattle.path_commands.specs.AuditRows.{fate_field, headers_field, result_fields, sent_field};
 ghost use Rattle.output.specs.Fields.{fields_line};
 ghost use Rattle.path_commands.specs.Rows.{exchanged_row};
 
@@ -122,12 +122,12 @@ impl fmt::Display for ExchangedRow {
     }
 }
 
-/// The row of all harts together.
+/// The fields of what is counted of a hart, or of all of them together.
 #[derive(Clone, Copy)]
-pub(crate) struct AllFields(pub(crate) Total);
+pub(crate) struct CountsFields(pub(crate) Total);
 
-impl fmt::Display for AllFields {
-    ghost output = { λ fields. Some (fields_line (all_fields fields.0)) };
+impl fmt::Display for CountsFields {
+    ghost output = { λ fields. Some (counts_fields fields.0) };
 
     fn fmt<W: fmt::Write>(&self, f: &mut fmt::Formatter<W>) -> fmt::Result {
         let sent = self.0.sent;
@@ -137,13 +137,25 @@ impl fmt::Display for AllFields {
         let late = self.0.late;
         let changed = self.0.changed;
         let strange = self.0.strange;
-        let verdict = verdict_text(self.0.whole);
-        let missing = lost.saturating_sub(changed);
-        write!(f, "all,,,,,,,,,,{sent},{came},{lost},")?;
         write!(
             f,
-            "{repeated},{late},{changed},{strange},,,,{verdict},{missing}\n"
+            "{sent},{came},{lost},{repeated},{late},{changed},{strange}"
         )
+    }
+}
+
+/// The row of all harts together.
+#[derive(Clone, Copy)]
+pub(crate) struct AllFields(pub(crate) Total);
+
+impl fmt::Display for AllFields {
+    ghost output = { λ fields. Some (fields_line (all_fields fields.0)) };
+
+    fn fmt<W: fmt::Write>(&self, f: &mut fmt::Formatter<W>) -> fmt::Result {
+        let counts = CountsFields(self.0);
+        let verdict = verdict_text(self.0.whole);
+        let missing = self.0.lost.saturating_sub(self.0.changed);
+        write!(f, "all,,,,,,,,,,{counts},,,,{verdict},{missing}\n")
     }
 }
 

@@ -1,6 +1,7 @@
 //! What an audit finds of all harts together.
 
 ghost use Rattle.std.specs.Prelude.{◌≡◌};
+ghost use Rattle.path_commands.specs.AuditText.{row_total};
 ghost use Rattle.path_commands.specs.steps.Summing.{added, none_added};
 
 use auditing::HartRow;
@@ -32,6 +33,22 @@ impl Total {
             changed: 0,
             strange: 0,
             whole: true,
+        }
+    }
+
+    /// What one row counts.
+    pub(crate) fn of(row: HartRow) -> Total
+        ensures { result ≡ row_total row }
+    {
+        Total {
+            sent: u128::from(row.tally.sent),
+            came: u128::from(row.tally.came),
+            lost: u128::from(row.tally.lost),
+            repeated: u128::from(row.tally.repeated),
+            late: u128::from(row.tally.late),
+            changed: u128::from(row.tally.changed),
+            strange: u128::from(row.strange),
+            whole: row.tally.whole,
         }
     }
 

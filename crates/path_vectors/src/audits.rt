@@ -1,14 +1,15 @@
 //! Audits of messages with payloads of one byte (`auditing`).
 
+use crate::fates::{put_fates, put_scans};
 use auditing::{Audit, Finding, LostRuns, run_lengths};
-use cases::{Case, add_message};
+use cases::{Case, add_message, cut};
 use message::{Message, write_message};
 
 /// Adds the messages of a word: a hart, `.`, and a number or the first and the last number with `-`. The byte of each is
 /// its number modulo 251, or the byte after `=`.
 fn add_word(case: &mut Case<'_>, list: &mut Vec<Message>, word: &str) {
-    let (word, own) = word.split_once('=').unwrap_or((word, ""));
-    let (hart, numbers) = word.split_once('.').unwrap_or((word, ""));
+    let (word, own) = cut(word, '=');
+    let (hart, numbers) = cut(word, '.');
     let (first, last) = numbers.split_once('-').unwrap_or((numbers, numbers));
     let hart = case.short(hart);
     let (first, last) = (case.decimal(first), case.decimal(last));
@@ -28,17 +29,6 @@ pub(crate) fn messages_in(case: &mut Case<'_>, name: &str) -> Vec<Message> {
         }
     }
     list
-}
-
-/// The capture of messages.
-pub(crate) fn capture_of(case: &mut Case<'_>, messages: &[Message]) -> Vec<u8> {
-    let mut bytes = Vec::new(case.alloc);
-    for message in messages {
-        if write_message(&mut bytes, message).is_err() {
-            case.no_memory();
-        }
-    }
-    bytes
 }
 
 /// Whether a finding goes on with the one before it: an equal one, or one that is late by one less.
@@ -78,10 +68,11 @@ fn put_findings(case: &mut Case<'_>, findings: &[Finding]) {
     }
 }
 
-/// Appends what an audit of these messages finds.
-fn put_audit(case: &mut Case<'_>, audit: &mut Audit<'_>, received: &[Message]) {
+/// Appends what is found of each message that came and of each hart, where the first fault shows, and how many strangers
+/// came.
+fn put_audit(case: &mut Case<'_>, audit: &mut Audit<'_>) {
     let mut findings = Vec::new(case.alloc);
-    for message in received {
+    for message in &messages_in(case, "came") {
         let finding = audit.examine(message);
         case.push(&mut findings, finding);
     }
@@ -96,29 +87,31 @@ fn put_audit(case: &mut Case<'_>, audit: &mut Audit<'_>, received: &[Message]) {
     case.put_shown(audit.strangers());
 }
 
-/// What is found of each message that came and of each hart, where the first fault shows, and how many strangers came.
-pub(crate) fn audit(case: &mut Case<'_>) {
-    let sent = messages_in(case, "sent");
-    let received = messages_in(case, "came");
-    let bytes = capture_of(case, sent.as_slice());
-    match Audit::new(case.alloc, bytes.as_slice()) {
-        Ok(mut audit) => put_audit(case, &mut audit, received.as_slice()),
-        Err(_) => case.unread(),
+/// Appends the payload that was sent with a hart and a number, or `none`.
+fn put_payload(case: &mut Case<'_>, audit: &Audit<'_>) {
+    let hart = case.small("hart", 0);
+    match audit.sent(hart, case.number("number", 0)) {
+        Some(payload) => case.put_digits(payload),
+        None => case.put("none"),
     }
 }
 
-/// The payload that was sent with a hart and a number, or `none`.
-pub(crate) fn payload(case: &mut Case<'_>) {
-    let hart = case.small("hart", 0);
-    let number = case.number("number", 0);
-    let sent = messages_in(case, "sent");
-    let bytes = capture_of(case, sent.as_slice());
-    let Ok(audit) = Audit::new(case.alloc, bytes.as_slice()) else {
-        return case.unread();
+/// What a verb asks of the audit of the messages that were sent.
+pub(crate) fn audit(case: &mut Case<'_>, verb: &str) {
+    let mut bytes = Vec::new(case.alloc);
+    for message in &messages_in(case, "sent") {
+        let written = write_message(&mut bytes, message);
+        case.granted(written);
+    }
+    let audit = Audit::new(case.alloc, bytes.as_slice());
+    let Some(mut audit) = case.read(audit) else {
+        return;
     };
-    match audit.sent(hart, number) {
-        Some(payload) => case.put_digits(payload),
-        None => case.put("none"),
+    match verb {
+        "audit" => put_audit(case, &mut audit),
+        "payload" => put_payload(case, &audit),
+        "fates" => put_fates(case, &mut audit),
+        _ => put_scans(case, &audit),
     }
 }
 

@@ -1,12 +1,11 @@
 //! What becomes of messages that are drawn (`auditing`), and how a capture that came damaged is read on by what was sent
 //! (`frames`). What has to come is worked out by `checks/drawn-paths`.
 
-use crate::audits::{capture_of, messages_in};
+use crate::audits::messages_in;
 use crate::spans::{bytes_in, put_bytes, put_message, put_span};
 use auditing::{Audit, LostRuns};
 use cases::Case;
 use frames::{BorrowedSpan, GuidedScan};
-use message::Message;
 
 /// How many runs may be lost of 12 numbers, and one more.
 const MOST_RUNS: usize = 7;
@@ -39,9 +38,10 @@ fn put_hart(case: &mut Case<'_>, audit: &Audit<'_>, hart: usize) {
     }
 }
 
-/// Appends what an audit says of messages that came, of the harts that sent, and of strangers.
-fn put_audited(case: &mut Case<'_>, audit: &mut Audit<'_>, received: &[Message]) {
-    for message in received {
+/// Appends the fate of each message that came; of each hart how many messages were sent, came, are lost, repeated, late and
+/// changed, whether it is whole, and which runs of its numbers are lost; and how many strangers came.
+pub(crate) fn put_fates(case: &mut Case<'_>, audit: &mut Audit<'_>) {
+    for message in &messages_in(case, "came") {
         let fate = audit.take(message);
         case.put_word("");
         case.put_debug(fate);
@@ -50,18 +50,6 @@ fn put_audited(case: &mut Case<'_>, audit: &mut Audit<'_>, received: &[Message])
         put_hart(case, audit, hart);
     }
     case.put_filled("; #", &[audit.strangers() as u64]);
-}
-
-/// The fate of each message that came; of each hart how many messages were sent, came, are lost, repeated, late and
-/// changed, whether it is whole, and which runs of its numbers are lost; and how many strangers came.
-pub(crate) fn fates(case: &mut Case<'_>) {
-    let sent = messages_in(case, "sent");
-    let received = messages_in(case, "came");
-    let bytes = capture_of(case, sent.as_slice());
-    match Audit::new(case.alloc, bytes.as_slice()) {
-        Ok(mut audit) => put_audited(case, &mut audit, received.as_slice()),
-        Err(_) => case.unread(),
-    }
 }
 
 /// Appends a passage, which borrows the bytes that it is of.
@@ -77,8 +65,10 @@ fn put_passage(case: &mut Case<'_>, passage: BorrowedSpan<'_>) {
     }
 }
 
-/// Appends what is read of bytes, as spans and as passages.
-fn put_scans(case: &mut Case<'_>, audit: &Audit<'_>, came: &[u8]) {
+/// Appends the messages and the runs of other bytes of a damaged capture, read on by what was sent, as spans and as passages.
+pub(crate) fn put_scans(case: &mut Case<'_>, audit: &Audit<'_>) {
+    let bytes = bytes_in(case);
+    let came = bytes.as_slice();
     let mut spans = GuidedScan::new(came, 0);
     let mut passages = GuidedScan::new(came, 0);
     for _ in 0..came.len().saturating_add(1) {
@@ -93,15 +83,4 @@ fn put_scans(case: &mut Case<'_>, audit: &Audit<'_>, came: &[u8]) {
         }
     }
     case.end_way("as passages");
-}
-
-/// The messages and the runs of other bytes of a damaged capture, read on by what was sent.
-pub(crate) fn guided(case: &mut Case<'_>) {
-    let sent = messages_in(case, "sent");
-    let came = bytes_in(case);
-    let bytes = capture_of(case, sent.as_slice());
-    match Audit::new(case.alloc, bytes.as_slice()) {
-        Ok(audit) => put_scans(case, &audit, came.as_slice()),
-        Err(_) => case.unread(),
-    }
 }

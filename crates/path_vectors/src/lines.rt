@@ -4,7 +4,6 @@ use captures::{LineFault, LinesFault, Settings, write_capture};
 use cases::{Case, FailingWriter, text_of};
 use message::Version;
 use payload::Mode;
-use std::alloc::AllocError;
 use std::io::Write;
 
 /// The settings: `version=1`, `mode=diff`, `period=1024`, no count of harts and none of numbers, unless the arguments
@@ -97,16 +96,15 @@ fn put_lines(text: &mut Case<'_>, lines: u64, is_numbered: bool) {
 }
 
 /// Adds the capture of these lines: the header of 1,024 harts, and a message for each line.
-fn add_capture(bytes: &mut Vec<u8>, lines: u64) -> Result<(), AllocError> {
-    bytes.extend_from_slice(b"\xff\xffrvtrace2\0\0\0\x04\0\x04")?;
+fn add_capture(case: &mut Case<'_>, bytes: &mut Vec<u8>, lines: u64) {
+    case.extend(bytes, b"\xff\xffrvtrace2\0\0\0\x04\0\x04");
     for place in 0..lines {
         let hart = (place % 1024) as u16;
         let number = place / 1024;
-        bytes.extend_from_slice(&hart.to_le_bytes())?;
-        bytes.extend_from_slice(&number.to_le_bytes())?;
-        bytes.extend_from_slice(b"\x01\x1f")?;
+        case.extend(bytes, &hart.to_le_bytes());
+        case.extend(bytes, &number.to_le_bytes());
+        case.extend(bytes, b"\x01\x1f");
     }
-    Ok(())
 }
 
 /// Whether a long text has its capture.
@@ -118,8 +116,7 @@ pub(crate) fn long_lines(case: &mut Case<'_>) {
     put_lines(&mut text, lines, is_numbered);
     case.join(&text);
     let mut wanted = Vec::new(case.alloc);
-    let added = add_capture(&mut wanted, lines);
-    case.note(added);
+    add_capture(case, &mut wanted, lines);
     let mut bytes = Vec::new(case.alloc);
     let fault = write_lines(case, settings, text.came.as_bytes(), &mut bytes);
     let is_same = fault.is_none() && bytes.as_slice() == wanted.as_slice();

@@ -27,8 +27,7 @@ impl Random {
 fn add_word(case: &mut Case<'_>, list: &mut Vec<u8>, word: &str) {
     let (letters, times) = word.split_once('*').unwrap_or((word, "1"));
     for _ in 0..case.decimal(times) {
-        let done = list.extend_from_slice(letters.as_bytes());
-        case.note(done);
+        case.extend(list, letters.as_bytes());
     }
 }
 

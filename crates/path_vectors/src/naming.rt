@@ -9,9 +9,8 @@ const BASE: u64 = 0x8000_0000;
 /// Appends what is written after a place.
 fn put_symbol(case: &mut Case<'_>, symbols: &Symbols, place: u64) {
     let mut text = Vec::new(case.alloc);
-    if write_symbol(symbols, place, &mut text).is_err() {
-        case.no_memory();
-    }
+    let written = write_symbol(symbols, place, &mut text);
+    case.granted(written);
     case.put("at");
     case.put_text(text.as_slice());
 }
@@ -27,25 +26,20 @@ pub(crate) fn symbol(case: &mut Case<'_>) {
     }
 }
 
-/// The symbols of a file with so many of them, 4 bytes apart, the last one first. Each fifth line is of data.
-fn symbols_of(case: &mut Case<'_>, count: u64) -> Option<Symbols> {
-    let mut file = case.again();
+/// How the symbols of a file with so many of them are written, 4 bytes apart, the last one first. Each fifth line is of data.
+fn put_symbols(file: &mut Case<'_>, count: u64) {
     for left in 0..count {
         let number = count.saturating_sub(1).saturating_sub(left);
-        let kind = match number % 5 {
+        file.put_hex(BASE.wrapping_add(number.wrapping_mul(4)));
+        file.put(match number % 5 {
             0 => " t",
             1 => " T",
             2 => " w",
             3 => " W",
             _ => " D",
-        };
-        let address = BASE.wrapping_add(number.wrapping_mul(4));
-        file.put_hex(address);
-        file.put(kind);
+        });
         file.put_filled(" s#\n", &[number]);
     }
-    case.join(&file);
-    Symbols::new(case.alloc, case.copied(file.came.as_bytes())).ok()
 }
 
 /// Appends how a place is named, and which name it has to have: the symbol so many before it, or the last one. Where that
@@ -69,8 +63,12 @@ fn put_sized(case: &mut Case<'_>, symbols: &Symbols, count: u64, number: u64) {
 /// `same`, or how other places of a file with so many symbols are named: of the first 200, the last 200 and the one after.
 pub(crate) fn sized(case: &mut Case<'_>) {
     let count = case.number("count", 0);
-    let Some(symbols) = symbols_of(case, count) else {
-        return case.unread();
+    let mut file = case.again();
+    put_symbols(&mut file, count);
+    case.join(&file);
+    let symbols = Symbols::new(case.alloc, case.copied(file.came.as_bytes()));
+    let Some(symbols) = case.read(symbols) else {
+        return;
     };
     for number in 0..count.saturating_add(1) {
         if number < 200 || count.saturating_sub(200) < number {

@@ -45,8 +45,7 @@ fn put_counts(case: &mut Case<'_>, all: &[Alignment]) {
         times = times.saturating_add(1);
         let next = all.get(hart.saturating_add(1));
         if !next.is_some_and(|next| counts_of(next) == counts) {
-            case.put_shown(times);
-            case.put(" x ");
+            case.put_filled("# x ", &[times]);
             case.put_debug(counts);
             case.put("\n");
             times = 0;
@@ -76,13 +75,14 @@ fn put_lines(case: &mut Case<'_>, path: Path<'_>, lines: &[Line]) {
 /// Appends what is said of a path: what is counted, and a line for each message that is a stranger, extra, or skips a
 /// number.
 fn put_path(case: &mut Case<'_>, path: Path<'_>) {
-    let Ok(all) = aligned_harts(case.alloc, path.harts, path.by, path.sent, path.came) else {
-        return case.no_memory();
+    let all = aligned_harts(case.alloc, path.harts, path.by, path.sent, path.came);
+    let Some(all) = case.granted(all) else {
+        return;
     };
     put_counts(case, all.as_slice());
-    match arrival_lines(case.alloc, all.as_slice(), path.came) {
-        Ok(lines) => put_lines(case, path, lines.as_slice()),
-        Err(_) => case.no_memory(),
+    let lines = arrival_lines(case.alloc, all.as_slice(), path.came);
+    if let Some(lines) = case.granted(lines) {
+        put_lines(case, path, lines.as_slice());
     }
 }
 
@@ -95,62 +95,26 @@ fn meaning(letter: u8) -> (u16, u8) {
     }
 }
 
-/// The messages of a word. A small letter is a message of hart 0 and a large one the same payload of hart 1; a digit is
+/// Adds the messages of an argument. A small letter is a message of hart 0 and a large one the same payload of hart 1; a digit is
 /// the payload of `a` of the hart of that number. The numbers of a hart count its messages.
-fn lettered(case: &mut Case<'_>, word: &str) -> Vec<Message> {
-    let mut list = Vec::new(case.alloc);
+fn add_letters(case: &mut Case<'_>, list: &mut Vec<Message>, name: &str) {
+    let word = case.named(name);
     let mut numbers = [0u64; 10];
     for letter in word.as_bytes() {
         let (hart, payload) = meaning(*letter);
         if let Some(number) = numbers.get_mut(usize::from(hart)) {
-            add_message(case, &mut list, (hart, *number), &[payload]);
+            add_message(case, list, (hart, *number), &[payload]);
             *number = number.saturating_add(1);
         }
     }
-    list
 }
 
-/// The messages of hart 0 with these payloads, each in hexadecimal, after a comma each but the first.
-fn spelled(case: &mut Case<'_>, word: &str) -> Vec<Message> {
-    let mut list = Vec::new(case.alloc);
-    for (number, digits) in word.split(',').enumerate() {
+/// Adds the messages of hart 0 with the payloads of an argument, each in hexadecimal, after a comma each but the first.
+fn add_spelled(case: &mut Case<'_>, list: &mut Vec<Message>, name: &str) {
+    for (number, digits) in case.named(name).split(',').enumerate() {
         let payload = bytes_of(case, digits);
-        add_message(case, &mut list, (0, number as u64), payload.as_slice());
+        add_message(case, list, (0, number as u64), payload.as_slice());
     }
-    list
-}
-
-/// What is said of the messages of words, whose letters are messages.
-pub(crate) fn letters(case: &mut Case<'_>) {
-    let harts = case.number("harts", 2) as usize;
-    let (left, right) = (case.named("sent"), case.named("came"));
-    let left = lettered(case, left);
-    let right = lettered(case, right);
-    let path = Path {
-        by: By::Bytes,
-        harts,
-        sent: left.as_slice(),
-        came: right.as_slice(),
-    };
-    put_path(case, path);
-}
-
-/// What is said of the messages of hart 0 with payloads in hexadecimal, compared by bytes or by packets.
-pub(crate) fn spellings(case: &mut Case<'_>) {
-    let by = match case.named("by") {
-        "packets" => By::Packets,
-        _ => By::Bytes,
-    };
-    let (left, right) = (case.named("sent"), case.named("came"));
-    let left = spelled(case, left);
-    let right = spelled(case, right);
-    let path = Path {
-        by,
-        harts: 1,
-        sent: left.as_slice(),
-        came: right.as_slice(),
-    };
-    put_path(case, path);
 }
 
 /// Adds two messages of a hart. The first of them does not come of hart 1,023.
@@ -164,45 +128,61 @@ fn add_hart(case: &mut Case<'_>, sent: &mut Vec<Message>, came: &mut Vec<Message
     add_message(case, came, (hart, 9), &[low, high, 1]);
 }
 
-/// What is said where each of 1,024 harts sends two messages. The first of the last hart is lost, and two harts that
-/// sent nothing send one.
-pub(crate) fn many_harts(case: &mut Case<'_>) {
-    let mut left = Vec::new(case.alloc);
-    let mut right = Vec::new(case.alloc);
+/// Adds two messages of each of 1,024 harts. The first of the last hart is lost, and two harts that sent nothing send one.
+fn add_many_harts(case: &mut Case<'_>, sent: &mut Vec<Message>, came: &mut Vec<Message>) {
     for hart in 0..1024u16 {
-        add_hart(case, &mut left, &mut right, hart);
+        add_hart(case, sent, came, hart);
     }
-    add_message(case, &mut right, (1024, 9), &[0, 0]);
-    add_message(case, &mut right, (65535, 9), &[255, 3]);
-    let path = Path {
-        by: By::Bytes,
-        harts: 1024,
-        sent: left.as_slice(),
-        came: right.as_slice(),
-    };
-    put_path(case, path);
+    add_message(case, came, (1024, 9), &[0, 0]);
+    add_message(case, came, (65535, 9), &[255, 3]);
 }
 
-/// What is said where hart 0 sends 70,002 messages, all of them different, and each 10,000th of them is lost, number 0
-/// too. Then hart 1 sends one, and one more comes of hart 0.
-pub(crate) fn many_messages(case: &mut Case<'_>) {
-    let mut left = Vec::new(case.alloc);
-    let mut right = Vec::new(case.alloc);
+/// Adds 70,002 messages of hart 0, all of them different, of which each 10,000th is lost, number 0 too. Then hart 1 sends
+/// one, and one more comes of hart 0.
+fn add_many_messages(case: &mut Case<'_>, sent: &mut Vec<Message>, came: &mut Vec<Message>) {
     for number in 0..70_002u64 {
         let payload = number.to_le_bytes();
-        add_message(case, &mut left, (0, number), &payload);
+        add_message(case, sent, (0, number), &payload);
         if number % 10_000 != 0 {
-            add_message(case, &mut right, (0, 9), &payload);
+            add_message(case, came, (0, 9), &payload);
         }
     }
-    add_message(case, &mut left, (1, 0), &[1]);
-    add_message(case, &mut right, (1, 9), &[1]);
-    add_message(case, &mut right, (0, 9), &[1]);
+    add_message(case, sent, (1, 0), &[1]);
+    add_message(case, came, (1, 9), &[1]);
+    add_message(case, came, (0, 9), &[1]);
+}
+
+/// What is said of messages: of words, whose letters are messages; of hart 0 with payloads in hexadecimal, compared by
+/// bytes or by packets; of many harts; and of many messages.
+pub(crate) fn path_case(case: &mut Case<'_>, verb: &str) {
+    let (mut sent, mut came) = (Vec::new(case.alloc), Vec::new(case.alloc));
+    let mut harts = case.number("harts", 2);
+    match verb {
+        "spellings" => {
+            harts = 1;
+            add_spelled(case, &mut sent, "sent");
+            add_spelled(case, &mut came, "came");
+        }
+        "many-harts" => {
+            harts = 1024;
+            add_many_harts(case, &mut sent, &mut came);
+        }
+        "many-messages" => add_many_messages(case, &mut sent, &mut came),
+        _ => {
+            add_letters(case, &mut sent, "sent");
+            add_letters(case, &mut came, "came");
+        }
+    }
+    let is_by_packets = case.named("by") == "packets";
     let path = Path {
-        by: By::Bytes,
-        harts: 2,
-        sent: left.as_slice(),
-        came: right.as_slice(),
+        by: if is_by_packets {
+            By::Packets
+        } else {
+            By::Bytes
+        },
+        harts: harts as usize,
+        sent: sent.as_slice(),
+        came: came.as_slice(),
     };
     put_path(case, path);
 }

@@ -15,11 +15,8 @@ use symbols::Symbols;
 fn program_of(case: &mut Case<'_>) -> Option<Program> {
     let (base, image) = (case.named("base"), case.named("image"));
     let base = case.hex(base);
-    let program = Program::new(base, bytes_of(case, image)).ok();
-    if program.is_none() {
-        case.unread();
-    }
-    program
+    let program = Program::new(base, bytes_of(case, image));
+    case.read(program)
 }
 
 /// The messages of the frames of a capture without a header.
@@ -46,9 +43,8 @@ fn put_treated(case: &mut Case<'_>, capture: &[u8], treated: &[Treated]) {
         bytes: capture,
         treated,
     };
-    if write_treated(form, None::<&Symbols>, capture, &mut text).is_err() {
-        case.no_memory();
-    }
+    let written = write_treated(form, None::<&Symbols>, capture, &mut text);
+    case.granted(written);
     case.put_text(text.as_slice());
 }
 
@@ -60,26 +56,18 @@ pub(crate) fn treat(case: &mut Case<'_>) {
     let Some(program) = program_of(case) else {
         return;
     };
-    let mode = Mode::Differential;
-    match treat_watched(
-        case.alloc,
-        &program,
-        harts,
-        mode,
-        messages.as_slice(),
-        &NoProgress,
-    ) {
-        Ok(treated) => put_treated(case, capture.as_slice(), treated.as_slice()),
-        Err(_) => case.no_memory(),
+    let (mode, messages) = (Mode::Differential, messages.as_slice());
+    let treated = treat_watched(case.alloc, &program, harts, mode, messages, &NoProgress);
+    if let Some(treated) = case.granted(treated) {
+        put_treated(case, capture.as_slice(), treated.as_slice());
     }
 }
 
 /// Appends the table of what is salvaged.
 fn put_salvaged(case: &mut Case<'_>, capture: &[u8], found: &Found) {
     let mut table = Vec::new(case.alloc);
-    if write_found(case.alloc, Layout::Table, None, found, capture, &mut table).is_err() {
-        case.no_memory();
-    }
+    let written = write_found(case.alloc, Layout::Table, None, found, capture, &mut table);
+    case.granted(written);
     case.put_text(table.as_slice());
 }
 
@@ -95,8 +83,8 @@ pub(crate) fn salvage(case: &mut Case<'_>) {
     };
     let only = HartRange::ALL;
     let bytes = capture.as_slice();
-    match find_salvaged(case.alloc, &program, start, 1, only, bytes, &NoProgress) {
-        Ok(found) => put_salvaged(case, bytes, &found),
-        Err(_) => case.no_memory(),
+    let found = find_salvaged(case.alloc, &program, start, 1, only, bytes, &NoProgress);
+    if let Some(found) = case.granted(found) {
+        put_salvaged(case, bytes, &found);
     }
 }

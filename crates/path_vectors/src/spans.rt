@@ -9,8 +9,8 @@ pub(crate) fn bytes_in(case: &mut Case<'_>) -> Vec<u8> {
     let mut bytes = Vec::new(case.alloc);
     for word in case.text.split(' ') {
         if !word.contains('=') {
-            let done = bytes.extend_from_slice(bytes_of(case, word).as_slice());
-            case.note(done);
+            let own = bytes_of(case, word);
+            case.extend(&mut bytes, own.as_slice());
         }
     }
     bytes

@@ -1,10 +1,10 @@
 //! Cases of stimulus (`stimulus`).
 
 use captures::{CaptureOutcome, decode_capture};
-use cases::{Case, mode_of};
+use cases::{Case, next_mode};
 use encoder::Encoder;
 use message::Version;
-use payload::{Mode, Packet, Report, pack};
+use payload::{Packet, Report, pack};
 use retire::Event;
 use rvclass::Program;
 use stimulus::{Capture, Hart, Log, Mix, image_of, write_capture, write_log};
@@ -23,44 +23,21 @@ fn mix_named(case: &mut Case<'_>) -> Mix {
     }
 }
 
-/// Reads a decimal number.
-fn count_of(case: &mut Case<'_>) -> u64 {
-    let digits = case.word();
-    case.decimal(digits)
-}
-
-/// The next word, a count below 65,536.
-fn short_of(case: &mut Case<'_>) -> u16 {
-    let word = case.word();
-    case.short(word)
-}
-
-/// The next word, a count; a greater one is 4,294,967,295.
+/// Reads the next word, a count; a greater one is 4,294,967,295.
 fn whole_of(case: &mut Case<'_>) -> u32 {
-    count_of(case).min(u64::from(u32::MAX)) as u32
+    case.next_decimal().min(u64::from(u32::MAX)) as u32
 }
 
 /// The image that a mix and a seed give.
 fn image_drawn(case: &mut Case<'_>, mix: Mix, seed: u64) -> Vec<u8> {
-    match image_of(case.alloc, mix, seed) {
-        Ok(image) => image,
-        Err(_) => {
-            case.no_memory();
-            Vec::new(case.alloc)
-        }
-    }
+    let image = image_of(case.alloc, mix, seed);
+    case.granted(image).unwrap_or(Vec::new(case.alloc))
 }
 
 /// The program of that image.
 fn program_drawn(case: &mut Case<'_>, mix: Mix, seed: u64) -> Option<Program> {
-    let image = image_drawn(case, mix, seed);
-    match Program::new(BASE, image) {
-        Ok(program) => Some(program),
-        Err(_) => {
-            case.unread();
-            None
-        }
-    }
+    let program = Program::new(BASE, image_drawn(case, mix, seed));
+    case.read(program)
 }
 
 /// The sum of bytes by FNV-1a, of 64 bits.
@@ -74,16 +51,12 @@ fn sum_of(bytes: &[u8]) -> u64 {
 
 /// Appends how many bytes there are, and their sum.
 fn put_sum(case: &mut Case<'_>, bytes: &[u8]) {
-    let (count, sum) = (bytes.len(), sum_of(bytes));
-    case.put_word(count);
-    case.put_word("");
-    case.put_shown(sum);
+    case.put_filled("# #", &[bytes.len() as u64, sum_of(bytes)]);
 }
 
 /// `image-sum MIX SEED`: how many bytes an image has, and their sum.
 pub(crate) fn image_sum_case(case: &mut Case<'_>) {
-    let mix = mix_named(case);
-    let seed = count_of(case);
+    let (mix, seed) = (mix_named(case), case.next_decimal());
     let image = image_drawn(case, mix, seed);
     put_sum(case, image.as_slice());
 }
@@ -92,8 +65,8 @@ pub(crate) fn image_sum_case(case: &mut Case<'_>) {
 fn log_text(case: &mut Case<'_>) -> Vec<u8> {
     let asked = Log {
         mix: mix_named(case),
-        seed: count_of(case),
-        hart: short_of(case),
+        seed: case.next_decimal(),
+        hart: case.next_short(),
         events: whole_of(case),
     };
     let mut text = Vec::new(case.alloc);
@@ -108,19 +81,14 @@ fn log_text(case: &mut Case<'_>) -> Vec<u8> {
     text
 }
 
-/// `log-rows MIX SEED HART COUNT`: the text of a log.
-pub(crate) fn log_rows_case(case: &mut Case<'_>) {
+/// `log-rows MIX SEED HART COUNT`: the text of a log; `log-sum`: how many bytes it has, and their sum.
+pub(crate) fn log_case(case: &mut Case<'_>, verb: &str) {
     let text = log_text(case);
-    match std::str::from_utf8(text.as_slice()) {
-        Ok(text) => case.put(text),
-        Err(_) => case.unread(),
+    if verb == "log-rows" {
+        case.put_text(text.as_slice());
+    } else {
+        put_sum(case, text.as_slice());
     }
-}
-
-/// `log-sum MIX SEED HART COUNT`: how many bytes the text of a log has, and their sum.
-pub(crate) fn log_sum_case(case: &mut Case<'_>) {
-    let text = log_text(case);
-    put_sum(case, text.as_slice());
 }
 
 /// Which kinds of packets came, and payloads of which lengths.
@@ -150,14 +118,16 @@ fn kind_of(packet: &Packet) -> usize {
     }
 }
 
-/// Notes a packet.
-fn note_packet(came: &mut Came, packet: &Packet) {
-    if let Some(kind) = came.kinds.get_mut(kind_of(packet)) {
-        *kind = true;
-    }
-    if packet.in_profile() {
-        if let Some(length) = came.lengths.get_mut(pack(packet).bytes().len()) {
-            *length = true;
+/// Notes packets.
+fn note_packets(came: &mut Came, packets: &[Packet]) {
+    for packet in packets {
+        if let Some(kind) = came.kinds.get_mut(kind_of(packet)) {
+            *kind = true;
+        }
+        if packet.in_profile() {
+            if let Some(length) = came.lengths.get_mut(pack(packet).bytes().len()) {
+                *length = true;
+            }
         }
     }
 }
@@ -179,12 +149,9 @@ fn put_came(case: &mut Case<'_>, came: Came) {
 /// `log-comes MIX SEED COUNT PERIOD MODE`: which kinds of packets come of a log of hart 0, and payloads of which
 /// lengths.
 pub(crate) fn log_comes_case(case: &mut Case<'_>) {
-    let mix = mix_named(case);
-    let seed = count_of(case);
-    let events = count_of(case);
-    let period = short_of(case);
-    let name = case.word();
-    let mode = mode_of(case, name);
+    let (mix, seed) = (mix_named(case), case.next_decimal());
+    let events = case.next_decimal();
+    let (period, mode) = (case.next_short(), next_mode(case));
     let Some(program) = program_drawn(case, mix, seed) else {
         return;
     };
@@ -194,17 +161,13 @@ pub(crate) fn log_comes_case(case: &mut Case<'_>) {
     };
     let mut hart = Hart::new(&program, mix, seed, 0);
     let mut encoder = Encoder::new(period.max(1), mode);
-    note_packet(&mut came, &encoder.open());
+    note_packets(&mut came, &[encoder.open()]);
     for _ in 0..events {
         if let Some(event) = hart.next_event(&program) {
-            for packet in encoder.push(&program, event).as_slice() {
-                note_packet(&mut came, packet);
-            }
+            note_packets(&mut came, encoder.push(&program, event).as_slice());
         }
     }
-    for packet in encoder.finish(&program).as_slice() {
-        note_packet(&mut came, packet);
-    }
+    note_packets(&mut came, encoder.finish(&program).as_slice());
     put_came(case, came);
 }
 
@@ -239,34 +202,27 @@ fn put_wrong(case: &mut Case<'_>, program: &Program, asked: &Capture, outcome: &
 /// `mixed-capture MIX SEED HARTS MESSAGES PERIOD MODE BURST`: how many bytes a capture has, their sum, and what is wrong
 /// with what it decodes to.
 pub(crate) fn mixed_capture_case(case: &mut Case<'_>) {
-    let mix = mix_named(case);
-    let seed = count_of(case);
-    let harts = short_of(case);
-    let messages = count_of(case);
-    let period = short_of(case).max(1);
-    let name = case.word();
-    let mode = mode_of(case, name);
-    let burst = whole_of(case);
+    let (mix, seed) = (mix_named(case), case.next_decimal());
+    let harts = case.next_short();
     let asked = Capture {
         mix,
         seed,
         harts: harts.clamp(1, 1024),
-        messages,
-        period,
-        mode,
+        messages: case.next_decimal(),
+        period: case.next_short().max(1),
+        mode: next_mode(case),
         version: Version::Two,
-        burst,
+        burst: whole_of(case),
     };
     let Some(program) = program_drawn(case, mix, seed) else {
         return;
     };
     let mut bytes = Vec::new(case.alloc);
-    if write_capture(case.alloc, &program, &asked, &mut bytes).is_err() {
-        return case.no_memory();
-    }
+    let written = write_capture(case.alloc, &program, &asked, &mut bytes);
+    case.granted(written);
     put_sum(case, bytes.as_slice());
-    match decode_capture(case.alloc, &program, harts, bytes.as_slice()) {
-        Ok(outcome) => put_wrong(case, &program, &asked, &outcome),
-        Err(_) => case.no_memory(),
+    let outcome = decode_capture(case.alloc, &program, harts, bytes.as_slice());
+    if let Some(outcome) = case.granted(outcome) {
+        put_wrong(case, &program, &asked, &outcome);
     }
 }

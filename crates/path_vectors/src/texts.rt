@@ -79,10 +79,7 @@ pub(crate) fn read_case(case: &mut Case<'_>) {
 
 /// `read-most ROWS "TEXT"`: the events of a log's text that may have so many rows, in pieces, wherever it is cut.
 pub(crate) fn read_most_case(case: &mut Case<'_>) {
-    let most = case.word();
-    let Ok(most) = most.parse::<u32>() else {
-        return case.unread();
-    };
+    let most = case.next_decimal().min(u64::from(u32::MAX)) as u32;
     let text = text_of(case);
     let text = text.as_slice();
     let limit = text.len().saturating_add(2);
@@ -98,9 +95,8 @@ pub(crate) fn write_case(case: &mut Case<'_>) {
     let alloc = case.alloc;
     let events = events_of(case);
     let mut text = Vec::new(alloc);
-    if write_log(alloc, &mut text, events.as_slice()).is_err() {
-        return case.no_memory();
-    }
+    let written = write_log(alloc, &mut text, events.as_slice());
+    case.granted(written);
     let Some(rows) = text.as_slice().strip_prefix(HEADER.as_bytes()) else {
         return case.put_word("no header");
     };
@@ -125,8 +121,7 @@ fn are_pairs(turns: &[Turn]) -> bool {
 fn put_turns(case: &mut Case<'_>, turns: &[Turn]) {
     let mut shown = turns;
     if are_pairs(turns) {
-        case.put_shown(turns.len() / 2);
-        case.put(" times");
+        case.put_filled("# times", &[turns.len() as u64 / 2]);
         shown = turns.get(..2).unwrap_or(&[]);
     }
     for turn in shown {
@@ -139,8 +134,7 @@ fn put_turns(case: &mut Case<'_>, turns: &[Turn]) {
 
 /// `schedule HARTS "TEXT"`: the turns of a schedule. Two that come again and again are named once.
 pub(crate) fn schedule_case(case: &mut Case<'_>) {
-    let harts = case.word();
-    let harts = case.short(harts);
+    let harts = case.next_short();
     let text = text_of(case);
     match read_schedule(case.alloc, harts, text.as_slice()) {
         Ok(turns) => put_turns(case, turns.as_slice()),
@@ -151,12 +145,11 @@ pub(crate) fn schedule_case(case: &mut Case<'_>) {
 /// `text-line "TEXT"`: a text that is written with a line's end.
 pub(crate) fn line_case(case: &mut Case<'_>) {
     let text = text_of(case);
-    let Ok(text) = str::from_utf8(text.as_slice()) else {
-        return case.unread();
+    let Some(text) = case.read(str::from_utf8(text.as_slice())) else {
+        return;
     };
     let mut written = Vec::new(case.alloc);
-    if write_text(&mut written, format_args!("{text}\n")).is_err() {
-        case.no_memory();
-    }
+    let done = write_text(&mut written, format_args!("{text}\n"));
+    case.granted(done);
     put_quoted(case, written.as_slice());
 }

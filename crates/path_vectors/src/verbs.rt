@@ -1,25 +1,13 @@
 //! The verbs.
 
-use crate::{alignments, audits, fates, lines, naming, paths, salvages, spans, stimuli, texts};
+use crate::{alignments, audits, lines, naming, paths, salvages, spans, stimuli, texts};
 use cases::{Case, Verbs};
 
 /// The verbs of this program.
 #[derive(Drop)]
 pub(crate) struct PathVerbs;
 
-/// Plays a case of stimulus.
-fn play_stimulus(case: &mut Case<'_>, verb: &str) {
-    match verb {
-        "image-sum" => stimuli::image_sum_case(case),
-        "log-rows" => stimuli::log_rows_case(case),
-        "log-sum" => stimuli::log_sum_case(case),
-        "log-comes" => stimuli::log_comes_case(case),
-        "mixed-capture" => stimuli::mixed_capture_case(case),
-        _ => case.unread(),
-    }
-}
-
-/// Plays a case of the text of a log or of a schedule.
+/// Plays a case of the text of a log or of a schedule, or of stimulus.
 fn play_text(case: &mut Case<'_>, verb: &str) {
     match verb {
         "text-line" => texts::line_case(case),
@@ -27,42 +15,25 @@ fn play_text(case: &mut Case<'_>, verb: &str) {
         "read-most" => texts::read_most_case(case),
         "write" => texts::write_case(case),
         "schedule" => texts::schedule_case(case),
-        _ => play_stimulus(case, verb),
-    }
-}
-
-/// Plays cases that are drawn, or made by a rule.
-fn play_rule(case: &mut Case<'_>, verb: &str) {
-    match verb {
-        "guided" => fates::guided(case),
-        "fates" => fates::fates(case),
-        "sized" => naming::sized(case),
-        _ => play_text(case, verb),
-    }
-}
-
-/// Plays a case of messages without numbers.
-fn play_alignment(case: &mut Case<'_>, verb: &str) {
-    match verb {
-        "align" => alignments::align(case),
-        "count" => alignments::count(case),
-        "most" => alignments::most(case),
-        "best" => alignments::best(case),
-        _ => play_rule(case, verb),
+        "image-sum" => stimuli::image_sum_case(case),
+        "log-rows" | "log-sum" => stimuli::log_case(case, verb),
+        "log-comes" => stimuli::log_comes_case(case),
+        "mixed-capture" => stimuli::mixed_capture_case(case),
+        _ => case.unread(),
     }
 }
 
 /// Plays a case of what was sent and what came.
 fn play_path(case: &mut Case<'_>, verb: &str) {
     match verb {
-        "path" => paths::letters(case),
-        "spellings" => paths::spellings(case),
-        "many-harts" => paths::many_harts(case),
-        "many-messages" => paths::many_messages(case),
-        "audit" => audits::audit(case),
-        "payload" => audits::payload(case),
+        "path" | "spellings" | "many-harts" | "many-messages" => paths::path_case(case, verb),
+        "audit" | "payload" | "fates" | "guided" => audits::audit(case, verb),
         "runs" => audits::runs(case),
-        _ => play_alignment(case, verb),
+        "align" => alignments::align(case),
+        "count" => alignments::count(case),
+        "most" => alignments::most(case),
+        "best" => alignments::best(case),
+        _ => play_text(case, verb),
     }
 }
 
@@ -78,6 +49,7 @@ impl Verbs for PathVerbs {
             "salvage" => salvages::salvage(case),
             "treat" => salvages::treat(case),
             "symbol" => naming::symbol(case),
+            "sized" => naming::sized(case),
             verb => play_path(case, verb),
         }
     }

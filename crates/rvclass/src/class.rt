@@ -2,7 +2,7 @@
 
 /// How control goes on from an instruction, by its bits and its address alone. Targets are absolute addresses, modulo
 /// 2^64.
-#[derive(Clone, Copy, Debug, PartialEq, Eq)]
+#[derive(Clone, Copy, PartialEq, Eq)]
 pub enum Class {
     /// On to the next instruction.
     Plain,
@@ -20,7 +20,7 @@ pub enum Class {
 
 /// The instructions that return from a trap (the Privileged Architecture, "Trap-Return
 /// Instructions").
-#[derive(Clone, Copy, Debug, PartialEq, Eq)]
+#[derive(Clone, Copy, PartialEq, Eq)]
 pub enum Return {
     /// From a trap into M-mode.
     Mret,

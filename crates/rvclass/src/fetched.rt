@@ -1,7 +1,7 @@
 //! What stands at an address.
 
 /// What stands at an address and at those after it.
-#[derive(Clone, Copy, Debug, PartialEq, Eq)]
+#[derive(Clone, Copy, PartialEq, Eq)]
 pub enum Fetched {
     /// Four bytes, little endian, as a number below 2^32.
     Word(u32),

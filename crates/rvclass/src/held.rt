@@ -4,7 +4,7 @@ ghost use Rattle.std.specs.Prelude.{◌≡◌};
 ghost use Rattle.rvclass.specs.steps.HeldBytes.{held_bytes};
 
 /// The bytes of a piece: owned, or borrowed for `'b`.
-#[derive(Debug, Drop)]
+#[derive(Drop)]
 pub(crate) enum Held<'b> {
     /// They are owned.
     Owned(Vec<u8>),

@@ -26,7 +26,7 @@ const MAX_TOTAL: usize = 1 << 26;
 const MAX_PIECES: usize = 1024;
 
 /// A memory: pieces that do not overlap, each with its base address and its bytes, which it owns or borrows for `'b`.
-#[derive(Debug, Drop)]
+#[derive(Drop)]
 pub struct Memory<'b, A: Allocator = Global> {
     base: u64,
     bytes: Held<'b>,

@@ -9,7 +9,7 @@ use crate::held::Held;
 use std::alloc::Allocator;
 
 /// A piece after the first.
-#[derive(Debug, Drop)]
+#[derive(Drop)]
 pub(crate) struct Part<'b> {
     /// The piece's rank among the others.
     pub(crate) rank: u64,

@@ -21,7 +21,7 @@ use std::alloc::Global;
 use std::marker::Model;
 
 /// A program: the pieces of its image, each with its bytes from a base address on, which it owns or borrows for `'b`.
-#[derive(Debug, Drop)]
+#[derive(Drop)]
 pub struct ProgramOver<'b> {
     memory: Memory<'b>,
 }

@@ -12,7 +12,7 @@ use salvaging::{Salvaged, SalvagedHart};
 
 /// What is found of some harts of a capture that may be damaged. The capture is whole if and only if `fault` is `None`,
 /// each of these harts is closed, nothing of them is damaged, and no byte belongs to no frame.
-#[derive(Debug, Drop)]
+#[derive(Drop)]
 pub struct Found {
     /// These harts.
     pub only: HartRange,

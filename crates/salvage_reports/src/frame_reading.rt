@@ -10,7 +10,7 @@ use message::{HartRange, Message};
 use std::alloc::{AllocError, Global};
 
 /// The messages of a capture's frames, and where they are.
-#[derive(Debug, Drop)]
+#[derive(Drop)]
 pub struct Frames {
     /// The messages, in the order of the capture.
     pub messages: Vec<Message>,

@@ -14,6 +14,7 @@ use Rattle.legalpath.specs.ProgramLog.{ProgramLog, IsLegalLog, program_log}
 use Rattle.payload.specs.declared.mode.Mode.{Mode}
 use Rattle.encoder.specs.Packets.{packets}
 use Rattle.encoder.specs.Payloads.{payloads}
+use Rattle.message.proofs.Elements.{All-slice_get}
 use Rattle.message.specs.Numbered.{messages_from}
 use Rattle.message.specs.OfHart.{of_hart}
 use Rattle.message.specs.declared.message.Message.{Message}
@@ -26,7 +27,7 @@ use Rattle.salvaging.specs.Strangers.{has_number, is_stranger, own_messages}
 use Rattle.salvaging.specs.declared.salvaged.SalvagedHart.{SalvagedHart}
 use Rattle.salvaging.specs.declared.salvaged.Salvaged.{Salvaged}
 use Rattle.salvaging.proofs.Members.{IsIn, all_in, came_of_contains, contains_of_in, in_of_contains}
-use Rattle.salvaging.proofs.OneHart.{all_at, hart_of_log}
+use Rattle.salvaging.proofs.OneHart.{hart_of_log}
 use Rattle.salvaging.proofs.SentMessages.{IsOfLog, of_log}
 
 -- A filter that all pass leaves all.
@@ -64,10 +65,10 @@ in_hart hart (first ∷ messages) message own (inr one) =
 module _ (program : Image) (period : ℕ) (handed : Mode) (own : ℕ → Mode) (logs : List ProgramLog)
     (messages : List Message) (from : AreFromLogs program period handed own logs messages) where
   legal_at : (hart : ℕ) (log : ProgramLog) → slice_get logs hart ≡ Some log → IsLegalLog log
-  legal_at hart log at = all_at IsLegalLog logs hart log at from.legal
+  legal_at hart log at = All-slice_get IsLegalLog logs hart log at from.legal
 
   same_at : (hart : ℕ) (log : ProgramLog) → slice_get logs hart ≡ Some log → log.program ≡ program
-  same_at hart log at = all_at (λ (l : ProgramLog). l.program ≡ program) logs hart log at from.same
+  same_at hart log at = All-slice_get (λ (l : ProgramLog). l.program ≡ program) logs hart log at from.same
 
   -- Each message of a hart is of its log.
   each_at : (hart : ℕ) (log : ProgramLog) → slice_get logs hart ≡ Some log

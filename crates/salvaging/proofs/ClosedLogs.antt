@@ -17,7 +17,7 @@ use Rattle.losses.proofs.TraceLemmas.{drop_one_more}
 use Rattle.salvaging.specs.Entries.{Entry, Used, Doubtful, closed_behind, entry_number}
 use Rattle.salvaging.specs.LogsSalvaged.{closing_number}
 use Rattle.salvaging.proofs.EntriesOfLog.{AreOfPackets, HasPacketOf, closing_is_last}
-use Rattle.salvaging.proofs.RunsOfLog.{ps}
+use Rattle.losses.proofs.RunsOfLog.{ps}
 
 last_at : (before : Option Packet) (count : ℕ) (packets : List Packet) (p : Packet) → drop count packets ≡ p ∷ []
     → last_or before packets ≡ Some p

@@ -1,8 +1,8 @@
 -- What is collected of messages without a fault is salvaged of them.
-use Rattle.std.proofs.Common.{◌≡◌, ℕ, zero, suc, ◌+◌, ◌-◌, ◌<◌, ◌^◌, ◌&&◌, ◌||◌, ◌++◌, All, Bool}
+use Rattle.std.proofs.Common.{◌≡◌, ℕ, ◌+◌, ◌-◌, ◌<◌, ◌^◌, ◌&&◌, ◌||◌, All, Bool}
 use Rattle.std.proofs.Common.{true, false, cond, List, [], ◌∷◌, map, Option, Some, None, length}
 use Rattle.std.proofs.Common.{refl, sym, ap, subst, ◌∙◌, arith}
-use Rattle.std.specs.Prelude.{count_by, not, Ok}
+use Rattle.std.specs.Prelude.{count_by, not}
 use Rattle.std.specs.List.{last_or}
 use Rattle.std.proofs.lemmas.Bool.{le-ltb, lt-ltb}
 use Rattle.std.proofs.lemmas.List.{get_or-replicate, length-map, length-replicate}
@@ -19,93 +19,40 @@ use Rattle.message.proofs.HartMessages.{packets_in-cons}
 use Rattle.message.specs.Accepted.{newcomers}
 use Rattle.message.specs.Accepting.{next_of}
 use Rattle.message.specs.Harts.{newcomer}
-use Rattle.message.specs.OfHart.{of_hart, packet_or_none, packets_in}
+use Rattle.message.specs.OfHart.{of_hart, packets_in}
 use Rattle.message.specs.declared.hart.Hart.{Hart}
 use Rattle.message.specs.declared.message.Message.{Message}
 use Rattle.losses.specs.Apart.{AreRising}
 use Rattle.losses.specs.DescribedParts.{AreDescribed, MessagesDescribe}
 use Rattle.losses.specs.PartsIn.{parts_in as collected_parts}
-use Rattle.losses.specs.Runs.{first_run, longer, mode_in, mode_or, over_before, run_behind, run_of, runs, runs_on}
 use Rattle.losses.specs.Stops.{AreAcceptedLossy}
 use Rattle.losses.specs.WholeStretches.{NumberCame}
 use Rattle.losses.specs.declared.part.HartPieces.{HartPieces}
-use Rattle.losses.specs.steps.Collecting.{closed_by}
+use Rattle.losses.proofs.InTurn.{AreTakenFrom, taken_rise}
+use Rattle.losses.proofs.RunsOfLog.{number_of}
 use Rattle.salvaging.specs.Copies.{AreCopies, HasLike}
 use Rattle.salvaging.specs.Entries.{Entry, Used, Doubtful, closed_behind, is_closed}
 use Rattle.salvaging.specs.Late.{counted, is_late, late}
-use Rattle.salvaging.specs.Leaving.{EntriesLeave, mode_by, own_mode}
 use Rattle.salvaging.specs.LossyParts.{AreCollectedToo, IsCollected}
-use Rattle.salvaging.specs.PartsIn.{parts_in}
 use Rattle.salvaging.specs.Salvaged.{IsSalvaged, IsSalvagedHart}
 use Rattle.salvaging.specs.Strangers.{has_number, is_stranger}
 use Rattle.salvaging.specs.declared.salvaged.SalvagedHart.{SalvagedHart}
 use Rattle.salvaging.specs.declared.salvaged.Salvaged.{Salvaged}
 use Rattle.salvaging.proofs.AllLogs.{all_pass}
-use Rattle.salvaging.proofs.EntriesCollected.{collected_has_no_end, entries_collected}
+use Rattle.salvaging.proofs.EntriesCollected.{HaveMessages, hart_left}
 use Rattle.salvaging.proofs.Members.{contains_of_in, in_of_contains}
 use Rattle.salvaging.proofs.NoRepeats.{no_more, rising_no_repeat}
 use Rattle.salvaging.proofs.OneHart.{message_with, number_in}
-use Rattle.salvaging.proofs.RunsOfLog.{number_of}
-use Rattle.salvaging.proofs.SameMessages.{AreMessages, entries_are_messages}
-use Rattle.salvaging.proofs.TakenInTurn.{AreKnown, AreTakenFrom, known_all, taken_from}
-use Rattle.salvaging.proofs.WholeHarts.{leave_whole, uncut}
+use Rattle.salvaging.proofs.SameMessages.{AreMessages, entries_are_messages, have_messages}
+use Rattle.salvaging.proofs.TakenInTurn.{AreKnown, known_all, taken_from}
 
--- The numbers of messages that are taken rise.
-pub taken_rise : (expects : Hart) (messages : List Message) → AreTakenFrom expects messages
-    → AreRising expects.expected (map number_of messages)
-taken_rise expects [] taken = tt
-taken_rise expects (message ∷ messages) (taken, later) =
-    (taken.least, taken_rise (next_of message.number taken.packet) messages later)
-
+-- Messages that are taken have numbers that a hart may have.
 taken_small : (expects : Hart) (messages : List Message) → AreTakenFrom expects messages
     → All (λ message. has_number message ≡ true) messages
 taken_small expects [] taken = All-nil (λ message. has_number message ≡ true)
 taken_small expects (message ∷ messages) (taken, later) =
     All-cons (λ message. has_number message ≡ true) message messages (lt-ltb message.number (2 ^ 63) taken.small)
     (taken_small (next_of message.number taken.packet) messages later)
-
--- The first run announces the mode.
-mode_kept : (mode : Mode) (packet : Packet) (packets : List Packet) (next : ℕ) (messages : List Message)
-    → mode_in mode (runs_on (run_of 0 (packet ∷ packets)) next messages) ≡ mode_or mode packet
-mode_kept mode packet packets next [] = refl
-mode_kept mode packet packets next (message ∷ messages) =
-    by_missed (message.number - next) (mode_kept mode packet (packets ++ packet_or_none (reading message.payload))
-    (message.number + 1) messages)
-  where
-    by_missed : (missed : ℕ)
-        → mode_in mode (runs_on (run_of 0 (packet ∷ (packets ++ packet_or_none (reading message.payload))))
-        (message.number + 1) messages) ≡ mode_or mode packet
-        → mode_in mode (over_before missed (run_of 0 (packet ∷ packets))
-        ++ runs_on (longer (run_behind missed (run_of 0 (packet ∷ packets)))
-        (packet_or_none (reading message.payload))) (message.number + 1) messages) ≡ mode_or mode packet
-    by_missed zero later = later
-    by_missed (suc missed) later = refl
-
-first_mode : (mode : Mode) (message : Message) (messages : List Message) (packet : Packet)
-    → reading message.payload ≡ Ok packet → (number missed : ℕ) → number ≡ missed
-    → mode_in mode (over_before missed first_run
-    ++ runs_on (longer (run_behind missed first_run) (packet_or_none (reading message.payload)))
-    (message.number + 1) messages) ≡ mode_by number mode (reading message.payload)
-first_mode mode message messages packet read zero zero is =
-    ap (λ r. mode_in mode (runs_on (run_of 0 (packet_or_none r)) (message.number + 1) messages)) read
-    ∙ mode_kept mode packet [] (message.number + 1) messages
-    ∙ sym (ap (mode_by 0 mode) read)
-first_mode mode message messages packet read zero (suc missed) is = cc
-first_mode mode message messages packet read (suc number) zero is = cc
-first_mode mode message messages packet read (suc number) (suc missed) is = refl
-
-own_mode_is : (mode : Mode) (entries : List Entry) (messages : List Message) → AreMessages 0 entries messages
-    → AreTakenFrom newcomer messages → own_mode mode entries ≡ mode_in mode (runs messages)
-own_mode_is mode [] [] are taken = refl
-own_mode_is mode [] (message ∷ messages) are taken = absurd are
-own_mode_is mode (Used number at payload ∷ entries) [] are taken = absurd are
-own_mode_is mode (Doubtful number one other ∷ entries) [] are taken = absurd are
-own_mode_is mode (Doubtful number one other ∷ entries) (message ∷ messages) are taken = absurd are
-own_mode_is mode (Used number at payload ∷ entries) (message ∷ messages) (number_is, payload_is, at_is, are)
-    (taken, later) =
-    ap (λ n. mode_by n mode (reading payload)) number_is
-    ∙ ap (λ l. mode_by message.number mode (reading l)) payload_is
-    ∙ sym (first_mode mode message messages taken.packet taken.read message.number (message.number - 0) (omega arith))
 
 -- No message is late where the places rise.
 pub none_late_before : (place base : ℕ) (entries : List Entry) (messages : List Message) (goods : List Bool)
@@ -137,25 +84,30 @@ none_late base (Used number at payload ∷ entries) (message ∷ messages) (good
     (none_late_before at (base + 1) entries messages goods are (omega (arith, at_is)))
     ∙ none_late (base + 1) entries messages goods are
 
+-- Whether a trace is closed after further packets: by the last of them, or as it was where there is none.
+abbrev closed_by : Bool → List Packet → Bool
+closed_by closed [] = closed
+closed_by closed (packet ∷ packets) = closed_by (is_closing_packet packet) packets
+
 -- A hart is closed by its last packet.
 closes_by : (before : Option Packet) (packets : List Packet)
     → closes (last_or before packets) ≡ closed_by (closes before) packets
 closes_by before [] = refl
 closes_by before (packet ∷ packets) = closes_by (Some packet) packets
 
-closed_same : (closed : Bool) (base : ℕ) (expects : Hart) (entries : List Entry) (messages : List Message)
-    → AreMessages base entries messages → AreTakenFrom expects messages
+closed_same : (closed : Bool) (expects : Hart) (entries : List Entry) (messages : List Message)
+    → HaveMessages entries messages → AreTakenFrom expects messages
     → closed_behind closed entries ≡ closed_by closed (packets_in messages)
-closed_same closed base expects [] [] are taken = refl
-closed_same closed base expects [] (message ∷ messages) are taken = absurd are
-closed_same closed base expects (Used number at payload ∷ entries) [] are taken = absurd are
-closed_same closed base expects (Doubtful number one other ∷ entries) [] are taken = absurd are
-closed_same closed base expects (Doubtful number one other ∷ entries) (message ∷ messages) are taken = absurd are
-closed_same closed base expects (Used number at payload ∷ entries) (message ∷ messages)
-    (number_is, payload_is, at_is, are) (taken, later) =
+closed_same closed expects [] [] are taken = refl
+closed_same closed expects [] (message ∷ messages) are taken = absurd are
+closed_same closed expects (Used number at payload ∷ entries) [] are taken = absurd are
+closed_same closed expects (Doubtful number one other ∷ entries) [] are taken = absurd are
+closed_same closed expects (Doubtful number one other ∷ entries) (message ∷ messages) are taken = absurd are
+closed_same closed expects (Used number at payload ∷ entries) (message ∷ messages)
+    (number_is, payload_is, are) (taken, later) =
     let closes_too = ap (λ l. is_closing_reading (reading l)) payload_is ∙ ap is_closing_reading taken.read in
     ap (λ b. closed_behind b entries) closes_too
-    ∙ closed_same (is_closing_packet taken.packet) (base + 1) (next_of message.number taken.packet) entries messages are
+    ∙ closed_same (is_closing_packet taken.packet) (next_of message.number taken.packet) entries messages are
     later
     ∙ sym (ap (closed_by closed) (packets_in-cons message messages taken.packet taken.read))
 
@@ -198,22 +150,16 @@ module _ (words : Words) (program : IsProgram words) (mode : Mode) where
   hart_collected messages taken pieces described closed one salvaged =
       let rising = taken_rise newcomer messages taken in
       let entries = salvaged.entries in
-      let goods = salvaged.goods in
       let are = entries_are_messages messages rising entries salvaged.are_entries in
-      let left = parts_in one.parts.items in
-      let own = own_mode mode entries in
-      let whole = uncut words own entries salvaged.upto salvaged.beyond salvaged.cut
-      (collected_has_no_end words program mode own entries messages 0 newcomer taken are) in
-      let leaves = subst (λ m. EntriesLeave words m first_run 0 entries goods left)
-      (own_mode_is mode entries messages are taken)
-      (leave_whole words own entries salvaged.upto salvaged.beyond goods left whole.0 whole.1 salvaged.parts) in
+      let have = have_messages 0 entries messages are in
+      let left = hart_left words program mode messages messages one salvaged have taken
+      (collected_parts pieces.parts.items) described in
       record {
-        parts = entries_collected words program (mode_in mode (runs messages)) messages entries goods 0 newcomer taken
-            are first_run 0 left (collected_parts pieces.parts.items) leaves described;
-        closed = salvaged.closed ∙ ap is_closed whole.0 ∙ closed_same false 0 newcomer entries messages are taken
+        parts = left.1;
+        closed = salvaged.closed ∙ ap is_closed left.0 ∙ closed_same false newcomer entries messages have taken
             ∙ sym (closes_by None (packets_in messages)) ∙ sym closed;
         copies = none_copied messages one.copies rising salvaged.copies;
-        late = salvaged.late ∙ none_late 0 entries messages goods are;
+        late = salvaged.late ∙ none_late 0 entries messages salvaged.goods are;
       }
 
   pub all_collected : {A B : Type 0} (harts : ℕ) (messages : List Message) (pieces : List (HartPieces A))

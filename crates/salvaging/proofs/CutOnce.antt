@@ -1,5 +1,5 @@
 -- A hart has one end.
-use Rattle.std.proofs.Common.{◌≡◌, ◌++◌, List, [], ◌∷◌, refl, sym, ap, subst, ◌∙◌}
+use Rattle.std.proofs.Common.{◌≡◌, ◌++◌, List, [], ◌∷◌, refl, sym, ap, subst, ◌∙◌, append_assoc}
 use Rattle.std.proofs.lemmas.List.{append-nil}
 use Rattle.rvclass.specs.Words.{Words}
 use Rattle.payload.specs.declared.mode.Mode.{Mode}
@@ -12,10 +12,6 @@ module _ (words : Words) (mode : Mode) where
       → NoneEnds words mode (front ++ last ∷ more) later → ¬ IsEnd words mode last (more ++ later)
   not_at [] last more later none = none.0
   not_at (entry ∷ front) last more later none = not_at front last more later none.1
-
-  append_one : (xs : List Entry) (x : Entry) (ys : List Entry) → (xs ++ x ∷ []) ++ ys ≡ xs ++ x ∷ ys
-  append_one [] x ys = refl
-  append_one (y ∷ xs) x ys = ap (λ l. y ∷ l) (append_one xs x ys)
 
   -- The lowest end is one.
   pub record IsOneEnd (front : List Entry) (last : Entry) (beyond others : List Entry) (other : Entry)
@@ -57,7 +53,7 @@ module _ (words : Words) (mode : Mode) where
     none_or_one first beyond whole none too (front, last, is, end, lower) =
         let all : upto ≡ front ++ last ∷ first ∷ beyond =
         sym (append-nil upto) ∙ sym whole ∙ too ∙ ap (λ l. l ++ first ∷ beyond) is
-        ∙ append_one front last (first ∷ beyond) in
+        ∙ append_assoc front (last ∷ []) (first ∷ beyond) in
         not_at front last (first ∷ beyond) [] (subst (λ es. NoneEnds words mode es []) all none)
         (subst (IsEnd words mode last) (sym (append-nil (first ∷ beyond))) end)
 
@@ -75,9 +71,9 @@ module _ (words : Words) (mode : Mode) where
       by_ends : EndsAtLast words mode upto (first ∷ beyond) → EndsAtLast words mode others (again ∷ further)
           → (upto ≡ others) × (first ∷ beyond ≡ again ∷ further)
       by_ends (front, last, is, end, lower) (before, other, is_too, end_too, lower_too) =
-          let whole = sym (append_one front last (first ∷ beyond)) ∙ sym (ap (λ l. l ++ first ∷ beyond) is)
+          let whole = sym (append_assoc front (last ∷ []) (first ∷ beyond)) ∙ sym (ap (λ l. l ++ first ∷ beyond) is)
           ∙ sym cut.whole ∙ too.whole ∙ ap (λ l. l ++ again ∷ further) is_too
-          ∙ append_one before other (again ∷ further) in
+          ∙ append_assoc before (other ∷ []) (again ∷ further) in
           let one = one_end front last (first ∷ beyond) before other (again ∷ further) whole end lower end_too lower_too
           in (
             is ∙ ap (λ l. l ++ last ∷ []) one.front_is ∙ ap (λ e. before ++ e ∷ []) one.last_is ∙ sym is_too,

@@ -81,10 +81,6 @@ module _ {A : Type 0} where
         ∙ ap (λ l. arrivals_in before.items ++ placed_from (length before.items) l) (sym (none hart before at_before));
   }
 
-  pub adds_unnumbered : (message : Message) (lists : List (Vec ReceivedMessage A)) → has_number message ≡ false
-      → AddsArrival message lists lists
-  adds_unnumbered message lists none = adds_nothing message lists (λ hart list at. own_none hart message none)
-
   pub adds_unknown : (message : Message) (lists : List (Vec ReceivedMessage A)) → length lists ≤ message.hart
       → AddsArrival message lists lists
   adds_unknown message lists over = adds_nothing message lists

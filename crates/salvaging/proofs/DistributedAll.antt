@@ -1,7 +1,7 @@
 -- All that was distributed has numbers that a hart may have, and all of it is salvaged.
-use Rattle.std.proofs.Common.{◌≡◌, ◌<◌, ℕ, ◌+◌, All, Bool, true, false, List, [], ◌∷◌, Some, length, slice_get}
+use Rattle.std.proofs.Common.{◌≡◌, ◌<◌, ℕ, ◌+◌, All, Bool, true, false, List, [], ◌∷◌, length}
 use Rattle.std.proofs.Common.{slice_index_or}
-use Rattle.std.proofs.Common.{refl, sym, subst, ◌∙◌, arith, zero, suc}
+use Rattle.std.proofs.Common.{refl, sym, subst, ◌∙◌, arith}
 use Rattle.std.proofs.lemmas.List.{get_or_default}
 use Rattle.std.proofs.lemmas.List.Elements.{All-cons, All-nil}
 use Rattle.std.proofs.lemmas.Option.{slice_get_read, slice_get_within}
@@ -11,6 +11,7 @@ use Rattle.std.specs.List.{filter}
 use Rattle.std.specs.declared.vec.Vec.{Vec}
 use Rattle.rvclass.specs.Words.{Words}
 use Rattle.payload.specs.declared.mode.Mode.{Mode}
+use Rattle.message.proofs.Elements.{slice_get-some}
 use Rattle.message.specs.Harts.{end_of_numbers}
 use Rattle.message.specs.OfHart.{of_hart}
 use Rattle.message.specs.declared.message.Message.{Message}
@@ -40,12 +41,6 @@ have_numbers from (message ∷ messages) =
         small behind
     by_test false has behind here = here
 
--- An item within a list.
-some_within : {X : Type 0} (xs : List X) (i : ℕ) → i < length xs → (x : X) × (slice_get xs i ≡ Some x)
-some_within [] i within = let none : ⊥ = omega (arith, within) in absurd none
-some_within (x ∷ xs) zero within = (x, refl)
-some_within (x ∷ xs) (suc i) within = some_within xs i (omega (arith, within))
-
 module _ {A : Type 0} where
   pub distributed_small : (messages : List Message) (lists : List (Vec ReceivedMessage A)) → Distributes messages lists
       → All (λ (list : Vec ReceivedMessage A). HaveNumbers (arrivals_in list.items)) lists
@@ -64,7 +59,7 @@ module _ {A : Type 0} where
     each = λ hart own at.
         let known = slice_get_within salvaged.harts.items hart own at in
         let many = each.count in
-        let list = some_within lists hart (omega (arith, known, many)) in
+        let list = slice_get-some lists hart (omega (arith, known, many)) in
         each.each hart list.0 own (own_messages hart messages) list.1 at (d.each hart list.0 list.1);
     strangers = strangers;
   }

@@ -1,6 +1,6 @@
 -- What the entries of messages leave that are collected without a fault: what is collected.
 use Rattle.std.proofs.Common.{◌≡◌, ℕ, zero, suc, ◌+◌, ◌-◌, ◌++◌, Bool, true, false, List, []}
-use Rattle.std.proofs.Common.{◌∷◌, None, refl, sym, ap, subst, ◌∙◌, append_assoc}
+use Rattle.std.proofs.Common.{◌∷◌, None, refl, sym, ap, subst, ◌∙◌, arith, append_assoc}
 use Rattle.std.specs.Prelude.{Ok}
 use Rattle.std.proofs.lemmas.List.{append-nil}
 use Rattle.retire.specs.declared.event.Event.{Event}
@@ -16,26 +16,36 @@ use Rattle.decoder.specs.Describes.{Describes}
 use Rattle.decoder.specs.Order.{open_packet}
 use Rattle.decoder.specs.SettledPieces.{settled_pieces}
 use Rattle.message.specs.Accepting.{next_of}
+use Rattle.message.specs.Harts.{newcomer}
 use Rattle.message.specs.OfHart.{packet_or_none}
 use Rattle.message.specs.declared.hart.Hart.{Hart}
 use Rattle.message.specs.declared.message.Message.{Message}
-use Rattle.losses.specs.DescribedParts.{RunsDescribe}
+use Rattle.losses.specs.DescribedParts.{MessagesDescribe, RunsDescribe}
 use Rattle.losses.specs.Parts.{LogPart, gap as log_gap, stretch as log_stretch}
-use Rattle.losses.specs.Runs.{Run, from_sync, longer, opened, over_before, run_behind}
-use Rattle.losses.specs.Runs.{run_of, runs_on, trace_of_run}
-use Rattle.losses.proofs.RunLemmas.{describes_nothing, from_sync-begun}
+use Rattle.losses.specs.Runs.{Run, first_run, from_sync, longer, mode_in, opened, over_before, run_behind}
+use Rattle.losses.specs.Runs.{run_of, runs, runs_on, trace_of_run}
+use Rattle.losses.proofs.InTurn.{AreTakenFrom}
+use Rattle.losses.proofs.RunLemmas.{describes_nothing, from_sync-begun, mode_kept}
 use Rattle.salvaging.specs.Bad.{IsBad}
 use Rattle.salvaging.specs.Ends.{IsEnd}
 use Rattle.salvaging.specs.Entries.{Entry, Used, Doubtful, next_used}
-use Rattle.salvaging.specs.Leaving.{EntriesLeave, LeavesBefore, RunLeaves, UsedLeaves}
+use Rattle.salvaging.specs.Leaving.{EntriesLeave, LeavesBefore, RunLeaves, UsedLeaves, mode_by, own_mode}
 use Rattle.salvaging.specs.LeftParts.{LeftPart, Missing, gap}
 use Rattle.salvaging.specs.LogsSalvaged.{AreLogParts}
+use Rattle.salvaging.specs.PartsIn.{parts_in}
+use Rattle.salvaging.specs.Salvaged.{IsSalvagedHart}
 use Rattle.salvaging.specs.declared.reason.Reason.{Reason}
 use Rattle.salvaging.specs.declared.reason.Reason.TheVariants as reason
+use Rattle.salvaging.specs.declared.salvaged.SalvagedHart.{SalvagedHart}
 use Rattle.salvaging.proofs.EntriesOfLog.{parts_append, parts_gap, parts_stretch, same_packet}
-use Rattle.salvaging.proofs.SameMessages.{AreMessages}
-use Rattle.salvaging.proofs.TakenInTurn.{AreTakenFrom}
-use Rattle.salvaging.proofs.WholeHarts.{HasNoEnd}
+use Rattle.salvaging.proofs.WholeHarts.{HasNoEnd, leave_whole, uncut}
+
+-- The entries are used, and are these messages.
+abbrev pub HaveMessages : List Entry → List Message → Type 0
+HaveMessages [] [] = Unit {0}
+HaveMessages (Used number place payload ∷ entries) (message ∷ messages) =
+    (number ≡ message.number) × (payload ≡ message.payload) × HaveMessages entries messages
+HaveMessages entries messages = ⊥
 
 -- The run with a message's packet.
 abbrev run_with : ℕ → Run → Message → Run
@@ -173,51 +183,51 @@ module _ (words : Words) (program : IsProgram words) (mode : Mode) where
         behind)))
 
   -- No entry is used behind a message that closes the trace.
-  none_behind : (place number : ℕ) (packet : Packet) (messages : List Message) (entries : List Entry)
+  none_behind : (number : ℕ) (packet : Packet) (messages : List Message) (entries : List Entry)
       → is_closing_packet packet ≡ true → AreTakenFrom (next_of number packet) messages
-      → AreMessages place entries messages → next_used entries ≡ None
-  none_behind place number packet [] [] closes taken are = refl
-  none_behind place number packet [] (Used n at payload ∷ entries) closes taken are = absurd are
-  none_behind place number packet [] (Doubtful n one other ∷ entries) closes taken are = absurd are
-  none_behind place number packet (message ∷ messages) entries closes (taken, later) are =
+      → HaveMessages entries messages → next_used entries ≡ None
+  none_behind number packet [] [] closes taken are = refl
+  none_behind number packet [] (Used n at payload ∷ entries) closes taken are = absurd are
+  none_behind number packet [] (Doubtful n one other ∷ entries) closes taken are = absurd are
+  none_behind number packet (message ∷ messages) entries closes (taken, later) are =
       let goes = taken.goes in cc
 
   -- So a hart with these messages has no end before its last one.
-  pub collected_has_no_end : (reads : Mode) (entries : List Entry) (messages : List Message) (place : ℕ)
-      (expects : Hart) → AreTakenFrom expects messages → AreMessages place entries messages
+  pub collected_has_no_end : (reads : Mode) (entries : List Entry) (messages : List Message)
+      (expects : Hart) → AreTakenFrom expects messages → HaveMessages entries messages
       → HasNoEnd words reads entries
-  collected_has_no_end reads entries messages place expects taken are front last later is =
-      by_front front messages place expects taken (subst (λ es. AreMessages place es messages) is are)
+  collected_has_no_end reads entries messages expects taken are front last later is =
+      by_front front messages expects taken (subst (λ es. HaveMessages es messages) is are)
     where
-      by_front : (front : List Entry) (messages : List Message) (place : ℕ) (expects : Hart)
-          → AreTakenFrom expects messages → AreMessages place (front ++ last ∷ later) messages
+      by_front : (front : List Entry) (messages : List Message) (expects : Hart)
+          → AreTakenFrom expects messages → HaveMessages (front ++ last ∷ later) messages
           → ¬ IsEnd words reads last later
-      by_front [] messages place expects taken are end = by_last last messages taken are end
+      by_front [] messages expects taken are end = by_last last messages taken are end
         where
           by_last : (last : Entry) (messages : List Message) → AreTakenFrom expects messages
-              → AreMessages place (last ∷ later) messages → ¬ IsEnd words reads last later
+              → HaveMessages (last ∷ later) messages → ¬ IsEnd words reads last later
           by_last (Doubtful number one other) messages taken are end = end
           by_last (Used number at payload) [] taken are end = absurd are
           by_last (Used number at payload) (message ∷ messages) (taken, further)
-              (number_is, payload_is, at_is, are) (closes, some, none) =
+              (number_is, payload_is, are) (closes, some, none) =
               let closes_packet : is_closing_packet taken.packet ≡ true =
               sym (ap (λ l. is_closing_reading (reading l)) payload_is ∙ ap is_closing_reading taken.read) ∙ closes in
-              some (none_behind (place + 1) message.number taken.packet messages later closes_packet further are)
-      by_front (Used number at payload ∷ front) [] place expects taken are end = absurd are
-      by_front (Doubtful number one other ∷ front) messages place expects taken are end = by_messages messages are
+              some (none_behind message.number taken.packet messages later closes_packet further are)
+      by_front (Used number at payload ∷ front) [] expects taken are end = absurd are
+      by_front (Doubtful number one other ∷ front) messages expects taken are end = by_messages messages are
         where
           by_messages : (messages : List Message)
-              → AreMessages place (Doubtful number one other ∷ front ++ last ∷ later) messages → ⊥
+              → HaveMessages (Doubtful number one other ∷ front ++ last ∷ later) messages → ⊥
           by_messages [] are = are
           by_messages (message ∷ messages) are = are
-      by_front (Used number at payload ∷ front) (message ∷ messages) place expects (taken, further)
-          (number_is, payload_is, at_is, are) end =
-          by_front front messages (place + 1) (next_of message.number taken.packet) further are end
+      by_front (Used number at payload ∷ front) (message ∷ messages) expects (taken, further)
+          (number_is, payload_is, are) end =
+          by_front front messages (next_of message.number taken.packet) further are end
 
-  pub entries_collected : (messages : List Message) (entries : List Entry) (goods : List Bool) (place : ℕ)
-      (expects : Hart) → AreTakenFrom expects messages → AreMessages place entries messages
+  pub entries_collected : (messages : List Message) (entries : List Entry) (goods : List Bool)
+      (expects : Hart) → AreTakenFrom expects messages → HaveMessages entries messages
       → LeaveCollected entries messages goods
-  entries_collected [] [] [] place expects taken are = λ run next left parts leave describe.
+  entries_collected [] [] [] expects taken are = λ run next left parts leave describe.
       collected_at_end run next left parts leave describe
     where
       collected_at_end : (run : Run) (next : ℕ) (left : List LeftPart) (parts : List LogPart)
@@ -229,20 +239,68 @@ module _ (words : Words) (program : IsProgram words) (mode : Mode) where
           (parts_append (gap run.missing) left (log_gap run.missing) (log_stretch events ++ []) (parts_gap run.missing)
           (subst (AreLogParts left) (sym (append-nil (log_stretch events)))
           (run_left run next events described left leave)))
-  entries_collected [] [] (good ∷ goods) place expects taken are = λ run next left parts leave describe. absurd leave
-  entries_collected [] (Used number at payload ∷ entries) goods place expects taken are = absurd are
-  entries_collected [] (Doubtful number one other ∷ entries) goods place expects taken are = absurd are
-  entries_collected (message ∷ messages) [] goods place expects taken are = absurd are
-  entries_collected (message ∷ messages) (Doubtful number one other ∷ entries) goods place expects taken are =
+  entries_collected [] [] (good ∷ goods) expects taken are = λ run next left parts leave describe. absurd leave
+  entries_collected [] (Used number at payload ∷ entries) goods expects taken are = absurd are
+  entries_collected [] (Doubtful number one other ∷ entries) goods expects taken are = absurd are
+  entries_collected (message ∷ messages) [] goods expects taken are = absurd are
+  entries_collected (message ∷ messages) (Doubtful number one other ∷ entries) goods expects taken are =
       absurd are
-  entries_collected (message ∷ messages) (Used number at payload ∷ entries) [] place expects taken are =
+  entries_collected (message ∷ messages) (Used number at payload ∷ entries) [] expects taken are =
       λ run next left parts leave describe. absurd leave
-  entries_collected (message ∷ messages) (Used number at payload ∷ entries) (good ∷ goods) place expects
-      (taken, further) (number_is, payload_is, at_is, are) = λ run next left parts leave describe.
+  entries_collected (message ∷ messages) (Used number at payload ∷ entries) (good ∷ goods) expects
+      (taken, further) (number_is, payload_is, are) = λ run next left parts leave describe.
       with_message message messages entries goods number at payload number_is payload_is taken.packet taken.read
-      (λ closes. none_behind (place + 1) message.number taken.packet messages entries closes further are)
-      (entries_collected messages entries goods (place + 1) (next_of message.number taken.packet) further are)
+      (λ closes. none_behind message.number taken.packet messages entries closes further are)
+      (entries_collected messages entries goods (next_of message.number taken.packet) further are)
       run next (number - next) good left leave.0 leave.2 parts leave.1 leave.3 leave.4
       (subst (λ n. RunsDescribe words mode
       (over_before (n - next) run ++ runs_on (run_with (n - next) run message) (message.number + 1) messages) parts)
       (sym number_is) describe)
+
+-- The first message's number says which mode the runs are read in.
+first_mode : (mode : Mode) (message : Message) (messages : List Message) (packet : Packet)
+    → reading message.payload ≡ Ok packet → (number missed : ℕ) → number ≡ missed
+    → mode_in mode (over_before missed first_run
+    ++ runs_on (longer (run_behind missed first_run) (packet_or_none (reading message.payload)))
+    (message.number + 1) messages) ≡ mode_by number mode (reading message.payload)
+first_mode mode message messages packet read zero zero is =
+    ap (λ r. mode_in mode (runs_on (run_of 0 (packet_or_none r)) (message.number + 1) messages)) read
+    ∙ mode_kept mode packet [] (message.number + 1) messages
+    ∙ sym (ap (mode_by 0 mode) read)
+first_mode mode message messages packet read zero (suc missed) is = cc
+first_mode mode message messages packet read (suc number) zero is = cc
+first_mode mode message messages packet read (suc number) (suc missed) is = refl
+
+pub own_mode_is : (mode : Mode) (entries : List Entry) (messages : List Message) → HaveMessages entries messages
+    → AreTakenFrom newcomer messages → own_mode mode entries ≡ mode_in mode (runs messages)
+own_mode_is mode [] [] are taken = refl
+own_mode_is mode [] (message ∷ messages) are taken = absurd are
+own_mode_is mode (Used number at payload ∷ entries) [] are taken = absurd are
+own_mode_is mode (Doubtful number one other ∷ entries) [] are taken = absurd are
+own_mode_is mode (Doubtful number one other ∷ entries) (message ∷ messages) are taken = absurd are
+own_mode_is mode (Used number at payload ∷ entries) (message ∷ messages) (number_is, payload_is, are)
+    (taken, later) =
+    ap (λ n. mode_by n mode (reading payload)) number_is
+    ∙ ap (λ l. mode_by message.number mode (reading l)) payload_is
+    ∙ sym (first_mode mode message messages taken.packet taken.read message.number (message.number - 0) (omega arith))
+
+-- What is salvaged of a hart whose messages are taken in turn: it ends at its last entry, and its parts are those that
+-- the messages describe.
+pub hart_left : {A : Type 0} (words : Words) → IsProgram words → (mode : Mode) (all messages : List Message)
+    (one : SalvagedHart A) (salvaged : IsSalvagedHart words mode all one) → HaveMessages salvaged.entries messages
+    → AreTakenFrom newcomer messages → (parts : List LogPart) → MessagesDescribe words mode messages parts
+    → (salvaged.upto ≡ salvaged.entries) × AreLogParts (parts_in one.parts.items) parts
+hart_left words program mode all messages one salvaged have taken parts described =
+    let entries = salvaged.entries in
+    let goods = salvaged.goods in
+    let left = parts_in one.parts.items in
+    let own = own_mode mode entries in
+    let whole = uncut words own entries salvaged.upto salvaged.beyond salvaged.cut
+    (collected_has_no_end words program own own entries messages newcomer taken have) in
+    let leaves = subst (λ m. EntriesLeave words m first_run 0 entries goods left)
+    (own_mode_is mode entries messages have taken)
+    (leave_whole words own entries salvaged.upto salvaged.beyond goods left whole.0 whole.1 salvaged.parts) in (
+      whole.0,
+      entries_collected words program (mode_in mode (runs messages)) messages entries goods newcomer taken have
+          first_run 0 left parts leaves described,
+    )

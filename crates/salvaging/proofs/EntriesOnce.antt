@@ -4,13 +4,14 @@ use Rattle.std.proofs.Common.{refl, subst, ◌∙◌, arith, Some, slice_get}
 use Rattle.std.proofs.lemmas.Bool.{cases_lt}
 use Rattle.std.proofs.lemmas.List.Elements.{All-contains, All-head, All-tail}
 use Rattle.std.proofs.lemmas.Option.{same_Some}
+use Rattle.message.proofs.Elements.{All-slice_get}
 use Rattle.message.specs.declared.message.Message.{Message}
 use Rattle.losses.specs.WholeStretches.{NumberCame}
 use Rattle.salvaging.specs.Entries.{Entry, Used, Doubtful, AreEntries, IsDoubtful, IsEntryOf, IsUsed, entry_number}
 use Rattle.salvaging.proofs.Members.{came_of_contains, contains_of_in}
-use Rattle.salvaging.proofs.OneHart.{all_at, in_at, message_with, number_in}
+use Rattle.salvaging.proofs.OneHart.{in_at, message_with, number_in}
 use Rattle.salvaging.proofs.RisingNumbers.{rising_same}
-use Rattle.salvaging.proofs.RunsOfLog.{number_of}
+use Rattle.losses.proofs.RunsOfLog.{number_of}
 
 -- Two numbers, neither of which is below the other.
 not_apart : (one other : ℕ) → ¬ (one < other) → ¬ (other < one) → one ≡ other
@@ -30,9 +31,9 @@ one_at messages here there one other same at too =
 used_not_doubtful : (messages : List Message) (number place : ℕ) (payload : List ℕ) (first second : ℕ)
     → IsUsed messages number place payload → ¬ IsDoubtful messages number first second
 used_not_doubtful messages number place payload first second used doubtful =
-    let one = all_at (λ (m : Message). m.number ≡ number → m.payload ≡ payload) messages first doubtful.one
+    let one = All-slice_get (λ (m : Message). m.number ≡ number → m.payload ≡ payload) messages first doubtful.one
     doubtful.one_here used.alone doubtful.one_number in
-    let other = all_at (λ (m : Message). m.number ≡ number → m.payload ≡ payload) messages second doubtful.other
+    let other = All-slice_get (λ (m : Message). m.number ≡ number → m.payload ≡ payload) messages second doubtful.other
     doubtful.other_here used.alone doubtful.other_number in
     doubtful.differ (one ∙ sym other)
 
@@ -73,7 +74,7 @@ same_entry messages (Used number place payload) (Used again there bytes) used to
         absurd (used.first there too.message below too.here (too.number_here ∙ sym is))
     by_place (inr over) (inr least) =
         let places : place ≡ there = omega (arith, over, least) in
-        let same = all_at (λ (m : Message). m.number ≡ again → m.payload ≡ bytes) messages place used.message
+        let same = All-slice_get (λ (m : Message). m.number ≡ again → m.payload ≡ bytes) messages place used.message
         used.here too.alone (used.number_here ∙ is) in
         ap (λ n. Used n place payload) is ∙ ap (λ p. Used again p payload) places
         ∙ ap (Used again there) (sym used.payload_here ∙ same)

@@ -37,9 +37,6 @@ not_below message one test below = let never : true ≡ false = sym (tested mess
 below_at : (message : Message) (one : Arrival) → is_below message one ≡ true → Below message one
 below_at message one test = by_number (cases_lt one.message.number message.number)
   where
-    payloads : Ordering
-    payloads = slice_cmp nat_cmp one.message.payload message.payload
-
     by_payload : one.message.number ≡ message.number → (order : Ordering)
         → slice_cmp nat_cmp one.message.payload message.payload ≡ order → below_by Equal order ≡ true
         → Below message one

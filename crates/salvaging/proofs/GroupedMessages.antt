@@ -1,6 +1,6 @@
 -- The entries and the copies of a hart's messages, from the messages in the order of their numbers.
 use Rattle.std.proofs.Common.{◌≡◌, ◌≢◌, inl, inr, ℕ, zero, suc, ◌+◌, All, Bool, true, false, Contains, List, [], ◌∷◌}
-use Rattle.std.proofs.Common.{length, map}
+use Rattle.std.proofs.Common.{map}
 use Rattle.std.proofs.Common.{Some, slice_get, refl, sym, ap, subst, ◌∙◌, arith}
 use Rattle.std.specs.List.Sorted.{IsPermutation}
 use Rattle.std.specs.Str.{bytes_eq}
@@ -14,6 +14,7 @@ use Rattle.salvaging.specs.Entries.{Entry, Used, Doubtful, AreEntries, IsEntryOf
 use Rattle.salvaging.specs.steps.Arrivals.{Arrival, AreOrdered, placed_from}
 use Rattle.salvaging.specs.steps.Grouping.{copies_by, entries_by}
 use Rattle.salvaging.proofs.Alike.{other_bytes, same_bytes}
+use Rattle.salvaging.proofs.Distributed.{length-placed}
 use Rattle.salvaging.proofs.GroupedEntries.{entries_are}
 use Rattle.salvaging.proofs.OneMore.{IsEntryAmong}
 use Rattle.salvaging.proofs.Members.{IsIn, all_in, contains_of_came, contains_of_in, in_of_contains}
@@ -65,10 +66,6 @@ placed_of from [] message there = absurd there
 placed_of from (first ∷ messages) message (inl is) = (placed from first, inl refl, sym is)
 placed_of from (first ∷ messages) message (inr there) =
     let found = placed_of (from + 1) messages message there in (found.0, inr found.1, found.2)
-
-length-placed : (from : ℕ) (messages : List Message) → length (placed_from from messages) ≡ length messages
-length-placed from [] = refl
-length-placed from (message ∷ messages) = let rest = length-placed (from + 1) messages in omega (arith, rest)
 
 -- Payloads that do not differ are the same.
 same_payload : (one other : List ℕ) → ¬ (one ≢ other) → one ≡ other

@@ -1,6 +1,6 @@
 -- How far the messages of the last number are read, from one message to the one before.
 use Rattle.std.proofs.Common.{◌≡◌, ◌≢◌, ℕ, ◌+◌, ◌-◌, ◌≤◌, ◌<◌, ◌++◌, List, [], ◌∷◌, drop, get_or, length, take}
-use Rattle.std.proofs.Common.{refl, sym, ap, subst, ◌∙◌, arith, append_assoc}
+use Rattle.std.proofs.Common.{refl, sym, ap, subst, ◌∙◌, arith}
 use Rattle.std.proofs.lemmas.List.{append-nil, length-drop, map-append, take-append-drop, take_all, take_more}
 use Rattle.salvaging.specs.Entries.{Entry}
 use Rattle.salvaging.specs.declared.received.ReceivedMessage.{ReceivedMessage}
@@ -71,14 +71,6 @@ module _ (came : List ReceivedMessage) (number at : ℕ) (r : ReadsLast came num
         ap (λ n. arrivals_in (take n came)) back
         ∙ ap arrivals_in (up_to_place came (at - 1) before (omega (arith, some, within)) is)
         ∙ map-append arrival_of (take (at - 1) came) (before ∷ [])
-
-    pub reads_before : before.message.now.number ≡ number → ReadsLast came number (at - 1)
-    reads_before same = record {
-      group = arrival_of before ∷ r.group;
-      whole = r.whole ∙ ap (λ l. l ++ r.group) split
-          ∙ append_assoc (arrivals_in (take (at - 1) came)) (arrival_of before ∷ []) r.group;
-      numbers = (same, r.numbers);
-    }
 
     -- A message with another number comes before.
     pub last_read : at < length came → before.message.now.number ≢ number → IsLastGroup came at

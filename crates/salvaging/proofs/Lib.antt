@@ -1,8 +1,6 @@
 mod WorkedSalvaged
 mod WorkedEntries
 pub mod Members
-pub mod BlockTraces
-pub mod RunsOfLog
 pub mod RisingNumbers
 pub mod SentMessages
 pub mod EntriesOfLog

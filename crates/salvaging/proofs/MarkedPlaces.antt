@@ -80,9 +80,6 @@ before_it (suc n) (first ∷ messages) message (inr one) =
 
 module _ (messages : List Message) (entries : List Entry) (shares : List Share) (are : AreEntries messages entries)
   where
-    abbrev own_rows : List Row
-    own_rows = rows entries (map treatment_of shares)
-
     -- The message at a place that no other is like before it has what its entry does.
     so_treated : (entry : Entry) (share : Share) → IsPair entry share entries shares → (place : ℕ) (message : Message)
         → (treated : Treated) → IsTreated messages (rows entries (map treatment_of shares)) place message treated

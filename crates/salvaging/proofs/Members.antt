@@ -1,8 +1,13 @@
 -- Which elements a list contains, by recursion over it.
-use Rattle.std.proofs.Common.{◌≡◌, ◌⊎◌, inl, inr, ℕ, List, [], ◌∷◌, All, Contains, refl, sym, subst}
+use Rattle.std.proofs.Common.{◌≡◌, ◌⊎◌, inl, inr, ℕ, ◌++◌, List, [], ◌∷◌, All, Contains, refl, sym, subst}
 use Rattle.std.proofs.lemmas.List.Elements.{All-contains, All-cons, All-nil, All-weaker, Contains-append_right}
 use Rattle.std.proofs.lemmas.List.Elements.{Contains-append_left, Contains-push}
 use Rattle.losses.specs.WholeStretches.{NumberCame}
+
+-- A list with an item at its end is not empty.
+pub no_item : {X : Type 0} (xs : List X) (x : X) → ¬ (xs ++ x ∷ [] ≡ [])
+no_item [] x is = cc
+no_item (y ∷ xs) x is = cc
 
 -- It is one of these.
 abbrev pub IsIn : {X : Type 0} → X → List X → Type 0

@@ -3,7 +3,8 @@ use Rattle.std.proofs.Common.{◌≡◌, inl, inr, ℕ, suc, ◌+◌, ◌≤◌,
 use Rattle.std.proofs.Common.{◌∙◌}
 use Rattle.losses.specs.Apart.{AreRising}
 use Rattle.losses.specs.WholeStretches.{NumberCame}
-use Rattle.salvaging.proofs.RisingNumbers.{AreAmong, not_below}
+use Rattle.losses.proofs.RisingBlocks.{not_below}
+use Rattle.salvaging.proofs.RisingNumbers.{AreAmong}
 
 -- No number is among those behind it.
 abbrev pub NoRepeat : List ℕ → Type 0

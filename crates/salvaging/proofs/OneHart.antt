@@ -1,52 +1,41 @@
 -- What is salvaged of one hart, whose messages are of a legal log.
-use Rattle.std.proofs.Common.{◌≡◌, ◌⊎◌, inl, inr, ℕ, zero, suc, ◌+◌, All, Bool, true, false}
+use Rattle.std.proofs.Common.{◌≡◌, ◌⊎◌, inl, inr, ℕ, zero, suc, ◌+◌, All, true, false}
 use Rattle.std.proofs.Common.{Contains}
 use Rattle.std.proofs.Common.{List, [], ◌∷◌, drop, map, length, Some, slice_get, refl, sym, ap, subst, ◌∙◌, arith}
 use Rattle.std.proofs.lemmas.List.{length-map}
-use Rattle.std.proofs.lemmas.List.Elements.{All-contains, All-get_or, All-head, All-map, All-tail, All-weaker}
-use Rattle.std.proofs.lemmas.Option.{get_or_from_slice_get, slice_get_within}
+use Rattle.std.proofs.lemmas.List.Elements.{All-contains, All-head, All-map, All-tail, All-weaker}
 use Rattle.rvclass.proofs.WordsLemmas.{words_of-IsProgram}
 use Rattle.rvclass.specs.Fetch.{words_of}
 use Rattle.rvclass.specs.Words.{Words, IsProgram}
 use Rattle.legalpath.specs.ProgramLog.{ProgramLog, IsLegalLog}
 use Rattle.payload.specs.declared.mode.Mode.{Mode}
 use Rattle.payload.specs.declared.packet.Packet.{Packet}
-use Rattle.payload.specs.declared.packet.Packet.TheVariants as packet
-use Rattle.payload.specs.declared.packet.Support.TheVariants as support
 use Rattle.payload.specs.Reading.{reading}
 use Rattle.encoder.specs.Packets.{packets}
+use Rattle.message.specs.Harts.{newcomer}
 use Rattle.message.specs.declared.message.Message.{Message}
-use Rattle.roundtrip.specs.Reach.{stretches}
 use Rattle.losses.specs.Apart.{AreRising}
+use Rattle.losses.specs.DescribedParts.{MessagesDescribe}
+use Rattle.losses.specs.Losses.{BeginAtZero}
 use Rattle.losses.specs.Parts.{parts}
-use Rattle.losses.specs.Runs.{first_run, mode_or}
 use Rattle.losses.specs.WholeStretches.{NumberCame}
-use Rattle.losses.proofs.BlockLemmas.{blocks_at_first}
+use Rattle.losses.proofs.InTurn.{AreTakenFrom}
+use Rattle.losses.proofs.MessagesOfLog.{some_describe, taken_in_turn}
+use Rattle.losses.proofs.RunsOfLog.{HasPacket, HavePackets, number_of}
+use Rattle.losses.proofs.RisingBlocks.{not_below}
 use Rattle.salvaging.specs.Copies.{AllDiffer, AreCopies, HasLike}
 use Rattle.salvaging.specs.Entries.{Entry, Used, Doubtful, AreEntries, IsEntryOf, entry_number, is_closed}
-use Rattle.salvaging.specs.Leaving.{EntriesLeave, mode_by, own_mode}
-use Rattle.salvaging.specs.LeftParts.{LeftPart}
-use Rattle.salvaging.specs.LogsSalvaged.{AreInOrder, AreLogParts, IsLogSalvaged, closing_number}
-use Rattle.salvaging.specs.PartsIn.{parts_in}
+use Rattle.salvaging.specs.LogsSalvaged.{AreInOrder, IsLogSalvaged, closing_number}
 use Rattle.salvaging.specs.Salvaged.{IsSalvagedHart}
 use Rattle.salvaging.specs.declared.salvaged.SalvagedHart.{SalvagedHart}
 use Rattle.salvaging.proofs.ClosedLogs.{came_closed, closed_came}
-use Rattle.salvaging.proofs.EntriesOfLog.{AreOfPackets, HasPacketOf, entries_left}
+use Rattle.salvaging.proofs.EntriesCollected.{HaveMessages, hart_left}
+use Rattle.salvaging.proofs.EntriesOfLog.{AreOfPackets, HasPacketOf}
 use Rattle.salvaging.proofs.Members.{IsIn, came_of_contains, contains_of_came, contains_of_in, in_of_contains}
 use Rattle.salvaging.proofs.NoRepeats.{NoRepeat, no_more, rising_no_repeat}
-use Rattle.salvaging.proofs.RisingNumbers.{not_below}
-use Rattle.salvaging.proofs.RunsOfLog.{number_of}
 use Rattle.salvaging.proofs.SentMessages.{IsOfLog, same_number}
-use Rattle.salvaging.proofs.WholeHarts.{leave_whole, log_has_no_end, uncut}
-
-heads_same : (p q : Packet) (ps qs : List Packet) → p ∷ ps ≡ q ∷ qs → p ≡ q
-heads_same p q ps qs is = cc
 
 -- An item at a place is one of the list.
-pub all_at : {X : Type 0} (P : X → Type 0) (xs : List X) (k : ℕ) (x : X) → slice_get xs k ≡ Some x → All P xs → P x
-all_at P xs k x at all =
-    subst P (get_or_from_slice_get xs k x x at) (All-get_or P xs k x (slice_get_within xs k x at) all)
-
 pub in_at : {X : Type 0} (xs : List X) (k : ℕ) (x : X) → slice_get xs k ≡ Some x → IsIn x xs
 in_at [] k x at = cc
 in_at (y ∷ xs) zero x at = let same : x ≡ y = cc in inl same
@@ -66,6 +55,39 @@ message_with [] number came = absurd came
 message_with (first ∷ messages) number (inl is) = (first, inl refl, is)
 message_with (first ∷ messages) number (inr came) =
     let found = message_with messages number came in (found.0, inr found.1, found.2)
+
+-- The messages that used entries are, in the order of their numbers.
+abbrev pub messages_of : List Entry → List Message
+messages_of [] = []
+messages_of (Used number place payload ∷ entries) =
+    record { hart = 0; number = number; payload = payload } ∷ messages_of entries
+messages_of (Doubtful number one other ∷ entries) = messages_of entries
+
+-- They have the numbers of the entries, and the packets of these numbers.
+pub record AreTurns (packets : List Packet) (entries : List Entry) : Type 0 where
+  pub have : HaveMessages entries (messages_of entries)
+  pub have_packets : HavePackets packets (messages_of entries)
+  pub numbers : map number_of (messages_of entries) ≡ map entry_number entries
+
+turns_of : (packets : List Packet) (entries : List Entry) → AreOfPackets packets entries → AreTurns packets entries
+turns_of packets [] are = record { have = tt; have_packets = tt; numbers = refl }
+turns_of packets (Used number place payload ∷ entries) (has, are) =
+    let later = turns_of packets entries are in
+    let own : HasPacket packets (record { hart = 0; number = number; payload = payload }) =
+    record { packet = has.packet; later = has.later; here = has.here; read = has.read } in
+    record {
+      have = (refl, refl, later.have);
+      have_packets = (own, later.have_packets);
+      numbers = ap (λ l. number ∷ l) later.numbers;
+    }
+turns_of packets (Doubtful number one other ∷ entries) are = absurd are
+
+-- The first of rising numbers is 0 where 0 is among them.
+begin_at_zero : (numbers : List ℕ) → AreRising 0 numbers → NumberCame 0 numbers → BeginAtZero numbers
+begin_at_zero [] rising came = tt
+begin_at_zero (number ∷ numbers) rising (inl is) = sym is
+begin_at_zero (number ∷ numbers) rising (inr came) =
+    let above = not_below (number + 1) numbers 0 rising.1 came in absurd (omega (arith, above))
 
 module _ (hart period : ℕ) (handed mode : Mode) (log : ProgramLog) (legal : IsLegalLog log)
     (messages : List Message) where
@@ -142,56 +164,39 @@ module _ (hart period : ℕ) (handed mode : Mode) (log : ProgramLog) (legal : Is
         all = All-map (Contains numbers) number_of messages are.none_left_out;
       }
 
-      -- They are read in the log's mode.
-      mode_at_first : (payload : List ℕ) → HasPacketOf all 0 payload → mode_by 0 handed (reading payload) ≡ mode
-      mode_at_first payload has =
-          let opens = heads_same (packet.Support (support.Open mode)) has.packet _ has.later has.here in
-          ap (mode_by 0 handed) has.read ∙ ap (mode_or handed) (sym opens)
+      -- The messages that the entries are describe the parts of the log.
+      turns : AreTurns all entries
+      turns = turns_of all entries of_log
 
-      own_mode_is : (entries : List Entry) → AreRising 0 (map entry_number entries) → AreOfPackets all entries
-          → (handed ≡ mode) ⊎ NumberCame 0 (map entry_number entries) → own_mode handed entries ≡ mode
-      own_mode_is [] rising are (inl is) = is
-      own_mode_is [] rising are (inr came) = absurd came
-      own_mode_is (Used zero place payload ∷ entries) rising (has, are) known = mode_at_first payload has
-      own_mode_is (Used (suc number) place payload ∷ entries) rising are (inl is) = is
-      own_mode_is (Used (suc number) place payload ∷ entries) rising are (inr (inl is)) = cc
-      own_mode_is (Used (suc number) place payload ∷ entries) rising are (inr (inr came)) =
-          let above = not_below (suc number + 1) (map entry_number entries) 0 rising.1 came in
-          absurd (omega (arith, above))
-      own_mode_is (Doubtful number first second ∷ entries) rising are known = absurd are
+      rising : AreRising 0 (map number_of (messages_of entries))
+      rising = subst (AreRising 0) (sym turns.numbers) are.rising
 
-      leaves_by_mode : (goods : List Bool) (left : List LeftPart)
-          → (handed ≡ mode) ⊎ (NumberCame 0 came ⊎ (messages ≡ []))
-          → EntriesLeave words (own_mode handed entries) first_run 0 entries goods left
-          → EntriesLeave words mode first_run 0 entries goods left
-      leaves_by_mode goods left (inl is) leaves =
-          subst (λ m. EntriesLeave words m first_run 0 entries goods left)
-          (own_mode_is entries are.rising of_log (inl is)) leaves
-      leaves_by_mode goods left (inr (inl zero_came)) leaves =
+      taken : AreTakenFrom newcomer (messages_of entries)
+      taken = taken_in_turn period mode log legal (messages_of entries) newcomer turns.have_packets rising
+          (λ p later is. refl)
+
+      none_begin : (entries : List Entry) → All (IsEntryOf messages) entries → messages ≡ []
+          → BeginAtZero (map entry_number entries)
+      none_begin [] each none = tt
+      none_begin (entry ∷ entries) each none =
+          let contained = entry_came entry (All-head (IsEntryOf messages) entry entries each) in
+          let came_too = came_of_contains came (entry_number entry) contained in
+          absurd (subst (λ (ms : List Message). NumberCame (entry_number entry) (map number_of ms)) none came_too)
+
+      begin : (handed ≡ mode) ⊎ (NumberCame 0 came ⊎ (messages ≡ [])) → (handed ≡ mode) ⊎ BeginAtZero numbers
+      begin (inl is) = inl is
+      begin (inr (inl zero_came)) =
           let contained = All-contains (Contains numbers) came 0 in_order.all (contains_of_came came 0 zero_came) in
-          subst (λ m. EntriesLeave words m first_run 0 entries goods left)
-          (own_mode_is entries are.rising of_log (inr (came_of_contains numbers 0 contained))) leaves
-      leaves_by_mode goods left (inr (inr none)) leaves = by_entries entries are.each goods leaves
-        where
-          by_entries : (entries : List Entry) → All (IsEntryOf messages) entries → (goods : List Bool)
-              → EntriesLeave words (own_mode handed entries) first_run 0 entries goods left
-              → EntriesLeave words mode first_run 0 entries goods left
-          by_entries [] each [] leaves = leaves
-          by_entries [] each (good ∷ goods) leaves = absurd leaves
-          by_entries (entry ∷ entries) each goods leaves =
-              let contained = entry_came entry (All-head (IsEntryOf messages) entry entries each) in
-              let came_too = came_of_contains came (entry_number entry) contained in
-              absurd (subst (λ (ms : List Message). NumberCame (entry_number entry) (map number_of ms)) none came_too)
+          inr (begin_at_zero numbers are.rising (came_of_contains numbers 0 contained))
+      begin (inr (inr none)) = inr (none_begin entries are.each none)
 
-      -- The parts are those of the log.
-      parts_of_log : (goods : List Bool) (left : List LeftPart)
-          → (handed ≡ mode) ⊎ (NumberCame 0 came ⊎ (messages ≡ []))
-          → EntriesLeave words (own_mode handed entries) first_run 0 entries goods left
-          → AreLogParts left (parts words period mode log.events numbers)
-      parts_of_log goods left known leaves =
-          subst (AreLogParts left) (blocks_at_first all (stretches words period log.events) numbers)
-          (entries_left words is_program period mode log.events legal.legal entries goods of_log 0 0 0 0 (λ is. refl)
-          (λ is. refl) refl are.rising left (leaves_by_mode goods left known leaves))
+      described : (handed ≡ mode) ⊎ (NumberCame 0 came ⊎ (messages ≡ []))
+          → MessagesDescribe words handed (messages_of entries) (parts words period mode log.events numbers)
+      described known =
+          subst (λ ns. MessagesDescribe words handed (messages_of entries) (parts words period mode log.events ns))
+          turns.numbers
+          (some_describe period mode log legal handed (messages_of entries) turns.have_packets rising
+          (subst (λ ns. (handed ≡ mode) ⊎ BeginAtZero ns) (sym turns.numbers) (begin known)))
 
       -- Of the distinct messages there is one for each number.
       like_came : (distinct : List Message) (message like : Message) → IsIn message messages → IsIn like messages
@@ -254,17 +259,14 @@ module _ (hart period : ℕ) (handed mode : Mode) (log : ProgramLog) (legal : Is
       let order = in_order each entries are in
       let of = of_log each entries are in
       let last = closing_number words period mode log.events in
-      let own = own_mode handed entries in
-      let whole = uncut words own entries salvaged.upto salvaged.beyond salvaged.cut
-      (log_has_no_end words is_program period mode log.events legal.legal own entries are.rising of) in
-      let left = parts_in one.parts.items in
-      let leaves = leave_whole words own entries salvaged.upto salvaged.beyond salvaged.goods left whole.0 whole.1
-      salvaged.parts in
-      let is_closed_as = salvaged.closed ∙ ap is_closed whole.0 in
+      let left = hart_left words is_program handed messages (messages_of entries) one salvaged
+      (turns each entries are).have (taken each entries are)
+      (parts words period mode log.events (map entry_number entries)) (described each entries are known) in
+      let is_closed_as = salvaged.closed ∙ ap is_closed left.0 in
       record {
         numbers = map entry_number entries;
         in_order = order;
-        parts = parts_of_log each entries are salvaged.goods left known leaves;
+        parts = left.1;
         copies = copies_counted each entries are one.copies salvaged.copies;
         closed = (
           λ closed. by_came entries order (closed_came words is_program period mode log.events legal.legal false entries

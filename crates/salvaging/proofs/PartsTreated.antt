@@ -27,15 +27,12 @@ use Rattle.salvaging.proofs.CutOnce.{cut_once}
 use Rattle.salvaging.proofs.EntriesOfLog.{same_packet}
 use Rattle.salvaging.proofs.EntriesOnce.{entries_once}
 use Rattle.salvaging.proofs.MarkedPlaces.{marked_parts}
+use Rattle.salvaging.proofs.Members.{no_item}
 use Rattle.salvaging.proofs.OneWay.{alike_append, good_not_bad, reasons_alike}
 use Rattle.salvaging.proofs.JoinedParts.{Agree, added_append, agree_front, events_append, events_gap, events_stretch}
 use Rattle.salvaging.proofs.JoinedParts.{marks_append, marks_gap, marks_of-append, marks_stretch}
 
 -- Nothing of a run is kept where the last packet leaves nothing.
-pub no_item : {X : Type 0} (xs : List X) (x : X) → ¬ (xs ++ x ∷ [] ≡ [])
-no_item [] x is = cc
-no_item (y ∷ xs) x is = cc
-
 none_before : (packets : List Packet) (p : Packet) → from_sync (packets ++ p ∷ []) ≡ [] → from_sync packets ≡ []
 none_before packets p none = by_list (from_sync packets) refl
   where

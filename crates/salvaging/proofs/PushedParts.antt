@@ -1,7 +1,7 @@
 -- Parts that the code puts behind others.
 use Rattle.std.proofs.Common.{◌≡◌, ◌<◌, ℕ, zero, suc, ◌+◌, ◌-◌, List, [], ◌∷◌, ◌++◌}
 use Rattle.std.proofs.Common.{append_assoc, refl, sym, ap, subst, ◌∙◌, arith}
-use Rattle.std.proofs.lemmas.List.{append-nil, map-append}
+use Rattle.std.proofs.lemmas.List.{map-append}
 use Rattle.std.specs.Prelude.{◌≢◌}
 use Rattle.retire.specs.declared.event.Event.{Event}
 use Rattle.salvaging.specs.LeftParts.{LeftPart, Missing, Events, gap, stretch}
@@ -41,9 +41,6 @@ module _ {A : Type 0} where
   adds_gap xs ys new zero is shown some = absurd (nothing_below some)
   adds_gap xs ys new (suc lost) is shown some =
       subst (λ p. AddsParts (p ∷ []) xs ys) shown (adds_part xs ys new is)
-
-  pub adds_none : (xs : List (Part A)) → AddsParts [] xs xs
-  adds_none xs = sym (append-nil (parts_in xs))
 
   pub adds_both : (a b : List LeftPart) (xs ys zs : List (Part A)) → AddsParts a xs ys → AddsParts b ys zs
       → AddsParts (a ++ b) xs zs

@@ -2,16 +2,7 @@
 use Rattle.std.proofs.Common.{◌≡◌, ◌⊎◌, inl, inr, ℕ, ◌+◌, ◌≤◌, List, [], ◌∷◌, refl, sym, ap, subst, arith, ◌∙◌}
 use Rattle.losses.specs.Apart.{AreRising}
 use Rattle.losses.specs.WholeStretches.{NumberCame}
-
--- Rising numbers are not below the one from which they rise.
-pub not_below : (from : ℕ) (numbers : List ℕ) (number : ℕ) → AreRising from numbers → NumberCame number numbers
-    → from ≤ number
-not_below from [] number rising came = absurd came
-not_below from (first ∷ numbers) number rising (inl is) = let least = rising.0 in omega (arith, is, least)
-not_below from (first ∷ numbers) number rising (inr came) =
-    let least = rising.0 in
-    let later = not_below (first + 1) numbers number rising.1 came in
-    omega (arith, least, later)
+use Rattle.losses.proofs.RisingBlocks.{not_below}
 
 -- Each of the first numbers is among the second.
 abbrev pub AreAmong : List ℕ → List ℕ → Type 0

@@ -11,7 +11,7 @@ use Rattle.losses.specs.Runs.{opened, trace_after}
 use Rattle.losses.specs.steps.DecoderSteps.{Resumes}
 use Rattle.losses.specs.steps.FollowingRuns.{FollowsRun}
 use Rattle.losses.proofs.RunLemmas.{describes_none, describes_nothing}
-use Rattle.losses.proofs.TraceSteps.{state_laws}
+use Rattle.losses.proofs.StateLaws.{state_laws}
 use Rattle.salvaging.specs.Leaving.{kept}
 
 -- Where no packet gives the stretch of a run, it has no event.

@@ -4,14 +4,17 @@ use Rattle.std.proofs.Common.{◌∷◌, map, Some, length, slice_get, refl, sym
 use Rattle.std.proofs.lemmas.Bool.{cases_lt}
 use Rattle.std.proofs.lemmas.List.{length_push}
 use Rattle.std.proofs.lemmas.List.Elements.{All-contains, All-head, All-tail}
+use Rattle.message.proofs.Elements.{slice_get-behind}
 use Rattle.message.specs.declared.message.Message.{Message}
 use Rattle.losses.specs.Apart.{AreRising}
 use Rattle.losses.specs.WholeStretches.{NumberCame}
 use Rattle.salvaging.specs.Entries.{Entry, Used, Doubtful, AreEntries, IsEntryOf, entry_number}
+use Rattle.salvaging.proofs.EntriesCollected.{HaveMessages}
 use Rattle.salvaging.proofs.Members.{came_of_contains, contains_of_in}
 use Rattle.salvaging.proofs.OneHart.{in_at, message_with, number_in}
-use Rattle.salvaging.proofs.RisingNumbers.{not_below, rising_same}
-use Rattle.salvaging.proofs.RunsOfLog.{number_of}
+use Rattle.salvaging.proofs.RisingNumbers.{rising_same}
+use Rattle.losses.proofs.RunsOfLog.{number_of}
+use Rattle.losses.proofs.RisingBlocks.{not_below}
 
 -- The entries are these messages, the first of which stands at this place.
 abbrev pub AreMessages : ℕ → List Entry → List Message → Type 0
@@ -19,6 +22,16 @@ AreMessages place [] [] = Unit {0}
 AreMessages place (Used number at payload ∷ entries) (message ∷ messages) =
     (number ≡ message.number) × (payload ≡ message.payload) × (at ≡ place) × AreMessages (place + 1) entries messages
 AreMessages place entries messages = ⊥
+
+pub have_messages : (place : ℕ) (entries : List Entry) (messages : List Message) → AreMessages place entries messages
+    → HaveMessages entries messages
+have_messages place [] [] are = tt
+have_messages place [] (message ∷ messages) are = absurd are
+have_messages place (Used number at payload ∷ entries) [] are = absurd are
+have_messages place (Used number at payload ∷ entries) (message ∷ messages) (number_is, payload_is, at_is, are) =
+    (number_is, payload_is, have_messages (place + 1) entries messages are)
+have_messages place (Doubtful number one other ∷ entries) [] are = absurd are
+have_messages place (Doubtful number one other ∷ entries) (message ∷ messages) are = absurd are
 
 -- Of rising numbers each has one place.
 rising_at : (from : ℕ) (messages : List Message) (k : ℕ) (message : Message) → AreRising from (map number_of messages)
@@ -62,11 +75,6 @@ at_same messages i j one other at_one at_other is =
     let both : Some one ≡ Some other = sym at_one ∙ there in
     cc
 
-at_behind : (front : List Message) (message : Message) (messages : List Message)
-    → slice_get (front ++ message ∷ messages) (length front) ≡ Some message
-at_behind [] message messages = refl
-at_behind (first ∷ front) message messages = at_behind front message messages
-
 module _ (all : List Message) (rising : AreRising 0 (map number_of all)) where
   -- The entry of a message's number is the message.
   is_message : (place : ℕ) (message : Message) (entry : Entry) → slice_get all place ≡ Some message
@@ -92,7 +100,7 @@ module _ (all : List Message) (rising : AreRising 0 (map number_of all)) where
       let first : entry_number entry ≡ message.number = cc in
       let rest : map entry_number entries ≡ map number_of messages = cc in
       let here = subst (λ l. slice_get l (length front) ≡ Some message) (sym whole)
-      (at_behind front message messages) in
+      (slice_get-behind front message messages) in
       let later = are_messages (front ++ message ∷ []) messages entries
       (whole ∙ sym (append_assoc front (message ∷ []) messages)) rest (All-tail (IsEntryOf all) entry entries each) in
       is_message (length front) message entry here first (All-head (IsEntryOf all) entry entries each) entries messages

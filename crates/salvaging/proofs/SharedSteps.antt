@@ -25,6 +25,7 @@ use Rattle.salvaging.specs.declared.treatment.Treatment.{Treatment}
 use Rattle.salvaging.specs.steps.Sharing.{Shared, SharesEntries, StaysRead, share_by}
 use Rattle.salvaging.specs.steps.UnderWay.{BeginsWith, IsUnderWay, Judged, reads_behind}
 use Rattle.salvaging.proofs.EntriesTaken.{rising_sooner}
+use Rattle.salvaging.proofs.Members.{no_item}
 
 -- What lies behind a front, as a slice of the whole.
 pub behind_front : {X : Type 0} (front rest all : List X) (count : ℕ) → all ≡ front ++ rest → count ≡ length front
@@ -77,11 +78,6 @@ module _ {A : Type 0} (words : Words) (mode : Mode) where
       (is_closing_packet packet) judged) same v in
       good_by_begun run number payload following gone judged rest packet u
       (subst (λ m. IsGood words m run payload following packet) same good) in_mode is judged.begun in_mode.begins
-
--- A list with an item in it is not empty.
-not_empty : {X : Type 0} (xs : List X) (x : X) → ¬ (xs ++ x ∷ [] ≡ [])
-not_empty [] x is = cc
-not_empty (y ∷ xs) x is = cc
 
 -- A good message is one more.
 module _ {A : Type 0} (words : Words) (mode : Mode) (all done : List Entry) (shares : List Share) (rest : List Entry)
@@ -140,12 +136,12 @@ module _ {A : Type 0} (words : Words) (mode : Mode) (all done : List Entry) (sha
     by_share t (Adds events) (packet, good, goes, u) =
         let run = run_behind (number - old.next) t.run in
         next_shared (Used number place payload) (Adds events) (longer run (packet ∷ [])) (is_closing_packet packet)
-        (number + 1) t u (λ none. not_empty run.packets packet) good.not_early t.rising.1
+        (number + 1) t u (λ none. no_item run.packets packet) good.not_early t.rising.1
         (λ later further. (packet, good, goes, further))
     by_share t Passes (packet, good, goes, u) =
         let run = run_behind (number - old.next) t.run in
         next_shared (Used number place payload) Passes (longer run (packet ∷ [])) (is_closing_packet packet)
-        (number + 1) t u (λ none. not_empty run.packets packet) good.not_early t.rising.1
+        (number + 1) t u (λ none. no_item run.packets packet) good.not_early t.rising.1
         (λ later further. (packet, good, goes, further))
     by_share t StandsAlone (packet, good, none, u) = absurd none
     by_share t Doubts (packet, good, none, u) = absurd none

@@ -1,10 +1,9 @@
 -- What is known of a hart's messages that a demultiplexer takes, each in its turn.
-use Rattle.std.proofs.Common.{◌≡◌, ◌≢◌, ◌⊎◌, inl, inr, ℕ, ◌≤◌, ◌<◌, ◌^◌, false, List, [], ◌∷◌}
+use Rattle.std.proofs.Common.{◌≡◌, ◌≢◌, ◌⊎◌, inl, inr, ℕ, ◌<◌, ◌^◌, List, [], ◌∷◌}
 use Rattle.std.proofs.Common.{Some, Ok, length, slice_get, refl, sym, ap, subst, ◌∙◌, arith}
 use Rattle.std.specs.Prelude.{Result, Err, IsOk, slice_set}
 use Rattle.std.proofs.lemmas.List.{length-set}
 use Rattle.std.proofs.lemmas.Option.{same_Some, slice_get_within}
-use Rattle.payload.specs.Reading.{reading}
 use Rattle.payload.specs.declared.packet.Packet.{Packet}
 use Rattle.message.proofs.AcceptedLemmas.{slice_get-set}
 use Rattle.message.proofs.AnsweringLossy.{answer_lossy-taken}
@@ -17,23 +16,9 @@ use Rattle.message.specs.OfHart.{of_hart}
 use Rattle.message.specs.declared.fault.DemuxFault.{DemuxFault}
 use Rattle.message.specs.declared.hart.Hart.{Hart}
 use Rattle.message.specs.declared.message.Message.{Message}
-use Rattle.losses.proofs.InTurn.{length-harts_after}
+use Rattle.losses.proofs.InTurn.{AreTakenFrom, IsTakenHere, length-harts_after}
 use Rattle.losses.proofs.MessageSteps.{IsTaken, taken_by}
 use Rattle.losses.specs.Stops.{AreAcceptedLossy}
-
--- A message is taken, where this is expected of its hart.
-pub record IsTakenHere (expects : Hart) (message : Message) : Type 0 where
-  pub goes : expects.closed ≡ false
-  pub least : expects.expected ≤ message.number
-  pub small : message.number < 2 ^ 63
-  pub packet : Packet
-  pub read : reading message.payload ≡ Ok packet
-
--- A hart's messages are taken, each in its turn.
-abbrev pub AreTakenFrom : Hart → List Message → Type 0
-AreTakenFrom expects [] = Unit {0}
-AreTakenFrom expects (message ∷ messages) =
-    (taken : IsTakenHere expects message) × AreTakenFrom (next_of message.number taken.packet) messages
 
 not_ok : (why : DemuxFault) → ¬ IsOk {T = Packet × ℕ} (Err why)
 not_ok why ok = cc

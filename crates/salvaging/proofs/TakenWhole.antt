@@ -18,6 +18,7 @@ use Rattle.message.specs.Harts.{newcomer}
 use Rattle.message.specs.declared.message.Message.{Message}
 use Rattle.losses.specs.Runs.{Run, first_run, run_behind, run_of}
 use Rattle.losses.proofs.RunLemmas.{describes_nothing}
+use Rattle.losses.proofs.InTurn.{AreTakenFrom, taken_rise}
 use Rattle.salvaging.specs.Bad.{IsGood}
 use Rattle.salvaging.specs.Entries.{Entry, Used, Doubtful, next_used}
 use Rattle.salvaging.specs.Leaving.{own_mode}
@@ -27,16 +28,14 @@ use Rattle.salvaging.specs.Treatments.{HartTreats, IsTreated, Row, added_of, har
 use Rattle.salvaging.specs.Treatments.{treatment_of}
 use Rattle.salvaging.specs.declared.treatment.Treated.{Treated}
 use Rattle.salvaging.specs.declared.treatment.Treatment.TheVariants as treatment
-use Rattle.salvaging.proofs.CollectedToo.{none_late_before, taken_rise}
+use Rattle.salvaging.proofs.CollectedToo.{none_late_before}
 use Rattle.salvaging.proofs.CountedRows.{one_row}
 use Rattle.salvaging.proofs.EntriesCollected.{collected_has_no_end}
 use Rattle.salvaging.proofs.EntriesOfLog.{same_packet}
 use Rattle.salvaging.proofs.MarkedPlaces.{before_it}
-use Rattle.salvaging.proofs.Members.{IsIn, in_of_contains}
+use Rattle.salvaging.proofs.Members.{IsIn, in_of_contains, no_item}
 use Rattle.salvaging.proofs.OneWay.{good_not_bad}
-use Rattle.salvaging.proofs.PartsTreated.{no_item}
-use Rattle.salvaging.proofs.SameMessages.{AreMessages, entries_are_messages, one_place}
-use Rattle.salvaging.proofs.TakenInTurn.{AreTakenFrom}
+use Rattle.salvaging.proofs.SameMessages.{AreMessages, entries_are_messages, have_messages, one_place}
 use Rattle.salvaging.proofs.WholeHarts.{uncut}
 
 -- A message of a hart comes in turn after these packets, which describe these events: its number is that of its place,
@@ -204,7 +203,8 @@ module _ (words : Words) (program : IsProgram words) (mode : Mode) (messages : L
   shares_are =
       let own = own_mode mode treats.entries in
       let whole = uncut words own treats.entries treats.upto treats.beyond treats.cut
-      (collected_has_no_end words program mode own treats.entries messages 0 newcomer taken are) in
+      (collected_has_no_end words program mode own treats.entries messages newcomer taken
+      (have_messages 0 treats.entries messages are)) in
       let share = treats.are_shares in
       let none = nothing_beyond words own share.after
       (subst (λ es. AllShareBeyond words own es share.after) whole.1 share.shares_beyond) in

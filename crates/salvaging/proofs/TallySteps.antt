@@ -1,5 +1,5 @@
 -- The tally of a hart's messages, from one entry to the next.
-use Rattle.std.proofs.Common.{◌≡◌, ℕ, zero, suc, ◌+◌, ◌≤◌, ◌<◌, ◌^◌, ◌&&◌, ◌==◌, Bool, true, false, List, [], ◌∷◌, drop}
+use Rattle.std.proofs.Common.{◌≡◌, ℕ, suc, ◌+◌, ◌≤◌, ◌<◌, ◌&&◌, ◌==◌, Bool, true, false, List, [], ◌∷◌, drop}
 use Rattle.std.proofs.Common.{get_or, length, refl, sym, ap, subst, ◌∙◌, arith}
 use Rattle.std.specs.Prelude.{not}
 use Rattle.std.specs.Str.{bytes_eq}
@@ -7,7 +7,7 @@ use Rattle.std.proofs.lemmas.Bool.{eqb-true}
 use Rattle.std.proofs.lemmas.List.{get_or_default, length-drop}
 use Rattle.std.proofs.lemmas.List.Elements.{All-tail}
 use Rattle.message.specs.Harts.{end_of_numbers}
-use Rattle.salvaging.specs.Entries.{Entry, Used, Doubtful, entry_number, is_used}
+use Rattle.salvaging.specs.Entries.{Entry, entry_number, is_used}
 use Rattle.salvaging.specs.Late.{counted}
 use Rattle.salvaging.specs.Tallies.{good_count, looks_behind, next_behind, passed, used_count}
 use Rattle.salvaging.specs.declared.received.ReceivedMessage.{ReceivedMessage}
@@ -15,7 +15,7 @@ use Rattle.salvaging.specs.declared.tally.HartTally.{HartTally}
 use Rattle.salvaging.specs.steps.Arrivals.{Arrival, arrivals_in}
 use Rattle.salvaging.specs.steps.Grouping.{AreSmall, are_alike, copies_by, copies_on, entries_by, entries_on, entry_by}
 use Rattle.salvaging.specs.steps.Grouping.{entry_with, join_or_begin, one_more}
-use Rattle.salvaging.specs.steps.Tallying.{HasRoom, IsTally, with_entry}
+use Rattle.salvaging.specs.steps.Tallying.{with_entry}
 use Rattle.salvaging.proofs.LateSteps.{drop_good}
 use Rattle.salvaging.proofs.OneMore.{number_kept}
 use Rattle.salvaging.proofs.TakenSoFar.{behind, behind-is}
@@ -36,10 +36,6 @@ either_counted true false d p m = omega arith
 either_counted false true d p m = omega arith
 either_counted false false d p m = omega arith
 
-drop_none : (goods : List Bool) → drop 0 goods ≡ goods
-drop_none [] = refl
-drop_none (good ∷ goods) = refl
-
 -- The entries before these are counted, of which the first stands at this place.
 pub record TallySo (came : List ReceivedMessage) (goods : List Bool) (rest : List ReceivedMessage) (at : ℕ) (looks : Bool)
     (next : ℕ) (tally : HartTally) : Type 0 where
@@ -55,39 +51,11 @@ pub record TallySo (came : List ReceivedMessage) (goods : List Bool) (rest : Lis
   pub few_passed : tally.passed ≤ at
 
 module _ (came : List ReceivedMessage) (goods : List Bool) where
-  pub tally_start : (tally : HartTally) → tally.used ≡ 0 → tally.decoded ≡ 0 → tally.passed ≡ 0
-      → length goods ≡ length (entries_by (arrivals_in came)) → AreSmall (entries_by (arrivals_in came))
-      → TallySo came goods came 0 false 0 tally
-  tally_start tally used decoded passed_none long small = record {
-    small = small;
-    long = omega (arith, long);
-    shorter = omega arith;
-    used = omega (arith, used);
-    passed = let all = ap (passed false 0 (entries_by (arrivals_in came))) (drop_none goods) in
-        omega (arith, all, passed_none);
-    decoded = let all = ap good_count (drop_none goods) in omega (arith, all, decoded, passed_none);
-    few_used = omega (arith, used);
-    few_decoded = omega (arith, decoded);
-    few_passed = omega (arith, passed_none);
-  }
-
   module _ (rest : List ReceivedMessage) (at : ℕ) (looks : Bool) (next : ℕ) (tally : HartTally)
       (t : TallySo came goods rest at looks next tally) (entry : Entry) (later : List Entry)
       (first : entries_by (arrivals_in rest) ≡ entry ∷ later) where
     pub good_within : at < length goods
     good_within = let long = t.long in let one = ap length first in omega (arith, long, one)
-
-    pub has_room : length goods < 2 ^ 64 → HasRoom tally
-    has_room all =
-        let within = good_within in
-        let used = t.few_used in
-        let decoded = t.few_decoded in
-        let passed = t.few_passed in
-        record {
-          used = omega (arith, within, used, all);
-          decoded = omega (arith, within, decoded, all);
-          passed = omega (arith, within, passed, all);
-        }
 
     pub tally_next : (count : ℕ) → later ≡ entries_by (arrivals_in (drop count rest)) → (good d : Bool)
         → good ≡ get_or goods at d → (behind_it : Bool) → behind_it ≡ looks_behind looks next entry good → (following : ℕ)
@@ -139,27 +107,6 @@ module _ (came : List ReceivedMessage) (goods : List Bool) where
           few_decoded = subst (λ n. n ≤ at + 1) (sym decoded_is) (counted_most decodes tally.decoded at t.few_decoded);
           few_passed = subst (λ n. n ≤ at + 1) (sym passed_is) (counted_most passes tally.passed at t.few_passed);
         }
-
-  pub tally_end : (rest : List ReceivedMessage) (at : ℕ) (looks : Bool) (next : ℕ) (tally : HartTally)
-      → TallySo came goods rest at looks next tally → entries_by (arrivals_in rest) ≡ []
-      → IsTally (entries_by (arrivals_in came)) goods tally
-  tally_end rest at looks next tally t none =
-      let long = t.long in
-      let left = length-drop at goods in
-      let no = ap length none in
-      let over = no_more (drop at goods) (omega (arith, long, left, no)) in
-      let used = sym (ap (λ es. tally.used + used_count es) none) ∙ t.used in
-      let passed_all = sym (ap (λ es. tally.passed + passed looks next es (drop at goods)) none) ∙ t.passed in
-      let good = sym (ap (λ gs. tally.decoded + tally.passed + good_count gs) over) ∙ t.decoded in
-      record {
-        used = omega (arith, used);
-        passed = omega (arith, passed_all);
-        decoded = omega (arith, good);
-      }
-    where
-      no_more : (goods : List Bool) → length goods ≡ 0 → goods ≡ []
-      no_more [] none = refl
-      no_more (good ∷ goods) none = absurd (omega (arith, none))
 
 -- The copies and the used ones among messages in their order are no more than all.
 used_on : (entry : Entry) (before : Arrival) (arrivals : List Arrival) → entry_number entry ≡ before.message.number

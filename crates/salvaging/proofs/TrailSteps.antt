@@ -223,20 +223,6 @@ module _ {A : Type 0} (words : Words) (mode reads : Mode) where
         begins = subst (λ b. BeginsWith b number []) (sym begun) (begins_anew gone.begun next number v.begins);
       }
 
-  -- A trail that differs in its parts and goods alone.
-  pub same_way : (run : Run) (closed : Bool) (next : ℕ) (old new : Trail A)
-      → IsUnderWay words mode reads run next closed old → new.decoder ≡ old.decoder
-      → new.events.items ≡ old.events.items → new.looking ≡ old.looking → new.begun ≡ old.begun → new.next ≡ old.next
-      → IsUnderWay words mode reads run next closed new
-  same_way run closed next old new u decoder events looking begun at = record {
-    follows = subst (λ d. FollowsRun words mode reads run.missing run.packets closed new.events.items d) (sym decoder)
-        (subst (λ e. FollowsRun words mode reads run.missing run.packets closed e old.decoder) (sym events) u.follows);
-    first_reads = u.first_reads;
-    next_is = at ∙ u.next_is;
-    looking = looking ∙ u.looking;
-    begins = subst (λ b. BeginsWith b next (kept run.missing run.packets)) (sym begun) u.begins;
-  }
-
   -- A used message is taken that is good.
   pub takes_good : (run : Run) (next number place : ℕ) (payload : List ℕ) (following : Option ℕ)
       (old gone judged new : Trail A) → GoesOn words mode reads run next number old gone → judged.parts ≡ gone.parts

@@ -16,6 +16,7 @@ use Rattle.rvclass.specs.Words.{Words}
 use Rattle.payload.specs.declared.mode.Mode.{Mode}
 use Rattle.message.specs.declared.message.Message.{Message}
 use Rattle.message.proofs.AcceptedLemmas.{slice_get-set}
+use Rattle.message.proofs.Elements.{slice_get-behind, slice_get-some}
 use Rattle.salvaging.specs.Strangers.{has_number, is_stranger, own_messages}
 use Rattle.salvaging.specs.Treatments.{AreTreated, hart_rows, own_place, stranger}
 use Rattle.salvaging.specs.declared.received.ReceivedMessage.{ReceivedMessage}
@@ -76,11 +77,6 @@ cut [] k message here = cc
 cut (first ∷ messages) zero message here = ap (λ m. m ∷ messages) (same_Some first message here)
 cut (first ∷ messages) (suc k) message here = ap (λ l. first ∷ l) (cut messages k message here)
 
-middle : (front : List Message) (message : Message) (later : List Message)
-    → slice_get (front ++ message ∷ later) (length front) ≡ Some message
-middle [] message later = refl
-middle (first ∷ front) message later = middle front message later
-
 contains_at : (messages : List Message) (k : ℕ) (message : Message) → slice_get messages k ≡ Some message
     → Contains messages message
 contains_at messages k message here = contains_of_in messages message (by_place messages k here)
@@ -89,11 +85,6 @@ contains_at messages k message here = contains_of_in messages message (by_place 
     by_place [] k here = cc
     by_place (m ∷ ms) zero here = inl (sym (same_Some m message here))
     by_place (m ∷ ms) (suc k) here = inr (by_place ms k here)
-
-some_within : {X : Type 0} (xs : List X) (i : ℕ) → i < length xs → (x : X) × (slice_get xs i ≡ Some x)
-some_within [] i within = let none : ⊥ = omega (arith, within) in absurd none
-some_within (x ∷ xs) zero within = (x, refl)
-some_within (x ∷ xs) (suc i) within = some_within xs i (omega (arith, within))
 
 -- A hart has no more messages than there are.
 filter_few : (p : Message → Bool) (messages : List Message) → length (filter p messages) ≤ length messages
@@ -273,14 +264,14 @@ module _ {A : Type 0} (harts : ℕ) (messages : List Message) (sorted : List (Ha
   }
     where
       some : (hart : ℕ) → hart < harts → (own : HartRows A) × (slice_get sorted hart ≡ Some own)
-      some hart known = some_within sorted hart (omega (arith, known, many))
+      some hart known = slice_get-some sorted hart (omega (arith, known, many))
 
       own_at : (k : ℕ) (message : Message) → slice_get messages k ≡ Some message
           → (message.hart < harts) × (has_number message ≡ true)
           → slice_get (own_messages message.hart messages) (own_place messages k message) ≡ Some message
       own_at k message here own =
           subst (λ l. slice_get l (own_place messages k message) ≡ Some message) (sym parted)
-          (middle (own_messages message.hart (take k messages)) message
+          (slice_get-behind (own_messages message.hart (take k messages)) message
           (own_messages message.hart (drop (suc k) messages)))
         where
           parted : own_messages message.hart messages
@@ -302,5 +293,5 @@ pub all_sorted : {A : Type 0} (words : Words) (mode : Mode) (messages : List Mes
 all_sorted words mode messages lists sorted d each hart own at =
     let known = slice_get_within sorted hart own at in
     let many = each.count in
-    let list = some_within lists hart (omega (arith, known, many)) in
+    let list = slice_get-some lists hart (omega (arith, known, many)) in
     each.each hart list.0 own (own_messages hart messages) list.1 at (d.each hart list.0 list.1)

@@ -1,6 +1,6 @@
 -- As many of a hart's messages are decoded, passed over and of doubtful numbers by what is done with each.
-use Rattle.std.proofs.Common.{◌≡◌, ◌≢◌, inl, inr, ℕ, zero, suc, ◌+◌, ◌-◌, ◌<◌, ◌≤◌, ◌++◌, ◌&&◌, Bool, true, false, cond}
-use Rattle.std.proofs.Common.{List, [], ◌∷◌, Option, Some, Ok, Result, length, map, slice_get, refl, sym, ap, subst, ◌∙◌, arith}
+use Rattle.std.proofs.Common.{◌≡◌, ◌≢◌, ℕ, zero, suc, ◌+◌, ◌-◌, ◌++◌, ◌&&◌, Bool, true, false, cond}
+use Rattle.std.proofs.Common.{List, [], ◌∷◌, Option, Ok, Result, length, map, refl, sym, ap, ◌∙◌, arith}
 use Rattle.std.specs.Prelude.{◌||◌, count_by, nat_lt, not}
 use Rattle.std.proofs.lemmas.Bool.{le-ltb, lt-ltb}
 use Rattle.std.proofs.lemmas.List.{length-map, map-append}
@@ -12,18 +12,16 @@ use Rattle.payload.specs.declared.mode.Mode.{Mode}
 use Rattle.payload.specs.declared.packet.Packet.{Packet}
 use Rattle.payload.specs.declared.packet.Packet.TheVariants as packet
 use Rattle.losses.specs.Runs.{Run, first_run, from_sync, longer, run_behind, run_of}
-use Rattle.message.specs.declared.message.Message.{Message}
-use Rattle.salvaging.specs.Entries.{Entry, Used, Doubtful, entry_number, next_used}
+use Rattle.salvaging.specs.Entries.{Entry, Used, Doubtful, next_used}
 use Rattle.salvaging.specs.Late.{counted}
 use Rattle.salvaging.specs.Leaving.{kept}
 use Rattle.salvaging.specs.Ends.{none_good}
 use Rattle.salvaging.specs.Shares.{AllShareBeyond, EntriesShare, HartShares, Share, SharesBeyond, UsedShares}
 use Rattle.salvaging.specs.Shares.{Adds, Passes, Spoils, StandsAlone, Doubts}
-use Rattle.salvaging.specs.Tallies.{good_count, is_sync, looks_behind, next_behind, passed, reads_sync}
+use Rattle.salvaging.specs.Tallies.{good_count, looks_behind, next_behind, passed, reads_sync}
 use Rattle.salvaging.specs.TreatedCounts.{count_treated, makes_alone, makes_bad, makes_copy, makes_doubtful, makes_passed}
 use Rattle.salvaging.specs.TreatedCounts.{makes_stranger, makes_taken}
-use Rattle.salvaging.specs.Treatments.{Row, added_of, is_good_treatment, rows, treatment_of}
-use Rattle.salvaging.specs.declared.reason.Reason.{Reason}
+use Rattle.salvaging.specs.Treatments.{Row, is_good_treatment, rows, treatment_of}
 use Rattle.salvaging.specs.declared.treatment.Treated.{Treated}
 use Rattle.salvaging.specs.declared.treatment.Treatment.{Treatment}
 use Rattle.salvaging.specs.declared.treatment.Treatment.TheVariants as treatment

@@ -25,7 +25,7 @@ use Rattle.salvaging.specs.Late.{late}
 use Rattle.salvaging.specs.Leaving.{EntriesLeave, mode_by, own_mode}
 use Rattle.salvaging.specs.LeftParts.{LeftPart, Missing, Events, BadNumber, DoubtfulNumber}
 use Rattle.salvaging.specs.declared.reason.Reason.TheVariants as reason
-use Rattle.salvaging.proofs.BlockTraces.{block_trace, events_of_block}
+use Rattle.losses.proofs.BlockTraces.{block_trace, events_of_block}
 
 -- The words of the worked losses are a program, and the log is legal.
 found : (addr : ℕ) (w : Word) → words addr ≡ Some w

@@ -10,7 +10,7 @@ use retire::Event;
 use std::alloc::{AllocError, Allocator, Global};
 
 /// A part of what is left of a hart's log.
-#[derive(Debug, Drop)]
+#[derive(Drop)]
 pub enum Part<A: Allocator = Global> {
     /// A gap: how many numbers did not come or are doubtful, one at least.
     Gap(u64),

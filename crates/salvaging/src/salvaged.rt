@@ -5,7 +5,7 @@ use payload::Mode;
 use std::alloc::{Allocator, Global};
 
 /// What is salvaged of one hart's messages.
-#[derive(Debug, Drop)]
+#[derive(Drop)]
 pub struct SalvagedHart<A: Allocator = Global> {
     /// What is left of its log, in the order of the numbers.
     pub parts: Vec<Part<A>, A>,
@@ -28,7 +28,7 @@ pub struct SalvagedHart<A: Allocator = Global> {
 }
 
 /// What is salvaged of messages of several harts.
-#[derive(Debug, Drop)]
+#[derive(Drop)]
 pub struct Salvaged<A: Allocator = Global> {
     /// What is salvaged of each hart.
     pub harts: Vec<SalvagedHart<A>, A>,

@@ -3,7 +3,7 @@
 use crate::reason::Reason;
 
 /// How many events a message adds to the log of its hart, and where the first and the last of them are.
-#[derive(Clone, Copy, Debug, PartialEq, Eq)]
+#[derive(Clone, Copy, PartialEq, Eq)]
 pub struct Added {
     /// How many events.
     pub count: usize,
@@ -14,7 +14,7 @@ pub struct Added {
 }
 
 /// What is done with a message, by the first of these that applies.
-#[derive(Clone, Copy, Debug, PartialEq, Eq)]
+#[derive(Clone, Copy, PartialEq, Eq)]
 pub enum Treatment {
     /// It is a stranger: its hart is not known, or its number is 2^63 or more.
     Stranger,
@@ -33,7 +33,7 @@ pub enum Treatment {
 }
 
 /// What is done with a message, and whether it came late.
-#[derive(Clone, Copy, Debug, PartialEq, Eq)]
+#[derive(Clone, Copy, PartialEq, Eq)]
 pub struct Treated {
     /// What is done with it.
     pub treatment: Treatment,

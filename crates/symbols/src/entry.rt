@@ -1,7 +1,7 @@
 //! A symbol, by the place of its name.
 
 /// Where the name of a symbol is in the bytes of its file.
-#[derive(Clone, Copy, Debug)]
+#[derive(Clone, Copy)]
 pub(crate) struct Entry {
     /// The symbol's address.
     pub(crate) address: u64,

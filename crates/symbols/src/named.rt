@@ -1,7 +1,7 @@
 //! What a place is named.
 
 /// What a place is named by a symbol.
-#[derive(Clone, Copy, Debug)]
+#[derive(Clone, Copy)]
 pub struct Named<'a> {
     /// The symbol's name, as in the file.
     pub name: &'a [u8],

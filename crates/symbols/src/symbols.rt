@@ -19,7 +19,7 @@ use std::marker::Model;
 pub const MOST_BYTES: usize = 16_777_216;
 
 /// The symbols of a file. They never change.
-#[derive(Debug, Drop)]
+#[derive(Drop)]
 pub struct Symbols<A: Allocator = Global> {
     file: Vec<u8>,
     entries: Vec<Entry, A>,

@@ -2,18 +2,18 @@
 
 use crate::fault::Fault;
 use std::io::Write;
-use std::time::{Clock, Instant};
+use std::rt::Clock;
 
 /// How often a phase is run.
 pub(crate) const RUNS: u32 = 9;
 
-/// What is measured.
-pub(crate) trait Phase: Drop {
-    /// What a run makes. It is freed after the clock was read.
-    type Made: Drop;
+/// What is measured in one thread.
+pub(crate) trait Phase {
+    /// Runs once, and returns a number that the work gives. What it makes is kept.
+    fn run(&mut self) -> Result<u64, Fault>;
 
-    /// Runs once, and returns what it made and a number that the work gives.
-    fn run(&mut self) -> Result<(Self::Made, u64), Fault>;
+    /// Frees what the run made. The clock was read.
+    fn free(&mut self) {}
 }
 
 /// A clock, and where times go. Where something fails the meter notes the first reason, and then measures no more. So what
@@ -22,9 +22,6 @@ pub(crate) trait Phase: Drop {
 pub(crate) struct Meter<'r, R, E> {
     pub(crate) rt: &'r R,
     err: &'r mut E,
-    /// The least time of the phase that is measured, and the number that it gave last.
-    least: u128,
-    answer: u64,
     fault: Option<Fault>,
 }
 
@@ -34,8 +31,6 @@ impl<'r, R, E> Meter<'r, R, E> {
         Meter {
             rt,
             err,
-            least: u128::MAX,
-            answer: 0,
             fault: None,
         }
     }
@@ -56,75 +51,63 @@ impl<'r, R, E> Meter<'r, R, E> {
     pub(crate) fn is_stopped(&self) -> bool {
         self.fault.is_some()
     }
-
-    /// Notes how many nanoseconds a run took and the number that it gave, or why it failed.
-    pub(crate) fn note(&mut self, timed: Result<(u128, u64), Fault>) {
-        match timed {
-            Ok((time, answer)) => {
-                self.least = self.least.min(time);
-                self.answer = answer;
-            }
-            Err(fault) => self.stop(fault),
-        }
-    }
 }
 
 impl<R: Clock, E: Write> Meter<'_, R, E> {
     /// Runs a phase several times, and writes its name, its least time for each of its items, of which there are `items`,
     /// and the number that it gives.
-    pub(crate) fn measure<P: Phase>(&mut self, name: &str, items: usize, mut phase: P) {
-        let rt = self.rt;
-        for _ in 0..RUNS {
-            if self.is_stopped() {
-                return;
-            }
-            let timed = timed(rt, &mut phase);
-            self.note(timed);
+    pub(crate) fn measure<P: Phase>(&mut self, name: &str, items: usize, phase: &mut P) {
+        if !self.is_stopped() {
+            let least = least(self.rt, phase);
+            self.write_least(name, items, least);
         }
-        self.write_time(name, items);
     }
 }
 
 impl<R, E: Write> Meter<'_, R, E> {
-    /// Writes a line, where nothing failed: a name, the least time for each of this count of items in nanoseconds, and the
-    /// number that came last. The next phase begins.
-    pub(crate) fn write_time(&mut self, name: &str, items: usize) {
-        if self.is_stopped() {
-            return;
+    /// Writes a line: a name, the least time for each of this count of items in nanoseconds, and the number. Or notes why
+    /// there is none.
+    pub(crate) fn write_least(
+        &mut self,
+        name: &str,
+        items: usize,
+        least: Result<(u128, u64), Fault>,
+    ) {
+        match least {
+            Ok((time, number)) => self.write_time(name, items, time, number),
+            Err(fault) => self.stop(fault),
         }
-        let hundredths = self.least.saturating_mul(100) / (items.max(1) as u128);
+    }
+
+    fn write_time(&mut self, name: &str, items: usize, time: u128, number: u64) {
+        let hundredths = time.saturating_mul(100) / (items.max(1) as u128);
         let whole = hundredths / 100;
         let part = hundredths % 100;
-        let answer = self.answer;
-        self.least = u128::MAX;
-        let done = writeln!(self.err, "{name:<18} {whole:>6}.{part:02} ns  ({answer})");
+        let done = writeln!(self.err, "{name:<18} {whole:>6}.{part:02} ns  ({number})");
         if let Err(error) = done {
             self.stop(Fault::Io(error.kind()));
         }
     }
 }
 
-/// The clock's time.
-pub(crate) fn now<R: Clock>(rt: &R) -> Result<Instant, Fault> {
-    match Instant::now(rt) {
-        Ok(now) => Ok(now),
-        Err(error) => Err(Fault::Io(error.kind())),
-    }
-}
-
-/// How many nanoseconds passed since then.
-pub(crate) fn since<R: Clock>(rt: &R, start: Instant) -> Result<u128, Fault> {
-    match start.elapsed(rt) {
+/// The clock's time in nanoseconds.
+pub(crate) fn nanos<R: Clock>(rt: &R) -> Result<u128, Fault> {
+    match rt.monotonic() {
         Ok(time) => Ok(time.as_nanos()),
         Err(error) => Err(Fault::Io(error.kind())),
     }
 }
 
-/// How many nanoseconds a run takes, and the number that it gives.
-fn timed<R: Clock, P: Phase>(rt: &R, phase: &mut P) -> Result<(u128, u64), Fault> {
-    let start = now(rt)?;
-    let (made, number) = phase.run()?;
-    let time = since(rt, start)?;
-    drop(made);
-    Ok((time, number))
+/// The least time of several runs in nanoseconds, and the number that the last one gave.
+fn least<R: Clock, P: Phase>(rt: &R, phase: &mut P) -> Result<(u128, u64), Fault> {
+    let mut least = u128::MAX;
+    let mut number = 0;
+    for _ in 0..RUNS {
+        let start = nanos(rt)?;
+        number = phase.run()?;
+        let time = nanos(rt)?.saturating_sub(start);
+        phase.free();
+        least = least.min(time);
+    }
+    Ok((least, number))
 }

@@ -5,17 +5,13 @@
 //! Nothing goes to standard output. The status is 0, or 1 where the arguments, a file or a log is refused.
 #![tactic(auto)]
 
-mod auditing_captures;
-mod coding;
 mod fault;
 mod input;
 mod least;
-mod logs;
-mod packets;
+mod log_phases;
 mod replaying;
 mod run;
 mod sending;
-mod whole_captures;
 
 use std::io::Write;
 use std::process::ExitCode;

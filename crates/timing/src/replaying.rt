@@ -1,19 +1,28 @@
 //! The phases of logs through the funnel: by a schedule, and over threads.
 
 use crate::fault::Fault;
-use crate::least::{Meter, Phase, RUNS, now, since};
-use crate::packets::{MODE, PERIOD};
+use crate::least::{Phase, RUNS, nanos};
+use crate::log_phases::{MODE, PERIOD};
 use bench::{Config, Open, Outcome, Turn, replay, run};
 use encoder::Source;
 use legalpath::LegalLog;
-use std::alloc::{AllocError, Global};
-use std::io::Write;
+use std::alloc::Global;
+use std::rt::Clock;
 use std::sync::Wait;
 use std::thread::Threads;
-use std::time::Clock;
 
 /// How many messages the funnel of a replay holds.
-const CAPACITY: u32 = 16;
+const REPLAY_CAPACITY: u32 = 16;
+
+/// Logs, a hart each, that go through the funnel to the events that are decoded, in lists that grow.
+#[derive(Drop)]
+pub(crate) struct Runs<'a, 'p, R> {
+    rt: &'a R,
+    alloc: Global,
+    logs: &'a [LegalLog<'p>],
+    turns: Vec<Turn>,
+    outcome: Option<Outcome>,
+}
 
 /// How many payloads a log has.
 fn payload_count(log: &LegalLog<'_>) -> usize {
@@ -29,111 +38,19 @@ fn payload_count(log: &LegalLog<'_>) -> usize {
 }
 
 /// Adds a turn by which each hart that still has messages sends, and one after it by which a message is taken.
-fn add_round(turns: &mut Vec<Turn>, counts: &[usize], number: usize) -> Result<(), AllocError> {
+fn add_round(turns: &mut Vec<Turn>, counts: &[usize], number: usize) -> Result<(), Fault> {
     let mut hart = 0u16;
     for count in counts {
-        if number < *count {
-            turns.extend_from_slice(&[Turn::Hart(hart), Turn::Collect])?;
+        if number < *count
+            && turns
+                .extend_from_slice(&[Turn::Hart(hart), Turn::Collect])
+                .is_err()
+        {
+            return Err(Fault::Memory);
         }
         hart = hart.wrapping_add(1);
     }
     Ok(())
-}
-
-/// Turns that go round the harts of these logs until each has sent all: one sends, and a message is taken.
-fn rounds(alloc: Global, logs: &[LegalLog<'_>]) -> Result<Vec<Turn>, AllocError> {
-    let mut counts = Vec::new(alloc);
-    let mut longest = 0;
-    for log in logs {
-        let count = payload_count(log);
-        longest = longest.max(count);
-        counts.push(count)?;
-    }
-    let mut turns = Vec::new(alloc);
-    for number in 0..longest {
-        add_round(&mut turns, counts.as_slice(), number)?;
-    }
-    Ok(turns)
-}
-
-/// From the events of logs through the funnel to the events that are decoded, in lists that grow.
-#[derive(Drop)]
-struct Replaying<'a, 'p> {
-    alloc: Global,
-    logs: &'a [LegalLog<'p>],
-    turns: &'a [Turn],
-}
-
-impl Phase for Replaying<'_, '_> {
-    type Made = Outcome;
-
-    fn run(&mut self) -> Result<(Outcome, u64), Fault> {
-        let config = config_of(CAPACITY);
-        let Ok(outcome) = replay(self.alloc, self.logs, config, self.turns) else {
-            return Err(Fault::Log);
-        };
-        let decoded = decoded_in(&outcome);
-        Ok((outcome, decoded))
-    }
-}
-
-/// Measures a replay of logs, a hart each, by a schedule that goes round the harts.
-pub(crate) fn measure_replay<R: Clock + AllocGlobal, E: Write>(
-    meter: &mut Meter<'_, R, E>,
-    logs: &[LegalLog<'_>],
-) {
-    let alloc = meter.rt.alloc();
-    match rounds(alloc, logs) {
-        Ok(turns) => {
-            let turns = turns.as_slice();
-            let replaying = Replaying { alloc, logs, turns };
-            meter.measure("replay", event_count(logs), replaying);
-        }
-        Err(_) => meter.stop(Fault::Memory),
-    }
-}
-
-/// How many nanoseconds a run of logs over threads takes, and how many events are decoded.
-fn timed_run<R: Clock + AllocGlobal + Threads + Wait + Sync>(
-    rt: &R,
-    logs: &[LegalLog<'_>],
-    capacity: u32,
-) -> Result<(u128, u64), Fault> {
-    let alloc = rt.alloc();
-    let start = now(rt)?;
-    let Ok(outcome) = run(alloc, alloc, logs, config_of(capacity), &Open, rt) else {
-        return Err(Fault::Log);
-    };
-    let decoded = decoded_in(&outcome);
-    Ok((since(rt, start)?, decoded))
-}
-
-/// Runs logs through the funnel over threads several times, and writes a name, the least time for each event and how
-/// many were decoded.
-pub(crate) fn measure_runs<R: Clock + AllocGlobal + Threads + Wait + Sync, E: Write>(
-    meter: &mut Meter<'_, R, E>,
-    name: &str,
-    logs: &[LegalLog<'_>],
-    capacity: u32,
-) {
-    let rt = meter.rt;
-    for _ in 0..RUNS {
-        if meter.is_stopped() {
-            return;
-        }
-        let timed = timed_run(rt, logs, capacity);
-        meter.note(timed);
-    }
-    meter.write_time(name, event_count(logs));
-}
-
-/// How many events the logs have.
-fn event_count(logs: &[LegalLog<'_>]) -> usize {
-    let mut count = 0usize;
-    for log in logs {
-        count = count.wrapping_add(log.events().len());
-    }
-    count
 }
 
 /// Logs go through a funnel of this capacity, in messages, and no packets are kept.
@@ -146,11 +63,99 @@ fn config_of(capacity: u32) -> Config {
     }
 }
 
-/// How many events were decoded of all harts.
-fn decoded_in(outcome: &Outcome) -> u64 {
-    let mut events = 0u64;
-    for hart in &outcome.harts {
-        events = events.wrapping_add(hart.decoded.len() as u64);
+impl<'a, 'p, R> Runs<'a, 'p, R> {
+    /// A replay with no turns yet.
+    pub(crate) fn new(rt: &'a R, alloc: Global, logs: &'a [LegalLog<'p>]) -> Runs<'a, 'p, R> {
+        Runs {
+            rt,
+            alloc,
+            logs,
+            turns: Vec::new(alloc),
+            outcome: None,
+        }
     }
-    events
+
+    /// Adds turns that go round the harts until each has sent all: one sends, and a message is taken.
+    pub(crate) fn add_turns(&mut self) -> Result<(), Fault> {
+        let mut counts = Vec::new(self.alloc);
+        let mut longest = 0;
+        for log in self.logs {
+            let count = payload_count(log);
+            longest = longest.max(count);
+            if counts.push(count).is_err() {
+                return Err(Fault::Memory);
+            }
+        }
+        for number in 0..longest {
+            add_round(&mut self.turns, counts.as_slice(), number)?;
+        }
+        Ok(())
+    }
+
+    /// How many events the logs have.
+    pub(crate) fn event_count(&self) -> usize {
+        let mut count = 0usize;
+        for log in self.logs {
+            count = count.wrapping_add(log.events().len());
+        }
+        count
+    }
+
+    /// How many events were decoded of all harts.
+    fn decoded(&self) -> u64 {
+        let mut events = 0u64;
+        if let Some(outcome) = &self.outcome {
+            for hart in &outcome.harts {
+                events = events.wrapping_add(hart.decoded.len() as u64);
+            }
+        }
+        events
+    }
+}
+
+impl<R> Phase for Runs<'_, '_, R> {
+    fn run(&mut self) -> Result<u64, Fault> {
+        let config = config_of(REPLAY_CAPACITY);
+        match replay(self.alloc, self.logs, config, self.turns.as_slice()) {
+            Ok(outcome) => {
+                self.outcome = Some(outcome);
+                Ok(self.decoded())
+            }
+            Err(_) => Err(Fault::Log),
+        }
+    }
+
+    fn free(&mut self) {
+        self.outcome = None;
+    }
+}
+
+impl<R: Threads + Wait + Sync> Runs<'_, '_, R> {
+    fn run_over_threads(&mut self, capacity: u32) -> Result<u64, Fault> {
+        let (rt, alloc) = (self.rt, self.alloc);
+        match run(alloc, alloc, self.logs, config_of(capacity), &Open, rt) {
+            Ok(outcome) => {
+                self.outcome = Some(outcome);
+                Ok(self.decoded())
+            }
+            Err(_) => Err(Fault::Log),
+        }
+    }
+}
+
+impl<R: Clock + Threads + Wait + Sync> Runs<'_, '_, R> {
+    /// The least time of several runs over threads in nanoseconds, and how many events the last one decoded. The funnel
+    /// holds this many messages.
+    pub(crate) fn least_over_threads(&mut self, capacity: u32) -> Result<(u128, u64), Fault> {
+        let mut least = u128::MAX;
+        let mut decoded = 0;
+        for _ in 0..RUNS {
+            let start = nanos(self.rt)?;
+            decoded = self.run_over_threads(capacity)?;
+            let time = nanos(self.rt)?.saturating_sub(start);
+            self.outcome = None;
+            least = least.min(time);
+        }
+        Ok((least, decoded))
+    }
 }

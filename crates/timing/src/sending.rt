@@ -1,18 +1,17 @@
 //! The phases over a funnel: messages that are sent and taken.
 
 use crate::fault::Fault;
-use crate::least::{Meter, Phase, RUNS, now, since};
+use crate::least::{Phase, RUNS, nanos};
 use crossbeam_channel::bounded_with;
 use crossbeam_channel::protocol::{Lesson, Outcome, Protocol};
 use funnel::{Outlet, Port, open};
 use message::Message;
 use payload::{PackFault, Payload};
 use std::alloc::{AllocError, Global};
-use std::io::Write;
+use std::rt::Clock;
 use std::sync::Wait;
 use std::thread;
 use std::thread::{Scope, Threads};
-use std::time::Clock;
 
 /// How many messages are sent and taken in one thread.
 pub(crate) const IN_ONE_THREAD: u64 = 100_000;
@@ -20,36 +19,67 @@ pub(crate) const IN_ONE_THREAD: u64 = 100_000;
 /// How many messages the channel holds in one thread.
 const ROOM: u32 = 1024;
 
+/// How many messages go through a funnel with a capacity of 1, and with a greater one.
+const FEW: u64 = 6_400;
+
+const MANY: u64 = 64_000;
+
+/// The funnels with senders in threads of their own: a name, how many harts send, the capacity, and how many messages all
+/// harts send.
+pub(crate) const FUNNELS: [(&str, u16, u32, u64); 9] = [
+    ("funnel 1, 1", 1, 1, FEW),
+    ("funnel 4, 1", 4, 1, FEW),
+    ("funnel 64, 1", 64, 1, FEW),
+    ("funnel 1, 16", 1, 16, MANY),
+    ("funnel 4, 16", 4, 16, MANY),
+    ("funnel 64, 16", 64, 16, MANY),
+    ("funnel 1, 1024", 1, 1024, MANY),
+    ("funnel 4, 1024", 4, 1024, MANY),
+    ("funnel 64, 1024", 64, 1024, MANY),
+];
+
 /// A payload of an address packet.
 fn payload() -> Result<Payload, PackFault> {
     Payload::new(&[0x06, 0x00, 0x10])
 }
 
-/// In one thread, each message is sent and then taken.
+/// Messages that are each sent and then taken, in one thread.
 #[derive(Drop)]
 pub(crate) struct OneThread<'a, R> {
     pub(crate) rt: &'a R,
     pub(crate) alloc: Global,
+    /// Whether they go through a bare channel and not through a funnel.
+    pub(crate) bare: bool,
 }
 
 impl<R: Wait> Phase for OneThread<'_, R> {
-    type Made = ();
-
-    fn run(&mut self) -> Result<((), u64), Fault> {
-        let Ok((mut ports, mut outlet)) = open(self.alloc, 1, ROOM) else {
-            return Err(Fault::Memory);
-        };
-        match ports.pop() {
-            Some(mut port) => Ok(((), in_turn(self.rt, &mut port, &mut outlet))),
-            None => Err(Fault::Memory),
+    fn run(&mut self) -> Result<u64, Fault> {
+        let (rt, alloc) = (self.rt, self.alloc);
+        if !self.bare {
+            return in_one_thread(rt, alloc, IN_ONE_THREAD);
+        }
+        match through_a_channel(rt, alloc, IN_ONE_THREAD) {
+            Ok(taken) => Ok(taken),
+            Err(_) => Err(Fault::Memory),
         }
     }
 }
 
-/// How many messages are sent and then taken, one after the other.
-fn in_turn<R: Wait>(rt: &R, port: &mut Port, outlet: &mut Outlet) -> u64 {
+/// How many of these messages are sent and then taken, one after the other.
+fn in_one_thread<R: Wait>(rt: &R, alloc: Global, messages: u64) -> Result<u64, Fault> {
+    let Ok((mut ports, mut outlet)) = open(alloc, 1, ROOM) else {
+        return Err(Fault::Memory);
+    };
+    match ports.pop() {
+        Some(mut port) => Ok(in_turn(rt, &mut port, &mut outlet, messages)),
+        None => Err(Fault::Memory),
+    }
+}
+
+/// The same through this port.
+fn in_turn<R: Wait>(rt: &R, port: &mut Port, outlet: &mut Outlet, messages: u64) -> u64 {
     let mut taken = 0u64;
-    for _ in 0..IN_ONE_THREAD {
+    for _ in 0..messages {
         let Ok(payload) = payload() else {
             break;
         };
@@ -78,32 +108,14 @@ impl Lesson<Message, ()> for Anything {
     ghost fact = { λ view queue. Unit {0} };
 }
 
-/// In one thread, each message is sent and then taken on a bare channel.
-#[derive(Drop)]
-pub(crate) struct Bare<'a, R> {
-    pub(crate) rt: &'a R,
-    pub(crate) alloc: Global,
-}
-
-impl<R: Wait> Phase for Bare<'_, R> {
-    type Made = ();
-
-    fn run(&mut self) -> Result<((), u64), Fault> {
-        match through_a_channel(self.rt, self.alloc) {
-            Ok(taken) => Ok(((), taken)),
-            Err(_) => Err(Fault::Memory),
-        }
-    }
-}
-
-/// How many messages are sent and then taken on a bare channel.
-fn through_a_channel<R: Wait>(rt: &R, alloc: Global) -> Result<u64, AllocError> {
+/// How many of these messages are sent and then taken on a bare channel.
+fn through_a_channel<R: Wait>(rt: &R, alloc: Global, messages: u64) -> Result<u64, AllocError> {
     let (sender, receiver, mut pass) = bounded_with::<Message, (), Anything, Global>(
         alloc,
         ROOM as usize,
     )?;
     let mut taken = 0u64;
-    for number in 0..IN_ONE_THREAD {
+    for number in 0..messages {
         let Ok(payload) = payload() else {
             break;
         };
@@ -124,44 +136,37 @@ fn through_a_channel<R: Wait>(rt: &R, alloc: Global) -> Result<u64, AllocError> 
     Ok(taken)
 }
 
-/// A funnel that is measured, where each hart sends in a thread of its own.
-#[derive(Clone, Copy)]
-pub(crate) struct Senders {
-    pub(crate) harts: u16,
-    pub(crate) capacity: u32,
-    /// How many messages each hart sends.
-    pub(crate) each: u64,
-}
-
-/// How many nanoseconds a funnel takes, and how many messages were taken.
-fn timed_funnel<R: Clock + AllocGlobal + Threads + Wait + Sync>(
+/// The least time of several runs of a funnel in nanoseconds, where each hart sends in a thread of its own, and how many
+/// messages the last one took.
+pub(crate) fn least_over_threads<R: Clock + AllocGlobal + Threads + Wait + Sync>(
     rt: &R,
-    senders: Senders,
+    harts: u16,
+    capacity: u32,
+    messages: u64,
 ) -> Result<(u128, u64), Fault> {
-    let start = now(rt)?;
-    let Ok((ports, outlet)) = open(rt.alloc(), senders.harts, senders.capacity) else {
-        return Err(Fault::Memory);
-    };
-    let taken = through_threads(rt, ports, outlet, senders.each);
-    Ok((since(rt, start)?, taken))
+    let mut least = u128::MAX;
+    let mut taken = 0;
+    for _ in 0..RUNS {
+        let start = nanos(rt)?;
+        taken = through_a_funnel(rt, harts, capacity, messages)?;
+        let time = nanos(rt)?.saturating_sub(start);
+        least = least.min(time);
+    }
+    Ok((least, taken))
 }
 
-/// Runs a funnel several times, and writes its name, its least time for each message and how many were taken.
-pub(crate) fn measure_senders<R: Clock + AllocGlobal + Threads + Wait + Sync, E: Write>(
-    meter: &mut Meter<'_, R, E>,
-    name: &str,
-    senders: Senders,
-) {
-    let rt = meter.rt;
-    for _ in 0..RUNS {
-        if meter.is_stopped() {
-            return;
-        }
-        let timed = timed_funnel(rt, senders);
-        meter.note(timed);
+/// How many of these messages are taken, of which each hart sends its share in a thread of its own.
+fn through_a_funnel<R: AllocGlobal + Threads + Wait + Sync>(
+    rt: &R,
+    harts: u16,
+    capacity: u32,
+    messages: u64,
+) -> Result<u64, Fault> {
+    let each = messages / u64::from(harts.max(1));
+    match open(rt.alloc(), harts, capacity) {
+        Ok((ports, outlet)) => Ok(through_threads(rt, ports, outlet, each)),
+        Err(_) => Err(Fault::Memory),
     }
-    let count = u64::from(senders.harts).saturating_mul(senders.each);
-    meter.write_time(name, count as usize);
 }
 
 /// Starts a thread for each port, and takes to the end.

@@ -1,7 +1,7 @@
 //! A decoder that goes on after packets were lost (`decoder`), where an allocation fails. Traces, faults, losses and walks
 //! along leaps are cases of `vectors`.
 
-use crate::fixtures::{BASE, NOP, program_of};
+use crate::fixtures::{BASE, NOPS, program_of};
 use crate::same::same_at;
 use decoder::{DecodeFault, Decoder};
 use linked_list_allocator::LocalHeap;
@@ -22,7 +22,7 @@ const START: Packet = Packet::Sync {
 /// synchronisation comes again.
 #[test]
 fn synchronisation_that_is_refused(rt: HostRuntime) {
-    let program = program_of(&rt, &[NOP]);
+    let program = program_of(&rt, NOPS);
     let mut decoder = Decoder::new();
     decoder.resume(Differential);
     let heap = LocalHeap::new(rt.alloc(), 0).expect(&rt, "memory");

@@ -1,5 +1,11 @@
-//! Small programs, and logs of them.
+//! Small programs, logs of them, texts and messages. Words, rows and texts are those of `cases`.
 
+ghost use Rattle.std.specs.Prelude.{◌≡◌};
+
+use crate::same::same_at;
+use cases::{Case, events_of, piece_of, text_of};
+use message::Message;
+use payload::Payload;
 use retire::Event;
 use rvclass::Program;
 use std::process::Abort;
@@ -7,18 +13,13 @@ use std::process::Abort;
 /// Where programs begin.
 pub(crate) const BASE: u64 = 0x8000_0000;
 
-// Words, as the RISC-V Unprivileged ISA and the Privileged Architecture encode them. The loops are to themselves.
-pub(crate) const NOP: u32 = 0x0000_0013;
+// Words, as the RISC-V Unprivileged ISA and the Privileged Architecture encode them.
 
-/// To 8 bytes before.
-pub(crate) const BACK_JUMP_TWICE: u32 = 0xff9f_f06f;
+/// Three NOP.
+pub(crate) const NOPS: &str = "3*00000013";
 
-pub(crate) const BRANCH_LOOP: u32 = 0x0000_0063;
-
-/// A return to the address in ra.
-pub(crate) const RET: u32 = 0x0000_8067;
-
-pub(crate) const MRET: u32 = 0x3020_0073;
+/// A branch to itself.
+pub(crate) const BRANCH_LOOP: &str = "00000063";
 
 /// Appends the bytes.
 pub(crate) fn add<R: Abort>(rt: &R, text: &mut Vec<u8>, bytes: &[u8]) {
@@ -26,76 +27,53 @@ pub(crate) fn add<R: Abort>(rt: &R, text: &mut Vec<u8>, bytes: &[u8]) {
 }
 
 /// The program of these instructions, from the base on.
-pub(crate) fn program_of<R: Abort + AllocGlobal>(rt: &R, words: &[u32]) -> Program {
-    let mut image = Vec::new(rt.alloc());
-    for word in words {
-        add(rt, &mut image, &word.to_le_bytes());
-    }
-    Program::new(BASE, image).expect(rt, "a program")
+pub(crate) fn program_of<R: Abort + AllocGlobal>(rt: &R, words: &str) -> Program {
+    let mut case = Case::new(rt.alloc(), "");
+    let (base, image) = piece_of(&mut case, words);
+    same_at(rt, words, case.is_failed(), false);
+    Program::new(base, image).expect(rt, "a program")
+}
+
+/// The log of these rows.
+pub(crate) fn log_of<R: Abort + AllocGlobal>(rt: &R, rows: &str) -> Vec<Event> {
+    let mut case = Case::new(rt.alloc(), rows);
+    let log = events_of(&mut case);
+    same_at(rt, rows, case.is_failed(), false);
+    log
+}
+
+/// The bytes of a text between quotes.
+pub(crate) fn bytes_in<R: Abort + AllocGlobal>(rt: &R, text: &str) -> Vec<u8> {
+    let mut case = Case::new(rt.alloc(), text);
+    let bytes = text_of(&mut case);
+    same_at(rt, text, case.is_failed(), false);
+    bytes
+}
+
+/// A text with a number in place of `#`.
+fn filled<R: AllocGlobal>(rt: &R, text: &str, number: u32) -> String {
+    let mut case = Case::new(rt.alloc(), "");
+    case.put_filled(text, &[u64::from(number)]);
+    case.came
 }
 
 /// The program of this many instructions C.NOP, from the base on.
 pub(crate) fn short_words<R: Abort + AllocGlobal>(rt: &R, count: u32) -> Program {
-    let mut image = Vec::new(rt.alloc());
-    for _ in 0..count {
-        add(rt, &mut image, &[1, 0]);
-    }
-    Program::new(BASE, image).expect(rt, "a program")
+    program_of(rt, filled(rt, "#*0001", count).as_str())
 }
 
 /// The log of a hart that retires each of these instructions once, at machine level.
 pub(crate) fn short_log<R: Abort + AllocGlobal>(rt: &R, count: u32) -> Vec<Event> {
-    let mut log = Vec::new(rt.alloc());
-    for number in 0..u64::from(count) {
-        log.push(retired(number.wrapping_mul(2), 0, 3))
-            .expect(rt, "memory");
-    }
-    log
+    log_of(rt, filled(rt, "#*80000000+2,0,3,,", count).as_str())
 }
 
-/// A retirement at this offset from the base.
-pub(crate) fn retired(offset: u64, itype: u8, privilege: u8) -> Event {
-    Event::Retire {
-        addr: BASE.wrapping_add(offset),
-        itype,
-        privilege,
+/// A message of these bytes.
+pub(crate) fn message<R: Abort>(rt: &R, hart: u16, number: u64, bytes: &[u8]) -> Message
+    ensures { result.hart ≡ hart }
+{
+    Message {
+        hart,
+        number,
+        payload: Payload::new(bytes).expect(rt, "a payload"),
     }
-}
-
-/// A trap taken at this address, an interrupt or an exception.
-pub(crate) fn trap(epc: u64, privilege: u8, interrupt: bool, cause: u8, tval: u64) -> Event {
-    Event::Trap {
-        epc,
-        privilege,
-        interrupt,
-        cause,
-        tval,
-    }
-}
-
-/// An event: a retirement at an offset from the base, with its type and privilege; or a trap at an address, with its
-/// privilege, whether it is an interrupt, its cause and its value.
-#[derive(Clone, Copy)]
-pub(crate) enum Step {
-    Retires(u64, u8, u8),
-    Traps(u64, u8, bool, u8, u64),
-}
-
-/// The event that a step is.
-fn event_of(step: Step) -> Event {
-    match step {
-        Step::Retires(offset, itype, privilege) => retired(offset, itype, privilege),
-        Step::Traps(epc, privilege, interrupt, cause, tval) => {
-            trap(epc, privilege, interrupt, cause, tval)
-        }
-    }
-}
-
-/// The log of these events.
-pub(crate) fn log_of<R: Abort + AllocGlobal>(rt: &R, steps: &[Step]) -> Vec<Event> {
-    let mut log = Vec::new(rt.alloc());
-    for step in steps {
-        log.push(event_of(*step)).expect(rt, "memory");
-    }
-    log
 }

@@ -54,9 +54,6 @@ fn few_and_many(rt: HostRuntime) {
 #[test]
 fn parts_of_work(rt: HostRuntime) {
     let (most, parts) = (processors(&rt), part_count(&rt));
-    same_at(&rt, (most, parts), parts == 1, most == 1);
-    assert!(&rt;
-        most == 1 || parts > most,
-        "{parts} parts, {most} processors"
-    );
+    let found = (parts == 1, most == 1 || parts > most);
+    same_at(&rt, (most, parts), found, (most == 1, true));
 }

@@ -1,30 +1,19 @@
 //! Two logs of one program. Their messages have together each kind of packet.
 
-use crate::fixtures::Step::{self, Retires, Traps};
-use crate::fixtures::{BACK_JUMP_TWICE, BASE, BRANCH_LOOP, MRET, NOP, RET};
-
-/// The instructions of the program.
-pub(crate) const WORDS: [u32; 6] = [NOP, NOP, RET, BRANCH_LOOP, BACK_JUMP_TWICE, MRET];
+/// The instructions of the program: two NOP, a return to the address in ra, a branch to itself, a jump to 8 bytes before,
+/// and MRET.
+pub(crate) const WORDS: &str = "00000013 00000013 00008067 00000063 ff9ff06f 30200073";
 
 /// An exception; two instructions, before an interrupt whose handler returns to a branch at privilege 0, which is not
 /// taken; a jump back, to a return; an instruction, and an exception after it.
-pub(crate) const KINDS: &[Step] = &[
-    Traps(BASE, 3, false, 0xb, 0),
-    Retires(0, 0, 3),
-    Retires(4, 0, 3),
-    Traps(BASE + 8, 3, true, 7, 0),
-    Retires(0x14, 3, 3),
-    Retires(0xc, 4, 0),
-    Retires(0x10, 0, 0),
-    Retires(8, 6, 0),
-    Retires(0, 0, 0),
-    Traps(BASE + 4, 0, false, 2, 0),
-];
+const KINDS: &str =
+    "80000000,1,3,b,0 80000000,0,3,, 80000004,0,3,, 80000008,2,3,7, 80000014,3,3,, 8000000c,4,0,, \
+    80000010,0,0,, 80000008,6,0,, 80000000,0,0,, 80000004,1,0,2,0";
 
 /// A branch to itself that is taken.
-pub(crate) const BRANCHES: &[Step] = &[Retires(12, 5, 3); 33];
+const BRANCHES: &str = "33*8000000c,5,3,,";
 
-/// The log of a hart: each second one runs the branches.
-pub(crate) fn steps_of(hart: u16) -> &'static [Step] {
+/// The rows of a hart: each second one runs the branches.
+pub(crate) fn rows_of(hart: u16) -> &'static str {
     if hart % 2 == 0 { KINDS } else { BRANCHES }
 }

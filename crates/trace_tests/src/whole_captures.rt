@@ -6,7 +6,7 @@ mod failing;
 mod surveyed;
 mod written;
 
-use crate::fixtures::{add, short_log};
+use crate::fixtures::short_log;
 use crate::packets::legal_log;
 use captures::{CaptureOutcome, decode_capture, encode_capture};
 use legalpath::LegalLog;
@@ -50,7 +50,7 @@ fn write_capture<R: Abort, W: Write>(
     sink: &mut W,
 ) -> Result<(), MessageFault> {
     let count = logs.len();
-    assert!(rt; 0 < count && count <= 1024, "{count} logs");
+    assert!(rt; 0 < count && count <= 1024);
     let period = period.max(1);
     match version {
         Version::One => encode_capture(logs, period, mode, Version::One, sink),
@@ -80,49 +80,5 @@ fn capture_of<R: Abort + AllocGlobal>(
 ) -> Vec<u8> {
     let mut capture = Vec::new(rt.alloc());
     write_capture(rt, logs, period, form, &mut capture).expect(rt, "a capture");
-    capture
-}
-
-/// Adds the messages with which a hart sends payloads.
-fn add_messages<R: Abort + AllocGlobal>(
-    rt: &R,
-    capture: &mut Vec<u8>,
-    hart: u16,
-    payloads: &[&[u8]],
-) {
-    for (number, payload) in payloads.iter().enumerate() {
-        add(rt, capture, &hart.to_le_bytes());
-        add(rt, capture, &(number as u64).to_le_bytes());
-        add(rt, capture, &[payload.len().min(18) as u8]);
-        add(rt, capture, payload);
-    }
-}
-
-/// What comes before the messages of these harts in a capture of this version, at the period 1,024 in this mode.
-fn start_of<R: Abort + AllocGlobal>(
-    rt: &R,
-    (version, mode): (Version, Mode),
-    harts: u16,
-) -> Vec<u8> {
-    let mut start = Vec::new(rt.alloc());
-    if version == Version::Two {
-        add(rt, &mut start, b"\xff\xffrvtrace2\0");
-        add(rt, &mut start, &[u8::from(mode == Mode::Full), 0, 4]);
-        add(rt, &mut start, &harts.to_le_bytes());
-    }
-    start
-}
-
-/// The capture of these harts, where each sends these payloads, at the period 1,024 in this mode.
-fn capture_by_hand<R: Abort + AllocGlobal>(
-    rt: &R,
-    (version, mode): (Version, Mode),
-    harts: u16,
-    payloads: &[&[u8]],
-) -> Vec<u8> {
-    let mut capture = start_of(rt, (version, mode), harts);
-    for hart in 0..harts {
-        add_messages(rt, &mut capture, hart, payloads);
-    }
     capture
 }

@@ -1,27 +1,30 @@
 -- Where there is no file, nothing that words ask for but `generate` is done: an image or a capture is read before anything
 -- is.
-use Rattle.std.proofs.Common.{◌≡◌, ◌≢◌, ◌∙◌, ◌⊎◌, ℕ, List, [], Option, Result, Ok, Err, ap, arith, inl, inr, map, refl}
+use Rattle.std.proofs.Common.{◌≡◌, ◌≢◌, ◌∙◌, ◌⊎◌, ℕ, List, [], None, Option, Result, Ok, Err, ap, arith, inl, inr, map}
 use Rattle.std.proofs.Common.{subst, sym}
 use Rattle.cli.specs.Asking.{AskGenerate}
 use Rattle.command_inputs.specs.Kind.{IsGenerate}
 use Rattle.command_inputs.specs.declared.words.Asked.{Asked}
 use Rattle.command_inputs.specs.declared.words.Asked.TheVariants.{Audit, Bench, Check, Decode, Dump, Encode, Listing}
 use Rattle.command_inputs.specs.declared.words.Asked.TheVariants as asked_for
+use Rattle.command_inputs.specs.declared.words.Audit.{Audit as AskedAudit}
 use Rattle.command_inputs.specs.declared.words.Encode.{Encode as AskedEncode}
+use Rattle.command_inputs.specs.declared.words.Format.{Format}
+use Rattle.command_inputs.specs.declared.words.Format.TheVariants.{Text}
 use Rattle.command_inputs.specs.declared.words.ProgramArgs.{ProgramArgs}
 use Rattle.command_inputs.specs.declared.words.Asked.TheVariants.{Measure, Replay, Salvage}
 use Rattle.log_commands.specs.Benching.{BenchesLogs}
 use Rattle.commands.specs.CarriedOut.{IsCarriedOut}
 use Rattle.log_commands.specs.Checking.{WritesLines}
-use Rattle.capture_commands.specs.Decoded.{WritesLogsOf}
+use Rattle.capture_commands.specs.CaptureInput.{IsCaptureInput, IsInputAt, IsInputWith}
+use Rattle.capture_commands.specs.Decoded.{DecodesInput, IsDecodeInput}
 use Rattle.capture_commands.specs.Dumping.{DumpsHarts, WritesDumpOf}
-use Rattle.capture_commands.specs.Listed.{ListsHarts, WritesListed}
-use Rattle.capture_commands.specs.Salvaging.{SalvagesOf}
-use Rattle.capture_commands.specs.Symbols.{AreSymbols}
+use Rattle.capture_commands.specs.Listed.{IsListInput, ListsInput}
+use Rattle.capture_commands.specs.Salvaging.{IsSalvageInput, SalvagesInput}
 use Rattle.capture_commands.specs.declared.reason.CaptureReason.TheVariants as capture
 use Rattle.log_commands.specs.declared.reason.LogReason.TheVariants as log
 use Rattle.path_commands.specs.declared.reason.PathReason.TheVariants as audit
-use Rattle.capture_commands.specs.Comparing.{ComparesHarts}
+use Rattle.capture_commands.specs.Comparing.{ComparesInput, IsCompareInput}
 use Rattle.path_commands.specs.Capturing.{AreSettings, WritesCapture}
 use Rattle.commands.specs.Faults.{Fault, Printed, command_reason_status, final_status, status_of}
 use Rattle.commands.specs.Joined.{joined_end, joined_printed}
@@ -40,8 +43,7 @@ use Rattle.log_commands.specs.Measuring.{WritesTable}
 use Rattle.log_commands.specs.Most.{most_of}
 use Rattle.retire.specs.Log.{most_rows}
 use Rattle.log_commands.specs.Replaying.{ReplaysLogs}
-use Rattle.path_commands.specs.Audited.{AuditsHarts, Writes}
-use Rattle.path_commands.specs.OnlyHarts.{HasHart}
+use Rattle.path_commands.specs.Audited.{AuditsHarts, AuditsSent, IsSentOf, Writes}
 use Rattle.path_commands.specs.Sides.{IsFoundSent}
 use Rattle.command_inputs.specs.Status.{code_of}
 use Rattle.command_inputs.specs.declared.fault.Fault.{Fault as AnyFault}
@@ -88,6 +90,21 @@ no_program : {W : Type 0} (base : ℕ) (asked : ProgramArgs) → NeverFound (IsP
 no_program base asked =
     not_after (IsImageAt none base asked.image) (λ image. IsWithPieces none image asked.also.items)
     (λ image is program added. no_piece base asked.image image is)
+
+-- No input of a subcommand that reads a capture is found.
+no_input : (format : Format) (program : ProgramArgs) (only symbols : Option FilePath) (capture : FilePath)
+    → NeverFound (IsCaptureInput none format program only symbols capture)
+no_input format program only symbols capture =
+    not_after (IsAskedBase format program)
+    (λ base. After (IsOnly only) (IsInputAt none program symbols capture base)) (λ base based.
+    not_after (IsOnly only) (IsInputAt none program symbols capture base) (λ harts chosen.
+    not_after (IsProgramAt none base program) (IsInputWith none symbols capture harts)
+    (λ image is input found. no_program base program image is)))
+
+-- No capture is found that was sent.
+no_sent : (asked : AskedAudit) → NeverFound (IsSentOf none asked)
+no_sent asked =
+    not_after (IsRead none asked.sent) (IsFoundSent asked.sent) (λ bytes read sent found. no_bytes asked.sent bytes read)
 
 -- No program is found that is asked for with logs.
 no_asked : {W : Type 0} (most : ℕ) (asked : ProgramArgs) (paths : List FilePath)
@@ -165,17 +182,8 @@ not_ended (Dump asked) status old new done =
 not_ended (Decode asked) status old new done =
     let own = done.prints.own in
     let ends = ends_so Capture done.text status own done.prints.is in
-    not_first (IsBase asked.program) (λ base.
-    First (IsOnly asked.only) (λ range.
-    First (IsProgramAt none base asked.program) (λ program.
-    First (IsRead none asked.capture) (WritesLogsOf asked.lossy asked.harts range program)))) own status ends
-    (λ base is prints. not_first (IsOnly asked.only) (λ range.
-    First (IsProgramAt none base asked.program) (λ program.
-    First (IsRead none asked.capture) (WritesLogsOf asked.lossy asked.harts range program))) own status ends
-    (λ range found logs. not_first (IsProgramAt none base asked.program) (λ program.
-    First (IsRead none asked.capture) (WritesLogsOf asked.lossy asked.harts range program)) own status ends
-    (λ program made written. no_program base asked.program program made) logs) prints)
-    done.prints.prints
+    not_first (IsDecodeInput none asked) (DecodesInput asked) own status ends
+    (λ input is written. no_input Text asked.program asked.only None asked.capture input is) done.prints.prints
 not_ended (Replay asked) status old new done =
     let own = done.prints.own in
     let ends = ends_so Log done.text status own done.prints.is in
@@ -197,10 +205,9 @@ not_ended (Audit asked) status old new done =
     let ends = ends_so Path done.text status own done.prints.is in
     not_first (IsFormat asked.format) (λ _. First (IsOnly asked.only) (AuditsHarts none asked)) own status ends
     (λ _ is prints. not_first (IsOnly asked.only) (AuditsHarts none asked) own status ends
-    (λ harts only prints. not_first (IsRead none asked.sent) (λ bytes. First (IsFoundSent asked.sent bytes) (λ sent.
-    First (HasHart asked.sent asked.only harts sent) (λ _. First (IsRead none asked.received)
-    (Writes asked.format asked.unnumbered asked harts sent)))) own status ends
-    (λ bytes read written. no_bytes asked.sent bytes read) prints) prints) done.prints.prints
+    (λ harts only prints. not_first (IsSentOf none asked)
+    (AuditsSent (Writes asked.format asked.unnumbered asked harts) none asked harts) own status ends
+    (λ sent is written. no_sent asked sent is) prints) prints) done.prints.prints
 not_ended (Measure asked) status old new done =
     let own = done.prints.own in
     let ends = ends_so Log done.text status own done.prints.is in
@@ -211,29 +218,14 @@ not_ended (Measure asked) status old new done =
 not_ended (Listing asked) status old new done =
     let own = done.prints.own in
     let ends = ends_so Capture done.text status own done.prints.is in
-    not_first (IsAskedBase asked.format asked.program) (λ base.
-    First (IsOnly asked.only) (ListsHarts none asked base)) own status ends
-    (λ base is prints. not_first (IsOnly asked.only) (ListsHarts none asked base) own status ends
-    (λ only found lists. not_first (IsProgramAt none base asked.program) (λ program.
-    First (AreSymbols none asked.symbols) (λ symbols. First (IsRead none asked.capture)
-    (WritesListed asked.format asked.rows asked.salvage only asked.harts program symbols))) own status ends
-    (λ program made listing. no_program base asked.program program made) lists) prints)
+    not_first (IsListInput none asked) (ListsInput asked) own status ends
+    (λ input is listed. no_input asked.format asked.program asked.only asked.symbols asked.capture input is)
     done.prints.prints
 not_ended (Salvage asked) status old new done =
     let own = done.prints.own in
     let ends = ends_so Capture done.text status own done.prints.is in
-    not_first (IsAskedBase asked.format asked.program) (λ base.
-    First (IsOnly asked.only) (λ only. First (IsProgramAt none base asked.program) (λ program.
-    First (AreSymbols none asked.symbols) (λ symbols. First (IsRead none asked.capture)
-    (SalvagesOf only asked.format asked.harts asked.summary program symbols))))) own status ends
-    (λ base is prints. not_first (IsOnly asked.only) (λ only.
-    First (IsProgramAt none base asked.program) (λ program.
-    First (AreSymbols none asked.symbols) (λ symbols. First (IsRead none asked.capture)
-    (SalvagesOf only asked.format asked.harts asked.summary program symbols)))) own status ends
-    (λ only found left. not_first (IsProgramAt none base asked.program) (λ program.
-    First (AreSymbols none asked.symbols) (λ symbols. First (IsRead none asked.capture)
-    (SalvagesOf only asked.format asked.harts asked.summary program symbols))) own status ends
-    (λ program made salvaged. no_program base asked.program program made) left) prints)
+    not_first (IsSalvageInput none asked) (SalvagesInput asked) own status ends
+    (λ input is salvaged. no_input asked.format asked.program asked.only asked.symbols asked.capture input is)
     done.prints.prints
 not_ended (asked_for.Capture asked) status old new done =
     let own = done.prints.own in
@@ -245,18 +237,8 @@ not_ended (asked_for.Capture asked) status old new done =
 not_ended (asked_for.Compare asked) status old new done =
     let own = done.prints.own in
     let ends = ends_so Capture done.text status own done.prints.is in
-    not_first (IsBase asked.program) (λ base.
-    First (IsOnly asked.only) (λ range. First (IsProgramAt none base asked.program) (λ program.
-    First (AreSymbols none asked.symbols) (λ symbols.
-    First (IsRead none asked.capture) (ComparesHarts none asked range program symbols))))) own status ends
-    (λ base is prints. not_first (IsOnly asked.only) (λ range.
-    First (IsProgramAt none base asked.program) (λ program.
-    First (AreSymbols none asked.symbols) (λ symbols.
-    First (IsRead none asked.capture) (ComparesHarts none asked range program symbols)))) own status ends
-    (λ range found lines. not_first (IsProgramAt none base asked.program) (λ program.
-    First (AreSymbols none asked.symbols) (λ symbols.
-    First (IsRead none asked.capture) (ComparesHarts none asked range program symbols))) own status ends
-    (λ program made compared. no_program base asked.program program made) lines) prints)
+    not_first (IsCompareInput none asked) (ComparesInput none asked) own status ends
+    (λ input is compared. no_input Text asked.program asked.only asked.symbols asked.capture input is)
     done.prints.prints
 not_ended (asked_for.Generate asked) status old new done = tt
 

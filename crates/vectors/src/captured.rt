@@ -11,6 +11,7 @@ use payload::Mode;
 use receiver::Receiver;
 use retire::{Event, write_log};
 use rvclass::Program;
+use std::cell::Cell;
 use std::io::Write;
 use std::thread::Threads;
 
@@ -22,73 +23,61 @@ pub(crate) struct Captured<'a> {
     pub(crate) bytes: &'a [u8],
 }
 
-/// Reads how many harts there are.
-fn count_of(case: &mut Case<'_>) -> u16 {
-    let harts = case.word();
-    case.short(harts)
-}
-
-/// Appends a header, if there is one.
-fn put_header(case: &mut Case<'_>, header: Option<Header>) {
+/// Appends a header, if there is one, and messages.
+fn put_messages(case: &mut Case<'_>, header: Option<Header>, messages: &[Message]) {
     if let Some(header) = header {
-        let mode = match header.mode {
+        case.put(match header.mode {
             Mode::Differential => "diff",
             Mode::Full => "full",
-        };
-        case.put_word(mode);
-        case.put_word(header.period);
-        case.put_word(header.harts);
+        });
+        let numbers = [u64::from(header.period), u64::from(header.harts)];
+        case.put_filled(" # #", &numbers);
     }
-}
-
-/// Appends a header and messages.
-fn put_messages(case: &mut Case<'_>, header: Option<Header>, messages: &[Message]) {
-    put_header(case, header);
     for message in messages {
-        let (hart, number) = (message.hart, message.number);
-        case.put_word(hart);
-        case.put(".");
-        case.put_shown(number);
-        case.put(":");
+        case.put_word(message.hart);
+        case.put_filled(".#:", &[message.number]);
         case.put_digits(message.payload.bytes());
     }
 }
 
 /// `read-capture`: the header and the messages of the capture, read as those of a complete one and up to the first fault.
 pub(crate) fn read_capture_case(case: &mut Case<'_>, bytes: &[u8]) {
-    match read_messages(case.alloc, bytes) {
-        Ok(read) => put_messages(case, read.header, read.messages.as_slice()),
-        Err(_) => case.unread(),
+    let read = read_messages(case.alloc, bytes);
+    if let Some(read) = case.read(read) {
+        put_messages(case, read.header, read.messages.as_slice());
     }
     case.end_first_way();
-    match read_front(case.alloc, bytes) {
-        Ok(read) => {
-            put_messages(case, read.header, read.messages.as_slice());
-            if read.stop.is_some() {
-                case.put_word("stops");
-            }
+    let read = read_front(case.alloc, bytes);
+    if let Some(read) = case.granted(read) {
+        put_messages(case, read.header, read.messages.as_slice());
+        if read.stop.is_some() {
+            case.put_word("stops");
         }
-        Err(_) => case.no_memory(),
     }
     case.end_way("up to a fault");
 }
 
 /// Appends at which message decoding stopped, and why, if it did.
-fn put_fault(case: &mut Case<'_>, fault: Option<(u64, CaptureFault)>) {
+pub(crate) fn put_fault(case: &mut Case<'_>, fault: Option<(u64, CaptureFault)>) {
     if let Some((number, fault)) = fault {
         case.put_filled("; message #: ", &[number]);
         case.put_shown(fault);
     }
 }
 
-/// Appends the events of harts, by places in the log, and which of them are closed.
-fn put_decoded(case: &mut Case<'_>, log: &[Event], harts: &[Vec<Event>], closed: &[bool]) {
-    case.keep();
+/// Appends the events of harts, by places in the log, and which of them are closed, with this after each.
+fn put_each(case: &mut Case<'_>, log: &[Event], harts: &[Vec<Event>], closed: &[bool], end: &str) {
     for (events, closed) in harts.iter().zip(closed.iter()) {
         put_places(case, log, events.as_slice(), 0);
         put_end(case, *closed);
-        case.put("\n");
+        case.put(end);
     }
+}
+
+/// Appends the events of harts and which of them are closed. Harts that are alike are named together.
+fn put_decoded(case: &mut Case<'_>, log: &[Event], harts: &[Vec<Event>], closed: &[bool]) {
+    case.keep();
+    put_each(case, log, harts, closed, "\n");
     join_harts(case);
     if harts.len() != closed.len() {
         case.put(", flags of other harts");
@@ -99,12 +88,10 @@ fn put_decoded(case: &mut Case<'_>, log: &[Event], harts: &[Vec<Event>], closed:
 fn text_of(case: &mut Case<'_>, harts: &[Vec<Event>]) -> Vec<u8> {
     let mut text = Vec::new(case.alloc);
     for (hart, log) in harts.iter().enumerate() {
-        if write!(&mut text, "hart {hart}\n").is_err() {
-            case.no_memory();
-        }
-        if write_log(case.alloc, &mut text, log.as_slice()).is_err() {
-            case.no_memory();
-        }
+        let begun = write!(&mut text, "hart {hart}\n");
+        case.granted(begun);
+        let written = write_log(case.alloc, &mut text, log.as_slice());
+        case.granted(written);
     }
     text
 }
@@ -114,33 +101,32 @@ fn text_of(case: &mut Case<'_>, harts: &[Vec<Event>]) -> Vec<u8> {
 fn written<R: Threads + Sync>(
     case: &mut Case<'_>,
     rt: &R,
-    program: &Program,
+    captured: Captured<'_>,
     harts: u16,
-    bytes: &[u8],
 ) -> Option<(Vec<u8>, DecodedHarts)> {
-    let told = Told::new();
+    let told = Told {
+        messages: Cell::new(0),
+        ends: Cell::new(0),
+    };
     let mut text = Vec::new(case.alloc);
     let sharing = Sharing {
         threads: 1,
         text: 0,
     };
     let asked = Selection {
-        program,
+        program: captured.program,
         harts,
         range: HartRange::ALL,
-        bytes,
+        bytes: captured.bytes,
     };
-    let Ok(ended) = write_decoded_side_by_side(case.alloc, rt, sharing, &asked, &told, &mut text)
-    else {
-        case.no_memory();
-        return None;
-    };
+    let ended = write_decoded_side_by_side(case.alloc, rt, sharing, &asked, &told, &mut text);
+    let ended = case.granted(ended)?;
     if let Some((number, _)) = ended.fault {
-        if told.messages() < number {
+        if told.messages.get() < number {
             case.put(", other messages are told of");
         }
     }
-    if told.ends() != 1 {
+    if told.ends.get() != 1 {
         case.put(", the end is not told of once");
     }
     Some((text, ended))
@@ -150,34 +136,34 @@ fn written<R: Threads + Sync>(
 fn put_other_written<R: Threads + Sync>(
     case: &mut Case<'_>,
     rt: &R,
-    program: &Program,
+    captured: Captured<'_>,
     harts: u16,
-    bytes: &[u8],
     outcome: &CaptureOutcome,
 ) {
     let whole = text_of(case, outcome.harts.as_slice());
-    let Some((text, ended)) = written(case, rt, program, harts, bytes) else {
+    let Some((text, ended)) = written(case, rt, captured, harts) else {
         return;
     };
     let is_text = text.as_slice() == whole.as_slice();
     let is_end = ended.closed.as_slice() == outcome.closed.as_slice();
     if !is_text || !is_end || ended.fault != outcome.fault {
-        let sizes = [bytes.len() as u64, u64::from(harts)];
+        let sizes = [captured.bytes.len() as u64, u64::from(harts)];
         case.put_filled(", other logs of # bytes and # harts", &sizes);
     }
 }
 
 /// Receives the messages of a capture. Appends why one is not received.
-fn receive_all(case: &mut Case<'_>, program: &Program, receiver: &mut Receiver, bytes: &[u8]) {
-    let Ok(read) = read_messages(case.alloc, bytes) else {
-        return case.unread();
+fn receive_all(case: &mut Case<'_>, captured: Captured<'_>, receiver: &mut Receiver) {
+    let read = read_messages(case.alloc, captured.bytes);
+    let Some(read) = case.read(read) else {
+        return;
     };
     let announced = match read.header {
         Some(header) => Some(header.mode),
         None => None,
     };
     for message in &read.messages {
-        if let Err(fault) = receiver.receive(program, announced, message) {
+        if let Err(fault) = receiver.receive(captured.program, announced, message) {
             case.put_word(fault);
         }
     }
@@ -186,15 +172,12 @@ fn receive_all(case: &mut Case<'_>, program: &Program, receiver: &mut Receiver, 
 /// `receive HARTS`, `receive HARTS EVENTS OWN`: the events of harts by a receiver, which first takes memory for so many
 /// events of each of its own harts.
 pub(crate) fn receive_case(case: &mut Case<'_>, captured: Captured<'_>) {
-    let harts = count_of(case);
-    let events = case.word();
-    let total = if events.is_empty() {
-        0
-    } else {
-        case.decimal(events)
-    };
-    let Ok(mut receiver) = Receiver::new(case.alloc, harts) else {
-        return case.no_memory();
+    let harts = case.next_short();
+    let has_own = !case.text.is_empty();
+    let total = if has_own { case.next_decimal() } else { 0 };
+    let receiver = Receiver::new(case.alloc, harts);
+    let Some(mut receiver) = case.granted(receiver) else {
+        return;
     };
     for word in case.text.split_whitespace() {
         let hart = case.short(word);
@@ -205,7 +188,7 @@ pub(crate) fn receive_case(case: &mut Case<'_>, captured: Captured<'_>) {
             case.unread();
         }
     }
-    receive_all(case, captured.program, &mut receiver, captured.bytes);
+    receive_all(case, captured, &mut receiver);
     let (lists, closed) = receiver.into_parts();
     put_decoded(case, captured.log, lists.as_slice(), closed.as_slice());
 }
@@ -217,20 +200,15 @@ pub(crate) fn decode_capture_case<R: Threads + Sync>(
     rt: &R,
     captured: Captured<'_>,
 ) {
-    let program = captured.program;
-    let bytes = captured.bytes;
-    let harts = count_of(case);
-    let Ok(outcome) = decode_capture(case.alloc, program, harts, bytes) else {
-        return case.no_memory();
+    let harts = case.next_short();
+    let outcome = decode_capture(case.alloc, captured.program, harts, captured.bytes);
+    let Some(outcome) = case.granted(outcome) else {
+        return;
     };
-    put_decoded(
-        case,
-        captured.log,
-        outcome.harts.as_slice(),
-        outcome.closed.as_slice(),
-    );
+    let (lists, closed) = (outcome.harts.as_slice(), outcome.closed.as_slice());
+    put_decoded(case, captured.log, lists, closed);
     put_fault(case, outcome.fault);
-    put_other_written(case, rt, program, harts, bytes, &outcome);
+    put_other_written(case, rt, captured, harts, &outcome);
 }
 
 /// `write-decoded HARTS`: the text that is written of the capture, which harts are closed, and where decoding stops.
@@ -239,8 +217,8 @@ pub(crate) fn write_decoded_case<R: Threads + Sync>(
     rt: &R,
     captured: Captured<'_>,
 ) {
-    let harts = count_of(case);
-    let Some((text, ended)) = written(case, rt, captured.program, harts, captured.bytes) else {
+    let harts = case.next_short();
+    let Some((text, ended)) = written(case, rt, captured, harts) else {
         return;
     };
     case.put_text(text.as_slice());
@@ -250,17 +228,11 @@ pub(crate) fn write_decoded_case<R: Threads + Sync>(
     put_fault(case, ended.fault);
 }
 
-/// Appends what is written of bytes that is not what they are decoded to.
-fn compare<R: Threads + Sync>(
-    case: &mut Case<'_>,
-    rt: &R,
-    program: &Program,
-    harts: u16,
-    bytes: &[u8],
-) {
-    match decode_capture(case.alloc, program, harts, bytes) {
-        Ok(outcome) => put_other_written(case, rt, program, harts, bytes, &outcome),
-        Err(_) => case.no_memory(),
+/// Appends what is written of a capture that is not what it is decoded to.
+fn compare<R: Threads + Sync>(case: &mut Case<'_>, rt: &R, captured: Captured<'_>, harts: u16) {
+    let outcome = decode_capture(case.alloc, captured.program, harts, captured.bytes);
+    if let Some(outcome) = case.granted(outcome) {
+        put_other_written(case, rt, captured, harts, &outcome);
     }
 }
 
@@ -269,16 +241,15 @@ fn compare<R: Threads + Sync>(
 pub(crate) fn decode_fronts_case<R: Threads + Sync>(
     case: &mut Case<'_>,
     rt: &R,
-    program: &Program,
-    bytes: &[u8],
+    captured: Captured<'_>,
 ) {
-    let harts = count_of(case);
+    let harts = case.next_short();
     let mut count: u64 = 0;
     let mut others = case.again();
-    for place in 0..bytes.len().saturating_add(1) {
-        let front = bytes.get(..place).unwrap_or(&[]);
+    for place in 0..captured.bytes.len().saturating_add(1) {
+        let bytes = captured.bytes.get(..place).unwrap_or(&[]);
         for harts in 0..harts.saturating_add(1) {
-            compare(&mut others, rt, program, harts, front);
+            compare(&mut others, rt, Captured { bytes, ..captured }, harts);
             count = count.saturating_add(1);
         }
     }
@@ -298,51 +269,41 @@ fn set(bytes: &mut [u8], place: usize, value: u8) {
 pub(crate) fn decode_changes_case<R: Threads + Sync>(
     case: &mut Case<'_>,
     rt: &R,
-    program: &Program,
-    bytes: &[u8],
+    captured: Captured<'_>,
 ) {
-    let harts = count_of(case);
+    let harts = case.next_short();
     let digits = case.text;
     let values = bytes_of(case, digits);
     let mut count: u64 = 0;
     let mut others = case.again();
-    for place in 0..bytes.len() {
+    let mut changed = case.copied(captured.bytes);
+    for (place, byte) in captured.bytes.iter().enumerate() {
         for value in values.as_slice() {
-            let mut changed = case.copied(bytes);
             set(&mut changed, place, *value);
-            compare(&mut others, rt, program, harts, changed.as_slice());
+            let bytes = changed.as_slice();
+            compare(&mut others, rt, Captured { bytes, ..captured }, harts);
             count = count.saturating_add(1);
         }
+        set(&mut changed, place, *byte);
     }
     case.put_shown(count);
     case.put_first(&others);
 }
 
-/// Appends the events of harts, by places in the log, and which of them are closed.
-fn put_each(case: &mut Case<'_>, log: &[Event], harts: &[Vec<Event>], closed: &[bool]) {
-    for (events, closed) in harts.iter().zip(closed.iter()) {
-        put_places(case, log, events.as_slice(), 0);
-        put_end(case, *closed);
-    }
-}
-
 /// Appends what bytes decode to as the capture of one hart.
 fn put_decoding(case: &mut Case<'_>, captured: Captured<'_>, bytes: &[u8]) {
-    match decode_capture(case.alloc, captured.program, 1, bytes) {
-        Ok(outcome) => {
-            let harts = outcome.harts.as_slice();
-            put_each(case, captured.log, harts, outcome.closed.as_slice());
-            put_fault(case, outcome.fault);
-        }
-        Err(_) => case.no_memory(),
+    let outcome = decode_capture(case.alloc, captured.program, 1, bytes);
+    if let Some(outcome) = case.granted(outcome) {
+        let (lists, closed) = (outcome.harts.as_slice(), outcome.closed.as_slice());
+        put_each(case, captured.log, lists, closed, "");
+        put_fault(case, outcome.fault);
     }
 }
 
 /// `changes PLACE`: what the capture of one hart decodes to where the byte at a place has each value, values with the same
 /// text together.
 pub(crate) fn changes_case(case: &mut Case<'_>, captured: Captured<'_>) {
-    let place = case.word();
-    let place = case.decimal(place) as usize;
+    let place = case.next_decimal() as usize;
     let mut bytes = case.copied(captured.bytes);
     for value in 0..=255u8 {
         set(&mut bytes, place, value);

@@ -42,23 +42,15 @@ struct Walks<'p> {
 
 /// A list with capacity for so many events after an old one.
 fn piece_for(case: &mut Case<'_>, room: usize) -> Vec<Event> {
-    match Vec::with_capacity(case.alloc, room.saturating_add(1)) {
-        Ok(mut piece) => {
-            case.push(&mut piece, OLD);
-            piece
-        }
-        Err(_) => {
-            case.no_memory();
-            Vec::new(case.alloc)
-        }
-    }
+    let piece = Vec::with_capacity(case.alloc, room.saturating_add(1));
+    let mut piece = case.granted(piece).unwrap_or(Vec::new(case.alloc));
+    case.push(&mut piece, OLD);
+    piece
 }
 
 /// Moves the events of a piece after its old one to a list.
 fn move_over(case: &mut Case<'_>, piece: &mut Vec<Event>, log: &mut Vec<Event>) {
-    let added = piece.as_slice().get(1..).unwrap_or(&[]);
-    let done = log.extend_from_slice(added);
-    case.note(done);
+    case.extend(log, piece.as_slice().get(1..).unwrap_or(&[]));
     piece.truncate(1);
 }
 
@@ -193,11 +185,8 @@ fn packet_in(case: &mut Case<'_>, word: &str) -> Option<Packet> {
     if let Some(digits) = word.strip_prefix("map:") {
         return Some(Packet::Map(outcomes_of(digits)));
     }
-    let packet = unpack(bytes_of(case, word).as_slice()).ok();
-    if packet.is_none() {
-        case.unread();
-    }
-    packet
+    let packet = unpack(bytes_of(case, word).as_slice());
+    case.read(packet)
 }
 
 /// What is given in one way. `lost=MODE` begins a stretch.
@@ -237,25 +226,17 @@ fn put_other(case: &mut Case<'_>, walks: Walks<'_>, first: &Given<'_>, way: Way)
     case.put_other(name, &other.rows, first.rows.came.as_str());
 }
 
-/// Appends what is given in other ways, if it is something else.
-fn put_others(case: &mut Case<'_>, walks: Walks<'_>, first: &Given<'_>) {
-    put_other(case, walks, first, Way::Ample);
-    put_other(case, walks, first, Way::Skips);
-    for room in ROOMS {
-        put_other(case, walks, first, Way::Pieces(room));
-        put_other(case, walks, first, Way::SkipsInPieces(room));
-    }
-}
-
 /// What is given of packets: their answers, or else their events.
 #[derive(Clone, Copy)]
-enum Asked {
+pub(crate) enum Asked {
     Answers,
     Rows,
 }
 
-/// Appends what is given, and in which other ways something else is.
-fn put_given(case: &mut Case<'_>, program: &Program, asked: Asked) {
+/// `decode PAYLOADS`: the events of packets, and whether they close the trace. `lost=MODE` begins a stretch. `answers
+/// PAYLOADS`: how many events the list has after each packet, or its fault. In which other ways something else is given
+/// comes after that.
+pub(crate) fn decode_case(case: &mut Case<'_>, program: &Program, asked: Asked) {
     let plain = StraightRuns::new(case.alloc, &*program);
     let mut skips = StraightRuns::new(case.alloc, &*program);
     let done = skips.find(case.alloc);
@@ -272,15 +253,10 @@ fn put_given(case: &mut Case<'_>, program: &Program, asked: Asked) {
         Asked::Answers => case.put(first.answers.came.as_str()),
         Asked::Rows => case.put(first.rows.came.as_str()),
     }
-    put_others(case, walks, &first);
-}
-
-/// `decode PAYLOADS`: the events of packets, and whether they close the trace. `lost=MODE` begins a stretch.
-pub(crate) fn decode_case(case: &mut Case<'_>, program: &Program) {
-    put_given(case, program, Asked::Rows);
-}
-
-/// `answers PAYLOADS`: how many events the list has after each packet, or its fault.
-pub(crate) fn answers_case(case: &mut Case<'_>, program: &Program) {
-    put_given(case, program, Asked::Answers);
+    put_other(case, walks, &first, Way::Ample);
+    put_other(case, walks, &first, Way::Skips);
+    for room in ROOMS {
+        put_other(case, walks, &first, Way::Pieces(room));
+        put_other(case, walks, &first, Way::SkipsInPieces(room));
+    }
 }

@@ -1,6 +1,6 @@
 //! Cases of encoders (`encoder`).
 
-use cases::{Case, events_of, mode_of};
+use cases::{Case, events_of, next_mode};
 use encoder::{Encoder, Source};
 use legalpath::LegalLog;
 use payload::{Mode, Packet, Payload, pack};
@@ -14,13 +14,11 @@ pub(crate) fn legal_log<'p>(
     log: &[Event],
 ) -> Option<LegalLog<'p>> {
     let events = case.copied(log);
-    if events.len() <= 1 << 24 {
-        if let Ok(legal) = LegalLog::new(program, events) {
-            return Some(legal);
-        }
+    if events.len() > 1 << 24 {
+        case.unread();
+        return None;
     }
-    case.unread();
-    None
+    case.read(LegalLog::new(program, events))
 }
 
 /// The payloads that a source gives of a log.
@@ -64,12 +62,10 @@ enum Way {
     UntilPacket,
 }
 
-/// Appends the packets of events that come one at a time.
-fn push_each(case: &mut Case<'_>, encoder: &mut Encoder, program: &Program, log: &[Event]) {
-    for event in log {
-        for packet in encoder.push(program, *event).as_slice() {
-            put_packet(case, packet);
-        }
+/// Appends packets.
+fn put_packets(case: &mut Case<'_>, packets: &[Packet]) {
+    for packet in packets {
+        put_packet(case, packet);
     }
 }
 
@@ -101,13 +97,14 @@ fn put_pushed(
     }
     let mut encoder = Encoder::new(period, mode);
     put_packet(case, &encoder.open());
-    match way {
-        Way::Singly => push_each(case, &mut encoder, program, log),
-        Way::UntilPacket => push_until(case, &mut encoder, program, log),
+    if let Way::UntilPacket = way {
+        push_until(case, &mut encoder, program, log);
+    } else {
+        for event in log {
+            put_packets(case, encoder.push(program, *event).as_slice());
+        }
     }
-    for packet in encoder.finish(program).as_slice() {
-        put_packet(case, packet);
-    }
+    put_packets(case, encoder.finish(program).as_slice());
 }
 
 /// Appends the payloads of the packets that a source gives of a log.
@@ -125,8 +122,7 @@ fn put_sourced(case: &mut Case<'_>, log: &LegalLog<'_>, (period, mode): (u16, Mo
 
 /// Reads the settings of an encoder.
 pub(crate) fn settings_of(case: &mut Case<'_>) -> (u16, Mode) {
-    let (period, mode) = (case.word(), case.word());
-    (case.short(period), mode_of(case, mode))
+    (case.next_short(), next_mode(case))
 }
 
 /// Appends what an encoder and a source give of a log in other ways, where it is not what came in the first.

@@ -1,29 +1,10 @@
 //! Cases of walks along skips (`decoder`): with them a packet gives what it gives without.
 
-use cases::{Case, cut, outcomes_of};
+use cases::{Case, cut, outcomes_of, report_of};
 use decoder::{Decoder, StraightRuns};
-use payload::{Mode, Packet, Report, Support};
+use payload::{Mode, Packet, Support};
 use rvclass::Program;
 use std::alloc::Global;
-
-/// The address packet of `MAP/REPORT` with this difference.
-fn address_of(case: &mut Case<'_>, word: &str, delta: u64) -> Packet {
-    let (digits, report) = cut(word, '/');
-    let report = match report {
-        "plain" => Report::Plain,
-        "updiscon" => Report::Updiscon,
-        "notify" => Report::Notify,
-        _ => {
-            case.unread();
-            Report::Plain
-        }
-    };
-    Packet::Address {
-        outcomes: outcomes_of(digits),
-        delta,
-        report,
-    }
-}
 
 /// Two decoders take an address packet after a synchronisation at the base, one of them along skips. Whether all that
 /// they return and add is the same.
@@ -54,15 +35,19 @@ fn are_alike(
 /// `leap PLACES PACKETS`: how many walks give the same along skips: with each of these address packets, `MAP/REPORT`,
 /// to each of so many places, two bytes apart.
 pub(crate) fn leap_case(case: &mut Case<'_>, program: &Program) {
-    let places = case.word();
-    let places = case.decimal(places).min(1 << 32);
+    let places = case.next_decimal().min(1 << 32);
     let mut lines = StraightRuns::new(case.alloc, &*program);
     let done = lines.find(case.alloc);
     case.note(done);
     let mut count: u64 = 0;
     for place in 0..places {
         for word in case.text.split_whitespace() {
-            let sent = address_of(case, word, place.wrapping_mul(2));
+            let (digits, report) = cut(word, '/');
+            let sent = Packet::Address {
+                outcomes: outcomes_of(digits),
+                delta: place.wrapping_mul(2),
+                report: report_of(case, report),
+            };
             if are_alike(case, program, &lines, sent) {
                 count = count.saturating_add(1);
             }

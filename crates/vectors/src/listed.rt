@@ -1,8 +1,8 @@
 //! Cases of captures as text: dumps (`captures`), listings (`listing`) and audits (`auditing`).
 
-use crate::captured::Captured;
+use crate::captured::{Captured, put_fault};
 use crate::lossy::{is_lost, join_harts};
-use auditing::{Audit, Fate, Tally};
+use auditing::{Audit, Fate};
 use captures::{dump_capture, read_messages};
 use cases::{Case, text_of};
 use listing::{Form, ListInput, list_capture};
@@ -38,8 +38,9 @@ fn put_listing(case: &mut Case<'_>, captured: Captured<'_>, harts: u16, symbols:
         form: Form::Lines { rows: false },
     };
     let mut text = Vec::new(case.alloc);
-    let Ok(listed) = list_capture(case.alloc, &input, &mut text, &NoProgress) else {
-        return case.no_memory();
+    let listed = list_capture(case.alloc, &input, &mut text, &NoProgress);
+    let Some(listed) = case.granted(listed) else {
+        return;
     };
     case.put_text(text.as_slice());
     let mut closed: u64 = 0;
@@ -48,51 +49,40 @@ fn put_listing(case: &mut Case<'_>, captured: Captured<'_>, harts: u16, symbols:
             closed = closed.saturating_add(1);
         }
     }
-    let count = listed.closed.len();
-    let done = write!(case.came, "{closed} of {count} closed");
-    case.note(done);
-    if let Some((number, fault)) = listed.fault {
-        let done = write!(case.came, "; message {number}: {fault}");
-        case.note(done);
-    }
+    case.put_filled("# of # closed", &[closed, listed.closed.len() as u64]);
+    put_fault(case, listed.fault);
 }
 
 /// `list-capture HARTS`, `list-capture HARTS "SYMBOLS"`: the listing of the capture, with places named by symbols where
 /// there are some, and how many harts are closed.
 pub(crate) fn list_capture_case(case: &mut Case<'_>, captured: Captured<'_>) {
-    let harts = case.word();
-    let harts = case.short(harts);
+    let harts = case.next_short();
     if case.text.is_empty() {
         return put_listing(case, captured, harts, None);
     }
-    match Symbols::new(case.alloc, text_of(case)) {
-        Ok(symbols) => put_listing(case, captured, harts, Some(&symbols)),
-        Err(_) => case.unread(),
+    let symbols = Symbols::new(case.alloc, text_of(case));
+    if let Some(symbols) = case.read(symbols) {
+        put_listing(case, captured, harts, Some(&symbols));
     }
 }
 
-/// Appends how many messages of a hart were sent, came and are lost, and what else became of them.
-fn put_tally(case: &mut Case<'_>, tally: &Tally) {
-    let counts = [tally.sent, tally.came, tally.lost];
-    case.put_filled("# sent, # came, # lost:", &counts);
-    let others = tally.repeated.max(tally.late).max(tally.changed);
-    if others > 0 || tally.whole {
-        case.put(" and others");
-    }
-}
-
-/// Appends what an audit found of a hart, and the runs of its lost messages.
+/// Appends how many messages of a hart were sent, came and are lost, what else became of them, and the runs of those that are
+/// lost.
 fn put_hart(case: &mut Case<'_>, audit: &Audit<'_>, hart: usize) {
     if hart < audit.harts() {
         let tally = audit.tally(hart);
-        put_tally(case, &tally);
+        let counts = [tally.sent, tally.came, tally.lost];
+        case.put_filled("# sent, # came, # lost:", &counts);
+        let others = tally.repeated.max(tally.late).max(tally.changed);
+        if others > 0 || tally.whole {
+            case.put(" and others");
+        }
         let mut runs = audit.lost(hart);
         for _ in 0..tally.sent.saturating_add(1) {
             if let Some(run) = runs.next() {
                 case.put_word(run.first);
                 if run.first != run.last {
-                    case.put("-");
-                    case.put_shown(run.last);
+                    case.put_filled("-#", &[run.last]);
                 }
             }
         }
@@ -104,18 +94,17 @@ fn put_hart(case: &mut Case<'_>, audit: &Audit<'_>, hart: usize) {
 /// lost, for each hart.
 pub(crate) fn audit_capture_case(case: &mut Case<'_>, bytes: &[u8]) {
     let lost = case.text;
-    let Ok(read) = read_messages(case.alloc, bytes) else {
-        return case.unread();
+    let read = read_messages(case.alloc, bytes);
+    let Some(read) = case.read(read) else {
+        return;
     };
-    let Ok(mut audit) = Audit::new(case.alloc, bytes) else {
-        return case.unread();
+    let audit = Audit::new(case.alloc, bytes);
+    let Some(mut audit) = case.read(audit) else {
+        return;
     };
     for message in &read.messages {
-        if !is_lost(case, lost, message.number) {
-            let fate = audit.take(message);
-            if fate != Fate::InOrder {
-                case.put("not in order ");
-            }
+        if !is_lost(case, lost, message.number) && audit.take(message) != Fate::InOrder {
+            case.put("not in order ");
         }
     }
     for hart in 0..audit.harts() {

@@ -1,13 +1,13 @@
 //! Cases of messages of which some are lost (`losses`) or damaged (`salvaging`).
 
+use crate::captured::Captured;
 use crate::encoding::{legal_log, settings_of, sourced};
 use captures::read_messages;
-use cases::{Case, add_message, cut, messages_of, mode_of, put_rows};
+use cases::{Case, add_message, cut, messages_of, next_mode, put_rows};
 use losses::{HartPieces, LossyFault, Part, collect_lossy};
 use message::{Message, NoProgress};
 use payload::{Mode, Payload};
 use retire::Event;
-use rvclass::Program;
 use salvaging::{
     Part as Salvage, Reason, Salvaged, SalvagedHart, Treated, Treatment, salvage, treat_watched,
 };
@@ -87,16 +87,16 @@ fn put_alike(case: &mut Case<'_>, first: usize, end: usize, text: &str) {
     }
     case.put_shown(first);
     if first < last {
-        case.put("-");
-        case.put_shown(last);
+        case.put_filled("-#", &[last as u64]);
     }
     case.put(": ");
     case.put(text);
 }
 
-/// Appends texts of harts, a line each. Harts with the same text are named together.
-fn put_lines(case: &mut Case<'_>, texts: &str) {
-    let texts = texts.trim_end_matches('\n');
+/// Names harts with the same text together, where the text of each came in a line since the case kept what came before.
+pub(crate) fn join_harts(case: &mut Case<'_>) {
+    let lines = mem::replace(&mut case.came, String::new(case.alloc));
+    let texts = lines.as_str().trim_end_matches('\n');
     let (mut first, mut count) = (0usize, 0usize);
     for (text, next) in texts.split('\n').zip(texts.split('\n').skip(1)) {
         count = count.saturating_add(1);
@@ -111,12 +111,6 @@ fn put_lines(case: &mut Case<'_>, texts: &str) {
     }
 }
 
-/// Names harts with the same text together, where the text of each came in a line since the case kept what came before.
-pub(crate) fn join_harts(case: &mut Case<'_>) {
-    let texts = mem::replace(&mut case.came, String::new(case.alloc));
-    put_lines(case, texts.as_str());
-}
-
 /// Appends why nothing is collected.
 fn put_fault(case: &mut Case<'_>, fault: LossyFault) {
     if let LossyFault::Demux(place, _) | LossyFault::Decode(place, _) = fault {
@@ -125,36 +119,14 @@ fn put_fault(case: &mut Case<'_>, fault: LossyFault) {
     case.put_shown(fault);
 }
 
-/// Appends what is collected of harts.
-fn put_collected(case: &mut Case<'_>, log: &[Event], found: Result<Vec<HartPieces>, LossyFault>) {
-    match found {
-        Ok(collected) => put_all(case, log, collected.as_slice()),
-        Err(fault) => put_fault(case, fault),
-    }
-}
-
 /// Appends what is left of the logs of harts.
-fn put_all(case: &mut Case<'_>, log: &[Event], collected: &[HartPieces]) {
+fn put_collected(case: &mut Case<'_>, log: &[Event], collected: &[HartPieces]) {
     case.keep();
     for pieces in collected {
         put_pieces(case, log, pieces);
         case.put("\n");
     }
     join_harts(case);
-}
-
-/// Reads how many harts there are, and a mode.
-fn harts_of(case: &mut Case<'_>) -> (u16, Mode) {
-    let (harts, mode) = (case.word(), case.word());
-    (case.short(harts), mode_of(case, mode))
-}
-
-/// `collect HARTS MODE MESSAGES`: what is left of the logs of harts, by places in the log.
-pub(crate) fn collect_case(case: &mut Case<'_>, (program, log): (&Program, &[Event])) {
-    let (harts, mode) = harts_of(case);
-    let messages = messages_of(case);
-    let found = collect_lossy(case.alloc, program, harts, mode, messages.as_slice());
-    put_collected(case, log, found);
 }
 
 /// Whether the message with this number is lost: it is one of these digits, or for `R/M` leaves the rest R by M.
@@ -183,24 +155,10 @@ fn messages_but(case: &mut Case<'_>, payloads: &[Payload], lost: &str) -> Vec<Me
     messages
 }
 
-/// `lossy PERIOD MODE LOST`: how many messages the log has, and what is left of it where these are lost.
-pub(crate) fn lossy_case(case: &mut Case<'_>, (program, log): (&Program, &[Event])) {
-    let settings = settings_of(case);
-    let Some(legal) = legal_log(case, program, log) else {
-        return;
-    };
-    let payloads = sourced(case, &legal, settings);
-    let lost = case.text;
-    let messages = messages_but(case, payloads.as_slice(), lost);
-    case.put_filled("of #: ", &[payloads.len() as u64]);
-    let found = collect_lossy(case.alloc, program, 1, settings.1, messages.as_slice());
-    put_collected(case, log, found);
-}
-
 /// Appends why a message is bad.
-fn put_why(case: &mut Case<'_>, why: &Reason) {
-    case.put(" (");
-    case.put_shown(*why);
+fn put_why(case: &mut Case<'_>, why: Reason) {
+    case.put("(");
+    case.put_shown(why);
     case.put(")");
 }
 
@@ -217,8 +175,8 @@ fn put_part(case: &mut Case<'_>, log: &[Event], part: &Salvage, from: usize) -> 
             return put_places(case, log, events.as_slice(), from);
         }
         Salvage::Bad { number, place, why } => {
-            case.put_filled("bad #@#", &[*number, *place as u64]);
-            put_why(case, why);
+            case.put_filled("bad #@# ", &[*number, *place as u64]);
+            put_why(case, *why);
         }
         Salvage::Doubtful {
             number,
@@ -268,31 +226,11 @@ fn put_salvaged(case: &mut Case<'_>, log: &[Event], salvaged: &Salvaged) {
     }
 }
 
-/// Appends what is salvaged of messages of so many harts, by places in the log.
-fn put_salvage(
-    case: &mut Case<'_>,
-    (program, log): (&Program, &[Event]),
-    (harts, mode): (u16, Mode),
-    messages: &[Message],
-) {
-    match salvage(case.alloc, program, harts, mode, messages) {
-        Ok(salvaged) => put_salvaged(case, log, &salvaged),
-        Err(_) => case.no_memory(),
-    }
-}
-
-/// `salvage HARTS MODE MESSAGES`: what is salvaged of messages, by places in the log.
-pub(crate) fn salvage_case(case: &mut Case<'_>, both: (&Program, &[Event])) {
-    let settings = harts_of(case);
-    let messages = messages_of(case);
-    put_salvage(case, both, settings, messages.as_slice());
-}
-
 /// The messages of a capture, in their order or `turned`, the last one first.
 fn messages_in(case: &mut Case<'_>, bytes: &[u8]) -> Vec<Message> {
     let mut messages = Vec::new(case.alloc);
-    let Ok(read) = read_messages(case.alloc, bytes) else {
-        case.unread();
+    let read = read_messages(case.alloc, bytes);
+    let Some(read) = case.read(read) else {
         return messages;
     };
     let is_turned = case.text == "turned";
@@ -308,33 +246,8 @@ fn messages_in(case: &mut Case<'_>, bytes: &[u8]) -> Vec<Message> {
     messages
 }
 
-/// `collect-capture HARTS MODE`: what is left of the logs of harts by the messages of the capture.
-pub(crate) fn collect_capture_case(
-    case: &mut Case<'_>,
-    (program, log): (&Program, &[Event]),
-    bytes: &[u8],
-) {
-    let (harts, mode) = harts_of(case);
-    let messages = messages_in(case, bytes);
-    let found = collect_lossy(case.alloc, program, harts, mode, messages.as_slice());
-    put_collected(case, log, found);
-}
-
-/// `salvage-capture HARTS MODE`, or with `turned` after it: what is salvaged of the messages of the capture.
-pub(crate) fn salvage_capture_case(case: &mut Case<'_>, both: (&Program, &[Event]), bytes: &[u8]) {
-    let settings = harts_of(case);
-    let messages = messages_in(case, bytes);
-    put_salvage(case, both, settings, messages.as_slice());
-}
-
-/// `drawn PERIOD MODE MESSAGES`: what is salvaged of messages of two harts, `HART.NUMBER`, that each have the payload
-/// with their number of the log.
-pub(crate) fn drawn_case(case: &mut Case<'_>, (program, log): (&Program, &[Event])) {
-    let settings = settings_of(case);
-    let Some(legal) = legal_log(case, program, log) else {
-        return;
-    };
-    let payloads = sourced(case, &legal, settings);
+/// The messages of two harts, `HART.NUMBER`, that each have the payload with their number.
+fn messages_drawn(case: &mut Case<'_>, payloads: &[Payload]) -> Vec<Message> {
     let mut messages = Vec::new(case.alloc);
     for word in case.text.split_whitespace() {
         let (hart, number) = cut(word, '.');
@@ -344,7 +257,7 @@ pub(crate) fn drawn_case(case: &mut Case<'_>, (program, log): (&Program, &[Event
             None => case.unread(),
         }
     }
-    put_salvage(case, (program, log), (2, settings.1), messages.as_slice());
+    messages
 }
 
 /// Appends what is done with a message.
@@ -357,9 +270,8 @@ fn put_treated(case: &mut Case<'_>, treated: &Treated) {
         Treatment::Copy => case.put_word("copy"),
         Treatment::Doubtful => case.put_word("doubtful"),
         Treatment::Bad(why) => {
-            case.put_word("bad(");
-            case.put_shown(why);
-            case.put(")");
+            case.put_word("bad");
+            put_why(case, why);
         }
         Treatment::Alone => case.put_word("alone"),
         Treatment::Passed => case.put_word("passed"),
@@ -376,24 +288,76 @@ fn put_treated(case: &mut Case<'_>, treated: &Treated) {
     }
 }
 
-/// `treat HARTS MODE MESSAGES`: what is done with each message. One that is taken adds so many events, from a place to
-/// another one.
-pub(crate) fn treat_case(case: &mut Case<'_>, program: &Program) {
-    let (harts, mode) = harts_of(case);
-    let messages = messages_of(case);
-    match treat_watched(
-        case.alloc,
-        program,
-        harts,
-        mode,
-        messages.as_slice(),
-        &NoProgress,
-    ) {
-        Ok(all) => {
-            for treated in all.as_slice() {
-                put_treated(case, treated);
+/// What is done with messages.
+#[derive(Clone, Copy)]
+pub(crate) enum Done {
+    Collected,
+    Salvaged,
+    Treated,
+}
+
+/// Appends what is done with messages of so many harts, by places in the log.
+fn put_done(
+    case: &mut Case<'_>,
+    captured: Captured<'_>,
+    (harts, mode): (u16, Mode),
+    messages: &[Message],
+    done: Done,
+) {
+    let (alloc, program, log) = (case.alloc, captured.program, captured.log);
+    match done {
+        Done::Collected => match collect_lossy(alloc, program, harts, mode, messages) {
+            Ok(collected) => put_collected(case, log, collected.as_slice()),
+            Err(fault) => put_fault(case, fault),
+        },
+        Done::Salvaged => match salvage(alloc, program, harts, mode, messages) {
+            Ok(salvaged) => put_salvaged(case, log, &salvaged),
+            Err(_) => case.no_memory(),
+        },
+        Done::Treated => match treat_watched(alloc, program, harts, mode, messages, &NoProgress) {
+            Ok(all) => {
+                for treated in all.as_slice() {
+                    put_treated(case, treated);
+                }
             }
-        }
-        Err(_) => case.no_memory(),
+            Err(_) => case.no_memory(),
+        },
+    }
+}
+
+/// `collect HARTS MODE MESSAGES`: what is left of the logs of harts; `salvage`: what is salvaged of the messages; both by
+/// places in the log. `treat`: what is done with each message. One that is taken adds so many events, from a place to
+/// another one.
+pub(crate) fn messages_case(case: &mut Case<'_>, captured: Captured<'_>, done: Done) {
+    let settings = (case.next_short(), next_mode(case));
+    let messages = messages_of(case);
+    put_done(case, captured, settings, messages.as_slice(), done);
+}
+
+/// `collect-capture HARTS MODE`, `salvage-capture HARTS MODE`, or with `turned` after it: the same of the messages of the
+/// capture.
+pub(crate) fn capture_case(case: &mut Case<'_>, captured: Captured<'_>, done: Done) {
+    let settings = (case.next_short(), next_mode(case));
+    let messages = messages_in(case, captured.bytes);
+    put_done(case, captured, settings, messages.as_slice(), done);
+}
+
+/// `lossy PERIOD MODE LOST`: how many messages the log has, and what is left of it where these are lost. `drawn PERIOD MODE
+/// MESSAGES`: what is salvaged of messages of two harts, `HART.NUMBER`, that each have the payload with their number of
+/// the log.
+pub(crate) fn log_case(case: &mut Case<'_>, captured: Captured<'_>, done: Done) {
+    let settings = settings_of(case);
+    let Some(legal) = legal_log(case, captured.program, captured.log) else {
+        return;
+    };
+    let payloads = sourced(case, &legal, settings);
+    if let Done::Collected = done {
+        let lost = case.text;
+        let messages = messages_but(case, payloads.as_slice(), lost);
+        case.put_filled("of #: ", &[payloads.len() as u64]);
+        put_done(case, captured, (1, settings.1), messages.as_slice(), done);
+    } else {
+        let messages = messages_drawn(case, payloads.as_slice());
+        put_done(case, captured, (2, settings.1), messages.as_slice(), done);
     }
 }

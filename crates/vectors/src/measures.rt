@@ -151,20 +151,25 @@ fn logs_of<'p>(
     logs
 }
 
-/// `measure PERIOD MODE HARTS LOG | LOG`: the table of harts, of which each second one has the second log.
-pub(crate) fn measure_case(case: &mut Case<'_>, program: &Program) {
-    let (period, mode) = settings_of(case);
-    let harts = case.word();
-    let harts = case.short(harts);
-    let (even, odd) = (next_log(case), next_log(case));
-    let logs = logs_of(case, program, harts, (even.as_slice(), odd.as_slice()));
+/// Appends the table of these measures.
+fn put_table(case: &mut Case<'_>, each: &[Measures])
+    requires few { length each.now ≤ 2 }
+    requires within { All (AreWithin most_counted) each.now }
+{
+    let mut table = Vec::new(case.alloc);
+    let written = write_measures_of(each, &mut table);
+    case.granted(written);
+    case.put_text(table.as_slice());
+}
+
+/// Appends the table of the logs of harts.
+fn put_logs(case: &mut Case<'_>, logs: &[LegalLog<'_>], (period, mode): (u16, Mode)) {
     if period == 0 || logs.len() > 1_024 {
         return case.unread();
     }
     let mut table = Vec::new(case.alloc);
-    if write_measures(logs.as_slice(), period, mode, &mut table).is_err() {
-        case.no_memory();
-    }
+    let written = write_measures(logs, period, mode, &mut table);
+    case.granted(written);
     case.put_text(table.as_slice());
 }
 
@@ -182,28 +187,21 @@ fn counted_whole(program: &Program, log: &[Event], settings: (u16, Mode)) -> Mea
     counted(asked, [log, &[], &[]])
 }
 
-/// Appends the table of these measures.
-fn put_table(case: &mut Case<'_>, each: &[Measures])
-    requires few { length each.now ≤ 2 }
-    requires within { All (AreWithin most_counted) each.now }
-{
-    let mut table = Vec::new(case.alloc);
-    if write_measures_of(each, &mut table).is_err() {
-        case.no_memory();
-    }
-    case.put_text(table.as_slice());
-}
-
-/// `measure-counted PERIOD MODE HARTS LOG | LOG`: the table of at most two harts, by what is counted of their logs.
-pub(crate) fn measure_counted_case(case: &mut Case<'_>, program: &Program) {
-    let (period, mode) = settings_of(case);
-    let harts = case.word();
+/// `measure PERIOD MODE HARTS LOG | LOG`: the table of harts, of which each second one has the second log.
+/// `measure-counted`: of at most two harts, by what is counted of their logs.
+pub(crate) fn measure_case(case: &mut Case<'_>, program: &Program, verb: &str) {
+    let settings = settings_of(case);
+    let harts = case.next_short();
     let (even, odd) = (next_log(case), next_log(case));
-    let one = counted_whole(program, even.as_slice(), (period, mode));
-    let other = counted_whole(program, odd.as_slice(), (period, mode));
+    if verb == "measure" {
+        let logs = logs_of(case, program, harts, (even.as_slice(), odd.as_slice()));
+        return put_logs(case, logs.as_slice(), settings);
+    }
+    let one = counted_whole(program, even.as_slice(), settings);
+    let other = counted_whole(program, odd.as_slice(), settings);
     match harts {
-        "0" => put_table(case, &[]),
-        "1" => put_table(case, &[one]),
+        0 => put_table(case, &[]),
+        1 => put_table(case, &[one]),
         _ => put_table(case, &[one, other]),
     }
 }

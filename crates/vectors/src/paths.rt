@@ -12,11 +12,7 @@ pub(crate) const MOST_CUT: usize = 100;
 /// Appends what a log is found to be.
 fn put_found(case: &mut Case<'_>, log: &[Event], found: Result<(), PathFault>) {
     match found {
-        Ok(()) => {
-            case.put("legal, ");
-            case.put_shown(log.len());
-            case.put(" events");
-        }
+        Ok(()) => case.put_filled("legal, # events", &[log.len() as u64]),
         Err(fault) => case.put_shown(fault),
     }
 }
@@ -29,15 +25,6 @@ fn checked_in_pieces(program: &Program, front: &[Event], back: &[Event]) -> Resu
     }
     checker.pass(program, front)?;
     checker.pass(program, back)
-}
-
-/// Appends where a log is cut into two pieces of which something else is found.
-fn put_cuts(case: &mut Case<'_>, program: &Program, log: &[Event]) {
-    for count in 0..log.len().saturating_add(1) {
-        let (front, back) = log.split_at(count.min(log.len()));
-        put_found(case, log, checked_in_pieces(program, front, back));
-        case.end_way("cut");
-    }
 }
 
 /// Appends what a list that is kept with its program is found to be, and where it is not given back.
@@ -70,7 +57,11 @@ pub(crate) fn check_case(case: &mut Case<'_>, program: &Program) {
     put_found(case, log, check(program, log));
     case.end_first_way();
     if log.len() <= MOST_CUT {
-        put_cuts(case, program, log);
+        for count in 0..log.len().saturating_add(1) {
+            let (front, back) = log.split_at(count.min(log.len()));
+            put_found(case, log, checked_in_pieces(program, front, back));
+            case.end_way("cut");
+        }
     }
     put_kept(case, program, log);
     case.end_way("kept");
@@ -89,37 +80,22 @@ pub(crate) fn successor_case(case: &mut Case<'_>, program: &Program) {
     }
 }
 
-/// Appends the lines that explain a fault of a log.
+/// Appends the lines that explain a fault of a log, and whether they are others by its row and the one before it alone.
 fn put_explained(case: &mut Case<'_>, program: &Program, log: &[Event], fault: PathFault) {
     let mut lines = Vec::new(case.alloc);
-    if explain(program, log, fault, &mut lines).is_err() {
-        case.no_memory();
-    }
-    put_quoted(case, lines.as_slice());
-}
-
-/// Appends the lines that explain a fault of a log by its row and the one before it alone.
-fn put_row_explained(case: &mut Case<'_>, program: &Program, log: &[Event], fault: PathFault) {
+    let written = explain(program, log, fault, &mut lines);
+    case.granted(written);
     let row = fault.row as usize;
-    let mut lines = Vec::new(case.alloc);
+    let mut own = Vec::new(case.alloc);
     if let Some(event) = log.get(row.wrapping_sub(1)) {
         let before = log.get(row.wrapping_sub(2)).copied();
-        if explain_row(program, before, event, fault, &mut lines).is_err() {
-            case.no_memory();
-        }
+        let written = explain_row(program, before, event, fault, &mut own);
+        case.granted(written);
     }
     put_quoted(case, lines.as_slice());
-}
-
-/// Appends the lines that explain a fault of a log, and those of its row and the one before it alone where they are others.
-fn put_both_explained(case: &mut Case<'_>, program: &Program, log: &[Event], fault: PathFault) {
-    let mut whole = case.again();
-    put_explained(&mut whole, program, log, fault);
-    let mut own = case.again();
-    put_row_explained(&mut own, program, log, fault);
-    case.put_word("");
-    case.put_first(&whole);
-    case.put_other("by its row", &own, whole.came.as_str());
+    if own.as_slice() != lines.as_slice() {
+        case.put(", others by its row");
+    }
 }
 
 /// `explain ROWS`: why a log is not legal, and the lines that explain it.
@@ -133,7 +109,7 @@ pub(crate) fn explain_case(case: &mut Case<'_>, program: &Program) {
         return case.put("legal");
     };
     case.put_word(fault);
-    put_both_explained(case, program, log, fault);
+    put_explained(case, program, log, fault);
 }
 
 /// `explain-types ROWS`: the lines that explain a row as one of a wrong type. Those of the first two rows come, and those
@@ -147,7 +123,7 @@ pub(crate) fn explain_types_case(case: &mut Case<'_>, program: &Program) {
             why: Why::WrongType,
         };
         let mut text = case.again();
-        put_both_explained(&mut text, program, log.as_slice(), fault);
+        put_explained(&mut text, program, log.as_slice(), fault);
         let before = &mut texts[row % 2];
         if before.came.as_str() != text.came.as_str() {
             case.put_word("");

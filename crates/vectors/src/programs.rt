@@ -23,18 +23,6 @@ fn pieces_of(case: &mut Case<'_>, text: &str) -> Vec<Piece> {
     pieces
 }
 
-/// The memory of one piece.
-fn memory_of<'b>(
-    case: &mut Case<'_>,
-    (base, bytes): &'b Piece,
-    held: Held,
-) -> Result<Memory<'b>, PieceFault> {
-    match held {
-        Held::Owned => Memory::new(*base, case.copied(bytes.as_slice())),
-        Held::Borrowed => Memory::borrowed(*base, bytes.as_slice()),
-    }
-}
-
 /// Appends why a piece is refused.
 fn put_refusal(case: &mut Case<'_>, added: Result<(), PieceFault>) {
     if let Err(fault) = added {
@@ -43,49 +31,11 @@ fn put_refusal(case: &mut Case<'_>, added: Result<(), PieceFault>) {
     }
 }
 
-/// Adds a piece to a memory. Appends why it is refused.
-fn add_piece<'b>(
-    case: &mut Case<'_>,
-    memory: &mut Memory<'b>,
-    (base, bytes): &'b Piece,
-    held: Held,
-) {
-    let added = match held {
-        Held::Owned => memory.add(case.alloc, *base, case.copied(bytes.as_slice())),
-        Held::Borrowed => memory.add_borrowed(case.alloc, *base, bytes.as_slice()),
-    };
-    put_refusal(case, added);
-}
-
 /// Appends a base and how many bytes there are.
 fn put_extent(case: &mut Case<'_>, base: u64, count: usize) {
     case.put_word("");
     case.put_hex(base);
-    case.put("+");
-    case.put_shown(count);
-}
-
-/// Appends the base of a memory and how many bytes it has, and so of each of its pieces.
-fn put_extents(case: &mut Case<'_>, memory: &Memory<'_>) {
-    put_extent(case, memory.base(), memory.byte_count());
-    case.put(":");
-    for number in 0..memory.piece_count().saturating_add(1) {
-        if let Some((base, count)) = memory.extent(number) {
-            put_extent(case, base, count);
-        }
-    }
-}
-
-/// Appends what is fetched at an address.
-fn put_fetched(case: &mut Case<'_>, fetched: Fetched) {
-    match fetched {
-        Fetched::Word(word) => case.put_digits(&word.to_be_bytes()),
-        Fetched::Half(half) => {
-            let done = write!(case.came, "{half:04x}");
-            case.note(done);
-        }
-        Fetched::Nothing => case.put("-"),
-    }
+    case.put_filled("+#", &[count as u64]);
 }
 
 /// Appends what stands at addresses: the byte, and what is fetched.
@@ -103,24 +53,45 @@ fn put_standing(case: &mut Case<'_>, memory: &Memory<'_>, addrs: &str) {
         if memory.fetch_near(&mut near, addr) != fetched {
             case.put("near/");
         }
-        put_fetched(case, fetched);
+        match fetched {
+            Fetched::Word(word) => case.put_digits(&word.to_be_bytes()),
+            Fetched::Half(half) => {
+                let [_, _, high, low] = half.to_be_bytes();
+                case.put_digits(&[high, low]);
+            }
+            Fetched::Nothing => case.put("-"),
+        }
     }
 }
 
-/// Appends what is said of the memory of pieces, each of which is added to those before it: why one is refused, the
-/// extents of those that are not, and what stands at addresses.
+/// Appends what is said of the memory of pieces, each of which is added to those before it: why one is refused, the base and
+/// how many bytes there are of all those that are not and of each, and what stands at addresses.
 fn put_memory(case: &mut Case<'_>, pieces: &[Piece], addrs: &str, held: Held) {
-    let Some((first, others)) = pieces.split_first() else {
+    let Some(((base, bytes), others)) = pieces.split_first() else {
         return case.unread();
     };
-    let mut memory = match memory_of(case, first, held) {
+    let made = match held {
+        Held::Owned => Memory::new(*base, case.copied(bytes.as_slice())),
+        Held::Borrowed => Memory::borrowed(*base, bytes.as_slice()),
+    };
+    let mut memory = match made {
         Ok(memory) => memory,
         Err(fault) => return put_refusal(case, Err(fault)),
     };
-    for piece in others {
-        add_piece(case, &mut memory, piece, held);
+    for (base, bytes) in others {
+        let added = match held {
+            Held::Owned => memory.add(case.alloc, *base, case.copied(bytes.as_slice())),
+            Held::Borrowed => memory.add_borrowed(case.alloc, *base, bytes.as_slice()),
+        };
+        put_refusal(case, added);
     }
-    put_extents(case, &memory);
+    put_extent(case, memory.base(), memory.byte_count());
+    case.put(":");
+    for number in 0..memory.piece_count().saturating_add(1) {
+        if let Some((base, count)) = memory.extent(number) {
+            put_extent(case, base, count);
+        }
+    }
     put_standing(case, &memory, addrs);
 }
 

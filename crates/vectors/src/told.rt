@@ -7,28 +7,8 @@ use std::cell::Cell;
 /// Counts the messages that are told of, and the ends.
 #[derive(Drop)]
 pub(crate) struct Told {
-    messages: Cell<u64>,
-    ends: Cell<u64>,
-}
-
-impl Told {
-    /// Nothing is told yet.
-    pub(crate) fn new() -> Told {
-        Told {
-            messages: Cell::new(0),
-            ends: Cell::new(0),
-        }
-    }
-
-    /// How many messages were told of.
-    pub(crate) fn messages(&self) -> u64 {
-        self.messages.get()
-    }
-
-    /// How often an end was.
-    pub(crate) fn ends(&self) -> u64 {
-        self.ends.get()
-    }
+    pub(crate) messages: Cell<u64>,
+    pub(crate) ends: Cell<u64>,
 }
 
 impl ProgressSink for Told {

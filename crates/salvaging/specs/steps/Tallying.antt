@@ -1,5 +1,5 @@
 -- Counting a hart's messages, one entry after the other.
-use Rattle.std.specs.Prelude.{ℕ, ◌≡◌, ◌<◌, ◌+◌, ◌^◌, ◌&&◌, not, Bool, false, List}
+use Rattle.std.specs.Prelude.{◌≡◌, ◌<◌, ◌+◌, ◌^◌, ◌&&◌, not, Bool, false, List}
 use Rattle.salvaging.specs.Entries.{Entry}
 use Rattle.salvaging.specs.Late.{counted}
 use Rattle.salvaging.specs.Tallies.{good_count, passed, used_count}

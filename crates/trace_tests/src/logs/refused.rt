@@ -1,7 +1,6 @@
 //! Each request for memory of what reads logs, and of what writes them, is refused in turn.
 
-use super::texts::{RETIRED, ROW, text_of_rows};
-use crate::fixtures::add;
+use crate::fixtures::{bytes_in, log_of};
 use crate::same::same_at;
 use cases::Refusing;
 use retire::{Event, LogFault, WriteFault, read_log, read_log_from_slice, write_log};
@@ -26,44 +25,34 @@ enum By {
     Slice,
 }
 
-/// A row that `csv` reads, since its first field goes on after a closing quote.
-const QUOTED: &str = "\"8\"0000000,0,3,,";
+/// The header of a log, a row, and 32 rows after it with numbers of the same length; and the same with short rows.
+const LONG: &str = r#""addr,itype,priv,cause,tval\n80000000,0,3,,\n\[32*80000002,0,3,,]""#;
 
-/// A row, and its event.
-type Rows = (&'static str, Event);
+const SHORT: &str = r#""addr,itype,priv,cause,tval\n80000000,0,3,,\n\[32*0,0,3,,]""#;
 
-const LONG: Rows = (
-    "80000002,0,3,,",
-    Event::Retire {
-        addr: 0x8000_0002,
-        itype: 0,
-        privilege: 3,
-    },
-);
+/// The same, where `csv` reads the first row, since its first field goes on after a closing quote.
+const QUOTED_LONG: &str = r#""addr,itype,priv,cause,tval\n"8"0000000,0,3,,\n\[32*80000002,0,3,,]""#;
 
-const SHORT: Rows = (
-    "0,0,3,,",
-    Event::Retire {
-        addr: 0,
-        itype: 0,
-        privilege: 3,
-    },
-);
+const QUOTED_SHORT: &str = r#""addr,itype,priv,cause,tval\n"8"0000000,0,3,,\n\[32*0,0,3,,]""#;
 
-/// How a log is read, its first row, the row that follows 32 times, and the result where each request is refused: `m`
-/// is memory, and `e` the events.
+/// Their rows.
+const LONG_ROWS: &str = "80000000,0,3,, 32*80000002,0,3,,";
+
+const SHORT_ROWS: &str = "80000000,0,3,, 32*0,0,3,,";
+
+/// How a log is read, its text, its rows, and the result where each request is refused: `m` is memory, and `e` the events.
 ///
 /// A reader's list grows to 4, 8, 16, 32 and 64 events. The list of a text in memory first asks for capacity by the text's
 /// length, and grows as a reader's does where that is refused. Where rows are short that capacity is too small, and the
 /// list asks once more: at a plain row, or at one that `csv` reads since it reads the first row. `csv` takes its memory
 /// from `Global` alone.
-const LOGS: [(By, &str, Rows, &str); 6] = [
-    (By::Reader, ROW, LONG, "mmmmm"),
-    (By::Reader, QUOTED, SHORT, "mmmmm"),
-    (By::Slice, ROW, LONG, "e"),
-    (By::Slice, ROW, SHORT, "em"),
-    (By::Slice, QUOTED, LONG, "e"),
-    (By::Slice, QUOTED, SHORT, "em"),
+const LOGS: [(By, &str, &str, &str); 6] = [
+    (By::Reader, LONG, LONG_ROWS, "mmmmm"),
+    (By::Reader, QUOTED_SHORT, SHORT_ROWS, "mmmmm"),
+    (By::Slice, LONG, LONG_ROWS, "e"),
+    (By::Slice, SHORT, SHORT_ROWS, "em"),
+    (By::Slice, QUOTED_LONG, LONG_ROWS, "e"),
+    (By::Slice, QUOTED_SHORT, SHORT_ROWS, "em"),
 ];
 
 /// What is read of a text, with memory of a heap.
@@ -77,22 +66,6 @@ fn read_by<'h, R: AllocGlobal>(
         By::Reader => read_log(heap, rt.alloc(), text),
         By::Slice => read_log_from_slice(heap, rt.alloc(), text),
     }
-}
-
-/// The text of a log whose first row is this and which has these rows after it, and its events.
-fn log_of<R: Abort + AllocGlobal>(
-    rt: &R,
-    first: &str,
-    (row, event): Rows,
-) -> (Vec<u8>, Vec<Event>) {
-    let mut text = text_of_rows(rt, first, 1);
-    let mut events = vec![in rt.alloc(); RETIRED].expect(rt, "memory");
-    for _ in 0..32u32 {
-        add(rt, &mut text, row.as_bytes());
-        add(rt, &mut text, b"\n");
-        events.push(event).expect(rt, "memory");
-    }
-    (text, events)
 }
 
 /// Ends the test unless this is the result where each request is refused, and the events where none is.
@@ -119,8 +92,8 @@ fn each_request<R: Abort + AllocGlobal>(
 
 #[test]
 fn each_request_of_a_reading(rt: HostRuntime) {
-    for (log, (by, first, rows, ends)) in LOGS.iter().enumerate() {
-        let (text, want) = log_of(&rt, first, *rows);
+    for (log, (by, text, rows, ends)) in LOGS.iter().enumerate() {
+        let (text, want) = (bytes_in(&rt, *text), log_of(&rt, *rows));
         each_request(&rt, log, *by, &text, &want, ends.as_bytes());
     }
 }
@@ -128,7 +101,7 @@ fn each_request_of_a_reading(rt: HostRuntime) {
 // Capacity for the text is asked for once, before anything is written.
 #[test]
 fn each_request_of_a_writing(rt: HostRuntime) {
-    let (text, events) = log_of(&rt, ROW, LONG);
+    let (text, events) = (bytes_in(&rt, LONG), log_of(&rt, LONG_ROWS));
     for place in 0..2usize {
         let heap = Refusing::new(rt.alloc(), place as u64);
         let mut sink = Vec::new(rt.alloc());

@@ -7,7 +7,7 @@ use crate::fixtures::{BRANCH_LOOP, log_of, program_of, short_log, short_words};
 use crate::packets::legal_log;
 use crate::refused_captures::{CAPTURE, FULL};
 use crate::same::same_at;
-use crate::two_logs::{WORDS, steps_of};
+use crate::two_logs::{WORDS, rows_of};
 use legalpath::LegalLog;
 use message::{HartRange, Version};
 use parallel_decode::{Mark, MarkedSurvey, Selection, survey_messages, survey_side_by_side};
@@ -41,22 +41,15 @@ fn is_same<R: Abort + AllocGlobal + Threads + Sync, P: Debug + Copy + Drop>(
     let alone = survey_messages(alloc, &messages, announced, &counted);
     let alone = alone.expect(rt, "memory");
     if let Some((number, _)) = alone.fault {
-        same_at(rt, place, counted.messages(), number);
+        same_at(rt, place, counted.messages.get(), number);
     }
     same_at(rt, place, found.fault, alone.fault);
     same_at(rt, place, found.closed.as_slice(), alone.closed.as_slice());
-    same_at(rt, place, found.places.len(), alone.places.len());
     same_at(rt, place, found.marks.len(), alone.places.len());
-    for (own, want) in found.places.iter().zip(alone.places.iter()) {
-        same_at(rt, place, own.as_slice(), want.as_slice());
-    }
+    let are_places = found.places == alone.places;
     // A message takes 12 bytes at least.
-    let most = bytes.len() as u64 / 12;
-    assert!(rt;
-        told.messages() <= most,
-        "at {place:?}: {} are told",
-        told.messages()
-    );
+    let are_told = told.messages.get() <= bytes.len() as u64 / 12;
+    same_at(rt, place, (are_places, are_told), (true, true));
     found
 }
 
@@ -93,7 +86,7 @@ fn harts_are_same<R: Abort + AllocGlobal + Threads + Sync>(
 
 #[test]
 fn cut_at_each_byte(rt: HostRuntime) {
-    let program = program_of(&rt, &[BRANCH_LOOP]);
+    let program = program_of(&rt, BRANCH_LOOP);
     for place in 0..CAPTURE.len() {
         harts_are_same(
             &rt,
@@ -108,7 +101,7 @@ fn cut_at_each_byte(rt: HostRuntime) {
 
 #[test]
 fn changed_at_each_byte(rt: HostRuntime) {
-    let program = program_of(&rt, &[BRANCH_LOOP]);
+    let program = program_of(&rt, BRANCH_LOOP);
     for place in 0..CAPTURE.len() {
         for value in [0u8, 1, 2, 5, 0x0d, 0x1f, 0x4f, 0x63, 0x73, 0xff] {
             let mut capture = CAPTURE;
@@ -119,58 +112,62 @@ fn changed_at_each_byte(rt: HostRuntime) {
     }
 }
 
-/// Ends the test unless so many messages of the one hart settle the events of its mark: as many as it says, and fewer
-/// than twice as many as are between two marks without the last of them.
-fn is_mark<R: Abort + AllocGlobal>(
+/// Ends the test unless the marks of a hart of so many events are as far apart as they have to be, up to its end.
+fn are_apart<R: Abort>(rt: &R, marks: &[Mark], events: u64) {
+    let mut before = 0u64;
+    for mark in marks {
+        let between = mark.events.saturating_sub(before);
+        let is_apart = 65_536 <= between && between < 131_072;
+        same_at(rt, (mark.events, before), is_apart, true);
+        before = mark.events;
+    }
+    let is_near = events.saturating_sub(131_072) < before && before <= events;
+    same_at(rt, (before, events), is_near, true);
+}
+
+/// Ends the test unless each of the first two marks of the one hart has the events that its messages settle.
+fn are_settled<R: Abort + AllocGlobal>(
     rt: &R,
     program: &Program,
     bytes: &[u8],
     places: &[usize],
-    mark: &Mark,
+    marks: &[Mark],
 ) {
-    let events_before = |taken: usize| {
-        let end = places.get(taken).copied().unwrap_or(bytes.len());
-        let front = bytes.get(..end).unwrap_or(&[]);
-        let outcome = decoded(rt, program, 1, front);
-        outcome.harts.first().expect(rt, "a hart").len()
-    };
-    same_at(
-        rt,
-        mark.taken,
-        events_before(mark.taken) as u64,
-        mark.events,
-    );
-    assert!(rt; mark.events >= 65_536, "{} events", mark.events);
-    let before = events_before(mark.taken.saturating_sub(1));
-    assert!(rt; before < 131_072, "at {}: {before} events", mark.taken);
+    for mark in marks.iter().take(2) {
+        let end = places.get(mark.taken).copied().unwrap_or(bytes.len());
+        let outcome = decoded(rt, program, 1, bytes.get(..end).unwrap_or(&[]));
+        let log = outcome.harts.first().expect(rt, "a hart");
+        same_at(rt, mark.taken, log.len() as u64, mark.events);
+    }
 }
 
-/// Ends the test unless each hart has one mark. Where there is one hart, its mark is looked at.
-fn have_one_mark<R: Abort + AllocGlobal>(
+/// Surveys the capture of harts that each retire so many instructions once, and looks at the marks of each. Where there is
+/// one hart, its messages have to settle as many events as its marks say.
+fn are_marked<R: Abort + AllocGlobal + Threads + Sync>(
     rt: &R,
-    program: &Program,
-    bytes: &[u8],
-    found: &MarkedSurvey,
+    (harts, events): (u16, u32),
+    period: u16,
+    mode: Mode,
 ) {
-    let harts = found.places.len();
-    for (own, marks) in found.places.iter().zip(found.marks.iter()) {
-        same_at(rt, harts, marks.len(), 1);
-        if let ([mark], 1) = (marks.as_slice(), harts) {
-            is_mark(rt, program, bytes, own, mark);
+    let program = short_words(rt, events);
+    let form = (Version::One, mode);
+    let bytes = short_capture(rt, &program, (harts, events), period, form);
+    let found = is_same(rt, harts, &program, (harts, HartRange::ALL), None, &bytes);
+    for (places, marks) in found.places.iter().zip(found.marks.iter()) {
+        are_apart(rt, marks, u64::from(events));
+        if harts == 1 {
+            are_settled(rt, &program, &bytes, places, marks);
         }
     }
 }
 
-/// A hart of 70,000 events has one mark, and each of two has one.
+/// A hart of 70,000 events has one mark, and each of two has one, since a second one comes after 131,072 events or more. A hart
+/// whose sections have more events than are between two marks has more: each is one of a part.
 #[test]
 fn marks_of_long_logs(rt: HostRuntime) {
-    let program = short_words(&rt, 70_000);
-    for harts in [1u16, 2] {
-        let form = (Version::One, Mode::Full);
-        let bytes = short_capture(&rt, &program, (harts, 70_000), 100, form);
-        let found = is_same(&rt, harts, &program, (harts, HartRange::ALL), None, &bytes);
-        have_one_mark(&rt, &program, &bytes, &found);
-    }
+    are_marked(&rt, (1, 70_000), 100, Mode::Full);
+    are_marked(&rt, (2, 70_000), 100, Mode::Full);
+    are_marked(&rt, (1, 700_000), 60, Mode::Differential);
 }
 
 /// Ends the test unless a capture with a byte changed is surveyed alike, at the first four bytes of each tenth of it.
@@ -209,46 +206,6 @@ fn harts_of_three_sections(rt: HostRuntime) {
     }
 }
 
-/// Ends the test unless a hart of 700,000 events has marks as far apart as they have to be, up to its end.
-fn are_apart<R: Abort>(rt: &R, marks: &[Mark]) {
-    let mut before = 0u64;
-    for mark in marks {
-        let between = mark.events.saturating_sub(before);
-        assert!(rt; (65_536..131_072).contains(&between), "{between} events");
-        before = mark.events;
-    }
-    assert!(rt; before > 700_000 - 131_072, "{before} events");
-}
-
-/// Ends the test unless each of the first two marks of the one hart has the events that its messages settle.
-fn are_settled<R: Abort + AllocGlobal>(
-    rt: &R,
-    program: &Program,
-    bytes: &[u8],
-    places: &[usize],
-    marks: &[Mark],
-) {
-    for mark in marks.iter().take(2) {
-        let end = places.get(mark.taken).copied().unwrap_or(bytes.len());
-        let outcome = decoded(rt, program, 1, bytes.get(..end).unwrap_or(&[]));
-        let log = outcome.harts.first().expect(rt, "a hart");
-        same_at(rt, mark.taken, log.len() as u64, mark.events);
-    }
-}
-
-/// A hart whose sections have more events than are between two marks: each mark is one of a part.
-#[test]
-fn marks_in_sections(rt: HostRuntime) {
-    let program = short_words(&rt, 700_000);
-    let form = (Version::One, Mode::Differential);
-    let bytes = short_capture(&rt, &program, (1, 700_000), 60, form);
-    let found = is_same(&rt, "parts", &program, (1, HartRange::ALL), None, &bytes);
-    let marks = found.marks.first().expect(&rt, "a hart");
-    are_apart(&rt, marks);
-    let places = found.places.first().expect(&rt, "a hart");
-    are_settled(&rt, &program, &bytes, places, marks);
-}
-
 /// Ends the test unless the capture of these logs is surveyed alike, in both modes.
 fn encoded_is_same<R: Abort + AllocGlobal + Threads + Sync>(
     rt: &R,
@@ -266,10 +223,10 @@ fn encoded_is_same<R: Abort + AllocGlobal + Threads + Sync>(
 /// 1,024 harts, which have together each kind of packet, and 70,002 messages of one.
 #[test]
 fn harts_many_and_messages_many(rt: HostRuntime) {
-    let program = program_of(&rt, &WORDS);
+    let program = program_of(&rt, WORDS);
     let mut logs = Vec::new(rt.alloc());
     for hart in 0..1_024 {
-        let log = legal_log(&rt, &program, &log_of(&rt, steps_of(hart)));
+        let log = legal_log(&rt, &program, &log_of(&rt, rows_of(hart)));
         logs.push(log).expect(&rt, "memory");
     }
     encoded_is_same(&rt, &program, &logs, 1_024);

@@ -25,9 +25,9 @@ fn written<R: Threads + Sync + Abort + AllocGlobal>(
     let mut text = Vec::new(rt.alloc());
     let ended = write_shared(rt, (1, 0), program, harts, capture, &told, &mut text);
     let ended = ended.expect(rt, "memory");
-    assert!(rt; told.ends() == 1, "{} ends", told.ends());
+    same_at(rt, capture.len(), told.ends.get(), 1);
     if let Some((number, _)) = ended.fault {
-        same_at(rt, capture.len(), told.messages() < number, false);
+        same_at(rt, capture.len(), told.messages.get() < number, false);
     }
     (text, ended)
 }

@@ -7,6 +7,7 @@ use Rattle.bench.specs.Collected.{Collected, HasCollected}
 use Rattle.bench.specs.Stopping.{LacksPayloads, NamesOpen}
 use Rattle.bench.specs.steps.Gathering.{AreGathered, harts_of}
 use Rattle.bench.specs.steps.Taking.{CameUnlessRefused}
+use Rattle.bench.proofs.FirstHarts.{names_back, names_open}
 use Rattle.bench.proofs.ReplayEnds.{Finishes, are_beginnings, are_those_taken, lack_some_taken, none_is_closed}
 use Rattle.bench.proofs.SettledHarts.{are_carried, gathered_taken, handed_back_as}
 use Rattle.bench.proofs.running.conduct.Goals.{After-settle_all}
@@ -96,7 +97,8 @@ returns g c =
           subst (λ (outlet : OutletView). LackSomeTaken outlet.taken harts) same
           (lack_some_taken config logs c.collect.new.outlet.taken collected harts legal kept came ends);
       stop =
-          subst (NamesOpen c.stop_of-outcome.result) c.as_slice.ensures.value c.stop_of-outcome.ensures.names;
+          subst (NamesOpen c.stop_of-outcome.result) c.as_slice.ensures.value
+          (names_open c.as_slice.result.now c.as_slice-2.result.now c.stop_of-outcome.result c.stop_of-outcome.ensures);
       refused_harts =
           none_is_closed config logs c.collect.new.outlet.taken collected harts legal kept came ends;
       handed_back =
@@ -104,7 +106,7 @@ returns g c =
           c.stop_of-outcome.result
           (λ hart at. subst (λ (outlet : OutletView). LacksPayloads config.period config.mode logs outlet.taken hart)
           same (c.settle_all.ensures.lacks hart (subst (λ some. slice_get some hart ≡ Some true) flags at)))
-          c.stop_of-outcome.ensures.back;
+          (names_back c.as_slice.result.now c.as_slice-2.result.now c.stop_of-outcome.result c.stop_of-outcome.ensures);
       untouched = tt;
       funnel =
           c.settle_all.ensures.outlet ∙ c.collect.ensures.outlet

@@ -1,173 +1,63 @@
--- The prover tries no chain of steps by itself: what each step found is handed to it, in order.
-use Rattle.std.proofs.Common.{Bool, Err, List, Ok, Option, ap, arith, inl, inr, refl, subst, sym, ℕ, ◌≡◌, ◌∙◌, ◌⊎◌}
+-- The prover tries no chain of steps by itself: what was found of the input is handed to it.
+use Rattle.std.proofs.Common.{Bool, Err, List, Option, arith, inl, inr, refl, subst, sym, ℕ, ◌≡◌, ◌⊎◌}
 use Rattle.std.proofs.KnownBytes.{Keeps-refl}
 use Rattle.std.proofs.lemmas.Grind.{common_steps}
 use Rattle.std.specs.Io.KnownBytes.{Keeps}
-use Rattle.std.specs.Prelude.{IfSome, false, true}
-use Rattle.log_streams.specs.Known.{Content}
-use Rattle.command_inputs.specs.declared.words.Decode.{Decode}
-use Rattle.command_inputs.specs.Begun.{IsCutOf}
-use Rattle.command_inputs.specs.Found.{IsBase, IsProgramAt, IsRead}
+use Rattle.std.specs.Prelude.{false, true}
 use Rattle.command_inputs.specs.FurtherPieces.{base_number}
-use Rattle.command_inputs.specs.OnlyHarts.{IsOnly, asked_harts}
+use Rattle.command_inputs.specs.OnlyHarts.{asked_harts}
 use Rattle.command_inputs.specs.Order.{base_or_only_fault}
-use Rattle.command_inputs.specs.Printed.{PrintsUnlessDenied}
-use Rattle.command_inputs.specs.declared.fault.Fault.TheVariants as fault
-use Rattle.command_inputs.proofs.Runs.{ends_silently}
-use Rattle.capture_commands.specs.declared.reason.CaptureReason.{CaptureReason}
-use Rattle.capture_commands.specs.Decoded.{CanDecode, CanWriteLogsOf, Decodes, WritesLogsOf}
-use Rattle.capture_commands.proofs.DecodedRuns.{capture_cut, capture_printed}
-use Rattle.capture_commands.proofs.OnlyOrders.{early_none, early_only, in_either}
-use Rattle.capture_commands.proofs.decoding.decode.Goals.{After-decode_capture}
+use Rattle.command_inputs.proofs.FirstSteps.{early_ends, passes}
+use Rattle.capture_commands.specs.Decoded.{CanDecodeInput, DecodesInput, IsDecodeInput}
+use Rattle.capture_commands.specs.steps.Inputs.{lent_in, owned_in}
+use Rattle.capture_commands.proofs.InputRuns.{in_either, input_cut, input_printed, no_input}
 use Rattle.capture_commands.proofs.decoding.decode.Goals as goal
 
-pub returns-in_err-base-clause-early : goal.returns-in_err-base-clause-early
-returns-in_err-base-clause-early g c =
-    let why = c.in_err-base.field-0.0 in
+pub returns-in_err-input-clause-early : goal.returns-in_err-input-clause-early
+returns-in_err-input-clause-early g c =
+    let asked = c.args.asked.now in
+    let why = c.in_err-input.field-0.0 in
     let is : c.from_residual.result ≡ Err why = grind (arith, common_steps) in
-    let none = c.in_err-base.ensures.none in
-    subst (λ number. IfSome (base_or_only_fault number (asked_harts c.args.asked.now.only))
-    (λ fault. c.from_residual.result ≡ Err fault)) (sym none.1) (is ∙ ap Err none.0)
+    early_ends (base_or_only_fault (base_number asked.program) (asked_harts asked.only))
+    c.read_input.result why c.from_residual.result c.in_err-input.was is c.read_input.ensures.early
 
-pub returns-in_err-base-clause-printed : goal.returns-in_err-base-clause-printed
-returns-in_err-base-clause-printed g c =
+pub returns-in_err-input-clause-printed : goal.returns-in_err-input-clause-printed
+returns-in_err-input-clause-printed g c =
     let asked = c.args.asked.now in
     let content = g.F.Files.content c.args.files.now in
-    let why = c.in_err-base.field-0.0 in
+    let why = c.in_err-input.field-0.0 in
     let is : c.from_residual.result ≡ Err why = grind (arith, common_steps) in
-    ends_silently (Decodes content asked) (CanDecode content asked)
-    (IsBase asked.program (Err why)) why
-    c.from_residual.result (g.O.Write.contents c.args.out.now) is (inr c.in_err-base.ensures.found) (λ none. (Err why, none, refl))
-
-pub returns-in_err-only-clause-early : goal.returns-in_err-only-clause-early
-returns-in_err-only-clause-early g c =
-    let asked = c.args.asked.now in
-    let why = c.in_err-only.field-0.0 in
-    let is : c.from_residual-in_err-only.result ≡ Err why = grind (arith, common_steps) in
-    early_only (base_number asked.program) c.in_ok-base.base (asked_harts asked.only)
-    c.from_residual-in_err-only.result c.in_ok-base.ensures.number why c.in_err-only.ensures.none is
-
-pub returns-in_err-only-clause-printed : goal.returns-in_err-only-clause-printed
-returns-in_err-only-clause-printed g c =
-    let asked = c.args.asked.now in
-    let content = g.F.Files.content c.args.files.now in
-    let why = c.in_err-only.field-0.0 in
-    let is : c.from_residual-in_err-only.result ≡ Err why = grind (arith, common_steps) in
-    ends_silently (Decodes content asked) (CanDecode content asked) (IsOnly asked.only (Err why)) why
-    c.from_residual-in_err-only.result (g.O.Write.contents c.args.out.now) is (inr c.in_err-only.ensures.found)
-    (λ none. (Ok c.in_ok-base.base, c.in_ok-base.ensures.found, (Err why, none, refl)))
-
-pub returns-in_err-program-clause-early : goal.returns-in_err-program-clause-early
-returns-in_err-program-clause-early g c =
-    let asked = c.args.asked.now in
-    early_none (base_number asked.program) c.in_ok-base.base (asked_harts asked.only)
-    c.from_residual-in_err-program.result c.in_ok-base.ensures.number c.in_ok-only.ensures.some
-
-pub returns-in_err-bytes-clause-early : goal.returns-in_err-bytes-clause-early
-returns-in_err-bytes-clause-early g c =
-    let asked = c.args.asked.now in
-    early_none (base_number asked.program) c.in_ok-base.base (asked_harts asked.only)
-    c.from_residual-in_err-bytes.result c.in_ok-base.ensures.number c.in_ok-only.ensures.some
+    no_input (IsDecodeInput content asked) (DecodesInput asked) (CanDecodeInput asked) (g.O.Write.contents c.args.out.now) why
+    c.from_residual.result is c.in_err-input.ensures.lacked
 
 pub returns-clause-early : goal.returns-clause-early
 returns-clause-early g c =
     let asked = c.args.asked.now in
-    early_none (base_number asked.program) c.in_ok-base.base (asked_harts asked.only)
-    c.decode_capture.result c.in_ok-base.ensures.number c.in_ok-only.ensures.some
+    passes (base_or_only_fault (base_number asked.program) (asked_harts asked.only))
+    c.read_input.result c.in_ok-input.input c.decode_capture.result c.in_ok-input.was c.read_input.ensures.early
 
-pub returns-in_err-program-clause-printed : goal.returns-in_err-program-clause-printed
-returns-in_err-program-clause-printed g c =
+pub returns-clause-printed : goal.returns-clause-printed
+returns-clause-printed g c =
     let asked = c.args.asked.now in
     let content = g.F.Files.content c.args.files.now in
-    let base = c.in_ok-base.base in
-    let why = c.in_err-program.field-0.0 in
-    let is : c.from_residual-in_err-program.result ≡ Err why = grind (arith, common_steps) in
-    ends_silently (Decodes content asked) (CanDecode content asked)
-    (IsProgramAt content base asked.program (Err why)) why c.from_residual-in_err-program.result
-    (g.O.Write.contents c.args.out.now) is c.in_err-program.ensures.fault
-    (λ none. (
-      Ok base,
-      c.in_ok-base.ensures.found,
-      (Ok c.in_ok-only.only, c.in_ok-only.ensures.found, (Err why, none, refl)),
-    ))
+    let input = c.in_ok-input.input in
+    input_printed (IsDecodeInput content asked) (DecodesInput asked) (CanDecodeInput asked) (g.O.Write.contents c.args.out.now)
+    (g.O.Write.contents c.decode_capture.new.out) (lent_in c.lent-lent.result) (owned_in input) c.lent-lent.ensures
+    c.in_ok-input.ensures.found c.decode_capture.result c.decode_capture.ensures.printed
 
-pub returns-in_err-bytes-clause-printed : goal.returns-in_err-bytes-clause-printed
-returns-in_err-bytes-clause-printed g c =
+pub returns-clause-cut : goal.returns-clause-cut
+returns-clause-cut g c =
     let asked = c.args.asked.now in
     let content = g.F.Files.content c.args.files.now in
-    let base = c.in_ok-base.base in
-    let program = c.in_ok-program.program in
-    let why = c.in_err-bytes.field-0.0 in
-    let is : c.from_residual-in_err-bytes.result ≡ Err why = grind (arith, common_steps) in
-    let lacked = subst (λ known. (why ≡ fault.Memory) ⊎ IsRead known asked.capture (Err why))
-    c.in_ok-program.ensures.kept c.in_err-bytes.ensures.lacked in
-    ends_silently (Decodes content asked) (CanDecode content asked) (IsRead content asked.capture (Err why)) why
-    c.from_residual-in_err-bytes.result
-    (g.O.Write.contents c.args.out.now) is lacked
-    (λ none. (
-      Ok base,
-      c.in_ok-base.ensures.found,
-      (
-        Ok c.in_ok-only.only,
-        c.in_ok-only.ensures.found,
-        (
-          Ok program,
-          c.in_ok-program.ensures.program,
-          (Err why, none, refl),
-        ),
-      ),
-    ))
-
-module _ (g : _) (c : After-decode_capture g) where
-  abbrev content : Content
-  content = g.F.Files.content c.args.files.now
-
-  abbrev asked : Decode
-  asked = c.args.asked.now
-
-  abbrev bytes : List ℕ
-  bytes = c.in_ok-bytes.bytes.items
-
-  abbrev old : Option (List ℕ)
-  old = g.O.Write.contents c.args.out.now
-
-  abbrev new : Option (List ℕ)
-  new = g.O.Write.contents c.decode_capture.new.out
-
-  -- The file that was read is the capture.
-  read : IsRead {W = CaptureReason} content asked.capture (Ok bytes)
-  read =
-      subst (λ known. IsRead {W = CaptureReason} known asked.capture (Ok bytes)) c.in_ok-program.ensures.kept
-      c.in_ok-bytes.ensures.held
-
-  printed : PrintsUnlessDenied (Decodes content asked) (CanDecode content asked) c.decode_capture.result old new
-  printed =
-      capture_printed content asked c.in_ok-base.base c.in_ok-only.only c.in_ok-program.program bytes
-      c.in_ok-base.ensures.found c.in_ok-only.ensures.found c.in_ok-program.ensures.program read
-      c.decode_capture.result old new
-      (subst (λ bytes. PrintsUnlessDenied
-      (WritesLogsOf asked.lossy asked.harts c.in_ok-only.only c.in_ok-program.program bytes)
-      (CanWriteLogsOf asked.lossy asked.harts c.in_ok-only.only c.in_ok-program.program bytes)
-      c.decode_capture.result old new) c.as_slice.ensures.value c.decode_capture.ensures.printed)
-
-  cut : IsCutOf (Decodes content asked) old new
-  cut =
-      capture_cut content asked c.in_ok-base.base c.in_ok-only.only c.in_ok-program.program bytes
-      c.in_ok-base.ensures.found c.in_ok-only.ensures.found c.in_ok-program.ensures.program read old new
-      (subst (λ bytes. IsCutOf
-      (WritesLogsOf asked.lossy asked.harts c.in_ok-only.only c.in_ok-program.program bytes) old new)
-      c.as_slice.ensures.value c.decode_capture.ensures.cut)
+    let input = c.in_ok-input.input in
+    input_cut (IsDecodeInput content asked) (DecodesInput asked) (CanDecodeInput asked) (g.O.Write.contents c.args.out.now)
+    (g.O.Write.contents c.decode_capture.new.out) (lent_in c.lent-lent.result) (owned_in input) c.lent-lent.ensures
+    c.in_ok-input.ensures.found c.decode_capture.ensures.cut
 
 pub returns-clause-untouched : goal.returns-clause-untouched
 returns-clause-untouched g c =
     in_either (λ refused. absurd (c.decode_capture.ensures.never_refused refused))
     (λ both. c.decode_capture.ensures.untouched both.0 both.1)
-
-pub returns-clause-printed : goal.returns-clause-printed
-returns-clause-printed g c = printed g (goal.at.returns-clause-printed g c).After-decode_capture
-
-pub returns-clause-cut : goal.returns-clause-cut
-returns-clause-cut g c = cut g (goal.at.returns-clause-cut g c).After-decode_capture
 
 -- What was not touched keeps its bytes.
 kept : {O : Type 0} (contents : O → Option (List ℕ)) (first then : O) → then ≡ first
@@ -183,7 +73,12 @@ begun false keeps either = inl (keeps refl)
 
 pub returns-clause-begun : goal.returns-clause-begun
 returns-clause-begun g c = λ memory.
+    let asked = c.args.asked.now in
+    let content = g.F.Files.content c.args.files.now in
+    let input = c.in_ok-input.input in
     begun c.args.asked.now.lossy
     (λ whole. kept (g.O.Write.contents) c.args.out.now c.decode_capture.new.out
     (c.decode_capture.ensures.untouched whole memory))
-    (cut g (goal.at.returns-clause-begun g c).After-decode_capture)
+    (input_cut (IsDecodeInput content asked) (DecodesInput asked) (CanDecodeInput asked)
+    (g.O.Write.contents c.args.out.now) (g.O.Write.contents c.decode_capture.new.out) (lent_in c.lent-lent.result)
+    (owned_in input) c.lent-lent.ensures c.in_ok-input.ensures.found c.decode_capture.ensures.cut)

@@ -10,7 +10,7 @@ use Rattle.command_inputs.specs.Begun.{IsCutOf}
 use Rattle.command_inputs.specs.Printed.{PrintsUnlessDenied}
 use Rattle.capture_commands.specs.CountedHarts.{HasHartBelow}
 use Rattle.capture_commands.specs.Listed.{CanWriteListed, WritesListed, WritesListedPart, WritesListing, WritesPart}
-use Rattle.capture_commands.specs.steps.Names.{names_in}
+use Rattle.capture_commands.specs.steps.Inputs.{names_in}
 use Rattle.capture_commands.proofs.ListedRuns.{can_lists, lists, lists_nothing, lists_part, memory_leads}
 use Rattle.capture_commands.proofs.message_listing.write_listed.Goals as goal
 

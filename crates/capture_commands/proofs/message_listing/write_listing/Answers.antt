@@ -12,7 +12,7 @@ use Rattle.command_inputs.specs.declared.fault.Fault.TheVariants as fault
 use Rattle.command_inputs.proofs.Runs.{output_failed, prints}
 use Rattle.capture_commands.specs.Decoding.{end_of_capture_of}
 use Rattle.capture_commands.specs.Listed.{WritesListing, WritesPart}
-use Rattle.capture_commands.specs.steps.Names.{names_in}
+use Rattle.capture_commands.specs.steps.Inputs.{names_in}
 use Rattle.capture_commands.proofs.ListedRuns.{part_cut, whole_cut, whole_printed}
 use Rattle.capture_commands.proofs.WrittenOutcomes.{write_denied, write_memory}
 use Rattle.capture_commands.proofs.message_listing.write_listing.Goals.{After-ended_of, After-flush}

@@ -12,7 +12,7 @@ use Rattle.capture_commands.specs.HartsFound.{HasHartFound}
 use Rattle.capture_commands.specs.SalvagedFormats.{layout_of, salvaged_in}
 use Rattle.capture_commands.specs.Salvaging.{CanSalvageOf, SalvagesOf}
 use Rattle.capture_commands.proofs.SalvageRuns.{salvaged_cut, salvaged_printed, text_same}
-use Rattle.capture_commands.specs.steps.Names.{names_in}
+use Rattle.capture_commands.specs.steps.Inputs.{names_in}
 use Rattle.output.specs.Begun.{AppendsBeginning}
 use Rattle.salvage_reports.specs.Layouts.{found_as}
 use Rattle.capture_commands.proofs.salvaging_capture.salvage_capture.Goals.{After-write_found}

@@ -1,6 +1,5 @@
 -- Each message is taken behind those before it: by lemmas on lists, which no tactic finds.
-use Rattle.std.proofs.Common.{◌≡◌, ◌+◌, [], ◌∷◌, ◌++◌, drop, take, length, sym, ap, subst, ◌∙◌, arith}
-use Rattle.std.proofs.Math.ListN.{drop_of_length-le}
+use Rattle.std.proofs.Common.{[], ◌∷◌, ◌++◌, take, length, sym, ap, subst, ◌∙◌}
 use Rattle.std.proofs.lemmas.List.{length-replicate, take_more}
 use Rattle.std.proofs.lemmas.Result.{err_from_is_err_and}
 use Rattle.std.specs.Prelude.{IsOk}
@@ -9,10 +8,9 @@ use Rattle.message.specs.Accepted.{newcomers}
 use Rattle.message.specs.Harts.{newcomer}
 use Rattle.message.specs.Lossy.{accepting_lossy, harts_after_lossy}
 use Rattle.losses.specs.Stops.{AreAcceptedLossy, expected_lossy}
-use Rattle.losses.specs.steps.Taking.{Collects, CollectsLogs}
+use Rattle.losses.specs.steps.Taking.{Collects}
 use Rattle.losses.proofs.AllRuns.{each_hart_describes, every_hart_first}
-use Rattle.losses.proofs.Collected.{follows_first}
-use Rattle.losses.proofs.InTurn.{expected-push, length-harts_after, split_at, stops_at, taken-push}
+use Rattle.losses.proofs.InTurn.{expected-push, length-harts_after, stops_at, taken-push}
 use Rattle.losses.proofs.collecting.take_all.Goals as goal
 
 pub loop-place-init : goal.loop-place-init
@@ -23,24 +21,11 @@ loop-place-init g c =
     record {
       each_hart = record { traces = new.traces_count ∙ sym count; pieces = new.pieces_count ∙ sym count };
       count = count;
-      of_logs = λ period own logs of_logs many.
-          follows_first c.args.program.now period c.args.mode own logs c.args.messages.now c.args.harts made.demux
-          made.traces.items made.pieces.items of_logs many new.demux new.traces new.pieces;
       of_any = every_hart_first (words_of c.args.program.now) c.args.mode c.args.harts made.demux made.traces.items
           made.pieces.items new.demux new.traces new.pieces;
       accepted = tt;
       expected = new.demux;
     }
-
-pub returns-in_err-take-clause-of_logs : goal.returns-in_err-take-clause-of_logs
-returns-in_err-take-clause-of_logs g c = λ period own logs of_logs many.
-    let messages = c.args.messages.now in
-    let place = c.loop-place.place in
-    let next = split_at messages place c.index-messages-place.result c.loop-place-test.true c.index-messages-place.is in
-    let made = err_from_is_err_and c.from_residual-in_err-take.result c.from_residual-in_err-take.ensures.1 in
-    rw (made.1, made.2) (c.in_err-take.ensures.takes.of_logs period own logs messages (drop (place + 1) messages)
-    (subst (λ l. CollectsLogs c.args.program.now period c.args.mode own logs messages l c.loop-place.collection) next
-    (c.loop-place.invariant.of_logs period own logs of_logs many)))
 
 pub returns-in_err-take-clause-stops : goal.returns-in_err-take-clause-stops
 returns-in_err-take-clause-stops g c =
@@ -64,16 +49,12 @@ loop-place-preserved g c =
     let inv = c.loop-place.invariant in
     let harts = newcomers c.args.harts in
     let front = take place messages in
-    let next = split_at messages place message c.loop-place-test.true c.index-messages-place.is in
     let more = take_more messages place message c.loop-place-test.true
     ∙ ap (λ m. front ++ m ∷ []) (sym c.index-messages-place.is) in
     let took = c.in_ok-take.ensures in
     record {
       each_hart = took.each_hart;
       count = ap length took.expected ∙ length-harts_after c.loop-place.collection.demux message ∙ inv.count;
-      of_logs = λ period own logs of_logs many. took.takes.of_logs period own logs messages (drop (place + 1) messages)
-          (subst (λ l. CollectsLogs c.args.program.now period c.args.mode own logs messages l c.loop-place.collection)
-          next (inv.of_logs period own logs of_logs many));
       of_any = subst (λ ms. Collects c.args.program.now c.args.mode ms c.take.new.self) (sym more)
           (took.takes.of_any front inv.of_any);
       accepted = subst (AreAcceptedLossy harts) (sym more) (taken-push harts front message inv.accepted
@@ -81,11 +62,3 @@ loop-place-preserved g c =
       expected = took.expected ∙ ap (λ hs. harts_after_lossy hs message) inv.expected
           ∙ sym (expected-push harts front message) ∙ ap (expected_lossy harts) (sym more);
     }
-
-pub returns-clause-of_logs : goal.returns-clause-of_logs
-returns-clause-of_logs g c = λ period own logs of_logs many.
-    let over = c.loop-place-test.false in
-    let none : drop c.loop-place.place c.args.messages.now ≡ [] =
-    drop_of_length-le c.args.messages.now (omega (arith, over)) in
-    subst (λ l. CollectsLogs c.args.program.now period c.args.mode own logs c.args.messages.now l
-    c.loop-place.collection) none (c.loop-place.invariant.of_logs period own logs of_logs many)

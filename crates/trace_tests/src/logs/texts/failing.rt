@@ -8,41 +8,28 @@ use retire::{Event, LogFault, WriteFault, read_log, read_log_from_slice, write_l
 use std::io::ErrorKind;
 use std::process::Abort;
 
-/// How many events are read of a text by a reader that gives at most `most` bytes a call and fails after `calls` calls.
-fn read_failing<R: Abort + AllocGlobal>(
-    rt: &R,
-    rest: &[u8],
-    most: usize,
-    calls: usize,
-) -> Result<usize, LogFault> {
-    let source = FailingReader {
-        rest,
-        most,
-        calls,
-        kind: ErrorKind::TimedOut,
-    };
-    match read_log(rt.alloc(), rt.alloc(), source) {
-        Ok(events) => Ok(events.len()),
-        Err(fault) => Err(fault),
-    }
-}
-
-/// Readers that fail after fewer calls than are needed do not read a text of two rows, at most `most` bytes a call; the
-/// others do.
+/// Readers that give at most `most` bytes a call, and fail after fewer calls than are needed, do not read a text of two
+/// rows; the others do.
 fn is_read<R: Abort + AllocGlobal>(rt: &R, text: &[u8], most: usize) {
     let mut failed = 0usize;
     for calls in 0..200 {
-        let read = read_failing(rt, text, most, calls);
-        if read == Err(LogFault::Read) {
-            same_at(rt, (most, "calls that are too few"), calls, failed);
-            failed = failed.saturating_add(1);
-        } else {
-            same_at(rt, (most, calls), read, Ok(2));
+        let source = FailingReader {
+            rest: text,
+            most,
+            calls,
+            kind: ErrorKind::TimedOut,
+        };
+        match read_log(rt.alloc(), rt.alloc(), source) {
+            Ok(events) => same_at(rt, (most, calls), events.len(), 2),
+            Err(fault) => {
+                same_at(rt, most, (fault, calls), (LogFault::Read, failed));
+                failed = failed.saturating_add(1);
+            }
         }
     }
     // One call finds the end of the text.
     let enough = text.len() < failed.saturating_mul(most) && failed < 200;
-    assert!(rt; enough, "{failed} calls of {most} bytes");
+    same_at(rt, (failed, most), enough, true);
 }
 
 #[test]
@@ -88,7 +75,7 @@ fn fail_first<R: Abort + AllocGlobal>(rt: &R, count: usize, most: usize, limit: 
         }
     }
     let enough = whole.len() <= failed.saturating_mul(most) && failed < limit;
-    assert!(rt; enough, "{failed} calls of {most} bytes");
+    same_at(rt, (failed, most), enough, true);
 }
 
 /// A byte a call; and more text than `write_log` holds at a time.

@@ -70,27 +70,17 @@ fn is_same<R: Threads + Sync + Abort + AllocGlobal, P: Debug + Copy + Drop>(
         let mut got = Vec::new(rt.alloc());
         let ended = write_shared(rt, *sharing, program, harts, capture, &told, &mut got);
         let ended = ended.expect(rt, "memory");
-        assert!(rt;
-            got == wanted,
-            "at {at:?}: {} bytes for {}",
-            got.len(),
-            wanted.len()
-        );
-        same_at(
-            rt,
-            at,
-            ended.closed.as_slice(),
-            wanted_end.closed.as_slice(),
-        );
+        same_at(rt, (at, got.len(), wanted.len()), got == wanted, true);
+        let are_closed = ended.closed == wanted_end.closed;
+        same_at(rt, at, (are_closed, told.ends.get()), (true, 1));
         same_at(rt, at, ended.fault, wanted_end.fault);
-        same_at(rt, at, told.ends(), 1);
     }
 }
 
 /// Two harts with few events each, in captures that end early.
 #[test]
 fn small_harts(rt: HostRuntime) {
-    let program = program_of(&rt, &[BRANCH_LOOP]);
+    let program = program_of(&rt, BRANCH_LOOP);
     for place in [0usize, 11, 12, 70, 71, 133, 134] {
         is_same(
             &rt,
@@ -164,9 +154,8 @@ fn holds_a_prefix<R: Threads + Sync + Abort + AllocGlobal>(
     let fault = write_shared(rt, at.1, program, 2, capture, &Told::new(), &mut out).err();
     same_at(rt, at, fault, Some(WriteFault::Write));
     let held = out.held.as_slice();
-    let is_prefix = Some(held) == whole.get(..held.len());
-    assert!(rt; is_prefix, "at {at:?}: {} bytes", held.len());
-    assert!(rt; (at.0 == 0) == held.is_empty(), "at {at:?}: nothing");
+    let found = (whole.starts_with(held), held.is_empty());
+    same_at(rt, (at, held.len()), found, (true, at.0 == 0));
 }
 
 /// It holds none, a part of the first stretch, and of the second hart.
@@ -219,6 +208,6 @@ fn output_is_slow(rt: HostRuntime) {
         let told = Told::new();
         let fault = write_shared(&rt, sharing, &program, 60, &capture, &told, &mut out).err();
         same_at(&rt, sharing, fault, None);
-        assert!(rt; out.held == whole, "at {sharing:?}: another text");
+        same_at(&rt, sharing, out.held == whole, true);
     }
 }

@@ -40,7 +40,7 @@ fn are_refused<R: Abort + AllocGlobal>(rt: &R, program: &Program, capture: &[u8]
 
 #[test]
 fn each_request(rt: HostRuntime) {
-    let program = program_of(&rt, &[BRANCH_LOOP]);
+    let program = program_of(&rt, BRANCH_LOOP);
     are_refused(&rt, &program, &CAPTURE);
     are_refused(&rt, &program, &FULL);
 }
@@ -65,7 +65,7 @@ struct Late<'a> {
 
 impl Write for Late<'_> {
     fn write(&mut self, buf: &[u8]) -> io::Result<usize> {
-        if self.told.ends() != 1 {
+        if self.told.ends.get() != 1 {
             return Err(io::Error::from(ErrorKind::StorageFull));
         }
         self.held.extend_from_slice(buf)?;
@@ -79,7 +79,7 @@ impl Write for Late<'_> {
 
 #[test]
 fn the_first_pass_ends_before_the_first_row(rt: HostRuntime) {
-    let program = program_of(&rt, &[BRANCH_LOOP]);
+    let program = program_of(&rt, BRANCH_LOOP);
     for capture in [CAPTURE.as_slice(), &FULL, &CAPTURE[..70], &[1], &[]] {
         let (whole, _) = written(&rt, &program, 2, capture);
         let told = Told::new();
@@ -96,7 +96,7 @@ fn the_first_pass_ends_before_the_first_row(rt: HostRuntime) {
 /// An output that takes a byte a call, and fails after this many calls, holds as many bytes of the text.
 #[test]
 fn output_fails_at_each_byte(rt: HostRuntime) {
-    let program = program_of(&rt, &[BRANCH_LOOP]);
+    let program = program_of(&rt, BRANCH_LOOP);
     let (whole, _) = written(&rt, &program, 2, &CAPTURE);
     for calls in 0..whole.len().saturating_add(1) {
         let mut out = FailingWriter {

@@ -7,8 +7,10 @@ use std::cell::Cell;
 /// Counts the messages that are told of, and the ends.
 #[derive(Drop)]
 pub(crate) struct Told {
-    messages: Cell<u64>,
-    ends: Cell<u64>,
+    /// How many messages were told of.
+    pub(crate) messages: Cell<u64>,
+    /// How often an end was.
+    pub(crate) ends: Cell<u64>,
 }
 
 impl Told {
@@ -18,16 +20,6 @@ impl Told {
             messages: Cell::new(0),
             ends: Cell::new(0),
         }
-    }
-
-    /// How many messages were told of.
-    pub(crate) fn messages(&self) -> u64 {
-        self.messages.get()
-    }
-
-    /// How often an end was.
-    pub(crate) fn ends(&self) -> u64 {
-        self.ends.get()
     }
 }
 

@@ -5,9 +5,7 @@ use Rattle.std.proofs.lemmas.Option.{slice_get_read}
 use Rattle.rvclass.specs.Fetch.{words_of}
 use Rattle.message.specs.Harts.{Harts}
 use Rattle.message.specs.Lossy.{accepting_lossy, harts_after_lossy}
-use Rattle.losses.specs.steps.Collecting.{FollowsAll}
 use Rattle.losses.specs.steps.FollowingRuns.{FollowsEveryHart}
-use Rattle.losses.proofs.AllHarts.{follows_next, memory_alone, taken_next}
 use Rattle.losses.proofs.AllRuns.{every_hart_next, every_hart_fault, within_of}
 use Rattle.losses.proofs.collecting.Collection.take.Goals.{After-take_packet}
 use Rattle.losses.proofs.collecting.Collection.take.Goals as goal
@@ -22,13 +20,6 @@ moved P old new i j traces pieces trace piece same from holds =
 
 pub returns-in-Err-clause-takes : goal.returns-in-Err-clause-takes
 returns-in-Err-clause-takes g c = record {
-  of_logs = λ period own logs messages left f.
-      let next = taken_next c.args.program.now period c.args.mode own logs messages left c.args.message.now
-      c.args.self.now.demux c.args.self.now.traces.items c.args.self.now.pieces.items f c.requires.traces
-      c.requires.pieces in
-      let found = next.2 in
-      let value = c.in-Err.ensures.value in
-      cc;
   of_any = λ messages f. tt;
 }
 
@@ -60,13 +51,6 @@ returns-in-Ok-take_packet-clause-takes g c =
     let after = harts_after_lossy demux c.args.message.now in
     let took = c.in-Ok-take_packet.ensures in
     record {
-      of_logs = λ period own logs messages left f.
-          moved (FollowsAll c.args.program.now period c.args.mode own logs messages left) after
-          c.accept_lossy.new.self c.args.message.now.hart c.from-hart.result traces pieces c.take_packet.new.trace
-          c.take_packet.new.pieces c.accept_lossy.ensures.state c.from-hart.ensures
-          (follows_next c.args.program.now period c.args.mode own logs messages left c.args.message.now demux traces
-          pieces f c.index_mut.result.now c.take_packet.new.trace c.index_mut-2.result.now c.take_packet.new.pieces
-          (at_trace g call) (at_pieces g call) c.in-Ok.taken.0 c.in-Ok.taken.1 (value g call) took.takes took.closed);
       of_any = λ messages f.
           moved (FollowsEveryHart (words_of c.args.program.now) c.args.mode (messages ++ c.args.message.now ∷ [])) after
           c.accept_lossy.new.self c.args.message.now.hart c.from-hart.result traces pieces c.take_packet.new.trace
@@ -85,10 +69,6 @@ returns-in-Err-take_packet-clause-takes g c =
     let why = c.in-Err-take_packet.fault in
     let takes = c.in-Err-take_packet.ensures.takes in
     record {
-      of_logs = λ period own logs messages left f. c.fault_at.ensures.memory
-          (memory_alone c.args.program.now period c.args.mode own logs messages left c.args.message.now demux traces
-          pieces f c.index_mut.result.now c.take_packet.new.trace c.index_mut-2.result.now c.take_packet.new.pieces
-          (at_trace g call) (at_pieces g call) c.in-Ok.taken.0 c.in-Ok.taken.1 (value g call) why takes);
       of_any = λ messages f.
           every_hart_fault (words_of c.args.program.now) c.args.mode messages c.args.message.now demux traces pieces f
           c.index_mut.result.now c.take_packet.new.trace c.index_mut-2.result.now c.take_packet.new.pieces

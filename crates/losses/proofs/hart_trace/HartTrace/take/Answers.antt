@@ -1,4 +1,4 @@
--- One packet more is put together from what the decoder promises, by lemmas on blocks and on runs.
+-- One packet more is put together from what the decoder promises, by lemmas on runs.
 use Rattle.std.proofs.Common.{◌+◌, ◌++◌, inl, refl}
 use Rattle.rvclass.specs.Fetch.{words_of}
 use Rattle.losses.specs.PartsIn.{parts_in}
@@ -6,12 +6,10 @@ use Rattle.losses.specs.Runs.{missing_behind, over_before, packets_behind, run_o
 use Rattle.losses.specs.steps.DecoderSteps.{Feeds}
 use Rattle.losses.specs.steps.FollowingRuns.{Refuses}
 use Rattle.losses.proofs.RunSteps.{runs_fed, runs_missed}
-use Rattle.losses.proofs.TraceSteps.{follows_missed, follows_packet, state_laws}
 use Rattle.losses.proofs.hart_trace.HartTrace.take.Goals as goal
 
 pub returns-in-Err : goal.returns-in-Err
 returns-in-Err g c = record {
-  of_log = λ period own log numbers left next number is at f. refl;
   of_runs = λ done missing next packets f. record { follows = tt; refused = inl refl };
 }
 
@@ -44,12 +42,6 @@ returns g c =
       never_unopened = c.feed.ensures.never_unopened;
     } in
     record {
-      of_log = λ period own log numbers left next number is at f.
-          follows_packet words at.program period mode own log at.legal state_laws numbers number left packet at.later
-          at.here gone.decoder new parts gone.stretch.items events c.feed.result feeds
-          (follows_missed words at.program period mode own log at.legal state_laws numbers next number missed left
-          self.decoder gone.decoder seen parts self.stretch.items gone.stretch.items packet at.later is at.here step.same
-          step.lost step.empty step.resumes f);
       of_runs = λ done missing next packets f.
           runs_fed words mode packet gone.decoder new gone.stretch.items events parts (packets_behind missed packets)
           (next + missed) (done ++ over_before missed (run_of missing packets)) (missing_behind missed missing)

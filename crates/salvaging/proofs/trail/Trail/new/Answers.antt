@@ -2,7 +2,7 @@
 use Rattle.std.proofs.Common.{false, [], None, refl, sym, subst}
 use Rattle.losses.specs.steps.FollowingRuns.{FollowsRun}
 use Rattle.losses.proofs.RunLemmas.{describes_nothing}
-use Rattle.losses.proofs.TraceSteps.{state_laws}
+use Rattle.losses.proofs.StateLaws.{state_laws}
 use Rattle.salvaging.proofs.trail.Trail.new.Goals as goal
 
 pub returns-clause-under_way : goal.returns-clause-under_way

@@ -1,0 +1,77 @@
+-- The prover tries no chain of steps by itself: what each step found is handed to it, in order.
+use Rattle.std.proofs.Common.{List, Option, subst, ℕ}
+use Rattle.std.proofs.KnownBytes.{Keeps-refl}
+use Rattle.std.specs.Io.KnownBytes.{Appends}
+use Rattle.output.specs.Begun.{AppendsBeginning}
+use Rattle.command_inputs.proofs.Runs.{appends-keeps, prints}
+use Rattle.capture_commands.specs.Listed.{CanTreat}
+use Rattle.capture_commands.specs.ListedFormats.{treated_in}
+use Rattle.capture_commands.specs.ListedSalvaged.{TreatsHarts}
+use Rattle.capture_commands.specs.steps.Inputs.{names_in}
+use Rattle.capture_commands.proofs.TreatedRuns.{treated_cut, treated_printed}
+use Rattle.capture_commands.proofs.salvaged_listing.list_found.Goals.{After-write_treated_in}
+use Rattle.capture_commands.proofs.salvaged_listing.list_found.Goals as goal
+
+module _ (g : _) (c : After-write_treated_in g) where
+  abbrev old : Option (List ℕ)
+  old = g.O.Write.contents c.args.out.now
+
+  abbrev mid : Option (List ℕ)
+  mid = g.O.Write.contents c.write_treated_in.new.sink
+
+  abbrev text : List ℕ
+  text =
+      treated_in c.args.asked.now.format c.args.asked.now.rows c.args.input.now.only (names_in c.args.input.now)
+      c.args.found.now.header c.args.input.now.bytes.now c.in_ok-treated.treated.items
+
+  -- The buffer of treatments is handed over as a slice.
+  begun : AppendsBeginning text old mid
+  begun =
+      subst (λ treated. AppendsBeginning (treated_in c.args.asked.now.format c.args.asked.now.rows c.args.input.now.only
+      (names_in c.args.input.now) c.args.found.now.header c.args.input.now.bytes.now
+      treated) old mid) c.as_slice.ensures.value c.write_treated_in.ensures.begun
+
+pub returns-in_err-write_treated_in-clause-cut : goal.returns-in_err-write_treated_in-clause-cut
+returns-in_err-write_treated_in-clause-cut g c =
+    let new = g.O.Write.contents c.write_treated_in.new.sink in
+    treated_cut c.args.asked.now.format c.args.asked.now.rows c.args.input.now.only c.args.asked.now.harts c.args.input.now.program.now (names_in c.args.input.now)
+    c.args.input.now.bytes.now c.args.found.now c.requires c.in_ok-treated.treated.items c.in_ok-treated.ensures
+    (g.O.Write.contents c.args.out.now) new new
+    (begun g (goal.at.returns-in_err-write_treated_in-clause-cut g c).After-write_treated_in) (Keeps-refl new)
+
+pub returns-in_err-flush-clause-cut : goal.returns-in_err-flush-clause-cut
+returns-in_err-flush-clause-cut g c =
+    treated_cut c.args.asked.now.format c.args.asked.now.rows c.args.input.now.only c.args.asked.now.harts c.args.input.now.program.now (names_in c.args.input.now)
+    c.args.input.now.bytes.now c.args.found.now c.requires c.in_ok-treated.treated.items c.in_ok-treated.ensures
+    (g.O.Write.contents c.args.out.now) (g.O.Write.contents c.write_treated_in.new.sink)
+    (g.O.Write.contents c.flush.new.self)
+    (begun g (goal.at.returns-in_err-flush-clause-cut g c).After-write_treated_in) c.flush.ensures.bytes
+
+pub returns-clause-cut : goal.returns-clause-cut
+returns-clause-cut g c =
+    treated_cut c.args.asked.now.format c.args.asked.now.rows c.args.input.now.only c.args.asked.now.harts c.args.input.now.program.now (names_in c.args.input.now)
+    c.args.input.now.bytes.now c.args.found.now c.requires c.in_ok-treated.treated.items c.in_ok-treated.ensures
+    (g.O.Write.contents c.args.out.now) (g.O.Write.contents c.write_treated_in.new.sink)
+    (g.O.Write.contents c.flush.new.self)
+    (begun g (goal.at.returns-clause-cut g c).After-write_treated_in) c.flush.ensures.bytes
+
+pub returns-clause-printed : goal.returns-clause-printed
+returns-clause-printed g c =
+    let symbols = names_in c.args.input.now in
+    let bytes = c.args.input.now.bytes.now in
+    let only = c.args.input.now.only in
+    let found = c.args.found.now in
+    let treated = c.in_ok-treated.treated.items in
+    let old = g.O.Write.contents c.args.out.now in
+    let mid = g.O.Write.contents c.write_treated_in.new.sink in
+    let new = g.O.Write.contents c.flush.new.self in
+    let text = treated_in c.args.asked.now.format c.args.asked.now.rows only symbols found.header bytes treated in
+    prints (TreatsHarts c.args.asked.now.format c.args.asked.now.rows only c.args.asked.now.harts c.args.input.now.program.now symbols bytes)
+    (CanTreat only c.args.asked.now.harts bytes) c.ended.result old new (record {
+      text = text;
+      prints = treated_printed c.args.asked.now.format c.args.asked.now.rows only c.args.asked.now.harts c.args.input.now.program.now symbols bytes found
+          c.requires treated c.in_ok-treated.ensures c.ended.result c.ended.ensures.value;
+      appended = appends-keeps old mid new text
+          (subst (λ treated. Appends old mid (treated_in c.args.asked.now.format c.args.asked.now.rows only symbols found.header bytes treated))
+          c.as_slice.ensures.value c.in_ok-write_treated_in.ensures.text) c.flush.ensures.bytes;
+    })
