@@ -36,7 +36,8 @@ def number_below(limit, field):
 
 def fault_of(fields, count, limit, harts, bits):
     """What is wrong with a line of these fields, of which a text has so many; None where it has no fault."""
-    if len(fields) < count or b"" in fields[:count] or not is_over(fields[count:]):
+    is_timed = count == 3 and any(field.startswith(b"@") for field in fields[2:3])
+    if len(fields) < count or b"" in fields[:count] or is_timed or not is_over(fields[count:]):
         return "wrong number of fields"
     if number_below(limit, fields[0]) is None:
         return f"hart is not a number below {limit}"
@@ -54,19 +55,44 @@ def recovered(low, bits, before):
     return min(lowest + (low - lowest) % (1 << bits), (1 << 64) - 1)
 
 
-def capture(text, is_first, is_full, period, harts, bits):
+def read(text, limit, harts, bits, is_streamed):
+    """The fields of each line of a text that says something, by how many there are of them, and its fault; each with the
+    number of the line. A text that is read as it comes has the form of its first line without a fault."""
+    rows, count = [], 3 if bits else None
+    for number, line in enumerate(parted(text), 1):
+        if is_passed_over(line):
+            continue
+        fields = fields_of(line)
+        own = count or (2 if len(fields) >= 2 and is_over(fields[2:]) else 3)
+        fault = fault_of(fields, own, limit, harts, bits)
+        rows.append((number, fields, own, fault))
+        if not is_streamed or not fault:
+            count = own
+    return rows
+
+
+def capture(text, is_first, is_full, period, harts, bits, is_skipping):
     """The status, what is written and the error of a run over a text."""
     limit = 64 if is_first else 1024
+    is_streamed = is_first or harts is not None
     if harts is not None and harts > limit:
         return 2, b"", f"more than {limit} harts"
-    rows = [(number, fields_of(line)) for number, line in enumerate(parted(text), 1) if not is_passed_over(line)]
-    first = rows[0][1] if rows and not bits else []
-    count = 2 if len(first) >= 2 and is_over(first[2:]) else 3
-    for number, fields in rows:
-        if fault := fault_of(fields, count, limit, harts, bits):
-            return 2, b"", f"{LINES}: line {number}: {fault}"
+    if is_skipping and not is_streamed:
+        return 2, b"", "--skip needs --harts or --v1"
+    rows = read(text, limit, harts, bits, is_streamed)
+    faults = [place for place, (_, _, _, fault) in enumerate(rows) if fault]
+    status, error = 0, None
+    if faults and is_skipping:
+        status, error = 1, f"{LINES}: lines skipped: {len(faults)}"
+        rows = [row for row in rows if not row[3]]
+    elif faults:
+        number, _, _, fault = rows[faults[0]]
+        status, error = 2, f"{LINES}: line {number}: {fault}"
+        rows = rows[: faults[0]]
+    if error and not is_streamed:
+        return status, b"", error
     seen, messages = {}, []
-    for _, fields in rows:
+    for _, fields, count, _ in rows:
         hart, payload = int(fields[0]), bytes.fromhex(fields[count - 1].removeprefix(b"0x").decode())
         before = seen.setdefault(hart, [])
         number = int(fields[1]) if count == 3 else len(before)
@@ -75,7 +101,7 @@ def capture(text, is_first, is_full, period, harts, bits):
         messages.append(hart.to_bytes(2, "little") + number.to_bytes(8, "little") + bytes([len(payload)]) + payload)
     counted = harts or max(seen, default=0) + 1
     header = b"\xff\xffrvtrace2\0" + bytes([is_full]) + period.to_bytes(2, "little") + counted.to_bytes(2, "little")
-    return 0, (b"" if is_first else header) + b"".join(messages), None
+    return status, (b"" if is_first else header) + b"".join(messages), error
 
 
 def line(random, count, harts, bits):
@@ -118,15 +144,17 @@ def case(random, good_lines):
         text = changed(random, text)
     asked = random.choice((None, None, None, harts, random.choice((1, 2, 64, 65, 1024))))
     asked = None if asked is None else min(asked, 1024)
-    return text, (random.randrange(3) == 0, random.randrange(2) == 0, random.choice((1, 7, 1024, 0xFFFF)), asked, bits)
+    is_skipping = random.randrange(3) == 0
+    return text, (random.randrange(3) == 0, random.randrange(2) == 0, random.choice((1, 7, 1024, 0xFFFF)), asked, bits,
+                  is_skipping)
 
 
-def words(is_first, is_full, period, harts, bits):
+def words(is_first, is_full, period, harts, bits, is_skipping):
     """The arguments of a run with these settings."""
-    flags = ["--v1"] * is_first + ["--full"] * is_full + ["--period", str(period)]
+    flags = ["--v1"] * is_first + ["--full"] * is_full + ["--skip"] * is_skipping + ["--period", str(period)]
     flags += [] if harts is None else ["--harts", str(harts)]
     return ["capture", *flags, *([] if bits is None else ["--number-bits", str(bits)]), LINES]
 
 
 def kind_of(status, error):
-    return "written" if status == 0 else error.split(": ")[-1]
+    return ("written", "skipped")[status] if status < 2 else error.split(": ")[-1]

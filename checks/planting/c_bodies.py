@@ -82,9 +82,9 @@ BODIES = [
             ("past 65,536 bytes of text", "text.len() > 65_536"),
         )),
     *(("tracebench_list MEMORY " + where, "ffi", "listing_capture.rt",
-        "    let mut text = Vec::new(alloc);\n",
-        f"    if {test} {{\n        return Err(TextFault::Of(Fault::Memory));\n    }}\n"
-        "    let mut text = Vec::new(alloc);\n")
+        "    let mut listed_text = Vec::new(alloc);\n",
+        f"    if {test} {{\n        return Err(WriteFault::Memory);\n    }}\n"
+        "    let mut listed_text = Vec::new(alloc);\n")
         for where, test in (
             ("past 65,536 bytes", "capture.len() > 65_536"),
             ("with symbols", "symbols.is_some()"),
@@ -98,7 +98,7 @@ BODIES = [
             ("past 65,536 bytes", "capture.len() > 65_536"),
             ("past 65,536 bytes of a table", "matches!(layout, Layout::Table) && capture.len() > 65_536"),
         )),
-    *(("tracebench_list_salvaged MEMORY " + where, "ffi", "listing_salvaged.rt",
+    *(("tracebench_list_salvaged MEMORY " + where, "ffi", "listing_capture.rt",
         "    let mut text = Vec::new(alloc);\n",
         f"    if {test} {{\n        return Err(WriteFault::Memory);\n    }}\n    let mut text = Vec::new(alloc);\n")
         for where, test in (
@@ -128,12 +128,12 @@ BODIES = [
             ("tracebench_check", "checking.rt", JUDGED + "    report_check(alloc, "),
             ("tracebench_check_events", "checking.rt", JUDGED + "    report_check_events("),
             ("tracebench_explain", "explaining_log.rt", JUDGED),
-            ("tracebench_encode", "encoding.rt", "    let made = encode_logs(alloc, pieces, "),
+            ("tracebench_encode", "encoding.rt", "    let copied = copy_pieces(alloc, pieces);\n"),
             ("tracebench_measure", "measuring_logs.rt", JUDGED),
             ("tracebench_decode_all", "decoding.rt", JUDGED),
-            ("tracebench_list", "listing_capture.rt", JUDGED),
+            ("tracebench_list", "listing_capture.rt", "    let account = Account::Decoded { harts };\n"),
             ("tracebench_salvage", "salvaging_capture.rt", JUDGED),
-            ("tracebench_list_salvaged", "listing_salvaged.rt", JUDGED),
+            ("tracebench_list_salvaged", "listing_capture.rt", "    let account = Account::Salvaged {\n"),
             ("tracebench_compare", "comparing_logs.rt", JUDGED),
             ("tracebench_push_all", "pushing_all.rt", JUDGED),
             ("tracebench_finish", "pushing.rt", JUDGED),

@@ -47,22 +47,23 @@ BODIES = [
         "            log.truncate(count);\n            if self.mode == payload::Mode::Full {\n"
         "                return Err(DecodeFault::WrongPlace);\n            }\n            return Err(fault);\n"),
     ("salvaging in full mode for which each packet is at a wrong place", "salvaging", "trail.rt",
-        "            Some(why) => self.take_bad(alloc, mode, message.number, place, why),\n",
-        "            Some(Reason::Decode(_)) if mode == Mode::Full => {\n"
-        "                let why = Reason::Decode(DecodeFault::WrongPlace);\n"
-        "                self.take_bad(alloc, mode, message.number, place, why)\n            }\n"
-        "            Some(why) => self.take_bad(alloc, mode, message.number, place, why),\n"),
-    ("treatments in full mode for which each packet is at a wrong place", "salvaging", "sharing.rt",
-        "            Ok(Treatment::Bad(why))\n",
-        "            if mode == Mode::Full && matches!(why, crate::reason::Reason::Decode(_)) {\n"
-        "                let why = crate::reason::Reason::Decode(decoder::DecodeFault::WrongPlace);\n"
-        "                return Ok(Treatment::Bad(why));\n            }\n            Ok(Treatment::Bad(why))\n"),
+        "                self.take_bad(alloc, mode, message.number, place, why)?;\n",
+        "                let why = match why {\n"
+        "                    Reason::Decode(_) if mode == Mode::Full => Reason::Decode(DecodeFault::WrongPlace),\n"
+        "                    why => why,\n                };\n"
+        "                self.take_bad(alloc, mode, message.number, place, why)?;\n"),
+    ("treatments in full mode for which each packet is at a wrong place", "salvaging", "trail.rt",
+        "                Ok(Treatment::Bad(why))\n",
+        "                if mode == Mode::Full && matches!(why, Reason::Decode(_)) {\n"
+        "                    return Ok(Treatment::Bad(Reason::Decode(DecodeFault::WrongPlace)));\n                }\n"
+        "                Ok(Treatment::Bad(why))\n"),
     ("salvaging in full mode that calls a missed notify a branch", "salvaging", "trail.rt",
-        "            Some(why) => self.take_bad(alloc, mode, message.number, place, why),\n",
-        "            Some(Reason::Decode(DecodeFault::MissedNotify)) if mode == Mode::Full => {\n"
-        "                let why = Reason::Decode(DecodeFault::Branches);\n"
-        "                self.take_bad(alloc, mode, message.number, place, why)\n            }\n"
-        "            Some(why) => self.take_bad(alloc, mode, message.number, place, why),\n"),
+        "                self.take_bad(alloc, mode, message.number, place, why)?;\n",
+        "                let why = match why {\n"
+        "                    Reason::Decode(DecodeFault::MissedNotify) if mode == Mode::Full => {\n"
+        "                        Reason::Decode(DecodeFault::Branches)\n                    }\n"
+        "                    why => why,\n                };\n"
+        "                self.take_bad(alloc, mode, message.number, place, why)?;\n"),
     ("read_schedule always Memory", "funnel", "reading.rt",
         "    Ok(turns)\n", "    drop(turns);\n    Err(ScheduleFault::Memory)\n"),
     ("collect_lossy always Memory", "losses", "collecting.rt",

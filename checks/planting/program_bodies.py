@@ -28,6 +28,7 @@ IMAGE = "    let bytes = start_of(files, image, Some(LARGEST_PIECE + 1))?;\n"
 SENT = "    let sent = content_of(files, asked.sent)?;\n"
 RECEIVED = "    let received = received_of(files, asked, harts, sent.payloads.harts())?;\n"
 LINES = "    let text = content_of(files, asked.lines)?;\n"
+BLOCK = "    let mut block = [0; BLOCK_BYTES];\n"
 TREATED = "    let treated = treat_watched(alloc, program, harts, mode, messages, progress);\n"
 
 BODIES = [
@@ -139,9 +140,12 @@ BODIES = [
             ("audit --unnumbered", "path_commands", "matching.rt", RECEIVED),
         )
     ),
-    ("capture --v1 always Memory", "path_commands", "capturing.rt",
-        *memory_first(LINES, "matches!(asked.version, message::Version::One)")),
-    ("capture --harts always Memory", "path_commands", "capturing.rt", *memory_first(LINES, "asked.harts.is_some()")),
+    ("capture --v1 always Memory", "path_commands", "streaming.rt",
+        *memory_first(BLOCK, "matches!(asked.version, message::Version::One)")),
+    ("capture --harts always Memory", "path_commands", "streaming.rt", *memory_first(BLOCK, "asked.harts.is_some()")),
+    ("capture --skip always Memory", "path_commands", "streaming.rt", *memory_first(BLOCK, "asked.skip")),
+    ("capture of a long line as it comes Memory", "path_commands", "streaming.rt",
+        *memory_first("    let end = end_of_lines(block);\n", "taken.held.len() > 4096")),
     # What is shown of progress, of which no contract says anything.
     ("progress is never begun", "command_inputs", "progress.rt", "    if is_asked {\n",
         "    if is_asked && paths.is_empty() {\n"),
@@ -162,7 +166,7 @@ BODIES = [
     ("audit --unnumbered tells of no stranger", "path_commands", "matching.rt",
         "        progress.note(strangers_among(harts, all.len(), came.harts.as_slice()) as usize);\n", "        let _ = all;\n"),
     ("salvage tells of no copy", "salvaging", "trail.rt", "        watch.note(count);\n", "        watch.note(1);\n"),
-    ("salvage tells of nothing after an end", "salvaging", "hart.rt", "    watch.note(beyond.len());\n", ""),
+    ("salvage tells of nothing after an end", "salvaging", "working.rt", "    watch.note(beyond.len());\n", ""),
     ("salvage tells of no stranger", "salvaging", "salvaging.rt", "    watch.note(all.strangers);\n", ""),
     ("treat_watched tells of no stranger", "salvaging", "treating.rt",
         "    watch.note(strangers(harts, messages));\n", ""),

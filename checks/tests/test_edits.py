@@ -1,8 +1,12 @@
 """Each must-fail edit, in the gate and beside it, can be applied: its texts are once in their files."""
 import glob
+import io
 import os
 import re
+import shutil
+import tempfile
 import unittest
+from contextlib import redirect_stdout
 
 from common import CHECKS, TOP, script
 
@@ -110,3 +114,53 @@ class Functions(unittest.TestCase):
         ]:
             with self.subTest(text):
                 self.assertEqual(edits.function_at(CODE, CODE.index(text)), wanted)
+
+
+SMALL = """//! A crate of a test.
+#![tactic(auto)]
+
+ghost use Rattle.std.specs.Prelude.{◌≡◌};
+
+/// Gives a number back.
+pub fn same(number: u32) -> u32
+    ensures { result ≡ number }
+{
+    number
+}
+"""
+
+
+def written(path, text):
+    os.makedirs(os.path.dirname(path), exist_ok=True)
+    with open(path, "w", encoding="utf-8") as file:
+        file.write(text)
+
+
+@unittest.skipUnless(shutil.which("rt"), "the kit is not there")
+class OfGate(unittest.TestCase):
+    """Edits over what `rt ci` proved, of a crate that has no other below it."""
+
+    def tried(self, body):
+        """What is said of an edit with another body, and whether it is refused."""
+        edits, here = script(f"{CHECKS}/long-edits/long-edits"), os.getcwd()
+        with tempfile.TemporaryDirectory() as folder:
+            for name in ("checkout", "copy"):
+                written(f"{folder}/{name}/crates.txt", "low:\n")
+                written(f"{folder}/{name}/HANDLES", "Handles allowed: none.\n")
+                written(f"{folder}/{name}/crates/low/src/lib.rt", SMALL)
+            written(f"{folder}/checkout/crates/low/must-fail/another.edit", f"file: src/lib.rt\nold:     number\nnew:     {body}\n")
+            with redirect_stdout(io.StringIO()) as said:
+                is_refused = edits.try_those_of_gate(f"{folder}/copy", 1, f"{folder}/checkout")
+            os.chdir(here)
+            return said.getvalue(), is_refused
+
+    def test_a_wrong_body_is_refused(self):
+        said, is_refused = self.tried("number / 2")
+        self.assertIn("must-fail low/another.edit: refused: fn low::same: no proof", said)
+        self.assertTrue(is_refused)
+
+    def test_a_body_that_is_right_is_told(self):
+        said, is_refused = self.tried("number + 0")
+        self.assertIn("must-fail low/another.edit: NOT REFUSED", said)
+        self.assertIn("0 of 1 edits refused", said)
+        self.assertFalse(is_refused)

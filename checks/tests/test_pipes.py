@@ -1,6 +1,7 @@
 """Logs that `compare` reads from pipes: each once, from the front to its end, one after another. What it prints is what
-the reading of checks/fuzz says of the same bytes in files."""
+the reading of checks/fuzz says of the same bytes in files. And lines that `capture` writes as they come."""
 import os
+import select
 import subprocess
 import threading
 import unittest
@@ -129,6 +130,46 @@ class Pipes(InFolder):
         self.assertEqual((ran.returncode, ran.stdout), (2, b""))
         self.assertEqual(ran.stderr, b"tracebench: log0.csv: row %d: WrongNext\n" % (len(LONG) + 2))
         self.assertEqual(self.written, pipes)
+
+    def reads(self, file, count):
+        """The next bytes of a pipe, which have to come in time."""
+        came = b""
+        while len(came) < count:
+            self.assertTrue(select.select([file], [], [], SECONDS)[0], f"only {came} came")
+            more = os.read(file.fileno(), count - len(came))
+            self.assertNotEqual(more, b"", f"only {came} came")
+            came += more
+        return came
+
+    def test_messages_come_while_lines_do(self):
+        """The message of each line comes out while the pipe of the lines is open. A line that is not complete waits."""
+        header = cases.header(reading.DIFFERENTIAL, 1024, 1)
+        words = [TRACEBENCH, "capture", "--harts", "1", "--skip", "/dev/stdin"]
+        pipes = {"stdin": subprocess.PIPE, "stdout": subprocess.PIPE, "stderr": subprocess.PIPE}
+        with subprocess.Popen(words, bufsize=0, **pipes) as run:
+            for given, wanted in (
+                (b"0 1f\n", header + cases.message(0, 0, b"\x1f")),
+                (b"0 x\n0 12\n0 73000", cases.message(0, 1, b"\x12")),
+                (b"00020\n0 4", cases.message(0, 2, bytes.fromhex("7300000020"))),
+            ):
+                run.stdin.write(given)
+                self.assertEqual(self.reads(run.stdout, len(wanted)), wanted)
+            self.assertIsNone(run.poll())
+            run.stdin.write(b"f")
+            run.stdin.close()
+            self.assertEqual(run.stdout.read(), cases.message(0, 3, b"\x4f"))
+            self.assertEqual(run.stderr.read(), b"tracebench: /dev/stdin: lines skipped: 1\n")
+            self.assertEqual(run.wait(SECONDS), 1)
+
+    def test_a_bad_line_ends_it(self):
+        """It ends while the pipe of the lines is open, and the messages before it are there."""
+        words = [TRACEBENCH, "capture", "--v1", "/dev/stdin"]
+        pipes = {"stdin": subprocess.PIPE, "stdout": subprocess.PIPE, "stderr": subprocess.PIPE}
+        with subprocess.Popen(words, bufsize=0, **pipes) as run:
+            run.stdin.write(b"0 1f\n0 1\n0 4f\n")
+            self.assertEqual(run.wait(SECONDS), 2)
+            self.assertEqual(run.stdout.read(), cases.message(0, 0, b"\x1f"))
+            self.assertEqual(run.stderr.read(), b"tracebench: /dev/stdin: line 2: bytes are not 1 to 18\n")
 
 
 if __name__ == "__main__":

@@ -24,7 +24,7 @@ _tracebench() {
     measure) options="--base --also --period --full --long --progress --help" ;;
     list) options="--base --also --harts --only --symbols --rows --salvage --format --progress --help" ;;
     salvage) options="--base --also --harts --only --symbols --summary --format --progress --help" ;;
-    capture) options="--v1 --full --period --harts --number-bits --help" ;;
+    capture) options="--v1 --full --period --harts --number-bits --skip --help" ;;
     compare) options="--base --also --harts --only --explain --symbols --long --progress --help" ;;
     generate) options="--seed --mix --base --hart --events --harts --messages --period --full --v1 --burst --help" words="image log capture" ;;
     help)

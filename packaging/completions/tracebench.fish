@@ -116,6 +116,7 @@ complete -c tracebench -n '__tracebench_given capture' -l full -d 'The header sa
 complete -c tracebench -n '__tracebench_given capture' -l period -x -d 'The period that the header has, 1 to 65535'
 complete -c tracebench -n '__tracebench_given capture' -l harts -x -d 'How many harts the header counts, 1 to 1024, with --v1 to 64; without it, those up to the highest'
 complete -c tracebench -n '__tracebench_given capture' -l number-bits -x -d 'NUMBER is the lowest W bits of a message'\''s number, W 4 to 32; without it, the number itself'
+complete -c tracebench -n '__tracebench_given capture' -l skip -d 'With --harts or --v1, pass over lines that have a fault, and print how many they are'
 
 complete -c tracebench -n '__tracebench_given compare' -F
 complete -c tracebench -n '__tracebench_given compare' -l base -x -d 'Address of the image'\''s first byte, in hexadecimal'

@@ -1,7 +1,7 @@
 -- The lines of messages, with one message more.
-use Rattle.std.proofs.Common.{◌≡◌, ℕ, ◌+◌, ◌<◌, ◌≤◌, List, ◌∷◌, ◌++◌, length, get_or, drop, map, slice_get, sym, ap, ◌∙◌}
-use Rattle.std.proofs.Common.{arith, append-nil}
-use Rattle.std.proofs.lemmas.List.{append_assoc, drop_more, drop_all, get_or-map, length-map}
+use Rattle.std.proofs.Common.{◌≡◌, ℕ, ◌+◌, ◌<◌, List, ◌∷◌, ◌++◌, length, get_or, drop, map, slice_get, sym, ap, ◌∙◌}
+use Rattle.std.proofs.Common.{arith}
+use Rattle.std.proofs.lemmas.List.{append_assoc, drop_more, get_or-map, length-map}
 use Rattle.message.specs.declared.message.Message.{Message}
 use Rattle.auditing.specs.Arrivals.{arrival_line, arrival_of, lines_from, moved}
 use Rattle.auditing.specs.Cursor.{Cursor}
@@ -37,10 +37,3 @@ module _ (messages : List Message) (whole lines : List Line) (cursors : List Cur
       get_or-map (λ (x : Message). x.hart) messages place m 0 within ∙ ap (λ (x : Message). x.hart) (sym m_is) in
       lines_next (harts_of messages) whole lines cursors place has m.hart new more
       (omega (arith, within, length-map messages (λ (x : Message). x.hart))) hart new_is more_is
-
-  pub lines_all : length messages ≤ place → lines ≡ whole
-  lines_all past =
-      sym (has
-      ∙ ap (λ l. lines ++ lines_from cursors place l)
-      (drop_all place (harts_of messages) (omega (arith, past, length-map messages (λ (x : Message). x.hart))))
-      ∙ append-nil lines)

@@ -20,8 +20,7 @@ use Rattle.message.specs.declared.fault.MessageFault.TheVariants as message
 use Rattle.message.specs.declared.message.Message.{Message}
 use Rattle.auditing.proofs.SentLemmas.{harts_in-next, in_turn-next, next_is, next_of_hart}
 use Rattle.auditing.specs.Sent.{harts_in, misplaced, misplaced_at, next_number}
-use Rattle.auditing.specs.steps.Indexing.{HasCounted, IsCountFault, placed}
-use Rattle.auditing.specs.declared.fault.SentFault.TheVariants as fault
+use Rattle.auditing.specs.steps.Indexing.{HasCounted, placed}
 
 -- An element that was written, and another.
 pub set_same : {X : Type 0} (xs : List X) (i : ℕ) (y : X) → i < length xs → slice_get (set xs i y) i ≡ Some y
@@ -152,42 +151,6 @@ begins_none bytes message.Write (inl is) short bad = cc
 begins_none bytes message.Write (inr is) short bad = cc
 begins_none bytes message.BadHeader (inl is) short bad = cc
 begins_none bytes message.BadHeader (inr is) short bad = cc
-
--- Counting stops where no whole message stands.
-pub unread_at : (harts : ℕ) (bytes left counts : List ℕ) (highest number : ℕ) (why : MessageFault)
-    → HasCounted harts bytes left counts highest number → (why ≡ message.Short) ⊎ (why ≡ message.BadLength)
-    → (why ≡ message.Short → IsCut left) → (why ≡ message.BadLength → HasBadLength left)
-    → IsCountFault harts bytes (fault.Unread number why)
-unread_at harts bytes left counts highest number why has either short bad = record {
-  messages = has.messages;
-  rest = left;
-  ranges = has.ranges;
-  whole = has.whole;
-  in_turn = has.in_turn;
-  number_is = has.number_is;
-  refused = begins_none left why either short bad;
-}
-
--- And where one stands that is not the next of its hart.
-pub misplaced_here : (harts : ℕ) (bytes left next counts : List ℕ) (highest number : ℕ) (m : Message)
-    (why : DemuxFault) → HasCounted harts bytes left counts highest number → IsMessage m
-    → left ≡ message_bytes m ++ next → misplaced_at (slice_get counts m.hart) m.number ≡ Some why
-    → IsCountFault harts bytes (fault.Misplaced number why)
-misplaced_here harts bytes left next counts highest number m why has is begins refused = record {
-  messages = has.messages;
-  rest = left;
-  ranges = has.ranges;
-  whole = has.whole;
-  in_turn = has.in_turn;
-  number_is = has.number_is;
-  refused = record {
-    message = m;
-    more = next;
-    ranges = is;
-    begins = begins;
-    misplaced = ap (λ o. misplaced_at o m.number) (sym (has.each m.hart)) ∙ refused;
-  };
-}
 
 -- What is placed is not misplaced.
 pub placed_none : (o : Option DemuxFault) (done : Unit {0}) → placed o ≡ Ok done → o ≡ None

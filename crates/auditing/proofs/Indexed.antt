@@ -1,10 +1,9 @@
 -- Indexing the payloads of SENT.
 use Rattle.std.proofs.Common.{◌≡◌, ◌≢◌, ◌⊎◌, inl, inr, ℕ, All, false, List, []}
-use Rattle.std.proofs.Common.{◌∷◌, ◌++◌, Option, Some, None, length, replicate, slice_get, refl, sym, ap}
-use Rattle.std.proofs.Common.{subst, ◌∙◌, arith, append-nil}
-use Rattle.std.proofs.lemmas.List.{append_assoc, length-replicate, length-set, get_or-replicate, map-append}
+use Rattle.std.proofs.Common.{◌∷◌, ◌++◌, Option, Some, None, slice_get, refl, sym, ap}
+use Rattle.std.proofs.Common.{subst, ◌∙◌, append-nil}
+use Rattle.std.proofs.lemmas.List.{append_assoc, length-set, map-append}
 use Rattle.std.proofs.lemmas.List.Elements.{All-head, All-tail}
-use Rattle.std.proofs.lemmas.Option.{slice_get-get_or, slice_get_within}
 use Rattle.message.proofs.AcceptedLemmas.{slice_get-set}
 use Rattle.message.proofs.OfHartLemmas.{of_hart-next, of_hart-other}
 use Rattle.message.specs.Capture.{capture, message_bytes}
@@ -20,24 +19,6 @@ longer_fresh : (payloads : List (List ℕ)) (payload : List ℕ)
 longer_fresh payloads payload =
     let came = sym (map-append (λ (p : List ℕ). false) payloads (payload ∷ [])) in
     λ i. record (fresh (payloads ++ payload ∷ [])) { came = came i }
-
--- Before the first message of SENT nothing is kept.
-pub indexed_none : (harts : ℕ) (index : List HartLedger) → index ≡ replicate harts (fresh [])
-    → AreIndexed harts [] index
-indexed_none harts index is = record {
-  count = ap length is ∙ length-replicate harts (fresh []);
-  each = λ hart own found.
-      let there : slice_get (replicate harts (fresh [])) hart ≡ Some own =
-      ap (λ l. slice_get l hart) (sym is) ∙ found in
-      let within = slice_get_within (replicate harts (fresh [])) hart own there in
-      let at = slice_get-get_or (replicate harts (fresh [])) hart (fresh []) within in
-      let same = get_or-replicate harts hart (fresh []) (fresh [])
-      (omega (arith, within, length-replicate harts (fresh []))) in
-      same_own own (fresh []) (sym there ∙ at ∙ ap Some same);
-}
-  where
-    same_own : (a b : HartLedger) → Some a ≡ Some b → a ≡ b
-    same_own a b e = cc
 
 -- One payload more.
 pub indexed_more : (harts : ℕ) (front : List Message) (m : Message) (index : List HartLedger)
@@ -87,12 +68,6 @@ pub record HasIndexed (harts : ℕ) (messages : List Message) (left : List ℕ) 
   pub ranges : All IsMessage back
   pub rest : left ≡ capture back
   pub indexed : AreIndexed harts front index
-
--- Before the first message all are to come.
-pub index_start : (harts : ℕ) (messages : List Message) (index : List HartLedger) → All IsMessage messages
-    → AreIndexed harts [] index → HasIndexed harts messages (capture messages) index
-index_start harts messages index ranges none =
-    record { front = []; back = messages; whole = refl; ranges = ranges; rest = refl; indexed = none }
 
 -- One message more.
 pub index_next : (harts : ℕ) (messages : List Message) (left : List ℕ) (index more : List HartLedger) (hart : ℕ)

@@ -1,34 +1,26 @@
 -- Messages by what their payloads are compared by.
-use Rattle.std.proofs.Common.{◌≡◌, ◌⊎◌, ◌≤◌, ◌<◌, ℕ, Bool, true, false, cond, eqb, All, List, [], ◌∷◌, ◌++◌, Option, Some, None}
-use Rattle.std.proofs.Common.{Result, Ok, Err, length, map, max, slice_get, slice_set, refl, sym, ap, ap₂, subst, ◌∙◌}
-use Rattle.std.proofs.Common.{inl, inr, arith}
+use Rattle.std.proofs.Common.{◌≡◌, ℕ, Bool, true, false, cond, eqb, List, [], ◌∷◌, ◌++◌, Option, Some, None}
+use Rattle.std.proofs.Common.{length, map, max, slice_get, slice_set, refl, sym, ap, subst, ◌∙◌}
 use Rattle.std.specs.Prelude.{◌+◌, if◌then◌else◌, nat_lt, option_map}
 use Rattle.std.proofs.lemmas.List.{length-map, map-append, map-set}
 use Rattle.std.proofs.lemmas.Option.{slice_get-map}
-use Rattle.payload.specs.Same.{known_by, same, shortest_or}
+use Rattle.payload.specs.Same.{known_by}
 use Rattle.payload.specs.declared.by.By.{By}
 use Rattle.payload.specs.declared.by.By.TheVariants as by
-use Rattle.message.specs.Numbered.{messages_from}
 use Rattle.message.specs.OfHart.{of_hart}
 use Rattle.message.specs.declared.header.Header.{Header}
 use Rattle.message.specs.declared.message.Message.{Message}
 use Rattle.auditing.specs.Exchanged.{the_only}
 use Rattle.auditing.specs.Known.{known_all, known_one}
 use Rattle.auditing.specs.Ledger.{HartLedger, Ledger, known_ledger, known_own}
-use Rattle.auditing.specs.Sent.{AreInTurn, harts_in, harts_of, misplaced, misplaced_at, next_number}
+use Rattle.auditing.specs.Sent.{AreInTurn, harts_in, harts_of, misplaced_at, next_number}
 use Rattle.auditing.specs.declared.fate.Fate.{Fate}
 use Rattle.auditing.specs.declared.fate.Fate.TheVariants as fate
-use Rattle.auditing.specs.declared.finding.Finding.{Finding}
 use Rattle.auditing.specs.steps.Indexing.{AreIndexed, fresh, payloads_of}
 use Rattle.auditing.specs.steps.Taking.{fate_by, fate_found, fate_from, fate_in, finding_at, finding_found, finding_from}
 use Rattle.auditing.specs.steps.Moving.{has_in, harts_that, is_payload, is_untrue, moves_if, owner_in}
 use Rattle.auditing.specs.steps.Taking.{first_after, hart_after, harts_after, harts_found, ledger_after, one_more}
 use Rattle.auditing.specs.steps.Taking.{strangers_after}
-
--- By bytes, messages are themselves.
-pub known-bytes : (messages : List Message) → known_all by.Bytes messages ≡ messages
-known-bytes [] = refl
-known-bytes (message ∷ messages) = ap (λ l. message ∷ l) (known-bytes messages)
 
 -- One message more.
 pub known-more : (how : By) (messages : List Message) (message : Message)

@@ -4,10 +4,8 @@ pub mod AlignedLemmas
 pub mod ArrivalLemmas
 pub mod SumLemmas
 pub mod CountLaws
-pub mod CursorLemmas
 pub mod Matching
 pub mod Begun
-pub mod CommonBeginning
 pub mod Growing
 pub mod Whole
 pub mod Finishing
@@ -28,6 +26,7 @@ pub mod Taken
 pub mod KnownLemmas
 pub mod TakenKnown
 pub mod Sights
+pub mod Recognised
 pub mod PayloadLemmas
 pub mod Counting
 pub mod Indexed

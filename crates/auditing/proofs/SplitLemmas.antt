@@ -1,8 +1,7 @@
 -- The payloads of messages by hart, with one message more.
-use Rattle.std.proofs.Common.{◌≡◌, ◌≢◌, ◌⊎◌, inl, inr, ℕ, ◌+◌, ◌<◌, ◌≤◌, List, [], ◌∷◌, ◌++◌, Option, Some, None, length}
-use Rattle.std.proofs.Common.{get_or, map, replicate, slice_get, take, refl, sym, ap, subst, ◌∙◌, arith}
-use Rattle.std.proofs.lemmas.List.{length-replicate, length-set, get_or-replicate, map-append, take_all, take_more}
-use Rattle.std.proofs.lemmas.Option.{slice_get-get_or, slice_get_within}
+use Rattle.std.proofs.Common.{◌≡◌, ◌≢◌, ◌⊎◌, inl, inr, ℕ, ◌+◌, ◌<◌, List, [], ◌∷◌, ◌++◌, Option, Some, None, length}
+use Rattle.std.proofs.Common.{get_or, map, slice_get, take, refl, sym, ap, subst, ◌∙◌}
+use Rattle.std.proofs.lemmas.List.{length-set, map-append, take_more}
 use Rattle.std.specs.Prelude.{OnOk, Result, Ok, Err}
 use Rattle.message.proofs.AcceptedLemmas.{slice_get-set}
 use Rattle.message.proofs.OfHartLemmas.{of_hart-next, of_hart-other}
@@ -16,21 +15,6 @@ use Rattle.auditing.specs.steps.Splitting.{added, added_found}
 
 abbrev Lists : Type 0
 Lists = List (List (List ℕ))
-
--- Before the first message no hart has a payload.
-pub split_none : (by : By) (harts : ℕ) (lists : Lists) → lists ≡ replicate harts [] → AreSplit by harts [] lists
-split_none by harts lists is = record {
-  count = ap length is ∙ length-replicate harts [];
-  each = λ hart own found.
-      let there : slice_get (replicate harts []) hart ≡ Some own = ap (λ l. slice_get l hart) (sym is) ∙ found in
-      let within = slice_get_within (replicate harts []) hart own there in
-      let at = slice_get-get_or (replicate harts []) hart [] within in
-      let same = get_or-replicate harts hart [] [] (omega (arith, within, length-replicate {A = List (List ℕ)} harts [])) in
-      same_own own [] (sym there ∙ at ∙ ap Some same);
-}
-  where
-    same_own : (a b : List (List ℕ)) → Some a ≡ Some b → a ≡ b
-    same_own a b e = cc
 
 module _ (by : By) (harts : ℕ) where
   -- One message more.
@@ -81,11 +65,6 @@ module _ (by : By) (harts : ℕ) where
       (subst (λ ms. AreSplit by harts ms (added lists m.hart (known_by by m.payload)))
       (sym (take_more messages place m within ∙ ap (λ x. take place messages ++ x ∷ []) (sym m_is)))
       (split_more (take place messages) m lists has))
-
-  -- All of them.
-  pub split_all : (messages : List Message) (place : ℕ) (lists : Lists) → length messages ≤ place
-      → AreSplit by harts (take place messages) lists → AreSplit by harts messages lists
-  split_all messages place lists past has = subst (λ ms. AreSplit by harts ms lists) (take_all place messages past) has
 
   -- One more, where it was added.
   pub split_if : {T E : Type 0} (messages : List Message) (m : Message) (lists new : Lists) (payload : List ℕ)

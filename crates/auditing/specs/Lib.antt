@@ -18,6 +18,7 @@ pub mod HartRows
 pub mod Ledger
 pub mod Audits
 pub mod Seen
+pub mod PayloadSights
 pub mod Sent
 pub mod Untouched
 pub mod DecodedAgain

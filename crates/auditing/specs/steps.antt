@@ -5,3 +5,4 @@ pub mod Indexing
 pub mod Moving
 pub mod Taking
 pub mod Seeing
+pub mod Recognising

@@ -24,7 +24,7 @@ pub struct HartCounts {
 }
 
 /// The sums of what is counted of harts, and whether all are whole.
-#[derive(Clone, Copy, Debug, PartialEq, Eq)]
+#[derive(Clone, Copy, Debug)]
 pub struct AlignedTotal {
     /// How many messages were sent.
     pub sent: u128,

@@ -13,7 +13,7 @@ use message::Message;
 use std::alloc::{AllocError, Allocator};
 
 /// What became of a message.
-#[derive(Clone, Copy, PartialEq, Eq)]
+#[derive(Clone, Copy)]
 pub(crate) enum Arrival {
     /// SENT has no message of its hart.
     Stranger,

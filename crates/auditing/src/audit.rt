@@ -350,6 +350,10 @@ impl<'a, A: Allocator> Sent for Audit<'a, A> {
             None => Sight::Strange,
         }
     }
+
+    fn knows_none(&self) -> bool {
+        true
+    }
 }
 
 /// How many harts SENT has: as many as its header counts, or without a header those up to the highest that has a

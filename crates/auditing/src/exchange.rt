@@ -9,7 +9,7 @@ use payload::By;
 use std::alloc::{AllocError, Allocator};
 
 /// The hart of SENT that most messages of another hart are of, which are not true.
-#[derive(Clone, Copy, Debug, PartialEq, Eq)]
+#[derive(Clone, Copy, Debug)]
 pub struct Exchanged {
     /// The hart that SENT has these messages of.
     pub hart: usize,

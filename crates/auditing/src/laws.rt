@@ -19,6 +19,7 @@ ghost use Rattle.auditing.specs.declared.fate.Fate.TheVariants as Fate;
 ghost use Rattle.auditing.specs.Audits.{Audits};
 ghost use Rattle.auditing.specs.Known.{known_all};
 ghost use Rattle.auditing.specs.Ledger.{Ledger};
+ghost use Rattle.auditing.specs.PayloadSights.{KeepsPayloads, KnownSent, payload_sight, sight_kept};
 ghost use Rattle.auditing.specs.Seen.{sight_of};
 ghost use Rattle.auditing.specs.steps.Seeing.{sight_in};
 ghost use Rattle.auditing.specs.Findings.{skips_in};
@@ -90,9 +91,13 @@ pub fn whole_decodes_again()
 
 /// What an audit knows of a message is what SENT has: whether it has the message's hart and number, and if so, whether
 /// its payload is the one that was sent. It does not depend on the messages that came.
+///
+/// By payloads alone, it is whether SENT has a message of its hart with its payload.
 pub fn sights_are_of_sent()
-    ensures { (sent received : List Message) (ledger : Ledger) (message : Message) → Audits sent received ledger
-        → sight_in ledger message ≡ sight_of ledger.by sent message }
+    ensures numbered { (sent received : List Message) (ledger : Ledger) (message : Message)
+        → Audits sent received ledger → sight_in ledger message ≡ sight_of ledger.by sent message }
+    ensures unnumbered { (framed : Bool) (how : By) (sent : List Message) (own : KnownSent) (message : Message)
+        → KeepsPayloads framed how sent own → sight_kept own message ≡ payload_sight framed how sent message }
 {}
 
 /// What a demultiplexer answers to a message depends on the earlier messages of its own hart alone. The same holds of

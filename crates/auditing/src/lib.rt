@@ -10,7 +10,8 @@
 //! Payloads are compared by their bytes and never unpacked, or with [`Audit::with`] by the packets that they unpack to.
 //! Only [`Audit::new`] and [`Audit::with`] take memory.
 //!
-//! Where messages carry no numbers, SENT and RECEIVED are lists of messages. [`aligned_harts`] aligns the payloads of
+//! Where messages carry no numbers, a damaged RECEIVED is read by [`KnownPayloads`], the payloads that SENT has of each
+//! hart. Then SENT and RECEIVED are lists of messages. [`aligned_harts`] aligns the payloads of
 //! each hart of SENT. [`arrival_lines`] lists the messages of RECEIVED that are not matched or
 //! skip a number, [`counts_of`] and [`total_of`] count. The numbers of RECEIVED are not looked at.
 //!
@@ -33,6 +34,7 @@ mod finding;
 mod hart;
 mod indexing;
 mod judging;
+mod known_payloads;
 mod laws;
 mod lost;
 mod planning;
@@ -52,6 +54,7 @@ pub use exchange::Exchanged;
 pub use fate::Fate;
 pub use fault::SentFault;
 pub use finding::Finding;
+pub use known_payloads::KnownPayloads;
 pub use laws::{
     counts_add_up, harts_are_received_alone, rows_add_up, sights_are_of_sent, skips_add_up,
     whole_decodes_again, whole_is_equal, whole_is_untouched,

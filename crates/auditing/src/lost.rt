@@ -11,7 +11,7 @@ ghost use Rattle.auditing.specs.declared.lost.Lost.{Lost as AnyLost};
 use std::marker::Model;
 
 /// A longest run of numbers of a hart that were lost.
-#[derive(Clone, Copy, Debug, PartialEq, Eq)]
+#[derive(Clone, Copy, Debug)]
 pub struct Lost {
     /// The first of the numbers.
     pub first: u64,
@@ -67,7 +67,7 @@ impl<'a> LostRuns<'a> {
 }
 
 /// How many longest runs of numbers were lost, and how many numbers the longest of them has.
-#[derive(Clone, Copy, Debug, PartialEq, Eq)]
+#[derive(Clone, Copy, Debug)]
 pub struct RunLengths {
     /// How many runs there are.
     pub runs: u64,

@@ -4,7 +4,7 @@ use crate::exchange::Exchanged;
 use crate::tally::Tally;
 
 /// What an audit finds of a hart.
-#[derive(Clone, Copy, Debug, PartialEq, Eq)]
+#[derive(Clone, Copy, Debug)]
 pub struct HartRow {
     /// What became of its messages.
     pub tally: Tally,

@@ -1,7 +1,7 @@
 //! What became of the messages of a hart, counted.
 
 /// What became of the messages of a hart.
-#[derive(Clone, Copy, Debug, PartialEq, Eq)]
+#[derive(Clone, Copy, Debug)]
 pub struct Tally {
     /// How many messages of the hart SENT has.
     pub sent: u64,
@@ -20,7 +20,7 @@ pub struct Tally {
 }
 
 /// How many messages of a hart came, and how many of them have each fate. A count of 2^64 - 1 stays.
-#[derive(Clone, Copy, PartialEq, Eq)]
+#[derive(Clone, Copy)]
 pub(crate) struct Counts {
     pub(crate) came: u64,
     pub(crate) strange: u64,

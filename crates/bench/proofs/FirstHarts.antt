@@ -1,6 +1,6 @@
 -- The first of harts of which something holds.
 use Rattle.std.proofs.Common.{◌≡◌, ◌∙◌, ◌<◌, ◌≤◌, ℕ, Bool, true, false, List, Option, None, Some, get_or, length}
-use Rattle.std.proofs.Common.{slice_get, refl, sym, ap, subst, arith}
+use Rattle.std.proofs.Common.{slice_get, refl, sym, subst, arith}
 use Rattle.std.specs.Prelude.{IsFalse, IsSomeAnd, IsTrue}
 use Rattle.std.proofs.lemmas.Option.{get_or_from_slice_get, same_Some, slice_get-get_or, slice_get_within}
 use Rattle.bench.specs.Stopping.{AreClosed, ClosedUnlessRefused, IfHandedBack, IsOpenHart, IsOpenNotRefused, NamesOpen}
@@ -42,16 +42,7 @@ module _ {A : Type 0} (harts : List (HartOutcome A)) where
       apart (get_or harts h d).closed shut
       (subst (λ o. IsSomeAnd o is_open) (slice_get-get_or harts h d within) given)
 
-  -- Its channel ended where it is not closed and no allocation failed.
-  pub ended_here : (h : ℕ) (d e : HartOutcome A) → h < length harts → (get_or harts h d).closed ≡ false
-      → (get_or harts h e).refused ≡ false → IsOpenNotRefused harts h
-  ended_here h d e within opened going =
-      let same = same_Some (get_or harts h d) (get_or harts h e)
-      (sym (slice_get-get_or harts h d within) ∙ slice_get-get_or harts h e within) in
-      subst (λ o. IsSomeAnd o has_ended) (sym (slice_get-get_or harts h d within))
-      (opened, ap (λ (came : HartOutcome A). came.refused) same ∙ going)
-
-  -- It did not where it is closed, or an allocation failed.
+  -- Its channel did not end where it is closed, or an allocation failed.
   pub shut_not_ended : (h : ℕ) (d : HartOutcome A) → h < length harts → (get_or harts h d).closed ≡ true
       → ¬ IsOpenNotRefused harts h
   shut_not_ended h d within shut = λ given.
@@ -69,13 +60,6 @@ module _ {A : Type 0} (harts : List (HartOutcome A)) where
       → AreClosed harts
   all_closed n over none = λ k d low.
       is_on (get_or harts k d).closed (λ opened. none k (omega (arith, low, over)) (open_here k d low opened))
-
-  -- Of none of them the channel ended.
-  pub none_ended : (n : ℕ) → length harts ≤ n → ((before : ℕ) → before < n → ¬ IsOpenNotRefused harts before)
-      → ClosedUnlessRefused harts
-  none_ended n over none = λ k d low going.
-      is_on (get_or harts k d).closed
-      (λ opened. none k (omega (arith, low, over)) (ended_here k d d low opened going))
 
   open_within : (h : ℕ) (o : Option (HartOutcome A)) → slice_get harts h ≡ o → IsSomeAnd o is_open
       → h < length harts

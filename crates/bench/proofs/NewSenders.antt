@@ -1,5 +1,5 @@
 -- Senders that sent nothing, with one more.
-use Rattle.std.proofs.Common.{◌≡◌, ◌+◌, ◌⊎◌, inl, inr, ℕ, List, [], ◌∷◌, ◌++◌, Some, length, slice_get, take, refl, sym}
+use Rattle.std.proofs.Common.{◌≡◌, ◌+◌, ◌⊎◌, inl, inr, ℕ, List, [], ◌∷◌, ◌++◌, Some, length, slice_get, take, sym}
 use Rattle.std.proofs.Common.{ap, subst, ◌∙◌}
 use Rattle.std.proofs.lemmas.List.{length_push}
 use Rattle.legalpath.specs.ProgramLog.{ProgramLog}
@@ -11,10 +11,6 @@ use Rattle.bench.specs.steps.Sending.{AreNewSenders, sender_at}
 use Rattle.bench.proofs.CollectedLemmas.{take-next}
 
 module _ {B : Type 0} (period : ℕ) (mode : Mode) where
-  -- Before the first log there is none.
-  pub new_senders-none : AreNewSenders {B = B} period mode [] []
-  new_senders-none = record { count = refl; each = λ hart log at. cc }
-
   -- With the sender of one log more.
   new_senders-push : (logs : List ProgramLog) (senders : List (Sender B)) (log : ProgramLog) (sender : Sender B)
       → AreNewSenders period mode logs senders → sender ≡ sender_at period mode log 0

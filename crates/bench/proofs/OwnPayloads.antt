@@ -1,6 +1,5 @@
 -- The payloads of harts that have logs.
-use Rattle.std.proofs.Common.{◌≡◌, ◌≤◌, ℕ, zero, suc, List, [], ◌∷◌, Some, length, map, slice_get, refl, ap, ◌∙◌, arith}
-use Rattle.std.proofs.lemmas.List.{get_or_past, length-map}
+use Rattle.std.proofs.Common.{◌≡◌, ℕ, zero, suc, List, [], ◌∷◌, Some, map, slice_get, refl, ap, ◌∙◌}
 use Rattle.std.proofs.lemmas.Option.{get_or_from_slice_get, slice_get-map}
 use Rattle.std.specs.Option.{option_map}
 use Rattle.legalpath.specs.ProgramLog.{ProgramLog}
@@ -15,13 +14,6 @@ module _ (period : ℕ) (mode : Mode) where
   own_payloads hart logs log at =
       get_or_from_slice_get (map (payloads period mode) logs) hart (payloads period mode log) []
       (slice_get-map (payloads period mode) logs hart ∙ ap (option_map (payloads period mode)) at)
-
-  -- Behind the last log there are none.
-  pub no_payloads : (hart : ℕ) (logs : List ProgramLog) → length logs ≤ hart
-      → payloads_of hart (map (payloads period mode) logs) ≡ []
-  no_payloads hart logs behind =
-      get_or_past (map (payloads period mode) logs) hart []
-      (omega (arith, behind, length-map logs (payloads period mode)))
 
   -- The payload is the one of this number of the hart's log.
   pub record HasLog (hart n : ℕ) (logs : List ProgramLog) (payload : List ℕ) : Type 0 where

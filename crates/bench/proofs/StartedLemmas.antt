@@ -14,7 +14,7 @@ use Rattle.bench.specs.Got.{Got, got_after, kept}
 use Rattle.bench.specs.declared.config.Config.{Config}
 use Rattle.bench.specs.declared.worker.Sending.{Sending}
 use Rattle.bench.specs.declared.worker.Work.{Work}
-use Rattle.bench.specs.steps.Gathering.{AreGathered, IsGathered, IsWorkerOf}
+use Rattle.bench.specs.steps.Gathering.{IsWorkerOf}
 use Rattle.bench.specs.steps.Taking.{IsCutOff}
 use Rattle.bench.proofs.CollectedSame.{collected_same, cut_off_same}
 use Rattle.bench.proofs.ListElements.{Contains-more}
@@ -138,16 +138,3 @@ module _ (config : Config) (logs : List ProgramLog) where
         its hart log at here =
             inr (subst (λ h. IsCutOff config.period config.mode log 0 h new) (sym here)
             (cut log (before.begun place log (omega (arith, next)) (ap (slice_get logs) (sym here) ∙ at))))
-
-  -- All of them.
-  pub all_begun : (started : List ℕ) (collected : Collected) → AreBegun 0 started collected
-      → AreGathered config logs started [] collected
-  all_begun started collected all = record {
-    own = all.own;
-    each = λ hart log at. of_one hart log (all.each hart log (omega arith) at);
-  }
-    where
-      of_one : (hart : ℕ) (log : ProgramLog) → IsBegun log started hart collected
-          → IsGathered config log started [] hart collected
-      of_one hart log (inl runs) = inl (runs.0, λ first. inl runs.1)
-      of_one hart log (inr cut) = inr cut

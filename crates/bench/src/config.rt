@@ -3,7 +3,7 @@
 use payload::Mode;
 
 /// How logs go through the funnel.
-#[derive(Clone, Copy, PartialEq, Eq)]
+#[derive(Clone, Copy)]
 pub struct Config {
     /// A synchronisation is sent at each retirement whose number, counted from 0, is a multiple of this. It is 1 or
     /// more.

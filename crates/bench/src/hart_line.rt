@@ -6,26 +6,28 @@ ghost use Rattle.bench.specs.Report.{hart_text};
 use crate::verdict::Verdict;
 use std::fmt;
 
-/// What a report says of a hart.
+/// What a comparison says of a hart. Its text is the line of the hart without the line's end.
 #[derive(Clone, Copy)]
-pub(crate) struct HartLine {
-    pub(crate) hart: usize,
+pub struct ComparedHart {
+    /// The number of the hart.
+    pub hart: usize,
     /// How many events its log has.
-    pub(crate) events: usize,
-    /// How many of its packets came.
-    pub(crate) taken: u64,
-    /// How many bytes their payloads had.
-    pub(crate) bytes: u64,
+    pub events: usize,
+    /// How many of its messages came before decoding stops.
+    pub taken: u64,
+    /// How many bytes their payloads have.
+    pub bytes: u64,
     /// How many events were decoded.
-    pub(crate) decoded: usize,
-    pub(crate) verdict: Verdict,
+    pub decoded: usize,
+    /// How these compare with the log.
+    pub verdict: Verdict,
 }
 
-impl fmt::Display for HartLine {
+impl fmt::Display for ComparedHart {
     ghost output = { λ line. Some (hart_text line.hart line.events line.taken line.bytes line.decoded line.verdict) };
 
     fn fmt<W: fmt::Write>(&self, f: &mut fmt::Formatter<W>) -> fmt::Result {
-        let HartLine {
+        let ComparedHart {
             hart,
             events,
             taken,

@@ -9,7 +9,7 @@ ghost use Rattle.bench.specs.Report.{are_whole, report_line, report_lines, is_wh
 ghost use Rattle.bench.specs.Report.{result_line, stop_line};
 ghost use Rattle.bench.specs.Verdict.{verdict};
 
-use crate::hart_line::HartLine;
+use crate::hart_line::ComparedHart;
 use crate::outcome::{HartOutcome, Outcome};
 use crate::stop::Stop;
 use crate::verdict::{Verdict, compare};
@@ -129,7 +129,7 @@ fn write_hart<W: Write, A: Allocator, B: Allocator>(
     ensures fault { IfErr result (λ fault. fault ≡ WriteFault.Write) }
 {
     let verdict = verdict_of(outcome, log);
-    let line = HartLine {
+    let line = ComparedHart {
         hart,
         events: log.events().len(),
         taken: outcome.taken,
@@ -154,8 +154,9 @@ fn write_stop<W: Write>(stop: Option<Stop>, sink: &mut W) -> Result<(), WriteFau
     Ok(())
 }
 
-/// Writes the line of the result.
-fn write_result<W: Write>(whole: bool, sink: &mut W) -> Result<(), WriteFault>
+/// Writes the line of the result. The only fault is [`WriteFault::Write`], where the writer failed; what was written then
+/// is a prefix of the line.
+pub fn write_result<W: Write>(whole: bool, sink: &mut W) -> Result<(), WriteFault>
     ensures text { OnOk result (Appends (W.contents sink.old) (W.contents sink.new) (result_line whole)) }
     ensures begun { AppendsBeginning (result_line whole) (W.contents sink.old) (W.contents sink.new) }
     ensures fault { IfErr result (λ fault. fault ≡ WriteFault.Write) }

@@ -1,6 +1,6 @@
 //! Logs through the funnel over threads.
 
-ghost use Rattle.std.specs.Prelude.{ℕ, ◌≡◌, ◌≤◌, [], IfErr, IfOk, None, Some, Err, OnErr, length};
+ghost use Rattle.std.specs.Prelude.{◌≡◌, ◌≤◌, [], IfErr, IfOk, None, Some, Err, OnErr, length};
 ghost use Rattle.funnel.specs.Ends.{AreNewPorts};
 ghost use Rattle.funnel.specs.Limits.{most_ports};
 ghost use Rattle.bench.specs.Beginnings.{AreBeginnings, AreCarried, AreThoseTaken, CameThrough, LackSomeTaken};
@@ -151,8 +151,8 @@ pub fn run_on<A: Allocator + Copy, G: Gate, R: Threads + Wait + Sync>(
 /// The ends of a new funnel for this many harts, or why nothing is sent at all.
 fn ends_of(global: Global, harts: usize, config: Config) -> Result<(Vec<Port>, Outlet), Setup>
     ensures ports { IfOk result (λ ends. AreNewPorts ends.1.funnel harts ends.0.items) }
-    ensures outlet { IfOk result (λ ends. (ends.1.taken ≡ []) × (ends.1.made ≡ harts)) }
-    ensures room { IfOk result (λ ends. ends.1.room ≡ config.capacity) }
+    ensures outlet { IfOk result
+        (λ ends. (ends.1.taken ≡ []) × (ends.1.made ≡ harts) × (ends.1.room ≡ config.capacity)) }
     ensures limits { IfOk result (λ ends. (1 ≤ config.period) × (harts ≤ most_ports)) }
     ensures refused { (fault : AnySetup) → setup_fault most_ports harts config ≡ Some fault → result ≡ Err fault }
     ensures memory { setup_fault most_ports harts config ≡ None → IfErr result (λ fault. fault ≡ Setup.Memory) }

@@ -46,7 +46,7 @@ pub(crate) fn start_all<'s, E, A: Allocator + Copy, G: Gate, R: Wait + Sync>(
             source: Source::new(log, plan.config.period, plan.config.mode),
         };
         let most = log.events().len() + 2;
-        match start(scope, plan.rt, plan.gate, hart as u16, port, source, most) {
+        match start(scope, plan, hart as u16, port, source, most) {
             Some(worker) => workers.push_reserved(worker),
             None => collector.refuse(hart as u16),
         }

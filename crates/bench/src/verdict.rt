@@ -8,7 +8,7 @@ use retire::Event;
 use std::fmt;
 
 /// How what was decoded of a hart compares with its log.
-#[derive(Clone, Copy, PartialEq, Eq)]
+#[derive(Clone, Copy)]
 pub enum Verdict {
     /// The closing packet was decoded, and the whole log.
     Whole,

@@ -9,6 +9,7 @@ ghost use Rattle.funnel.specs.Ends.{after_sending};
 ghost use Rattle.bench.specs.Working.{IsWork};
 
 use crate::gate::Gate;
+use crate::plan::Plan;
 use encoder::Source;
 use funnel::{Port, Receipt};
 use payload::Payload;
@@ -80,8 +81,7 @@ pub(crate) type Worker<S> = PromisedHandle<Work, Sending<S>>;
 /// Starts the worker of a hart, which sends at most `most` payloads; `None` where the thread was refused.
 pub(crate) fn start<'s, E, S: Payloads + 's, G: Gate, R: Wait + Sync>(
     scope: &Scope<'s, E>,
-    rt: &'s R,
-    gate: &'s G,
+    plan: &Plan<'s, G, R>,
     hart: u16,
     port: Port,
     source: S,
@@ -90,6 +90,7 @@ pub(crate) fn start<'s, E, S: Payloads + 's, G: Gate, R: Wait + Sync>(
     requires { ((S.at source).number ≡ 0) × (port.sent ≡ []) }
     ensures { IfSome result (λ w. (w.promise.port.value ≡ port) × (w.promise.source.value ≡ source)) }
 {
+    let (rt, gate) = (plan.rt, plan.gate);
     let promise = Sending {
         port: Snapshot::of(&port),
         source: Snapshot::of(&source),

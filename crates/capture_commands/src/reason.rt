@@ -8,6 +8,7 @@ use captures::CaptureFault;
 use command_inputs::{Reason, Status};
 use message::{HartRange, MessageFault};
 use std::fmt;
+use std::fmt::Display;
 use symbols::SymbolsFault;
 
 /// Why a subcommand that reads a capture stops.
@@ -35,7 +36,7 @@ impl fmt::Display for CaptureReason<'_> {
 
     fn fmt<W: fmt::Write>(&self, f: &mut fmt::Formatter<W>) -> fmt::Result {
         match self {
-            CaptureReason::Header => write!(f, "{}", MessageFault::BadHeader),
+            CaptureReason::Header => MessageFault::BadHeader.fmt(f),
             CaptureReason::Message(number, why) => write!(f, "message {number}: {why}"),
             CaptureReason::Unclosed(hart) => write!(f, "hart {hart}: no closing packet"),
             CaptureReason::Symbols(path, why) => write!(f, "{path}: {why}"),

@@ -12,7 +12,8 @@ ghost use Rattle.capture_commands.specs.steps.Beside.{IsBeside};
 ghost use Rattle.capture_commands.specs.steps.Places.{hart_at_place, places_in};
 
 use crate::beside::Beside;
-use comparing::{ComparedHart, ExplainedHart, HartCount};
+use bench::ComparedHart;
+use comparing::{ExplainedHart, HartCount};
 use legalpath::PathFault;
 use log_streams::{IllegalRow, LogTask};
 use retire::Event;

@@ -1,6 +1,7 @@
 -- What is passed line by line is what the lines say together.
 use Rattle.std.proofs.Common.{◌≡◌, ◌<◌, ◌+◌, ◌∙◌, ℕ, List, [], ◌∷◌, ◌++◌, Option, Some, None, Result, Ok, Err}
-use Rattle.std.proofs.Common.{arith, ap, refl, sym, get_or, length, length-append, inl, inr, replicate, IfOk}
+use Rattle.std.proofs.Common.{◌≤◌, arith, ap, refl, subst, sym, get_or, length, length-append, inl, inr, replicate}
+use Rattle.std.proofs.Common.{Bool, true, false, zero, suc, IfOk}
 use Rattle.std.specs.Prelude.{max}
 use Rattle.std.specs.List.{fold}
 use Rattle.std.proofs.lemmas.Bool.{cases_eq}
@@ -9,18 +10,24 @@ use Rattle.std.proofs.lemmas.List.Sums.{fold_push}
 use Rattle.message.proofs.OfHartLemmas.{of_hart-next, of_hart-other}
 use Rattle.message.specs.OfHart.{of_hart}
 use Rattle.message.specs.declared.message.Message.{Message}
-use Rattle.captures.specs.Line.{line_of}
-use Rattle.captures.specs.Lines.{lines_from, message_after, messages_after, with_line}
+use Rattle.std.specs.Prelude.{if◌then◌else◌}
+use Rattle.std.specs.Str.Lines.{lines}
+use Rattle.captures.specs.Line.{fields_of, form_of_line, is_passed_over, line_by, line_of, some_line}
+use Rattle.captures.specs.Lines.{before, first_form, form_of, lines_from, lines_of, message_after, messages_after}
+use Rattle.captures.specs.Lines.{with_line}
 use Rattle.captures.specs.Number.{lowest_of, number_by}
 use Rattle.captures.specs.declared.line_fault.LineFault.{LineFault}
 use Rattle.captures.specs.declared.line_fault.LinesFault.{LinesFault}
 use Rattle.captures.specs.declared.line_form.Form.{Form}
+use Rattle.captures.specs.declared.line_form.Form.TheVariants.{Numbered}
 use Rattle.captures.specs.declared.capture_line.Line.{Line}
 use Rattle.captures.specs.declared.line_settings.Settings.{Settings}
+use Rattle.captures.specs.Pass.{Pass, after_fault, after_line, after_none, pass, pass_fault, pass_found, then_pass}
+use Rattle.captures.specs.Streamed.{Found, and_found, faults_in, form_or, found_in, known_form, passed_of, said_in}
+use Rattle.captures.specs.Streamed.{skips_of, stop_of}
+use Rattle.captures.specs.declared.passed_lines.PassedLines.{PassedLines}
 use Rattle.captures.specs.steps.Passing.{checked_from, counted, harts_with, lowered, lowest_with, message_at, past}
-use Rattle.captures.specs.steps.Passing.{sent_from, sent_with}
 use Rattle.captures.proofs.Known.{HasHartIfTold, line_known}
-use Rattle.captures.proofs.Sending.{no_count, no_counts}
 
 -- The count of harts up to the highest of what lines say, and of those before them, or their fault.
 abbrev pub summary : ℕ → Result (List Line) LinesFault → Result ℕ LinesFault
@@ -41,6 +48,15 @@ checked settings form number harts (line ∷ lines) =
     let r = line_of settings form line in
     ap (past number r) (checked settings form (number + 1) (harts_with harts r) lines)
     ∙ past_one number harts r (lines_from settings form (number + 1) lines)
+
+-- No hart has passed a line yet.
+abbrev pub no_counts : List ℕ
+no_counts = replicate 1024 0
+
+no_count : (n hart : ℕ) → get_or (replicate n 0) hart 0 ≤ 0
+no_count zero hart = omega arith
+no_count (suc n) zero = omega arith
+no_count (suc n) (suc hart) = no_count n hart
 
 -- The counts, and the lowest numbers, are those of these messages.
 pub record Agree (numbers : Option ℕ) (counts lows : List ℕ) (earlier : List Message) : Type 0 where
@@ -137,30 +153,150 @@ module _ (numbers : Option ℕ) (counts lows : List ℕ) (earlier : List Message
     lowest = lowest_at;
   }
 
-one_line : (numbers : Option ℕ) (number : ℕ) (r : Result (Option Line) LineFault) (rest : Result (List Line) LinesFault)
-    (sent : List ℕ → List ℕ → List Message) (counts lows : List ℕ) (earlier : List Message) → HasHartIfTold 1024 r
-    → Agree numbers counts lows earlier
-    → ((counts lows : List ℕ) (earlier : List Message) → Agree numbers counts lows earlier
-    → IfOk rest (λ lines. sent counts lows ≡ messages_after numbers earlier lines))
-    → IfOk (with_line number r rest)
-    (λ lines. sent_with numbers counts lows r sent ≡ messages_after numbers earlier lines)
-one_line numbers number (Err why) rest sent counts lows earlier known agree then = tt
-one_line numbers number (Ok None) rest sent counts lows earlier known agree then = then counts lows earlier agree
-one_line numbers number (Ok (Some line)) (Err why) sent counts lows earlier known agree then = tt
-one_line numbers number (Ok (Some line)) (Ok lines) sent counts lows earlier known agree then =
-    let m = message_after numbers earlier line in
-    let here = same_message numbers counts lows earlier line agree known in
-    let more = then (counted counts line) (lowered numbers lows m) (earlier ++ (m ∷ []))
-    (agree_more numbers counts lows earlier line agree known) in
-    ap (λ m. m ∷ sent (counted counts line) (lowered numbers lows m)) here ∙ ap (λ ms. m ∷ ms) more
+-- The messages of a pass are those of the lines that it passes, after these messages, and so are its fault and the count
+-- of lines that are skipped.
+pub record Fits (numbers : Option ℕ) (skip : Bool) (passed : PassedLines) (earlier : List Message) (found : List Found)
+    (its : Pass) : Type 0 where
+  pub messages : its.messages ≡ messages_after numbers earlier (said_in (passed_of skip found))
+  pub stop : its.stop ≡ stop_of skip (faults_in (passed.lines + 1) (passed_of skip found))
+  pub skipped : its.passed.skipped ≡ passed.skipped + skips_of skip (faults_in (passed.lines + 1) (passed_of skip found))
 
--- The messages that are written line by line are those of the lines.
-pub sent_is : (settings : Settings) (form : Form) (number : ℕ) (lines : List (List ℕ)) (counts lows : List ℕ)
-    (earlier : List Message) → Agree settings.numbers counts lows earlier
-    → IfOk (lines_from settings form number lines)
-    (λ said. sent_from settings form counts lows lines ≡ messages_after settings.numbers earlier said)
-sent_is settings form number [] counts lows earlier agree = refl
-sent_is settings form number (line ∷ lines) counts lows earlier agree =
-    one_line settings.numbers number (line_of settings form line) (lines_from settings form (number + 1) lines)
-    (λ c l. sent_from settings form c l lines) counts lows earlier (line_known settings form line) agree
-    (λ c l e a. sent_is settings form (number + 1) lines c l e a)
+module _ (numbers : Option ℕ) (line : List ℕ) (more : Option Form → List Found) (later : PassedLines → Pass) where
+  faulty : (skip : Bool) (why : LineFault) (passed : PassedLines) (earlier : List Message)
+      → Fits numbers skip (after_fault passed) earlier (more passed.form) (later (after_fault passed))
+      → Fits numbers skip passed earlier (Err why ∷ more passed.form) (pass_fault skip passed why later)
+  faulty true why passed earlier follows = record {
+    messages = follows.messages;
+    stop = follows.stop;
+    skipped = omega (arith, follows.skipped);
+  }
+  faulty false why passed earlier follows = record { messages = refl; stop = refl; skipped = omega arith }
+
+  module _ (skip : Bool) (passed : PassedLines) (earlier : List Message)
+      (agree : Agree numbers passed.counts passed.lows earlier)
+      (follows : (passed : PassedLines) (earlier : List Message) → Agree numbers passed.counts passed.lows earlier
+      → Fits numbers skip passed earlier (more passed.form) (later passed)) where
+    telling : (said : Line) → said.hart < 1024
+        → Fits numbers skip passed earlier (Ok (Some said) ∷ more (Some (form_or passed.form line)))
+        (pass_found numbers skip passed (form_or passed.form line) (Ok (Some said)) later)
+    telling said known =
+        let form = form_or passed.form line in
+        let message = message_after numbers earlier said in
+        let after = after_line numbers form said message passed in
+        let next = follows after (earlier ++ (message ∷ []))
+        (agree_more numbers passed.counts passed.lows earlier said agree known) in
+        subst (λ m. Fits numbers skip passed earlier (Ok (Some said) ∷ more (Some form))
+        (then_pass (m ∷ []) (later (after_line numbers form said m passed))))
+        (sym (same_message numbers passed.counts passed.lows earlier said agree known))
+        (record {
+          messages = ap (λ ms. message ∷ ms) next.messages;
+          stop = next.stop;
+          skipped = next.skipped;
+        })
+
+    one_line : (found : Found) → HasHartIfTold 1024 found
+        → Fits numbers skip passed earlier (and_found passed.form line found more)
+        (pass_found numbers skip passed (form_or passed.form line) found later)
+    one_line (Err why) known = faulty skip why passed earlier (follows (after_fault passed) earlier agree)
+    one_line (Ok None) known =
+        let next = follows (after_none passed) earlier agree in
+        record { messages = next.messages; stop = next.stop; skipped = next.skipped }
+    one_line (Ok (Some said)) known = telling said known
+
+no_stop : (skip : Bool) → None ≡ stop_of skip []
+no_stop true = refl
+no_stop false = refl
+
+no_skips : (skip : Bool) (count : ℕ) → count ≡ count + skips_of skip []
+no_skips true count = omega arith
+no_skips false count = omega arith
+
+-- What comes of lines that are passed is what is found in them.
+pub pass_is : (settings : Settings) (skip : Bool) (lines : List (List ℕ)) (passed : PassedLines) (earlier : List Message)
+    → Agree settings.numbers passed.counts passed.lows earlier
+    → Fits settings.numbers skip passed earlier (found_in settings passed.form lines) (pass settings skip passed lines)
+pass_is settings skip [] passed earlier agree = record { messages = refl; stop = no_stop skip; skipped = no_skips skip passed.skipped }
+pass_is settings skip (line ∷ lines) passed earlier agree =
+    one_line settings.numbers line (λ known. found_in settings known lines) (λ passed. pass settings skip passed lines)
+    skip passed earlier agree (λ passed earlier agree. pass_is settings skip lines passed earlier agree)
+    (line_of settings (form_or passed.form line) line) (line_known settings (form_or passed.form line) line)
+
+-- Lines that have no fault say this, whether lines with a fault are skipped or not.
+pub record IsAllRight (skip : Bool) (said : List Line) (number : ℕ) (found : List Found) : Type 0 where
+  pub said_is : said_in (passed_of skip found) ≡ said
+  pub none : faults_in number (passed_of skip found) ≡ []
+
+module _ (skip : Bool) (number : ℕ) (line : List ℕ) (known : Option Form) (more : Option Form → List Found) where
+  right_none : (rest : Result (List Line) LinesFault)
+      → IfOk rest (λ said. IsAllRight skip said (number + 1) (more known))
+      → IfOk rest (λ said. IsAllRight skip said number (and_found known line (Ok None) more))
+  right_none (Err why) follows = tt
+  right_none (Ok said) follows = record { said_is = follows.said_is; none = follows.none }
+
+  right_some : (one : Line) (rest : Result (List Line) LinesFault)
+      → IfOk rest (λ said. IsAllRight skip said (number + 1) (more (Some (form_or known line))))
+      → IfOk (before one rest) (λ said. IsAllRight skip said number (and_found known line (Ok (Some one)) more))
+  right_some one (Err why) follows = tt
+  right_some one (Ok said) follows = record { said_is = ap (λ l. one ∷ l) follows.said_is; none = follows.none }
+
+  right_said : (said : Result Line LineFault) (rest : Result (List Line) LinesFault)
+      → IfOk rest (λ said. IsAllRight skip said (number + 1) (more (Some (form_or known line))))
+      → IfOk (with_line number (some_line said) rest)
+      (λ all. IsAllRight skip all number (and_found known line (some_line said) more))
+  right_said (Err why) rest follows = tt
+  right_said (Ok one) rest follows = right_some one rest follows
+
+module _ (skip : Bool) (settings : Settings) where
+  right_one : (form : Form) (number : ℕ) (line : List ℕ) (found : Found) (rest : Result (List Line) LinesFault)
+      (more : Option Form → List Found) → IfOk rest (λ said. IsAllRight skip said (number + 1) (more (Some form)))
+      → IfOk (with_line number found rest)
+      (λ said. IsAllRight skip said number (and_found (Some form) line found more))
+  right_one form number line (Err why) rest more follows = tt
+  right_one form number line (Ok None) rest more follows = right_none skip number line (Some form) more rest follows
+  right_one form number line (Ok (Some said)) rest more follows =
+      right_some skip number line (Some form) more said rest follows
+
+  -- Lines whose form is known.
+  pub all_right : (form : Form) (number : ℕ) (lines : List (List ℕ))
+      → IfOk (lines_from settings form number lines)
+      (λ said. IsAllRight skip said number (found_in settings (Some form) lines))
+  all_right form number [] = record { said_is = refl; none = refl }
+  all_right form number (line ∷ lines) =
+      right_one form number line (line_of settings form line) (lines_from settings form (number + 1) lines)
+      (λ known. found_in settings known lines) (all_right form (number + 1) lines)
+
+  first_right : (passed : Bool) (number : ℕ) (line : List ℕ) (lines : List (List ℕ))
+      (says : Form → Result Line LineFault)
+      → IfOk (lines_from settings (first_form lines) (number + 1) lines)
+      (λ said. IsAllRight skip said (number + 1) (found_in settings None lines))
+      → IfOk (with_line number (if passed then Ok None else some_line
+      (says (if passed then first_form lines else form_of_line line)))
+      (lines_from settings (if passed then first_form lines else form_of_line line) (number + 1) lines))
+      (λ said. IsAllRight skip said number
+      (and_found None line (if passed then Ok None else some_line (says (form_of_line line)))
+      (λ known. found_in settings known lines)))
+  first_right true number line lines says follows =
+      right_none skip number line None (λ known. found_in settings known lines)
+      (lines_from settings (first_form lines) (number + 1) lines) follows
+  first_right false number line lines says follows =
+      right_said skip number line None (λ known. found_in settings known lines) (says (form_of_line line))
+      (lines_from settings (form_of_line line) (number + 1) lines) (all_right (form_of_line line) (number + 1) lines)
+
+  -- Lines whose form is that of the first.
+  unknown_right : (number : ℕ) (lines : List (List ℕ)) → IfOk (lines_from settings (first_form lines) number lines)
+      (λ said. IsAllRight skip said number (found_in settings None lines))
+  unknown_right number [] = record { said_is = refl; none = refl }
+  unknown_right number (line ∷ lines) =
+      first_right (is_passed_over line) number line lines (λ form. line_by settings form (fields_of line))
+      (unknown_right (number + 1) lines)
+
+  form_right : (numbers : Option ℕ) (number : ℕ) (lines : List (List ℕ))
+      → IfOk (lines_from settings (form_of numbers lines) number lines)
+      (λ said. IsAllRight skip said number (found_in settings (known_form numbers) lines))
+  form_right None number lines = unknown_right number lines
+  form_right (Some numbers) number lines = all_right Numbered number lines
+
+  -- The lines of a text that come one by one.
+  pub text_right : (text : List ℕ) → IfOk (lines_of settings text)
+      (λ said. IsAllRight skip said 1 (found_in settings (known_form settings.numbers) (lines text)))
+  text_right text = form_right settings.numbers 1 (lines text)

@@ -263,10 +263,6 @@ not_passed (byte ∷ text) begins other =
 
 -- ---- the blanks before a text
 
-not_not : (b : Bool) → not (not b) ≡ b
-not_not true = refl
-not_not false = refl
-
 one_more : (n : ℕ) → 1 + n ≡ suc n
 one_more n = omega arith
 

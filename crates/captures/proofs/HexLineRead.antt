@@ -4,7 +4,7 @@ use Rattle.std.proofs.Common.{◌∷◌}
 use Rattle.std.proofs.Common.{Some, None, Ok, Err, arith, ap, refl, sym, length, get_or, slice_index, inl, inr, zero}
 use Rattle.std.proofs.Common.{suc}
 use Rattle.std.proofs.Common.{◌&&◌, append_assoc, drop, length-append, nat_lt, subst, true≢false}
-use Rattle.std.specs.Prelude.{if◌then◌else◌, cond, nat_le, option_map, take, unwrap_or}
+use Rattle.std.specs.Prelude.{if◌then◌else◌, cond, nat_le, not, option_map, take, unwrap_or}
 use Rattle.std.specs.Char.{digit_value, is_digit}
 use Rattle.std.specs.Fmt.{decimal}
 use Rattle.std.specs.List.{list_all, slice_split}
@@ -23,7 +23,7 @@ use Rattle.message.specs.Version.{most_harts}
 use Rattle.message.specs.declared.message.Message.{Message}
 use Rattle.captures.specs.HexLines.{hex_line}
 use Rattle.captures.specs.Line.{are_filled, fields_of, form_by, form_of_line, is_passed_over, line_by, line_of}
-use Rattle.captures.specs.Line.{is_within, number_below, payload_of, said, some_line, with_hart, with_number}
+use Rattle.captures.specs.Line.{is_time, is_within, number_below, payload_of, said, some_line, with_hart, with_number}
 use Rattle.captures.specs.Line.{with_payload, without_prefix}
 use Rattle.captures.specs.declared.line_fault.LineFault.TheVariants.{Above, Fields}
 use Rattle.captures.specs.declared.line_form.Form.TheVariants.{Counted, Numbered}
@@ -202,12 +202,13 @@ module _ (m : Message) (right : IsMessage m) where
       ∙ before_more text (slice_split is_feed rest) (omega (arith, length-slice_split is_feed rest))
       ∙ ap (λ l. l ∷ lines rest) no_return
 
+  -- Its bytes are no time.
+  no_time : is_time bytes ≡ false
+  no_time = other_digit 64 (slice_index bytes 0) refl (hex_digits m.payload right.bytes 0 0 some_bytes)
+
   -- Its form has numbers.
   pub form_is : form_of_line (text_of m) ≡ Numbered
-  form_is =
-      let digit = hex_digits m.payload right.bytes 0 0 some_bytes in
-      ap form_by parted
-      ∙ ap (λ b. if b then Counted else Numbered) (other_digit 64 (slice_index bytes 0) refl digit)
+  form_is = ap form_by parted ∙ ap (λ b. if b then Counted else Numbered) no_time
 
   bare : without_prefix bytes ≡ bytes
   bare =
@@ -238,6 +239,8 @@ module _ (m : Message) (right : IsMessage m) where
       let number_is = number_read (unwrap_or settings.numbers (2 ^ 64)) m.number right.number few in
       ap (λ b. if b then Ok None else some_line (line_by settings Numbered (fields_of text))) told
       ∙ ap some_line (ap (line_by settings Numbered) parted
+      ∙ ap (λ time. if are_filled (hart ∷ number ∷ bytes ∷ []) && (not time && true)
+      then said settings hart (Some number) bytes else Err Fields) no_time
       ∙ ap (λ b. if b && true then said settings hart (Some number) bytes else Err Fields) filled
       ∙ ap (λ h. with_hart settings h (Some number) bytes) hart_read
       ∙ ap (λ n. with_number settings m.hart (option_map Some n) bytes) number_is

@@ -1,7 +1,7 @@
 -- The hart of a line is below 1,024.
 use Rattle.std.proofs.Common.{◌≡◌, ◌<◌, ◌&&◌, ℕ, Bool, true, false, List, [], ◌∷◌, Option, Some, None, Result, Ok, Err}
 use Rattle.std.proofs.Common.{arith, nat_lt, refl}
-use Rattle.std.specs.Prelude.{if◌then◌else◌}
+use Rattle.std.specs.Prelude.{if◌then◌else◌, not}
 use Rattle.std.specs.Char.{is_digit}
 use Rattle.std.specs.List.{list_all}
 use Rattle.std.specs.Str.Parse.{digits_value}
@@ -9,7 +9,8 @@ use Rattle.std.proofs.lemmas.Bool.{ltb-true}
 use Rattle.message.specs.Version.{most_harts}
 use Rattle.message.specs.declared.header.Version.{Version}
 use Rattle.message.specs.declared.header.Version.TheVariants.{One, Two}
-use Rattle.captures.specs.Line.{are_filled, fields_of, is_over, is_passed_over, is_within, line_by, line_of}
+use Rattle.captures.specs.Line.{are_filled, fields_of, is_over, is_passed_over, is_time, is_within}
+use Rattle.captures.specs.Line.{line_by, line_of}
 use Rattle.captures.specs.Line.{number_below, number_said, payload_of, said, some_line, with_hart, with_number}
 use Rattle.captures.specs.Line.{with_payload, without_prefix}
 use Rattle.captures.specs.declared.line_fault.LineFault.{LineFault}
@@ -89,7 +90,7 @@ form_known settings Numbered [] = tt
 form_known settings Numbered (a ∷ []) = tt
 form_known settings Numbered (a ∷ b ∷ []) = tt
 form_known settings Numbered (a ∷ b ∷ c ∷ more) =
-    tested_known (are_filled (a ∷ b ∷ c ∷ []) && is_over more) (said settings a (Some b) c)
+    tested_known (are_filled (a ∷ b ∷ c ∷ []) && (not (is_time c) && is_over more)) (said settings a (Some b) c)
     (said_known settings a (Some b) c)
 
 -- If a line says something, its hart is below this.

@@ -26,13 +26,15 @@ pub mod LogsInPieces
 pub mod RowsInTurn
 pub mod WorkedRows
 mod Parts
+pub mod LinesInParts
 mod Numbers
 mod Fields
 mod Lowest
-mod Sending
+pub mod Passes
 mod Known
-mod Counts
+pub mod Counts
 mod Whole
+mod StreamedCaptures
 mod HexLineRead
 mod SentMessages
 mod HexTextRead

@@ -7,7 +7,7 @@ use Rattle.std.specs.List.{list_all}
 use Rattle.std.specs.Str.Parse.{digits_value}
 use Rattle.std.proofs.lemmas.Int.Digits.{digits_value_more}
 use Rattle.std.proofs.lemmas.List.{take_all}
-use Rattle.std.proofs.lemmas.List.Folds.{list_all_at, list_all_more}
+use Rattle.std.proofs.lemmas.List.Folds.{list_all_more}
 use Rattle.std.proofs.lemmas.Str.Parse.{digits_value-take-le}
 use Rattle.captures.specs.Line.{number_below}
 
@@ -18,10 +18,6 @@ is_decimal byte = is_digit byte 10
 pub record AreRead (text : List ℕ) (count value : ℕ) : Type 0 where
   pub digits : list_all is_decimal (take count text) ≡ true
   pub spelt : value ≡ digits_value 10 (take count text)
-
--- No byte is read yet.
-pub none_read : (text : List ℕ) → AreRead text 0 0
-none_read text = record { digits = refl; spelt = refl }
 
 -- One digit more is read.
 pub digit_read : (text : List ℕ) (count value : ℕ) → AreRead text count value → count < length text
@@ -39,13 +35,6 @@ pub by_tests : (limit : ℕ) (text : List ℕ) → 0 < length text
     ≡ (if list_all is_decimal text && nat_lt (digits_value 10 text) limit then Some (digits_value 10 text) else None)
 by_tests limit [] some = absurd (omega (arith, some))
 by_tests limit (digit ∷ digits) some = refl
-
--- Another byte spells no number.
-pub no_digit : (limit : ℕ) (text : List ℕ) (place : ℕ) → place < length text
-    → is_digit (get_or text place 0) 10 ≡ false → None ≡ number_below limit text
-no_digit limit text place inside other =
-    let all : list_all is_decimal text ≡ false = list_all_at is_decimal text place 0 inside other in
-    sym (by_tests limit text (omega (arith, inside)) ∙ rw all refl)
 
 both_fail : (b : Bool) (value limit : ℕ) → limit ≤ value
     → (if b && nat_lt value limit then Some value else None) ≡ None

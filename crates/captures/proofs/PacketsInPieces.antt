@@ -46,12 +46,6 @@ module _ (words : Words) where
       → PacketsCounted words period mode events log first none → Legal words (log ++ more)
       → PacketsCounted words period mode events (log ++ take taken more) encoder measures
 
-  -- No event is taken, and nothing changes.
-  pub counts_none : (more : List Event) (encoder : Encoder) (measures : Measures)
-      → CountsFront more 0 encoder measures encoder measures
-  counts_none more encoder measures period mode events log counted legal =
-      subst (λ log. PacketsCounted words period mode events log encoder measures) (sym (append-nil log)) counted
-
   module _ (more rest : List Event) (taken count : ℕ) (first e e' : Encoder) (none m : Measures)
       (packet : Option Packet) (rest_is : rest ≡ drop taken more)
       (counts : CountsFront more taken first none e m) where

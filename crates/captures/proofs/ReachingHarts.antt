@@ -1,5 +1,5 @@
 -- How far what a capture has of some harts was received.
-use Rattle.std.proofs.Common.{◌≡◌, ◌⊎◌, inl, inr, ℕ, ◌+◌, All, Bool, true, List, [], ◌∷◌, ◌++◌, Option, Some, None, length}
+use Rattle.std.proofs.Common.{◌≡◌, ℕ, ◌+◌, All, Bool, true, List, [], ◌∷◌, ◌++◌, Option, Some, length}
 use Rattle.std.proofs.Common.{refl, sym, ap, subst, ◌∙◌}
 use Rattle.std.proofs.lemmas.List.{length_push}
 use Rattle.std.proofs.lemmas.List.Elements.{All-append, All-nil, All-push}
@@ -10,9 +10,7 @@ use Rattle.retire.specs.declared.event.Event.{Event}
 use Rattle.rvclass.specs.Words.{Words}
 use Rattle.payload.specs.declared.mode.Mode.{Mode}
 use Rattle.message.specs.Capture.{capture, message_bytes}
-use Rattle.message.specs.Cut.{IsMessage, IsCut, HasBadLength}
-use Rattle.message.specs.declared.fault.MessageFault.{MessageFault}
-use Rattle.message.specs.declared.fault.MessageFault.TheVariants as message
+use Rattle.message.specs.Cut.{IsMessage}
 use Rattle.message.specs.declared.message.Message.{Message}
 use Rattle.receiver.specs.Agreeing.{Agrees}
 use Rattle.receiver.specs.Holds.{AreDecoded, HasReceived, Holds}
@@ -25,7 +23,6 @@ use Rattle.captures.specs.Decoded.{as_capture_fault}
 use Rattle.captures.specs.OfHarts.{AreHartsDecoded, BeginsRefusedOf, StopsDecodingOf, StopsOf}
 use Rattle.captures.specs.steps.Collecting.{HasReceivedUpTo}
 use Rattle.captures.specs.declared.outcome.CaptureFault.{CaptureFault}
-use Rattle.captures.specs.declared.outcome.CaptureFault.TheVariants as capture_fault
 
 -- So many messages were gone through, and those of these harts received. None of these opens a trace in another mode than
 -- the announced one, and these bytes are left.
@@ -53,13 +50,12 @@ module _ (range : HartRange) (words : Words) (harts : ℕ) (announced : Option M
 
   -- And then one more.
   pub reaches_more : (left next : List ℕ) (number : ℕ) (old new : Received) (message : Message)
-      → ReachesOf range words harts announced bytes left number old
+      → (r : ReachesOf range words harts announced bytes left number old)
       → IsMessage message → left ≡ message_bytes message ++ next
       → All (Agrees announced) (selected range (message ∷ []))
-      → ((messages : List Message) → HasReceived (λ hart. words) harts messages old
-      → HasReceived (λ hart. words) harts (messages ++ selected range (message ∷ [])) new)
+      → HasReceived (λ hart. words) harts (selected range r.messages ++ selected range (message ∷ [])) new
       → ReachesOf range words harts announced bytes next (number + 1) new
-  reaches_more left next number old new message r is here agrees receives =
+  reaches_more left next number old new message r is here agrees has =
       let more = sym (selected-append range r.messages (message ∷ [])) in
       record {
         messages = r.messages ++ message ∷ [];
@@ -68,8 +64,7 @@ module _ (range : HartRange) (words : Words) (harts : ℕ) (announced : Option M
         whole = r.whole ∙ ap (λ rest. capture r.messages ++ rest) here ∙ sym (capture_next r.messages message next);
         agree = subst (All (Agrees announced)) more
             (All-append (Agrees announced) (selected range r.messages) (selected range (message ∷ [])) r.agree agrees);
-        takes = subst (λ messages. HasReceived (λ hart. words) harts messages new) more
-            (receives (selected range r.messages) r.takes);
+        takes = subst (λ messages. HasReceived (λ hart. words) harts messages new) more has;
       }
 
   -- Receiving stops there.
@@ -89,32 +84,30 @@ module _ (range : HartRange) (words : Words) (harts : ℕ) (announced : Option M
     stops = stops;
   }
 
-  -- All of them were, where the bytes end.
-  pub collected_all : (left : List ℕ) (number : ℕ) (received : Received)
-      → ReachesOf range words harts announced bytes left number received → left ≡ []
-      → HasReceivedUpTo range words harts announced bytes received None
-  collected_all left number received r ended = reached left number received received None r r.takes.holds ended
-
-  -- No message stands behind them.
-  pub collected_before : (left : List ℕ) (number : ℕ) (received : Received) (why : MessageFault)
-      → ReachesOf range words harts announced bytes left number received
-      → (why ≡ message.Short) ⊎ (why ≡ message.BadLength) → (why ≡ message.Short → IsCut left)
-      → (why ≡ message.BadLength → HasBadLength left)
-      → HasReceivedUpTo range words harts announced bytes received (Some (number, capture_fault.Message why))
-  collected_before left number received why r either cut bad =
-      reached left number received received (Some (number, capture_fault.Message why)) r r.takes.holds
-      (r.counted, stops either)
+  -- Receiving stops at the message behind them, which is of one of the harts and is not received.
+  pub stops_at : (left next : List ℕ) (number : ℕ) (old : Received) (message : Message) (why : ReceiveFault)
+      (fault : CaptureFault) → (r : ReachesOf range words harts announced bytes left number old)
+      → IsMessage message → left ≡ message_bytes message ++ next → selects range message.hart ≡ true
+      → IsNotReceived words harts announced (selected range r.messages) message why → fault ≡ as_capture_fault why
+      → StopsOf range words harts announced r.messages left (Some (number, fault))
+  stops_at left next number old message why fault r is here own refused is_fault = (
+    r.counted,
+    subst (StopsDecodingOf range words harts announced (selected range r.messages) left) (sym is_fault)
+        (stops why begins),
+  )
     where
-      stops : (why ≡ message.Short) ⊎ (why ≡ message.BadLength)
-          → StopsDecodingOf range words harts announced (selected range r.messages) left (capture_fault.Message why)
-      stops (inl short) =
-          subst (λ why. StopsDecodingOf range words harts announced (selected range r.messages) left
-          (capture_fault.Message why)) (sym short) (cut short)
-      stops (inr long) =
-          subst (λ why. StopsDecodingOf range words harts announced (selected range r.messages) left
-          (capture_fault.Message why)) (sym long) (bad long)
+      begins : BeginsRefusedOf range words harts announced (selected range r.messages) left why
+      begins = record {
+        begins = record { message = message; rest = next; ranges = is; begins = here; refused = refused };
+        of_range = own;
+      }
 
-  -- The message behind them, which is of one of the harts, is not received.
+      stops : (why : ReceiveFault) → BeginsRefusedOf range words harts announced (selected range r.messages) left why
+          → StopsDecodingOf range words harts announced (selected range r.messages) left (as_capture_fault why)
+      stops (receiving.Demux why) b = b
+      stops receiving.Mode b = b
+      stops (receiving.Decode why) b = b
+
   pub collected_at : (left next : List ℕ) (number : ℕ) (old new : Received) (message : Message) (why : ReceiveFault)
       (fault : CaptureFault) → ReachesOf range words harts announced bytes left number old
       → IsMessage message → left ≡ message_bytes message ++ next → selects range message.hart ≡ true
@@ -124,29 +117,9 @@ module _ (range : HartRange) (words : Words) (harts : ℕ) (announced : Option M
       → IsNotReceived words harts announced messages message why)
       → fault ≡ as_capture_fault why → HasReceivedUpTo range words harts announced bytes new (Some (number, fault))
   collected_at left next number old new message why fault r is here own holds refused is_fault =
-      reached left number old new (Some (number, fault)) r (holds (selected range r.messages) r.takes) (
-        r.counted,
-        subst (StopsDecodingOf range words harts announced (selected range r.messages) left) (sym is_fault)
-            (stops why begins),
-      )
-    where
-      begins : BeginsRefusedOf range words harts announced (selected range r.messages) left why
-      begins = record {
-        begins = record {
-          message = message;
-          rest = next;
-          ranges = is;
-          begins = here;
-          refused = refused (selected range r.messages) r.takes;
-        };
-        of_range = own;
-      }
-
-      stops : (why : ReceiveFault) → BeginsRefusedOf range words harts announced (selected range r.messages) left why
-          → StopsDecodingOf range words harts announced (selected range r.messages) left (as_capture_fault why)
-      stops (receiving.Demux why) b = b
-      stops receiving.Mode b = b
-      stops (receiving.Decode why) b = b
+      reached left number old new (Some (number, fault)) r (holds (selected range r.messages) r.takes)
+      (stops_at left next number old message why fault r is here own
+      (refused (selected range r.messages) r.takes) is_fault)
 
   -- What a receiver holds is what is decoded.
   pub collected_decoded : (received : Received) (stop : Option (ℕ × CaptureFault)) (lists : List (List Event))

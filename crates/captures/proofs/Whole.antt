@@ -1,7 +1,6 @@
 -- What is written of lines that were checked is their capture.
 use Rattle.std.proofs.Common.{◌≡◌, ◌≤◌, ◌<◌, ◌^◌, ◌++◌, ◌∙◌, ℕ, List, [], Option, Some, None, Result, Ok, Err, IfOk}
-use Rattle.std.proofs.Common.{IfSome}
-use Rattle.std.proofs.Common.{ap, sym}
+use Rattle.std.proofs.Common.{IfSome, false, ap, subst, sym}
 use Rattle.std.specs.Prelude.{unwrap_or}
 use Rattle.std.specs.Str.Lines.{lines}
 use Rattle.captures.specs.Versions.{MayStart, start_bytes}
@@ -9,7 +8,6 @@ use Rattle.message.specs.Capture.{capture}
 use Rattle.message.specs.Version.{most_harts}
 use Rattle.message.specs.declared.header.Version.{Version}
 use Rattle.message.specs.declared.header.Version.TheVariants.{One, Two}
-use Rattle.message.specs.declared.message.Message.{Message}
 use Rattle.payload.specs.declared.mode.Mode.{Mode}
 use Rattle.captures.specs.Capture.{capture_of_text, capture_or_fault, header_with}
 use Rattle.captures.specs.Lines.{form_of, harts_up_to, lines_of, messages_after, messages_of}
@@ -17,24 +15,39 @@ use Rattle.captures.specs.declared.line_fault.LinesFault.{LinesFault}
 use Rattle.captures.specs.declared.line_form.Form.{Form}
 use Rattle.captures.specs.declared.capture_line.Line.{Line}
 use Rattle.captures.specs.declared.line_settings.Settings.{Settings}
-use Rattle.captures.specs.steps.Passing.{checked_from, sent_from}
-use Rattle.captures.proofs.Counts.{agree_none, checked, sent_is, summary}
-use Rattle.captures.proofs.Sending.{no_counts}
+use Rattle.captures.specs.Pass.{Pass, no_lines, pass}
+use Rattle.captures.specs.Streamed.{Found, found_in, stop_of}
+use Rattle.captures.specs.steps.Passing.{checked_from}
+use Rattle.captures.proofs.Counts.{Fits, IsAllRight, agree_none, all_right, checked, pass_is, summary}
 
 refused_by : (settings : Settings) (r : Result (List Line) LinesFault) (why : LinesFault) → summary 1 r ≡ Err why
     → capture_or_fault settings r ≡ Err why
 refused_by settings (Ok lines) why is = cc
 refused_by settings (Err fault) why is = cc
 
-accepted_by : (settings : Settings) (r : Result (List Line) LinesFault) (harts : ℕ) (sent : List Message)
-    → summary 1 r ≡ Ok harts → IfOk r (λ said. sent ≡ messages_after settings.numbers [] said)
-    → capture_or_fault settings r ≡ Ok (start_bytes settings.version (header_with settings harts) ++ capture sent)
-accepted_by settings (Err why) harts sent is same = cc
-accepted_by settings (Ok said) harts sent is same =
+-- A pass ends at no fault, and its messages are those of what was written of lines that have so many harts.
+pub record IsAccepted (settings : Settings) (harts : ℕ) (found : Result (List ℕ) LinesFault) (its : Pass) : Type 0 where
+  pub right : its.stop ≡ None
+  pub capture_is : found
+      ≡ Ok (start_bytes settings.version (header_with settings harts) ++ capture its.messages)
+
+no_count_of : (why : LinesFault) (harts : ℕ) → ◌≡◌ {A = Result ℕ LinesFault} (Err why) (Ok harts) → ⊥
+no_count_of why harts is = cc
+
+accepted_by : (settings : Settings) (form : Form) (r : Result (List Line) LinesFault) (harts : ℕ) (found : List Found)
+    (its : Pass) → summary 1 r ≡ Ok harts → IfOk r (λ said. IsAllRight false said 1 found)
+    → Fits settings.numbers false (no_lines (Some form)) [] found its
+    → IsAccepted settings harts (capture_or_fault settings r) its
+accepted_by settings form (Err why) harts found its is right fits = absurd (no_count_of why harts is)
+accepted_by settings form (Ok said) harts found its is right fits =
     let count : harts_up_to said ≡ harts = cc in
-    ap (λ n. Ok (start_bytes settings.version (header_with settings n) ++ capture
-    (messages_of settings.numbers said))) count
-    ∙ ap (λ ms. Ok (start_bytes settings.version (header_with settings harts) ++ capture ms)) (sym same)
+    let messages = fits.messages ∙ ap (messages_after settings.numbers []) right.said_is in record {
+      right = fits.stop ∙ ap (stop_of false) right.none;
+      capture_is =
+          ap (λ n. Ok (start_bytes settings.version (header_with settings n) ++ capture
+          (messages_of settings.numbers said))) count
+          ∙ ap (λ ms. Ok (start_bytes settings.version (header_with settings harts) ++ capture ms)) (sym messages);
+    }
 
 module _ (settings : Settings) (form : Form) (text : List ℕ) (formed : form ≡ form_of settings.numbers
     (lines text)) where
@@ -50,17 +63,16 @@ module _ (settings : Settings) (form : Form) (text : List ℕ) (formed : form �
 
   -- Where there is none, the capture is what is written.
   pub accepted_text : (harts : ℕ) → checked_from settings form 1 1 (lines text) ≡ Ok harts
-      → capture_of_text settings text
-      ≡ Ok (start_bytes settings.version (header_with settings harts)
-      ++ capture (sent_from settings form no_counts no_counts (lines text)))
+      → IsAccepted settings harts (capture_of_text settings text)
+      (pass settings false (no_lines (Some form)) (lines text))
   accepted_text harts is =
-      let sent = sent_is settings (form_of settings.numbers (lines text)) 1 (lines text) no_counts no_counts []
-      (agree_none settings.numbers) in
-      accepted_by settings (lines_of settings text) harts
-      (sent_from settings (form_of settings.numbers (lines text)) no_counts no_counts (lines text))
-      (sym same_check ∙ is) sent
-      ∙ ap (λ f. Ok (start_bytes settings.version (header_with settings harts)
-      ++ capture (sent_from settings f no_counts no_counts (lines text)))) (sym formed)
+      let own = form_of settings.numbers (lines text) in
+      subst (λ f. IsAccepted settings harts (capture_of_text settings text)
+      (pass settings false (no_lines (Some f)) (lines text))) (sym formed)
+      (accepted_by settings own (lines_of settings text) harts (found_in settings (Some own) (lines text))
+      (pass settings false (no_lines (Some own)) (lines text)) (sym same_check ∙ is)
+      (all_right false settings own 1 (lines text))
+      (pass_is settings false (lines text) (no_lines (Some own)) [] (agree_none settings.numbers)))
 
 may_start_with : (version : Version) (mode : Mode) (period : ℕ) (asked : Option ℕ) (harts : ℕ) → 1 ≤ period
     → period < 2 ^ 16 → IfSome asked (λ n. (1 ≤ n) × (n ≤ most_harts version)) → 1 ≤ harts → harts ≤ 1024

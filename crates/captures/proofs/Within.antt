@@ -2,14 +2,11 @@
 use Rattle.std.proofs.Common.{◌≡◌, ℕ, ◌+◌, ◌*◌, ◌≤◌, Bool, true, false, List, [], ◌∷◌, length, arith, refl, subst, sym}
 use Rattle.retire.specs.Events.{is_retirement, is_branch}
 use Rattle.retire.specs.declared.event.Event.{Event}
-use Rattle.payload.specs.Limits.{most_bytes}
-use Rattle.payload.specs.declared.packet.Packet.{Packet}
-use Rattle.captures.specs.Kinds.{is_trap, is_support, is_sync, is_trap_packet, has_address, is_map, notifies}
-use Rattle.captures.specs.Kinds.{has_updiscon}
+use Rattle.captures.specs.Kinds.{is_trap}
 use Rattle.captures.specs.Measures.{counted, measured, together}
 use Rattle.captures.specs.declared.measures.Measures.{Measures}
 use Rattle.captures.specs.Bounds.{AreWithin, most_counted}
-use Rattle.captures.specs.steps.Counting.{GrowsBy, packet_measures}
+use Rattle.captures.specs.steps.Counting.{GrowsBy}
 use Rattle.captures.proofs.CountedTogether.{counted-append}
 
 -- Of one item at most one passes a test.
@@ -22,25 +19,6 @@ one_at_most test item = go (test item) refl
 
 pub AreWithin-le : (k l : ℕ) (m : Measures) → k ≤ l → AreWithin k m → AreWithin l m
 AreWithin-le k l m le few = record {
-  events = omega arith;
-  retirements = omega arith;
-  traps = omega arith;
-  branches = omega arith;
-  packets = omega arith;
-  support = omega arith;
-  sync = omega arith;
-  trap = omega arith;
-  address = omega arith;
-  map = omega arith;
-  notify = omega arith;
-  updiscon = omega arith;
-  payload_bytes = omega arith;
-  longest = omega arith;
-}
-
--- Nothing is within any bound.
-pub AreWithin-none : (k : ℕ) → AreWithin k (measured [] [] [])
-AreWithin-none k = record {
   events = omega arith;
   retirements = omega arith;
   traps = omega arith;
@@ -83,27 +61,6 @@ AreWithin-events es = record {
   longest = omega arith;
 }
 
-pub AreWithin-event : (e : Event) → AreWithin 1 (measured (e ∷ []) [] [])
-AreWithin-event e = AreWithin-events (e ∷ [])
-
-pub AreWithin-packet : (p : Packet) (bytes : ℕ) → bytes ≤ most_bytes → AreWithin 1 (packet_measures p bytes)
-AreWithin-packet p bytes few = record {
-  events = omega arith;
-  retirements = omega arith;
-  traps = omega arith;
-  branches = omega arith;
-  packets = omega arith;
-  support = one_at_most is_support p;
-  sync = one_at_most is_sync p;
-  trap = one_at_most is_trap_packet p;
-  address = one_at_most has_address p;
-  map = one_at_most is_map p;
-  notify = one_at_most notifies p;
-  updiscon = one_at_most has_updiscon p;
-  payload_bytes = omega (arith, few);
-  longest = few;
-}
-
 pub AreWithin-together : (k l : ℕ) (a b : Measures) → AreWithin k a → AreWithin l b → AreWithin (k + l) (together a b)
 AreWithin-together k l a b x y = record {
   events = omega arith;
@@ -127,9 +84,6 @@ pub GrowsBy-together : (more : ℕ) (old new other : Measures) → new ≡ toget
     → GrowsBy more old new
 GrowsBy-together more old new other is few limit within =
     subst (AreWithin (limit + more)) (sym is) (AreWithin-together limit more old other within few)
-
-pub GrowsBy-none : (m : Measures) → GrowsBy 0 m m
-GrowsBy-none m limit within = AreWithin-le limit (limit + 0) m (omega arith) within
 
 pub GrowsBy-trans : (one other : ℕ) (old mid new : Measures) → GrowsBy one old mid → GrowsBy other mid new
     → GrowsBy (one + other) old new

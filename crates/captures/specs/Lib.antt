@@ -3,7 +3,6 @@ pub mod Messages
 pub mod Versions
 pub mod NoMessage
 pub mod Whole
-pub mod Heard
 pub mod Decoded
 pub mod OfHarts
 pub mod Returned
@@ -22,6 +21,8 @@ pub mod Line
 pub mod Number
 pub mod Lines
 pub mod Capture
+pub mod Streamed
+pub mod Pass
 pub mod ReadBack
 pub mod Recovered
 pub mod LineFaultText

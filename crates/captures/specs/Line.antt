@@ -121,13 +121,13 @@ abbrev pub form_of_line : List ℕ → Form
 form_of_line line = form_by (fields_of line)
 
 -- What a line with these fields says, or the first fault. An empty field, and a count of fields that the form has not,
--- is a fault of their number. A time after the bytes does not count.
+-- is a fault of their number. A time does not count: it is never the bytes, and after them it is passed over.
 abbrev pub line_by : Settings → Form → List (List ℕ) → Result Line LineFault
 line_by settings Counted (hart ∷ bytes ∷ later) =
     if are_filled (hart ∷ bytes ∷ []) && is_over later then said settings hart None bytes else Err Fields
 line_by settings Numbered (hart ∷ number ∷ bytes ∷ later) =
-    if are_filled (hart ∷ number ∷ bytes ∷ []) && is_over later then said settings hart (Some number) bytes
-    else Err Fields
+    if are_filled (hart ∷ number ∷ bytes ∷ []) && (not (is_time bytes) && is_over later)
+    then said settings hart (Some number) bytes else Err Fields
 line_by settings form fields = Err Fields
 
 -- What a line says that is not passed over.

@@ -7,13 +7,15 @@ ghost use Rattle.captures.specs.declared.line_form.Form.TheVariants as form;
 ghost use Rattle.captures.specs.steps.Cutting.{fields_left};
 
 use crate::line_fault::LineFault;
-use crate::line_field::{cut, is_over, is_passed_over, number_below, number_of, payload_of};
+use crate::line_field::{
+    cut, is_over, is_passed_over, is_time, number_below, number_of, payload_of,
+};
 use crate::line_form::Form;
 use crate::line_settings::Settings;
 use payload::Payload;
 
 /// What a line says.
-#[derive(Debug, PartialEq, Eq, Drop)]
+#[derive(Drop)]
 pub(crate) struct Line {
     /// The hart.
     pub(crate) hart: u16,
@@ -105,7 +107,8 @@ fn numbered(
         return Err(LineFault::Fields);
     };
     let (bytes, rest) = cut(rest);
-    if hart.is_empty() || number.is_empty() || bytes.is_empty() || !is_over(rest) {
+    let has_empty = hart.is_empty() || number.is_empty() || bytes.is_empty();
+    if has_empty || is_time(bytes) || !is_over(rest) {
         return Err(LineFault::Fields);
     }
     said(settings, hart, Some(number), bytes)

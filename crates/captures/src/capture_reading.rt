@@ -11,6 +11,7 @@ use message::{Header, Message, MessageFault, Messages};
 use std::alloc::{AllocError, Allocator, Global};
 use std::error::Error;
 use std::fmt;
+use std::fmt::Display;
 
 /// All that a capture holds.
 #[derive(Drop)]
@@ -47,7 +48,7 @@ impl fmt::Display for ReadFault {
 
     fn fmt<W: fmt::Write>(&self, f: &mut fmt::Formatter<W>) -> fmt::Result {
         match *self {
-            ReadFault::Message(_, fault) => write!(f, "{fault}"),
+            ReadFault::Message(_, fault) => fault.fmt(f),
             ReadFault::Memory => f.write_str("out of memory"),
         }
     }

@@ -17,7 +17,7 @@ use retire::WriteFault;
 use std::io::Write;
 
 /// What was found in a capture that was dumped.
-#[derive(Clone, Copy, PartialEq, Eq)]
+#[derive(Clone, Copy)]
 pub struct Dumped {
     /// Whether the payload of some message is no packet.
     pub bad: bool,

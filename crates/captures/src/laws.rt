@@ -2,6 +2,7 @@
 
 ghost use Rattle.captures.specs.ReadBack.{LinesBecomeTheCapture, LinesSayTheirMessages};
 ghost use Rattle.captures.specs.Recovered.{LowNumbersAreRecovered};
+ghost use Rattle.captures.specs.Streamed.{LinesStreamTheCapture};
 
 /// The lines of hexadecimal that are written for legal logs, long ones among them, become the capture that is written
 /// for them, in the same version and mode and at the same period.
@@ -20,4 +21,10 @@ pub fn hex_lines_say_their_messages()
 /// 2^B, and those before it are below 2^(B-1), or there are none.
 pub fn low_numbers_are_recovered()
     ensures { LowNumbersAreRecovered }
+{}
+
+/// Lines that are written as they come become the capture of their text, where no line has a fault and it is known before
+/// them what the capture begins with.
+pub fn lines_stream_the_capture()
+    ensures { LinesStreamTheCapture }
 {}

@@ -49,6 +49,7 @@ mod numbering;
 mod offsets;
 mod outcome;
 mod packet_text;
+mod passed_lines;
 
 pub use capture_decoding::{decode_capture, decode_harts, decode_watched};
 pub use capture_reading::{CaptureFront, ReadFault, WholeCapture, read_front, read_messages};
@@ -59,7 +60,8 @@ pub use encoding::{encode_capture, encode_hart, encode_hex, write_start};
 pub use form::{CaptureBytes, Form, HexLines};
 pub use hart_messages::HartMessages;
 pub use laws::{
-    hex_lines_become_the_capture, hex_lines_say_their_messages, low_numbers_are_recovered,
+    hex_lines_become_the_capture, hex_lines_say_their_messages, lines_stream_the_capture,
+    low_numbers_are_recovered,
 };
 pub use line_fault::{LineFault, LinesFault};
 pub use line_settings::Settings;
@@ -70,4 +72,5 @@ pub use measure_table::{write_measures, write_measures_of};
 pub use measures::Measures;
 pub use offsets::{Offset, write_bytes_line};
 pub use outcome::{CaptureFault, CaptureOutcome};
-pub use packet_text::ReadingText;
+pub use packet_text::{MapText, ReadingText, address_report_text, branch_text};
+pub use passed_lines::PassedLines;

@@ -10,7 +10,7 @@ use std::fmt;
 /// What is wrong with a line. Of several faults of a line, the first in this order is returned.
 #[derive(Clone, Copy, Debug, PartialEq, Eq)]
 pub enum LineFault {
-    /// The line has not as many fields as its form has, or a field is empty. A time at the end does not count.
+    /// The line has not as many fields as its form has, or a field is empty. A time does not count.
     Fields,
     /// The hart is not a decimal number below the most harts of the version.
     Hart(Version),

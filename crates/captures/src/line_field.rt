@@ -100,7 +100,7 @@ pub(crate) fn is_over(rest: Option<&[u8]>) -> bool
 }
 
 /// Whether a field is a time.
-fn is_time(field: &[u8]) -> bool
+pub(crate) fn is_time(field: &[u8]) -> bool
     ensures { result ≡ is_time field.now }
 {
     !field.is_empty() && field[0] == b'@'

@@ -1,7 +1,7 @@
 //! What fields the lines of a text have.
 
 /// What fields the lines of a text have. The first line decides.
-#[derive(Clone, Copy, PartialEq, Eq)]
+#[derive(Clone, Copy)]
 pub(crate) enum Form {
     /// A hart, a number and bytes.
     Numbered,

@@ -4,7 +4,7 @@ use message::Version;
 use payload::Mode;
 
 /// What a capture is to be beside its messages.
-#[derive(Clone, Copy, PartialEq, Eq)]
+#[derive(Clone, Copy)]
 pub struct Settings {
     /// The capture's version. In version 1 a line's hart is below 64, in version 2 below 1,024.
     pub version: Version,

@@ -1,6 +1,6 @@
 //! The capture of a text's lines.
 
-ghost use Rattle.std.specs.Prelude.{◌≡◌, ◌≤◌, ◌++◌, Err, IfErr, IfOk, IfSome, OnOk, replicate};
+ghost use Rattle.std.specs.Prelude.{◌≡◌, ◌≤◌, ◌++◌, false, Err, IfErr, IfOk, IfSome, None, OnOk, Some};
 ghost use Rattle.std.specs.Io.KnownBytes.{Appends};
 ghost use Rattle.std.specs.Str.Lines.{lines};
 ghost use Rattle.captures.specs.Versions.{MayStart, start_bytes};
@@ -8,13 +8,13 @@ ghost use Rattle.message.specs.Capture.{capture};
 ghost use Rattle.message.specs.Version.{most_harts};
 ghost use Rattle.output.specs.Begun.{AppendsBeginning};
 ghost use Rattle.captures.specs.Capture.{capture_of_text, header_with};
-ghost use Rattle.captures.specs.steps.Passing.{sent_from};
+ghost use Rattle.captures.specs.Pass.{no_lines, pass};
 
 use crate::line_checking::{check, form_of};
 use crate::line_fault::LinesFault;
 use crate::line_form::Form;
 use crate::line_settings::Settings;
-use crate::numbering::write_messages;
+use crate::passed_lines::PassedLines;
 use crate::write_start;
 use std::io::Write;
 
@@ -59,7 +59,7 @@ pub fn write_capture<W: Write>(
     write_checked(&settings, form, harts, text, sink)
 }
 
-/// Writes the capture of a text's lines, which have so many harts, up to the first line that has a fault.
+/// Writes the capture of a text's lines, which have so many harts. No line has a fault.
 fn write_checked<W: Write>(
     settings: &Settings,
     form: Form,
@@ -69,11 +69,12 @@ fn write_checked<W: Write>(
 ) -> Result<(), LinesFault>
     requires header { MayStart settings.now.version (header_with settings.now harts) }
     requires numbers { IfSome settings.now.numbers (λ numbers. 2 ≤ numbers) }
+    requires right { (pass settings.now false (no_lines (Some form)) (lines text.now)).stop ≡ None }
     ensures written { OnOk result (Appends (W.contents sink.old) (W.contents sink.new)
         (start_bytes settings.now.version (header_with settings.now harts)
-        ++ capture (sent_from settings.now form (replicate 1024 0) (replicate 1024 0) (lines text.now)))) }
+        ++ capture (pass settings.now false (no_lines (Some form)) (lines text.now)).messages)) }
     ensures begun { AppendsBeginning (start_bytes settings.now.version (header_with settings.now harts)
-        ++ capture (sent_from settings.now form (replicate 1024 0) (replicate 1024 0) (lines text.now)))
+        ++ capture (pass settings.now false (no_lines (Some form)) (lines text.now)).messages)
         (W.contents sink.old) (W.contents sink.new) }
     ensures fault { IfErr result (λ fault. fault ≡ LinesFault.Write) }
 {
@@ -87,8 +88,6 @@ fn write_checked<W: Write>(
     ) else {
         return Err(LinesFault::Write);
     };
-    match write_messages(settings, form, text, sink) {
-        Ok(()) => Ok(()),
-        Err(_) => Err(LinesFault::Write),
-    }
+    let mut passed = PassedLines::of_form(Some(form));
+    passed.add(settings, false, text, sink)
 }

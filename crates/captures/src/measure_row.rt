@@ -6,6 +6,7 @@ ghost use Rattle.captures.specs.steps.Name.{name_text};
 
 use crate::measures::Measures;
 use std::fmt;
+use std::fmt::Display;
 
 /// Whose measures a row has.
 #[derive(Clone, Copy)]
@@ -21,7 +22,7 @@ impl fmt::Display for Name {
 
     fn fmt<W: fmt::Write>(&self, f: &mut fmt::Formatter<W>) -> fmt::Result {
         match *self {
-            Name::Hart(hart) => write!(f, "{hart}"),
+            Name::Hart(hart) => hart.fmt(f),
             Name::All => write!(f, "all"),
         }
     }

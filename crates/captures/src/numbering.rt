@@ -1,23 +1,14 @@
 //! The messages of lines, each with its number.
 
-ghost use Rattle.std.specs.Prelude.{◌≡◌, ◌≤◌, ◌<◌, ◌+◌, ◌-◌, ◌^◌, IfErr, IfSome, OnOk, min, replicate};
-ghost use Rattle.std.specs.Prelude.{slice_index};
-ghost use Rattle.std.specs.Io.KnownBytes.{Appends};
-ghost use Rattle.std.specs.Str.Lines.{lines};
-ghost use Rattle.output.specs.Begun.{AppendsBeginning};
-ghost use Rattle.message.specs.Capture.{capture};
+ghost use Rattle.std.specs.Prelude.{◌≡◌, ◌≤◌, ◌<◌, ◌-◌, ◌^◌, IfSome, min};
 ghost use Rattle.captures.specs.Number.{first_from, number_by};
-ghost use Rattle.captures.specs.steps.Passing.{counted, lowered, lowest_with, message_at, sent_from};
+ghost use Rattle.captures.specs.steps.Passing.{counted, lowered, lowest_with, message_at};
 
-use crate::capture_line::{Line, line_of};
-use crate::line_cursor::Lines;
-use crate::line_form::Form;
-use crate::line_settings::Settings;
-use message::{MOST_HARTS, Message, MessageFault, write_message};
-use std::io::Write;
+use crate::capture_line::Line;
+use message::{MOST_HARTS, Message};
 
 /// A number of each hart.
-type Harts = [u64; MOST_HARTS as usize];
+pub(crate) type Harts = [u64; MOST_HARTS as usize];
 
 /// The first number from the lowest on that a field of so many numbers stands for, where it is below 2^64.
 fn first_from(numbers: u64, lowest: u64, field: u64) -> u64
@@ -57,58 +48,32 @@ fn lowest_with(numbers: Option<u64>, lowest: u64, number: u64) -> u64
     }
 }
 
-/// The message of a line, where so many lines of each hart were passed, and these are the lowest numbers of each.
-fn message_of(numbers: Option<u64>, counts: &mut Harts, lows: &mut Harts, line: Line) -> Message
+/// The message of a line, where so many lines of each hart were passed, and these are the lowest numbers of each. There
+/// is none where 2^64 - 1 lines of its hart were passed.
+pub(crate) fn message_of(
+    numbers: Option<u64>,
+    counts: &mut Harts,
+    lows: &mut Harts,
+    line: Line,
+) -> Option<Message>
     requires numbers { IfSome numbers (λ numbers. 2 ≤ numbers) }
     requires known { line.hart < 1024 }
-    requires few { slice_index counts.old line.hart + 1 < 2 ^ 64 }
-    ensures message { result ≡ message_at numbers counts.old lows.old line }
-    ensures counted { counts.new ≡ counted counts.old line }
-    ensures lowered { lows.new ≡ lowered numbers lows.old result }
+    ensures message { IfSome result (λ message. message ≡ message_at numbers counts.old lows.old line) }
+    ensures counted { IfSome result (λ _. counts.new ≡ counted counts.old line) }
+    ensures lowered { IfSome result (λ message. lows.new ≡ lowered numbers lows.old message) }
 {
     let hart = usize::from(line.hart);
     let count = counts[hart];
+    let Some(next) = count.checked_add(1) else {
+        return None;
+    };
     let lowest = lows[hart];
     let number = number_by(numbers, count, lowest, line.number);
-    counts[hart] = count + 1;
+    counts[hart] = next;
     lows[hart] = lowest_with(numbers, lowest, number);
-    Message {
+    Some(Message {
         hart: line.hart,
         number,
         payload: line.payload,
-    }
-}
-
-/// Writes the messages of a text's lines, up to the first that has a fault.
-pub(crate) fn write_messages<W: Write>(
-    settings: &Settings,
-    form: Form,
-    text: &[u8],
-    sink: &mut W,
-) -> Result<(), MessageFault>
-    requires { IfSome settings.now.numbers (λ numbers. 2 ≤ numbers) }
-    ensures written { OnOk result (Appends (W.contents sink.old) (W.contents sink.new)
-        (capture (sent_from settings.now form (replicate 1024 0) (replicate 1024 0) (lines text.now)))) }
-    ensures begun { AppendsBeginning
-        (capture (sent_from settings.now form (replicate 1024 0) (replicate 1024 0) (lines text.now)))
-        (W.contents sink.old) (W.contents sink.new) }
-    ensures fault { IfErr result (λ fault. fault ≡ MessageFault.Write) }
-{
-    let mut lines = Lines::new(text);
-    let mut counts = [0; MOST_HARTS as usize];
-    let mut lows = [0; MOST_HARTS as usize];
-    for _ in 0..u64::MAX {
-        let Some(line) = lines.next() else {
-            return Ok(());
-        };
-        let Ok(line) = line_of(settings, form, line) else {
-            return Ok(());
-        };
-        let Some(line) = line else {
-            continue;
-        };
-        let message = message_of(settings.numbers, &mut counts, &mut lows, line);
-        write_message(sink, &message)?;
-    }
-    Ok(())
+    })
 }

@@ -11,7 +11,7 @@ use std::fmt;
 use std::io::Write;
 
 /// An offset in a capture, in eight hexadecimal digits at least.
-#[derive(Clone, Copy, PartialEq, Eq)]
+#[derive(Clone, Copy)]
 pub struct Offset(pub u64);
 
 impl fmt::Display for Offset {

@@ -11,6 +11,7 @@ use retire::Event;
 use std::alloc::{Allocator, Global};
 use std::error::Error;
 use std::fmt;
+use std::fmt::Display;
 
 /// Why decoding a capture stops before its end.
 #[derive(Clone, Copy, Debug, PartialEq, Eq)]
@@ -31,9 +32,9 @@ impl fmt::Display for CaptureFault {
 
     fn fmt<W: fmt::Write>(&self, f: &mut fmt::Formatter<W>) -> fmt::Result {
         match *self {
-            CaptureFault::Message(fault) => write!(f, "{fault}"),
-            CaptureFault::Demux(fault) => write!(f, "{fault}"),
-            CaptureFault::Decode(fault) => write!(f, "{fault}"),
+            CaptureFault::Message(fault) => fault.fmt(f),
+            CaptureFault::Demux(fault) => fault.fmt(f),
+            CaptureFault::Decode(fault) => fault.fmt(f),
             CaptureFault::Mode => f.write_str("open of another mode"),
         }
     }

@@ -6,6 +6,7 @@ ghost use Rattle.captures.specs.PacketText.{trap_address_text, reading_text, add
 
 use payload::{Mode, Outcomes, PackFault, Packet, Report, Support};
 use std::fmt;
+use std::fmt::Display;
 
 /// The text of what a payload is: that of its packet, or `bad` and why it is none, as
 /// [`dump_capture`](crate::dump_capture) writes it after the hart's number and the message's.
@@ -24,7 +25,7 @@ impl fmt::Display for ReadingText<'_> {
     fn fmt<W: fmt::Write>(&self, f: &mut fmt::Formatter<W>) -> fmt::Result {
         let mode = self.mode;
         match self.read {
-            Ok(packet) => write!(f, "{}", PacketText { mode, packet }),
+            Ok(packet) => PacketText { mode, packet }.fmt(f),
             Err(why) => write!(f, "bad {why}"),
         }
     }
@@ -115,7 +116,7 @@ impl fmt::Display for CauseText {
 
 /// The outcomes of branches, the oldest first, or `-` where there are none.
 #[derive(Clone, Copy)]
-struct MapText<'a>(&'a Outcomes);
+pub struct MapText<'a>(pub &'a Outcomes);
 
 impl fmt::Display for MapText<'_> {
     ghost output = { λ text. Some (map_text text.0.now) };
@@ -134,7 +135,7 @@ impl fmt::Display for MapText<'_> {
 }
 
 /// A branch's bit of a branch map: 0 where it was taken.
-fn branch_text(taken: bool) -> &'static str
+pub fn branch_text(taken: bool) -> &'static str
     ensures { result.now ≡ branch_text taken }
 {
     if taken { "0" } else { "1" }
@@ -170,7 +171,7 @@ fn support_text(support: Support) -> &'static str
 }
 
 /// The word for why an address is reported.
-fn address_report_text(report: Report) -> &'static str
+pub fn address_report_text(report: Report) -> &'static str
     ensures { result.now ≡ address_report_text report }
 {
     match report {

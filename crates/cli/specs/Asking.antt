@@ -10,7 +10,7 @@ use Rattle.message.specs.declared.header.Version.{Version}
 use Rattle.message.specs.declared.header.Version.TheVariants.{One, Two}
 use Rattle.payload.specs.declared.mode.Mode.{Mode}
 use Rattle.payload.specs.declared.mode.Mode.TheVariants.{Differential, Full}
-use Rattle.command_inputs.specs.Kind.{IsCheck, IsGenerate}
+use Rattle.command_inputs.specs.Kind.{IsGenerate, WritesAsItReads}
 use Rattle.command_inputs.specs.Limits.{AreBitsIfGiven, IsUpToIfGiven, fewest_number_bits, greatest_first}
 use Rattle.command_inputs.specs.Limits.{longest_burst, longest_period, most_messages, most_number_bits}
 use Rattle.retire.specs.Log.{most_long_rows}
@@ -198,8 +198,8 @@ Asks name rows (Capture asked) = (name ≡ codes "capture")
     × IsVersion (one_of (codes "v1") rows) asked.version × IsMode (one_of (codes "full") rows) asked.mode
     × IsPeriod (one_of (codes "period") rows) asked.period
     × IsGivenHarts (one_of (codes "harts") rows) asked.harts
-    × AreGivenBits (one_of (codes "number-bits") rows) asked.number_bits × (asked.lines.now ≡ text_of
-    (codes "LINES") rows)
+    × AreGivenBits (one_of (codes "number-bits") rows) asked.number_bits
+    × IsFlag (one_of (codes "skip") rows) asked.skip × (asked.lines.now ≡ text_of (codes "LINES") rows)
 Asks name rows (Compare asked) = (name ≡ codes "compare") × AsksProgram rows asked.program
     × IsHarts (one_of (codes "harts") rows) asked.harts
     × (option_map (λ text. text.now) asked.only ≡ first_of (codes "only") rows)
@@ -227,9 +227,9 @@ AsksFound (Some found) asked = Asks found.0 found.1 asked
 abbrev pub WordsAsk : List Text → Asked → Type 0
 WordsAsk words = AsksFound (subcommand_of program_app words)
 
--- The arguments ask for no run of `check`.
-abbrev pub AskNoCheck : List Text → Type 0
-AskNoCheck words = (asked : Asked) → WordsAsk words asked → ¬ IsCheck asked
+-- The arguments ask for no run that writes before it has read its input.
+abbrev pub AskToWriteAtOnce : List Text → Type 0
+AskToWriteAtOnce words = (asked : Asked) → WordsAsk words asked → ¬ WritesAsItReads asked
 
 -- The arguments ask for a run of `generate`.
 abbrev pub AskGenerate : List Text → Type 0

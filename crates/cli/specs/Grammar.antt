@@ -14,7 +14,7 @@ use Rattle.cli.specs.declared.rules.Argument.TheVariants.{HeadedFull, HeadedPeri
 use Rattle.cli.specs.declared.rules.Argument.TheVariants.{ListedHarts, Logs, Long, Lossy, NumberBits, Of, Only, Packets}
 use Rattle.cli.specs.declared.rules.Argument.TheVariants.{Period}
 use Rattle.cli.specs.declared.rules.Argument.TheVariants.{Progress, Received, Rows, Salvaged, SalvagedHarts, Schedule}
-use Rattle.cli.specs.declared.rules.Argument.TheVariants.{Search, Sent, Summary, Symbols, Unnumbered, VersionOne}
+use Rattle.cli.specs.declared.rules.Argument.TheVariants.{Search, Sent, Skip, Summary, Symbols, Unnumbered, VersionOne}
 use Rattle.cli.specs.declared.rules.Argument.TheVariants.{WithoutLogs}
 use Rattle.cli.specs.Rules.{argument_rule}
 
@@ -44,7 +44,8 @@ all_apps =
     CaptureProgress ∷ Image ∷ Capture ∷ []) ∷
     with_arguments (codes "salvage") (Base ∷ Also ∷ SalvagedHarts ∷ Only ∷ Symbols ∷ WithoutLogs ∷ Format ∷
     CaptureProgress ∷ Image ∷ Capture ∷ []) ∷
-    with_arguments (codes "capture") (Headless ∷ HeadedFull ∷ HeadedPeriod ∷ CountedHarts ∷ NumberBits ∷ Lines ∷ []) ∷
+    with_arguments (codes "capture") (Headless ∷ HeadedFull ∷ HeadedPeriod ∷ CountedHarts ∷ NumberBits ∷ Skip ∷ Lines ∷
+    []) ∷
     with_arguments (codes "compare") (Base ∷ Also ∷ Harts ∷ Only ∷ ExplainRow ∷ Symbols ∷ Long ∷ Progress ∷ Image ∷
     Capture ∷ Logs ∷ []) ∷
     with_arguments (codes "generate") (What ∷ Seed ∷ Mix ∷ GivenBase ∷ Hart ∷ Events ∷ MixedHarts ∷ Messages ∷

@@ -122,6 +122,7 @@ argument_rule argument.Schedule = file_rule (codes "SCHEDULE")
 argument_rule argument.Search = flag_rule (codes "search")
 argument_rule argument.Seed = record (number_rule (codes "seed") seed_parser) { defaults = codes "1" ∷ [] }
 argument_rule argument.Sent = file_rule (codes "SENT")
+argument_rule argument.Skip = flag_rule (codes "skip")
 argument_rule argument.Summary = flag_rule (codes "summary")
 argument_rule argument.Symbols = option_rule (codes "symbols")
 argument_rule argument.Unnumbered = flag_rule (codes "unnumbered")

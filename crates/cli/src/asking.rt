@@ -349,6 +349,7 @@ fn capture_asked<'a>(given: &ArgMatches<'a>) -> Asked<'a>
         period: period(given),
         harts: given_up_to(given, "harts", MOST_HARTS),
         number_bits: given_bits(given),
+        skip: flag(given, "skip"),
         lines: text(given, "LINES"),
     })
 }

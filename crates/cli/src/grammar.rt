@@ -15,7 +15,8 @@ use crate::rules::Argument::{
     ExplainRow, First, Format, Full, GivenBase, GivenPeriod, Hart, Harts, HeadedFull, HeadedPeriod,
     Headless, Hex, Image, Lines, ListedHarts, Logs, Long, Lossy, Messages, Mix, MixedHarts,
     NumberBits, Of, Only, Packets, Period, Progress, Received, Rows, Salvaged, SalvagedHarts,
-    Schedule, Search, Seed, Sent, Summary, Symbols, Unnumbered, VersionOne, What, WithoutLogs,
+    Schedule, Search, Seed, Sent, Skip, Summary, Symbols, Unnumbered, VersionOne, What,
+    WithoutLogs,
 };
 use crate::rules::{Argument, arg_of};
 use clap::Command;
@@ -147,6 +148,7 @@ const SUBCOMMANDS: [Subcommand; 13] = [
             HeadedPeriod,
             CountedHarts,
             NumberBits,
+            Skip,
             Lines,
         ],
     },

@@ -59,6 +59,7 @@ pub(crate) enum Argument {
     Search,
     Seed,
     Sent,
+    Skip,
     Summary,
     Symbols,
     Unnumbered,
@@ -139,6 +140,7 @@ fn read_as<'a>(alloc: Global, argument: Argument) -> Arg<'a>
             .default_value("1")
             .value_parser(value_parser!(u64)),
         Argument::Sent => file(alloc, "SENT"),
+        Argument::Skip => flag(alloc, "skip"),
         Argument::Summary | Argument::WithoutLogs => flag(alloc, "summary"),
         Argument::Symbols => option(alloc, "symbols", "FILE"),
         Argument::Unnumbered => flag(alloc, "unnumbered"),
@@ -208,6 +210,8 @@ fn help_of(argument: Argument) -> &'static str {
         Argument::Search => "Go on where bytes are no message, and print how many are passed over",
         Argument::Seed => "The number that decides all draws, 0 to 18446744073709551615",
         Argument::Sent => "File of all trace messages that were sent",
+        Argument::Skip =>
+            "With --harts or --v1, pass over lines that have a fault, and print how many they are",
         Argument::Summary => "Leave out the lines of single messages, of bytes and of lost numbers",
         Argument::Symbols => "File of the program's symbols, as `nm` prints them",
         Argument::Unnumbered =>

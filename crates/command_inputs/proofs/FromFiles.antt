@@ -48,13 +48,6 @@ module _ {W : Type 0} (content : Content) (base : ℕ) (path : Path) (bytes : Li
       → IsImageAt {W = W} content base path (Ok program)
   image_made program = of_first (Ok program)
 
--- A log that is not read has no events.
-pub log_unread : {W : Type 0} (rows : ℕ) (content : Content) (path : Path) (why : Fault W)
-    → (why ≡ fault.Memory) ⊎ IsRead content path (Err why)
-    → (why ≡ fault.Memory) ⊎ IsLogUpTo rows content path (Err why)
-log_unread rows content path why (inl denied) = inl denied
-log_unread rows content path why (inr read) = inr (record { bytes = Err why; read = read; made = refl })
-
 -- A log with a fault has no events.
 pub log_refused : {W : Type 0} (rows : ℕ) (content : Content) (path : Path) (bytes : List ℕ) (why : LogFault)
     → IsRead {W = W} content path (Ok bytes) → (why ≡ log.Memory) ⊎ (log_up_to rows (records_of bytes) ≡ Err why)

@@ -73,12 +73,6 @@ AreAskedLogsUpTo rows content most asked paths =
     After (IsAskedProgram content most asked paths) (λ program. AreLegalLogsUpTo rows content program paths)
 
 -- The same of logs of at most 16777216 rows.
-abbrev pub IsLog : {W : Type 0} → Content → Path → Result (List Event) (Fault W) → Type 0
-IsLog content path found = IsLogUpTo most_rows content path found
-
-abbrev pub IsLegalLogAt : {W : Type 0} → Content → Image → Path → Result ProgramLog (Fault W) → Type 0
-IsLegalLogAt content program path found = IsLegalLogUpTo most_rows content program path found
-
 abbrev pub IsFirstRefused : {W : Type 0} → Content → Image → List Path → Fault W → Type 0
 IsFirstRefused content program paths why = IsFirstRefusedUpTo most_rows content program paths why
 

@@ -4,7 +4,6 @@ use Rattle.log_streams.specs.Known.{Content}
 use Rattle.legalpath.specs.FirstFault.{IsFirstFault}
 use Rattle.legalpath.specs.Legal.{Legal}
 use Rattle.legalpath.specs.declared.fault.PathFault.{PathFault}
-use Rattle.retire.specs.Log.{most_rows}
 use Rattle.retire.specs.declared.event.Event.{Event}
 use Rattle.rvclass.specs.Fetch.{words_of}
 use Rattle.rvclass.specs.Image.{Image}
@@ -29,7 +28,3 @@ pub record IsJudgedUpTo (rows : ℕ) (content : Content) (program : Image) (path
   pub named : log.path ≡ path.now
   pub read : IsLogUpTo {W = ⊥} rows content path (Ok log.events)
   pub verdict : IsVerdict (words_of program) log.events log.illegal
-
--- The same of a log of at most 16777216 rows.
-abbrev pub IsJudgedAt : Content → Image → Path → Judged → Type 0
-IsJudgedAt content program path log = IsJudgedUpTo most_rows content program path log

@@ -12,13 +12,13 @@ use log_streams::{FileFault, Stop};
 use retire::{LogFault, WriteFault};
 use rvclass::{PieceFault, ProgramFault};
 use std::alloc::AllocError;
-use std::error::Error;
+use std::fmt::Display;
 use std::{fmt, io};
 
 /// Why a subcommand stops. Its text is the error line without the program's name and the line's end.
 ///
 /// `W` is what only some subcommands stop at: a reason of their own.
-#[derive(Clone, Copy, Debug, PartialEq, Eq)]
+#[derive(Clone, Copy)]
 pub enum Fault<'a, W> {
     /// The argument names no format.
     Format,
@@ -50,7 +50,7 @@ pub enum Fault<'a, W> {
 
 impl<'a, W> Fault<'a, W> {
     /// Why the file at a path has no content.
-    pub(crate) fn of_file(path: &'a str, why: FileFault) -> Fault<'a, W>
+    pub fn of_file(path: &'a str, why: FileFault) -> Fault<'a, W>
         ensures { result ≡ file_fault path.entry why }
     {
         match why {
@@ -123,22 +123,20 @@ impl<W: Reason> fmt::Display for Fault<'_, W> {
             Fault::NoLogs => f.write_str("no logs"),
             Fault::ManyLogs(most) => write!(f, "more than {most} logs"),
             Fault::Unreadable(path) => write!(f, "{path}: cannot be read"),
-            Fault::Image(why) => write!(f, "{why}"),
+            Fault::Image(why) => why.fmt(f),
             Fault::Piece(path, why) => match why {
                 // That there are too many pieces is no fault of the file.
-                PieceFault::TooMany => write!(f, "{why}"),
+                PieceFault::TooMany => why.fmt(f),
                 _ => write!(f, "{path}: {why}"),
             },
             Fault::Log(path, why) => write!(f, "{path}: {why}"),
             Fault::Illegal(path, why) => write!(f, "{path}: {why}"),
-            Fault::Own(why) => write!(f, "{why}"),
+            Fault::Own(why) => why.fmt(f),
             Fault::Output => f.write_str("output cannot be written"),
             Fault::Memory => f.write_str("out of memory"),
         }
     }
 }
-
-impl<W: Reason + fmt::Debug> Error for Fault<'_, W> {}
 
 impl<W> From<ProgramFault> for Fault<'_, W> {
     ghost from_gives = { λ why made. made ≡ fault.Image why };

@@ -223,8 +223,8 @@ pub struct Salvage<'a> {
     pub capture: &'a str,
 }
 
-/// `capture [--v1] [--full] [--period N] [--harts N] [--number-bits W] LINES`: the capture of a text of lines, each of
-/// one message.
+/// `capture [--v1] [--full] [--period N] [--harts N] [--number-bits W] [--skip] LINES`: the capture of a text of lines,
+/// each of one message.
 #[derive(Drop)]
 pub struct Capture<'a> {
     /// The version of the capture. It limits the count of harts.
@@ -238,6 +238,8 @@ pub struct Capture<'a> {
     pub harts: Option<u16>,
     /// How many low bits of a message's number the lines have, 4 to 32, where they have not the number itself.
     pub number_bits: Option<u16>,
+    /// Whether a line that has a fault is counted and passed over.
+    pub skip: bool,
     /// The path of the lines.
     pub lines: &'a str,
 }

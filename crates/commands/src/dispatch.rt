@@ -1,7 +1,7 @@
 //! Whichever subcommand is asked for.
 
 ghost use Rattle.std.specs.Prelude.{◌≡◌, Err, IfSome};
-ghost use Rattle.command_inputs.specs.Kind.{IsCheck};
+ghost use Rattle.command_inputs.specs.Kind.{WritesAsItReads};
 ghost use Rattle.command_inputs.specs.Limits.{IsWithinLimits};
 ghost use Rattle.command_inputs.specs.declared.fault.Fault.TheVariants as Fault;
 ghost use Rattle.commands.specs.Begun.{IsBegun, IsCutOutput, WritesInParts};
@@ -44,10 +44,11 @@ where
     // Where allocation fails, nothing or a prefix of the text was written.
     ensures begun { result ≡ Err Fault.Memory
         → IsBegun (F.content files.old) asked.now (O.contents out.old) (O.contents out.new) }
-    // Where allocation fails, only `check`, `decode --lossy` and `list` without `--salvage` may have written anything.
+    // Where allocation fails, only `check`, `decode --lossy`, `list` without `--salvage` and `capture` of lines as they come
+    // may have written anything.
     ensures untouched { ¬ WritesInParts asked.now → result ≡ Err Fault.Memory → out.new ≡ out.old }
-    // Where the input is refused, nothing is written, but for the lines of `check`.
-    ensures refused { ¬ IsCheck asked.now → final_status result ≡ Status.Refused → out.new ≡ out.old }
+    // Where the input is refused, nothing is written, but by `check` and by `capture` of lines as they come.
+    ensures refused { ¬ WritesAsItReads asked.now → final_status result ≡ Status.Refused → out.new ≡ out.old }
 {
     run(alloc, rt, files, asked, out)
 }
@@ -76,7 +77,7 @@ where
         Asked::Measure(asked) => run_measure(alloc, rt, files, asked, out),
         Asked::Listing(asked) => run_list(alloc, files, asked, out),
         Asked::Salvage(asked) => run_salvage(alloc, files, asked, out),
-        Asked::Capture(asked) => run_capture(files, asked, out),
+        Asked::Capture(asked) => run_capture(alloc, files, asked, out),
         Asked::Compare(asked) => run_compare(alloc, rt, files, asked, out),
         Asked::Generate(asked) => run_generate(alloc, &*files, asked, out),
     }

@@ -9,10 +9,12 @@ use crate::joining::joined_end;
 use crate::reason::Fault;
 use command_inputs::{Capture, Files, Status};
 use path_commands::capture;
+use std::alloc::Global;
 use std::io::Write;
 
 /// A run of `capture`.
 pub(crate) fn run_capture<'a, F: Files, O: Write>(
+    alloc: Global,
     files: &mut F,
     asked: &Capture<'a>,
     out: &mut O,
@@ -22,5 +24,5 @@ pub(crate) fn run_capture<'a, F: Files, O: Write>(
     requires bits { AreBitsIfGiven asked.now.number_bits }
     ensures { IsRun (F.content files.old) (Asked.Capture asked.now) O.contents result out.old out.new }
 {
-    joined_end(capture(files, asked, out))
+    joined_end(capture(alloc, files, asked, out))
 }

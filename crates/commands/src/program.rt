@@ -1,9 +1,9 @@
 //! One run of the program.
 
 ghost use Rattle.std.specs.Prelude.{◌≡◌, ◌⊎◌, ◌≤◌, Err, map, string_bytes};
-ghost use Rattle.cli.specs.Asking.{AreRefused, AskNoCheck};
+ghost use Rattle.cli.specs.Asking.{AreRefused, AskToWriteAtOnce};
 ghost use Rattle.command_inputs.specs.declared.fault.Fault.TheVariants as Fault;
-ghost use Rattle.command_inputs.specs.Kind.{IsCheck};
+ghost use Rattle.command_inputs.specs.Kind.{WritesAsItReads};
 ghost use Rattle.command_inputs.specs.Limits.{IsWithinLimits};
 ghost use Rattle.commands.specs.Words.{AreCarriedOut, IsDone, ReportsFault};
 
@@ -42,8 +42,8 @@ where
     // fails.
     ensures words { AreRefused (map string_bytes words.now) → (out.new ≡ out.old) × ((result ≡ 2)
         ⊎ ((result ≡ 3) × ReportsFault E.contents (Err Fault.Memory) err.old err.new)) }
-    // Where the input is refused, nothing is written, but for the lines of `check`.
-    ensures refused { AskNoCheck (map string_bytes words.now) → result ≡ 2 → out.new ≡ out.old }
+    // Where the input is refused, nothing is written, but by `check` and by `capture` of lines as they come.
+    ensures refused { AskToWriteAtOnce (map string_bytes words.now) → result ≡ 2 → out.new ≡ out.old }
     // Where all is done, nothing is written to `err`.
     ensures quiet { result ≡ 0 → err.new ≡ err.old }
     // Where `clap` does not refuse the arguments, what they ask for is carried out on what is known of the files,
@@ -74,7 +74,7 @@ where
     F::Reader: Send,
     requires { IsWithinLimits asked }
     ensures quiet { result ≡ Status.Whole → err.new ≡ err.old }
-    ensures refused { ¬ IsCheck asked.entry → result ≡ Status.Refused → out.new ≡ out.old }
+    ensures refused { ¬ WritesAsItReads asked.entry → result ≡ Status.Refused → out.new ≡ out.old }
     ensures done { IsDone (F.content files.old) asked.entry result (O.contents out.old) (O.contents out.new)
         E.contents err.old err.new }
 {

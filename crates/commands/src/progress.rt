@@ -13,7 +13,7 @@ pub(crate) const MESSAGES_A_LOOK: u64 = 64;
 pub(crate) const PERIOD_MILLIS: u64 = 100;
 
 /// How much of some files is read, or how many of their messages are worked through.
-#[derive(Clone, Copy, PartialEq, Eq)]
+#[derive(Clone, Copy)]
 pub enum Amount {
     /// So many hundredths of all their bytes, or of all messages.
     Share(u64),

@@ -9,6 +9,7 @@ use command_inputs::{Reason, Status};
 use log_commands::LogReason;
 use path_commands::{LineReason, PathReason};
 use std::fmt;
+use std::fmt::Display;
 
 /// Why the program stops. Its text is the error line without the program's name and the line's end.
 pub type Fault<'a> = command_inputs::Fault<'a, CommandReason<'a>>;
@@ -34,10 +35,10 @@ impl fmt::Display for CommandReason<'_> {
     fn fmt<W: fmt::Write>(&self, f: &mut fmt::Formatter<W>) -> fmt::Result {
         match self {
             CommandReason::Words => f.write_str("words cannot be read"),
-            CommandReason::Log(why) => write!(f, "{why}"),
-            CommandReason::Capture(why) => write!(f, "{why}"),
-            CommandReason::Path(why) => write!(f, "{why}"),
-            CommandReason::Line(why) => write!(f, "{why}"),
+            CommandReason::Log(why) => why.fmt(f),
+            CommandReason::Capture(why) => why.fmt(f),
+            CommandReason::Path(why) => why.fmt(f),
+            CommandReason::Line(why) => why.fmt(f),
         }
     }
 }

@@ -1,17 +1,10 @@
 -- How many events are alike, of lists that come in pieces.
 use Rattle.std.proofs.Common.{◌≡◌, ◌⊎◌, ◌≤◌, ◌+◌, ◌++◌, ℕ, suc, Bool, true, false, List, [], ◌∷◌, length, refl}
 use Rattle.std.proofs.Common.{ap, arith, inl, inr}
-use Rattle.std.proofs.lemmas.Bool.{eqb-true}
-use Rattle.std.specs.Prelude.{◌==◌, if◌then◌else◌}
+use Rattle.std.specs.Prelude.{if◌then◌else◌}
 use Rattle.retire.specs.declared.event.Event.{Event}
-use Rattle.bench.specs.Verdict.{count_alike, is_alike, verdict}
-use Rattle.bench.specs.declared.verdict.Verdict.TheVariants.{Beginning, Differs, Whole}
+use Rattle.bench.specs.Verdict.{count_alike, is_alike}
 use Rattle.comparing.specs.Compared.{AreNext}
-
--- None where there is no log.
-pub none_alike : (decoded : List Event) → count_alike decoded [] ≡ 0
-none_alike [] = refl
-none_alike (event ∷ decoded) = refl
 
 -- No more than were decoded.
 pub alike_within : (decoded log : List Event) → count_alike decoded log ≤ length decoded
@@ -88,22 +81,3 @@ alike_stays (event ∷ before) (row ∷ seen) decoded events next other =
     go true stays other =
         ap (λ n. suc n) (stays (λ same. other (ap (λ n. suc n) same.0, ap (λ n. suc n) same.1)))
     go false stays other = refl
-
--- The verdict on a hart that is not closed is a beginning only where all that was decoded is alike.
-pub beginning_alike : (decoded log : List Event) → verdict false decoded log ≡ Beginning
-    → count_alike decoded log ≡ length decoded
-beginning_alike decoded log is = go (count_alike decoded log == length decoded) refl is
-  where
-    go : (all : Bool) → (count_alike decoded log == length decoded) ≡ all
-        → (if all then Beginning else Differs (count_alike decoded log + 1)) ≡ Beginning
-        → count_alike decoded log ≡ length decoded
-    go true all is = eqb-true (count_alike decoded log) (length decoded) all
-    go false all is = cc
-
--- And it is never whole.
-pub never_whole : (decoded log : List Event) → verdict false decoded log ≡ Whole → ⊥
-never_whole decoded log is = go (count_alike decoded log == length decoded) is
-  where
-    go : (all : Bool) → (if all then Beginning else Differs (count_alike decoded log + 1)) ≡ Whole → ⊥
-    go true is = cc
-    go false is = cc

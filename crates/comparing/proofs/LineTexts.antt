@@ -1,6 +1,6 @@
 -- Lines that are written one after the other, and what they are of.
-use Rattle.std.proofs.Common.{◌≡◌, ◌∙◌, ℕ, ◌+◌, ◌<◌, List, [], ◌∷◌, ◌++◌, Bool, true, false, true≢false, Option, None, Some, ap, append-nil, drop, get_or, length}
-use Rattle.std.proofs.Common.{arith, refl, subst, sym, take, take-append-drop}
+use Rattle.std.proofs.Common.{◌≡◌, ◌∙◌, ℕ, ◌+◌, ◌<◌, List, [], ◌∷◌, ◌++◌, Bool, true, false, true≢false, Option, None, Some, ap, append-nil, get_or, length}
+use Rattle.std.proofs.Common.{arith, refl, subst, sym, take}
 use Rattle.std.proofs.KnownBytes.{Appends-trans}
 use Rattle.std.proofs.lemmas.Grind.{flat_map-append}
 use Rattle.std.proofs.lemmas.List.{take_more}
@@ -8,7 +8,7 @@ use Rattle.std.specs.Io.KnownBytes.{Appends}
 use Rattle.std.specs.List.{flat_map, list_all}
 use Rattle.std.specs.Prelude.{◌&&◌, is_none, is_some, not}
 use Rattle.output.specs.Begun.{AppendsBeginning}
-use Rattle.output.proofs.Beginnings.{begun_behind, begun_in_front}
+use Rattle.output.proofs.Beginnings.{begun_behind}
 use Rattle.bench.specs.Got.{Got}
 use Rattle.bench.specs.Report.{are_whole, is_whole_verdict, report_lines, result_line}
 use Rattle.bench.specs.Verdict.{verdict}
@@ -37,19 +37,6 @@ module _ {X : Type 0} (text_of : X → List ℕ) (all : List X) (i : ℕ) (one :
   line_written then =
       subst (Appends old new) (sym more)
       (Appends-trans old mid new (flat_map text_of (take i all)) (text_of one) first then)
-
-  parted : flat_map text_of all ≡ (flat_map text_of (take i all) ++ text_of one) ++ flat_map text_of (drop (i + 1) all)
-  parted =
-      ap (flat_map text_of) (sym (take-append-drop (i + 1) all))
-      ∙ flat_map-append text_of (take (i + 1) all) (drop (i + 1) all)
-      ∙ ap (λ text. text ++ flat_map text_of (drop (i + 1) all)) more
-
-  -- Or a prefix of it.
-  pub line_begun : AppendsBeginning (text_of one) mid new → AppendsBeginning (flat_map text_of all) old new
-  line_begun begun =
-      subst (λ text. AppendsBeginning text old new) (sym parted)
-      (begun_in_front (flat_map text_of (take i all) ++ text_of one) (flat_map text_of (drop (i + 1) all)) old new
-      (begun_behind (flat_map text_of (take i all)) (text_of one) old mid new first begun))
 
 -- The lines are written, and then the line of the result or a prefix of it.
 pub report_begun : (ended whole all : Bool) (lines : List ℕ) (old mid new : Option (List ℕ)) → whole ≡ all

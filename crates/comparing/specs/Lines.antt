@@ -5,7 +5,7 @@ use Rattle.bench.specs.Got.{Got}
 use Rattle.bench.specs.Report.{hart_text, is_whole_verdict, result_line}
 use Rattle.bench.specs.Verdict.{verdict}
 use Rattle.legalpath.specs.ProgramLog.{ProgramLog}
-use Rattle.comparing.specs.declared.hart_line.ComparedHart.{ComparedHart}
+use Rattle.bench.specs.declared.hart_line.ComparedHart.{ComparedHart}
 
 -- The line of a hart by what was decoded of it and its log.
 abbrev pub line_of : ℕ → Got → ProgramLog → ComparedHart

@@ -3,10 +3,11 @@
 ghost use Rattle.std.specs.Prelude.{Some};
 ghost use Rattle.comparing.specs.Explained.{event_text, row_start, row_text};
 
-use crate::hart_line::ComparedHart;
 use crate::near::NearRows;
+use bench::ComparedHart;
 use retire::Event;
 use std::fmt;
+use std::fmt::Display;
 
 /// The type of an exception's row, and that of an interrupt's.
 const EXCEPTION: u8 = 1;
@@ -71,7 +72,7 @@ impl fmt::Display for RowText {
         match self.row {
             Some(event) => {
                 let text = EventText { event };
-                write!(f, "{text}")
+                text.fmt(f)
             }
             None => f.write_str("end"),
         }

@@ -1,7 +1,7 @@
 //! How much of a hart there is in a capture.
 
 /// How many messages a hart has before decoding stops, and how many bytes their payloads have.
-#[derive(Clone, Copy, PartialEq, Eq)]
+#[derive(Clone, Copy)]
 pub struct HartCount {
     /// How many messages there are.
     pub taken: u64,

@@ -14,7 +14,6 @@ mod counting;
 mod explained;
 mod explanation;
 mod hart_count;
-mod hart_line;
 mod laws;
 mod near;
 mod pieces;
@@ -27,7 +26,6 @@ pub use counting::counts_of;
 pub use explained::ExplainedHart;
 pub use explanation::{Explaining, write_explained};
 pub use hart_count::HartCount;
-pub use hart_line::ComparedHart;
 pub use laws::{
     all_harts_are_compared, lists_agree_before_the_row, whole_is_decoded, whole_is_these_logs,
     whole_of_harts_is_decoded, whole_of_harts_is_these_logs,

@@ -6,9 +6,10 @@ ghost use Rattle.comparing.specs.SourceTexts.{message_at, settled_text, source_t
 use captures::{CaptureFault, Offset};
 use message::MessageFault;
 use std::fmt;
+use std::fmt::Display;
 
 /// Which message of a capture it is.
-#[derive(Clone, Copy, PartialEq, Eq)]
+#[derive(Clone, Copy)]
 pub struct SourceMessage {
     /// How many messages of all harts come before it.
     pub place: u64,
@@ -19,7 +20,7 @@ pub struct SourceMessage {
 }
 
 /// Where a row of a hart comes from, or why it is not decoded.
-#[derive(Clone, Copy, PartialEq, Eq)]
+#[derive(Clone, Copy)]
 pub enum RowSource {
     /// The row is decoded: this is the first message of its hart after which it is.
     Settles {
@@ -116,9 +117,7 @@ impl fmt::Display for StopText {
 
     fn fmt<W: fmt::Write>(&self, f: &mut fmt::Formatter<W>) -> fmt::Result {
         match self.why {
-            CaptureFault::Message(MessageFault::BadHeader) => {
-                write!(f, "{}", MessageFault::BadHeader)
-            }
+            CaptureFault::Message(MessageFault::BadHeader) => MessageFault::BadHeader.fmt(f),
             _ => write!(f, "message {}: {}", self.place, self.why),
         }
     }

@@ -3,12 +3,11 @@
 ghost use Rattle.std.specs.Prelude.{◌≡◌, ◌<◌, IfErr, IfOk, OnOk, get_or, length};
 ghost use Rattle.std.specs.Io.KnownBytes.{Appends};
 ghost use Rattle.std.specs.List.{flat_map, list_all};
-ghost use Rattle.bench.specs.Report.{result_line};
 ghost use Rattle.output.specs.Begun.{AppendsBeginning};
 ghost use Rattle.comparing.specs.Lines.{are_whole_lines, is_whole_line, line_text, lines_text};
 
-use crate::hart_line::ComparedHart;
-use output::{write_bytes, write_text};
+use bench::{ComparedHart, write_result};
+use output::write_text;
 use retire::WriteFault;
 use std::io::Write;
 
@@ -73,19 +72,4 @@ fn are_whole(lines: &[ComparedHart]) -> bool
         }
     }
     true
-}
-
-/// Writes the line of the result.
-pub(crate) fn write_result<W: Write>(whole: bool, sink: &mut W) -> Result<(), WriteFault>
-    ensures text { OnOk result (Appends (W.contents sink.old) (W.contents sink.new) (result_line whole)) }
-    ensures begun { AppendsBeginning (result_line whole) (W.contents sink.old) (W.contents sink.new) }
-    ensures fault { IfErr result (λ fault. fault ≡ WriteFault.Write) }
-{
-    let result = if whole {
-        "result: whole\n"
-    } else {
-        "result: not whole\n"
-    };
-    write_bytes(sink, result.as_bytes())?;
-    Ok(())
 }

@@ -115,13 +115,6 @@ module _ (words : Words) where
         let i = length-append settled of_packet in
         omega (arith, a, b, c, d, e, f, g, h, i)
 
-    -- There is room for what is left of the first.
-    pub room_first : (len capacity : ℕ) → len + (stretch_count (left_of first) + stretch_count (left_of second)) ≤
-        capacity → HasRoomFor words (left_of first) len capacity
-    room_first len capacity room =
-        let c = stretch_count-gives words (left_of first) one.left one.gives in
-        (one.left, one.gives, omega (arith, room, c))
-
     module _ (after : List Event) (adds_first : AddsStretch words (left_of first) new after) where
       after_first : after ≡ new ++ one.left
       after_first = adds_first one.left one.gives

@@ -21,22 +21,6 @@ use Rattle.decoder.specs.declared.stepping.Goal.TheVariants.{Address, Target, Br
 use Rattle.decoder.specs.declared.stepping.Here.{Here}
 
 module _ (words : Words) (taken : List Bool) (here : Here) (used : ℕ) where
-  -- Nothing is reached off the program, nor on a word whose outcome is not there.
-  pub reaches_off : (addr priv : ℕ) (left : List Bool) → None ≡ words addr →
-      Reaches words taken here used false (retire_on addr priv (words addr) left)
-  reaches_off addr priv left off = subst (λ w. Reaches words taken here used false (retire_on addr priv w left)) off tt
-
-  pub reaches_none : (addr priv : ℕ) (word : Word) (left : List Bool) → Some word ≡ words addr →
-      None ≡ type_on word.0 left → Reaches words taken here used false (retire_on addr priv (words addr) left)
-  reaches_none addr priv word left at none =
-      subst (λ w. Reaches words taken here used false (retire_on addr priv w left)) at
-      (by_level (may_retire_at word.0 priv))
-    where
-      by_level : (b : Bool) →
-          Reaches words taken here used false (cond b (retirement addr priv (type_on word.0 left)) None)
-      by_level true = subst (λ t. Reaches words taken here used false (retirement addr priv t)) none tt
-      by_level false = tt
-
   -- On any other word its retirement is reached.
   pub reaches_there : (addr priv itype : ℕ) (word : Word) (left : List Bool) → Some word ≡ words addr →
       Some (itype, drop used taken) ≡ type_on word.0 left → event_of here ≡ Retire addr itype priv →

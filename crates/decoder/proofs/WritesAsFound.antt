@@ -1,6 +1,6 @@
 -- A walk is written as it is found, one step at a time.
 use Rattle.std.proofs.Common.{◌≡◌, ℕ, ◌+◌, ◌-◌, ◌<◌, Bool, List, [], ◌∷◌, ◌++◌, length, Option, Some, None}
-use Rattle.std.proofs.Common.{refl, sym, ap, ◌∙◌, arith, append_assoc, append-nil, length-append}
+use Rattle.std.proofs.Common.{refl, sym, ap, ◌∙◌, append_assoc, length-append}
 use Rattle.std.specs.List.{last_or}
 use Rattle.retire.specs.declared.event.Event.{Event}
 use Rattle.rvclass.specs.Words.{Words}
@@ -11,28 +11,12 @@ use Rattle.decoder.specs.steps.Retracing.{AddsWithin}
 use Rattle.decoder.specs.steps.WalkSteps.{Move, Stop, Last, On, advance, follow, event_then, walk_within, summary}
 use Rattle.decoder.specs.steps.WritingAsFound.{events_then, Writing}
 
-nothing_made : (o : Option (List Event)) → o ≡ events_then [] o
-nothing_made None = refl
-nothing_made (Some w) = refl
-
 one_made : (made : List Event) (f : Event) (o : Option (List Event)) → events_then made (event_then f o) ≡ events_then
     (made ++ f ∷ []) o
 one_made made f None = refl
 one_made made f (Some w) = ap Some (sym (append_assoc made (f ∷ []) w))
 
 module _ (words : Words) (end : End) (from : Event) (taken : List Bool) (limit : ℕ) (old : List Event) where
-  -- Nothing is written yet.
-  pub writing_starts : Writing words limit from taken end old 0 from taken old
-  writing_starts =
-      let all : limit ≡ limit - 0 = omega arith in
-      record {
-        made = [];
-        joined = sym (append-nil old);
-        counted = refl;
-        leads = nothing_made (walk_within words limit from taken end)
-            ∙ ap (λ n. events_then [] (walk_within words n from taken end)) all;
-      }
-
   module _ (done : ℕ) (here : Event) (left : List Bool) (new : List Event)
       (inv : Writing words limit from taken end old done here left new) (lt : done < limit) where
     opened : (mv : Move) → mv ≡ advance words here left end →

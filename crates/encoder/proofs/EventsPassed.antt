@@ -1,8 +1,6 @@
 -- Events that are passed over.
-use Rattle.std.proofs.Common.{◌≡◌, ℕ, ◌+◌, ◌-◌, ◌≤◌, Bool, true, false, ◌==◌, ◌&&◌, ◌||◌, not, cond, List, [], Some}
-use Rattle.std.proofs.Common.{None, length, take, get_or, sym, ap, ◌∙◌, arith}
-use Rattle.std.proofs.lemmas.List.{take_more}
-use Rattle.std.specs.List.{last_or}
+use Rattle.std.proofs.Common.{◌≡◌, ℕ, ◌-◌, Bool, true, false, ◌==◌, ◌&&◌, ◌||◌, not, cond, List, [], Some}
+use Rattle.std.proofs.Common.{length, sym, ap, ◌∙◌}
 use Rattle.std.specs.Prelude.{nat_lt}
 use Rattle.std.proofs.lemmas.Bool.{and_parts, not-true}
 use Rattle.retire.specs.declared.event.Event.{Event}
@@ -15,16 +13,6 @@ use Rattle.encoder.specs.steps.Stepping.{passes}
 use Rattle.encoder.specs.declared.due.Due.TheVariants as due
 use Rattle.encoder.specs.declared.encoder.Encoder.{Encoder}
 use Rattle.encoder.proofs.EventsTaken.{after_quiet, given_quiet}
-use Rattle.encoder.proofs.SpotLemmas.{last_or-snoc}
-
--- The last of the first events.
-pub last_of_first : (events : List Event) (at : ℕ) → 1 ≤ at → at ≤ length events
-    → last_or None (take at events) ≡ Some (get_or events (at - 1) (Retire 0 0 0))
-last_of_first events at some within =
-    let is : at - 1 + 1 ≡ at = omega (arith, some) in
-    let more = take_more events (at - 1) (Retire 0 0 0) (omega (arith, some, within)) in
-    ap (λ n. last_or None (take n events)) (sym is) ∙ ap (last_or None) more
-    ∙ last_or-snoc None (take (at - 1) events) (get_or events (at - 1) (Retire 0 0 0))
 
 -- What an event is that passes.
 record Facts (words : Words) (held : Event) (left : ℕ) (pending : List Bool) (next : Event) : Type 0 where

@@ -6,7 +6,7 @@ ghost use Rattle.encoder.specs.steps.Stepping.{next_due, is_discontinuity_by_typ
 use retire::{Event, ITYPE_TRAP_RETURN, ITYPE_UNINFERABLE};
 
 /// What is known of the rule of an event before the next one comes.
-#[derive(Clone, Copy, PartialEq, Eq)]
+#[derive(Clone, Copy)]
 pub enum Due {
     /// The packet of a trap, with its handler if a retirement comes next.
     TrapOrHandler,

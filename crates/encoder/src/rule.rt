@@ -10,7 +10,7 @@ use retire::{Event, ITYPE_OTHER};
 use rvclass::{Class, ProgramOver};
 
 /// By which rule an event is reported.
-#[derive(Clone, Copy, PartialEq, Eq)]
+#[derive(Clone, Copy)]
 pub enum Rule {
     /// A trap is reported.
     Trap {

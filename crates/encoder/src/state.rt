@@ -7,7 +7,7 @@ use retire::Event;
 /// What an encoder keeps between two events. [`Encoder::state`](crate::Encoder::state) gives it, and
 /// [`Encoder::from_state`](crate::Encoder::from_state) goes on from it. Each value of this type is the state of an
 /// encoder, but not each of an encoder that events of a legal log were pushed to.
-#[derive(Clone, Copy, PartialEq, Eq)]
+#[derive(Clone, Copy)]
 pub struct EncoderState {
     /// How many retirements come between two periodic syncs: the period less 1.
     pub between: u16,

@@ -47,6 +47,8 @@ pub use Rattle.captures.specs.Line as CaptureLine
 pub use Rattle.captures.specs.Lines as CaptureLines
 pub use Rattle.captures.specs.Number as LinesNumber
 pub use Rattle.captures.specs.Capture as LinesCapture
+pub use Rattle.captures.specs.Streamed as LinesStreamed
+pub use Rattle.captures.specs.Pass as LinesPassed
 pub use Rattle.captures.specs.ReadBack as LinesReadBack
 pub use Rattle.captures.specs.Recovered as LinesRecovered
 pub use Rattle.captures.specs.LineFaultText as LinesFaultText

@@ -34,9 +34,12 @@ pub use Rattle.auditing.specs.HartRows
 pub use Rattle.auditing.specs.SentPayload
 pub use Rattle.auditing.specs.Known
 pub use Rattle.auditing.specs.Seen
+pub use Rattle.auditing.specs.PayloadSights
 pub use Rattle.payload.specs.Same
 pub use Rattle.frames.specs.GuidedTaken as ResumingTaken
 pub use Rattle.frames.specs.Passages
 pub use Rattle.frames.specs.Counted as ResumingCounted
 pub use Rattle.frames.specs.Borrowed
 pub use Rattle.frames.specs.Amid
+pub use Rattle.frames.specs.Framed
+pub use Rattle.frames.specs.PassedOver

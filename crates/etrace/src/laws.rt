@@ -20,7 +20,7 @@ pub use decoder::{
 };
 pub use encoder::{logs_have_few_packets, packets_are_in_profile};
 pub use explaining::texts_list_what_is_legal;
-pub use frames::all_harts_choose_every_span;
+pub use frames::{all_harts_choose_every_span, known_messages_are_taken};
 pub use funnel::{every_state_is_lawful, live_channel_is_the_machine};
 pub use legalpath::{
     logs_split_and_join, reasons_name_illegal_rows, retirements_lead_to_one_place,

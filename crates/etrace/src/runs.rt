@@ -2,12 +2,12 @@
 //! capture that is compared with logs.
 
 pub use bench::{
-    CollectFault, Collector, Config, Gate, HartOutcome, Open, Outcome, Setup, Stop, Verdict,
-    compare, is_whole, replay, report, run, run_in_rooms, run_on, write_report,
+    CollectFault, Collector, ComparedHart, Config, Gate, HartOutcome, Open, Outcome, Setup, Stop,
+    Verdict, compare, is_whole, replay, report, run, run_in_rooms, run_on, write_report,
 };
 pub use comparing::{
-    ComparedHart, Comparing, ExplainedHart, Explaining, HartCount, NearRows, RowSource,
-    SourceMessage, SourcedHart, counts_of, sources_of, write_comparison, write_explained,
+    Comparing, ExplainedHart, Explaining, HartCount, NearRows, RowSource, SourceMessage,
+    SourcedHart, counts_of, sources_of, write_comparison, write_explained,
 };
 pub use funnel::{
     Core, Ended, MOST_PORTS, OpenFault, Outlet, Port, Receipt, ScheduleFault, SendFault, Settled,

@@ -8,6 +8,7 @@ use legalpath::{Next, successor};
 use retire::Event;
 use rvclass::{Class, ProgramOver, Return};
 use std::fmt;
+use std::fmt::Display;
 
 /// Where an event may be, by where the event before leads.
 #[derive(Clone, Copy)]
@@ -38,7 +39,7 @@ impl fmt::Display for Place<'_> {
     fn fmt<W: fmt::Write>(&self, f: &mut fmt::Formatter<W>) -> fmt::Result {
         match self.before {
             None => f.write_str("any address"),
-            Some(event) => write!(f, "{}", Target(successor(self.program, &event))),
+            Some(event) => Target(successor(self.program, &event)).fmt(f),
         }
     }
 }

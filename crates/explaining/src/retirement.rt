@@ -14,6 +14,7 @@ use legalpath::{Why, may_retire_at};
 use retire::Event;
 use rvclass::{Class, ProgramOver, Return};
 use std::fmt;
+use std::fmt::Display;
 
 /// Why a retirement is illegal.
 #[derive(Clone, Copy)]
@@ -41,7 +42,7 @@ impl fmt::Display for RetirementLine<'_> {
         let standing = Standing { program, event };
         match self.why {
             Why::OffProgram => write!(f, "{standing}: {}", ImageRanges(program)),
-            Why::NotRetirable => write!(f, "{standing}"),
+            Why::NotRetirable => standing.fmt(f),
             Why::WrongType => {
                 let types = types_text(program, self.addr);
                 write!(f, "{standing}: its type is {types}")
@@ -53,7 +54,7 @@ impl fmt::Display for RetirementLine<'_> {
                         before,
                         privilege: self.privilege,
                     };
-                    write!(f, "{line}")
+                    line.fmt(f)
                 } else {
                     let privileges = privileges_text(program, self.addr);
                     write!(f, "{standing}: its privilege is {privileges}")
@@ -65,7 +66,7 @@ impl fmt::Display for RetirementLine<'_> {
                     before,
                     place: self.addr,
                 };
-                write!(f, "{line}")
+                line.fmt(f)
             }
         }
     }

@@ -10,6 +10,7 @@ use legalpath::Why;
 use retire::Event;
 use rvclass::ProgramOver;
 use std::fmt;
+use std::fmt::Display;
 
 /// Why a trap is illegal.
 #[derive(Clone, Copy)]
@@ -54,7 +55,7 @@ impl fmt::Display for TrapLine<'_> {
                         before,
                         privilege: self.privilege,
                     };
-                    write!(f, "{line}")
+                    line.fmt(f)
                 } else {
                     write!(f, "{standing}: its privilege is 0, 1 or 3")
                 }
@@ -66,12 +67,12 @@ impl fmt::Display for TrapLine<'_> {
                         before,
                         place: self.epc,
                     };
-                    write!(f, "{line}")
+                    line.fmt(f)
                 } else {
                     write!(f, "{standing}: its address is even")
                 }
             }
-            Why::OffProgram | Why::NotRetirable | Why::WrongNext => write!(f, "{standing}"),
+            Why::OffProgram | Why::NotRetirable | Why::WrongNext => standing.fmt(f),
         }
     }
 }

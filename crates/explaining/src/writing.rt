@@ -15,6 +15,7 @@ use output::write_text;
 use retire::{Event, WriteFault};
 use rvclass::ProgramOver;
 use std::fmt;
+use std::fmt::Display;
 use std::io::Write;
 
 /// Why an event is illegal: what is at its row, or at the row before, and what may be there.
@@ -47,7 +48,7 @@ impl fmt::Display for EventLine<'_> {
                     privilege,
                     why,
                 };
-                write!(f, "{line}")
+                line.fmt(f)
             }
             Event::Trap {
                 privilege,
@@ -66,7 +67,7 @@ impl fmt::Display for EventLine<'_> {
                     tval,
                     why,
                 };
-                write!(f, "{line}")
+                line.fmt(f)
             }
         }
     }

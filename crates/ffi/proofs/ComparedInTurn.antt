@@ -1,16 +1,16 @@
 -- Harts are compared with the logs of texts one after the other.
 use Rattle.std.proofs.Common.{◌≡◌, ℕ, suc, ◌+◌, ◌<◌, List, [], ◌∷◌, ◌++◌, Some, length, slice_get, slice_index_or, take}
-use Rattle.std.proofs.Common.{ap, refl, sym, ◌∙◌, arith}
+use Rattle.std.proofs.Common.{ap, sym, ◌∙◌, arith}
 use Rattle.std.proofs.lemmas.List.{length-append, length-take-le, take_all, take_more}
 use Rattle.std.proofs.lemmas.Option.{same_Some, slice_get-get_or}
 use Rattle.bench.specs.Got.{Got}
 use Rattle.comparing.specs.Lines.{line_of, lines_of}
-use Rattle.comparing.specs.declared.hart_line.ComparedHart.{ComparedHart}
+use Rattle.bench.specs.declared.hart_line.ComparedHart.{ComparedHart}
 use Rattle.legalpath.specs.ProgramLog.{ProgramLog}
 use Rattle.rvclass.specs.Image.{Image}
 use Rattle.ffi.specs.Encoded.{text_between}
 use Rattle.ffi.specs.steps.Comparing.{AreCompared, IsComparedText}
-use Rattle.ffi.proofs.TextsRead.{AreRead, read_all, read_more, read_none}
+use Rattle.ffi.proofs.TextsRead.{AreRead, read_all, read_more}
 
 -- One line more is that of the hart after those before.
 lines_more : (hart : ℕ) (gots : List Got) (logs : List ProgramLog) (got : Got) (log : ProgramLog)
@@ -36,10 +36,6 @@ pub record AreComparedUpTo (program : Image) (bytes ends : List ℕ) (gots : Lis
   pub each : lines ≡ lines_of 0 (take place gots) logs
 
 module _ (program : Image) (bytes ends : List ℕ) (gots : List Got) (all : length ends ≡ length gots) where
-  -- None was.
-  pub compared_none : AreComparedUpTo program bytes ends gots 0 0 []
-  compared_none = record { logs = []; read = read_none program bytes ends; many = refl; each = refl }
-
   -- One more was.
   pub compared_more : (place from : ℕ) (lines : List ComparedHart) (end : ℕ) (got : Got) (line : ComparedHart)
       → place < length ends → end ≡ slice_index_or ends place 0 → slice_get gots place ≡ Some got

@@ -1,14 +1,14 @@
 -- The numbers of events are checked one after the other.
-use Rattle.std.proofs.Common.{◌≡◌, ℕ, ◌+◌, ◌<◌, ◌≤◌, List, ◌∷◌, [], ◌++◌, drop, length, map, slice_index_or, take}
+use Rattle.std.proofs.Common.{◌≡◌, ℕ, ◌+◌, ◌<◌, List, ◌∷◌, [], ◌++◌, drop, length, map, slice_index_or, take}
 use Rattle.std.proofs.Common.{refl, sym, ap, ◌∙◌, append_assoc}
-use Rattle.std.proofs.lemmas.List.{map-append, length-append, take-append-drop, take_all, take_more}
+use Rattle.std.proofs.lemmas.List.{map-append, take-append-drop, take_more}
 use Rattle.legalpath.specs.FirstFault.{IsFirstFault}
 use Rattle.legalpath.specs.Passed.{HasPassed, Passed}
 use Rattle.legalpath.specs.declared.fault.PathFault.{PathFault}
 use Rattle.retire.specs.declared.event.Event.{Event}
 use Rattle.rvclass.specs.Words.{Words}
 use Rattle.ffi.specs.Events.{AreOfEvent, numbers_of_event}
-use Rattle.ffi.specs.EventsChecked.{AreOfEvents, IsIllegalAt, IsNoEventAt}
+use Rattle.ffi.specs.EventsChecked.{IsIllegalAt, IsNoEventAt}
 use Rattle.ffi.specs.declared.events.EventNumbers.{EventNumbers}
 
 -- The first events have passed a check.
@@ -32,18 +32,6 @@ module _ (words : Words) (numbers : List EventNumbers) where
       ∙ ap (λ n. take place numbers ++ n ∷ []) is
       ∙ ap (λ ns. ns ++ numbers_of_event event ∷ []) front
       ∙ sym (map-append numbers_of_event log (event ∷ []))
-
-  -- One more has.
-  pub passed_more : (place : ℕ) (path next : Passed) (one : EventNumbers) (event : Event) → place < length numbers
-      → slice_index_or numbers place one ≡ numbers_of_event event
-      → (before : ArePassed words numbers place path) → HasPassed words (before.log ++ event ∷ []) next
-      → ArePassed words numbers (place + 1) next
-  passed_more place path next one event within is before passed = record {
-    log = before.log ++ event ∷ [];
-    front = next_front place one before.log event within is before.front;
-    counted = length-append before.log (event ∷ []) ∙ ap (λ n. n + 1) before.counted;
-    passed = passed;
-  }
 
   -- The next numbers are those of no event.
   pub none_at : (place : ℕ) (path : Passed) (one : EventNumbers) → place < length numbers
@@ -74,8 +62,3 @@ module _ (words : Words) (numbers : List EventNumbers) where
         ∙ ap (λ ns. ns ++ drop (place + 1) numbers) (next_front place one before.log event within is before.front);
     first = first;
   }
-
-  -- All have.
-  pub passed_all : (place : ℕ) (path : Passed) → length numbers ≤ place → (before : ArePassed words numbers place path)
-      → AreOfEvents numbers before.log
-  passed_all place path all before = sym (take_all place numbers all) ∙ before.front

@@ -1,56 +1,19 @@
 -- Payloads are fed one after the other.
-use Rattle.std.proofs.Common.{◌≡◌, ℕ, ◌+◌, ◌-◌, ◌<◌, ◌≤◌, List, ◌∷◌, [], ◌++◌, Option, drop, length, map}
-use Rattle.std.proofs.Common.{slice_index_or, take, refl, sym, ap, subst, ◌∙◌, arith, append_assoc}
+use Rattle.std.proofs.Common.{◌≡◌, ℕ, ◌+◌, ◌-◌, ◌<◌, ◌≤◌, List, ◌∷◌, [], ◌++◌, Option, Ok, Err, drop, length}
+use Rattle.std.proofs.Common.{map, slice_index_or, take, refl, sym, ap, subst, ◌∙◌, arith, append_assoc}
 use Rattle.std.proofs.lemmas.List.{append-nil, length-append, length-drop, take-append-drop, take_all, take_more}
 use Rattle.std.proofs.lemmas.Option.{slice_get-get_or}
-use Rattle.decoder.specs.declared.fault.DecodeFault.{DecodeFault}
-use Rattle.decoder.specs.declared.fault.DecodeFault.TheVariants as decode
 use Rattle.decoder.specs.declared.state.DecoderState.{DecoderState}
-use Rattle.payload.specs.declared.fault.PackFault.{PackFault}
-use Rattle.payload.specs.declared.fault.PackFault.TheVariants as pack
 use Rattle.retire.specs.declared.event.Event.{Event}
 use Rattle.ffi.proofs.WrittenInTurn.{behind_front, front_more}
 use Rattle.ffi.specs.DecoderKept.{IsOfState}
 use Rattle.ffi.specs.Encoded.{last_end, text_between}
 use Rattle.ffi.specs.Events.{numbers_of_event}
-use Rattle.ffi.specs.FedAll.{AreFed, EndsFeeds, IsNotTaken, NoPacket, NoPayload, NoRoom, Refused}
-use Rattle.ffi.specs.FedAll.{Stops, TakesAll, TakesIfAny}
+use Rattle.ffi.specs.FedAll.{AreFed, EndsFeeds, IsNotTaken, Stops, TakesAll, TakesIfAny}
 use Rattle.ffi.specs.Images.{Judged}
-use Rattle.ffi.specs.Statuses.{decode_status, pack_status}
 use Rattle.ffi.specs.declared.decoder_state.DecoderNumbers.{DecoderNumbers}
 use Rattle.ffi.specs.declared.events.EventNumbers.{EventNumbers}
-use Rattle.ffi.specs.declared.status.TheConstants.{DONE}
-use Rattle.ffi.specs.steps.FeedingAll.{IsNextFed, NotTaken, Taken}
-
--- A fault is not the status that all is done.
-pub pack_not_done : (why : PackFault) → ¬ (pack_status why ≡ DONE)
-pack_not_done pack.Empty = λ is. cc
-pack_not_done pack.TooLong = λ is. cc
-pack_not_done pack.BadPad = λ is. cc
-pack_not_done pack.Unsupported = λ is. cc
-pack_not_done pack.BadPrivilege = λ is. cc
-pack_not_done pack.BadReport = λ is. cc
-
-pub decode_not_done : (why : DecodeFault) → ¬ (decode_status why ≡ DONE)
-decode_not_done decode.NotOpened = λ is. cc
-decode_not_done decode.OffProgram = λ is. cc
-decode_not_done decode.MissedNotify = λ is. cc
-decode_not_done decode.Branches = λ is. cc
-decode_not_done decode.WrongPlace = λ is. cc
-decode_not_done decode.WrongPrivilege = λ is. cc
-decode_not_done decode.AfterClose = λ is. cc
-decode_not_done decode.Memory = λ is. cc
-
--- A payload that is not taken has another status.
-pub not_done : (image : Judged) (payload : Option (List ℕ)) (numbers : DecoderNumbers) (room status : ℕ)
-    → IsNotTaken image payload numbers room status → ¬ (status ≡ DONE)
-not_done image payload numbers room status (NoPayload none said) = λ is. let no = sym said ∙ is in cc
-not_done image payload numbers room status (NoPacket bytes some why read said) =
-    λ is. pack_not_done why (sym said ∙ is)
-not_done image payload numbers room status (Refused bytes some why refuses said) =
-    λ is. decode_not_done why (sym said ∙ is)
-not_done image payload numbers room status (NoRoom bytes some next events takes small said) =
-    λ is. let no = sym said ∙ is in cc
+use Rattle.ffi.specs.steps.FeedingAll.{IsNextFed}
 
 module _ (image : Judged) (bytes : List ℕ) where
   -- One payload more is taken.
@@ -102,7 +65,7 @@ module _ (image : Judged) (bytes : List ℕ) where
       are = is;
     }
 
-    module _ (numbers after : DecoderNumbers) (kept next : DecoderState) (place from count more status : ℕ)
+    module _ (numbers after : DecoderNumbers) (kept next : DecoderState) (place from count : ℕ)
         (now part tail whole : List EventNumbers) (payload : Option (List ℕ)) (lent : part ≡ drop count now)
         (back : whole ≡ take count now ++ tail) (within : place < length ends)
         (is : payload ≡ text_between bytes from (slice_index_or ends place 0))
@@ -120,10 +83,12 @@ module _ (image : Judged) (bytes : List ℕ) where
           ∙ length-drop count old
 
       -- One payload more was taken.
-      pub fed_more : status ≡ DONE
-          → IsNextFed image payload status numbers after kept next more part tail
+      pub fed_more : (more : ℕ) → IsNextFed image payload (Ok more) numbers after kept next part tail
           → AreFedTo ends before after next (place + 1) (slice_index_or ends place 0) (count + more) old whole
-      fed_more done (Taken events takes are counted fit written said) =
+      fed_more more step =
+          let events = step.0 in
+          let counted = step.3 in
+          let fit = step.4 in
           let fits = fed.fit in
           let left = rest in
           let one : take (place + 1) ends ≡ take place ends ++ end ∷ [] = take_more ends place 0 within in
@@ -133,7 +98,7 @@ module _ (image : Judged) (bytes : List ℕ) where
               taken_all = subst (λ front. TakesAll image bytes 0 front before after (fed.events ++ events))
                   (sym one) (takes_more 0 (take place ends) end before numbers after fed.events events fed.taken_all
                   (subst (λ n. TakesIfAny image (text_between bytes n end) numbers after events) so_far.at
-                  (subst (λ p. TakesIfAny image p numbers after events) is takes)));
+                  (subst (λ p. TakesIfAny image p numbers after events) is step.1)));
               counted = ap (λ n. n + more) fed.counted
                   ∙ ap (λ n. length fed.events + n) counted
                   ∙ sym (length-append fed.events events);
@@ -142,25 +107,22 @@ module _ (image : Judged) (bytes : List ℕ) where
                   ∙ subst (λ n. take count now ++ tail
                   ≡ map numbers_of_event (fed.events ++ events) ++ drop (count + n) old) (sym counted)
                   (front_more numbers_of_event old fed.events events count now tail (sym fed.counted) fed.written
-                  (written
+                  (step.5
                   ∙ ap (λ ns. map numbers_of_event events ++ drop more ns) lent
                   ∙ ap (λ n. map numbers_of_event events ++ drop n (drop count now)) counted));
             };
             at = sym (ap (last_end 0) one ∙ last_end_more 0 (take place ends) end);
-            are = are;
+            are = step.2;
           }
-      fed_more done (NotTaken not same kept_same stays) =
-          absurd (not_done image payload numbers (length part) status not done)
 
       -- The next one was not.
-      pub stopped : ¬ (status ≡ DONE)
-          → IsNextFed image payload status numbers after kept next more part tail
+      pub stopped : (status : ℕ) → IsNextFed image payload (Err status) numbers after kept next part tail
           → AreFed image bytes ends before after place count old whole
           × EndsFeeds image bytes ends place after (length old - count) status
-      stopped other (Taken events takes are counted fit written said) = absurd (other said)
-      stopped other (NotTaken not same kept_same stays) =
+      stopped status step =
+          let same = step.1 in
           let unchanged : whole ≡ now =
-          back ∙ ap (λ ns. take count now ++ ns) (stays ∙ lent) ∙ take-append-drop count now in (
+          back ∙ ap (λ ns. take count now ++ ns) (step.3 ∙ lent) ∙ take-append-drop count now in (
             subst (λ ns. AreFed image bytes ends before after place count old ns) (sym unchanged)
                 (subst (λ n. AreFed image bytes ends before n place count old now) (sym same) fed),
             Stops payload (record {
@@ -168,7 +130,7 @@ module _ (image : Judged) (bytes : List ℕ) where
               at = slice_get-get_or ends place 0 within;
               is = is ∙ ap (λ n. text_between bytes n end) so_far.at;
             }) (subst (λ n. IsNotTaken image payload n (length old - count) status) (sym same)
-                (subst (λ r. IsNotTaken image payload numbers r status) rest not)),
+                (subst (λ r. IsNotTaken image payload numbers r status) rest step.0)),
           )
 
     -- All were taken.

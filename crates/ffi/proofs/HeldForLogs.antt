@@ -12,7 +12,7 @@ use Rattle.comparing.specs.Compared.{gots_by, is_compared_whole}
 use Rattle.comparing.specs.Counts.{AreCounted}
 use Rattle.comparing.specs.Lines.{are_whole_lines, lines_text}
 use Rattle.comparing.specs.declared.hart_count.HartCount.{HartCount}
-use Rattle.comparing.specs.declared.hart_line.ComparedHart.{ComparedHart}
+use Rattle.bench.specs.declared.hart_line.ComparedHart.{ComparedHart}
 use Rattle.comparing.specs.steps.Held.{count_in}
 use Rattle.receiver.specs.Received.{events_in}
 use Rattle.retire.specs.declared.event.Event.{Event}
@@ -38,16 +38,6 @@ flags_held count hart [] (flag ∷ closed) same = absurd (omega (arith, same))
 flags_held count hart (list ∷ lists) [] same = absurd (omega (arith, same))
 flags_held count hart (list ∷ lists) (flag ∷ closed) same =
     ap (λ flags. flag ∷ flags) (flags_held count (hart + 1) lists closed (omega (arith, same)))
-
--- The same is held by lists that are the same.
-pub same_held : (counts counts_too : List HartCount) (lists lists_too : List (Vec Event Global))
-    (closed closed_too : List Bool) → counts ≡ counts_too → lists ≡ lists_too → closed ≡ closed_too
-    → gots_by (count_in counts) 0 (events_in lists) closed
-    ≡ gots_by (count_in counts_too) 0 (events_in lists_too) closed_too
-same_held counts counts_too lists lists_too closed closed_too a b c =
-    ap (λ x. gots_by (count_in x) 0 (events_in lists) closed) a
-    ∙ ap (λ x. gots_by (count_in counts_too) 0 (events_in x) closed) b
-    ∙ ap (λ x. gots_by (count_in counts_too) 0 (events_in lists_too) x) c
 
 module _ (image : Judged) (harts : ℕ) (capture : List ℕ) (program : Image) (made : image ≡ Ok program)
     (lists : List (Vec Event Global)) (closed : List Bool) (counts : List HartCount)

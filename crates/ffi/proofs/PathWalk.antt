@@ -1,5 +1,5 @@
 -- RECEIVED is taken span by span: what was found so far, and what is left.
-use Rattle.std.proofs.Common.{◌≡◌, ℕ, ◌+◌, ◌-◌, ◌^◌, ◌<◌, ◌≤◌, List, [], ◌∷◌, ◌++◌, length, refl, sym, ap, ◌∙◌, arith}
+use Rattle.std.proofs.Common.{◌≡◌, ℕ, ◌+◌, ◌-◌, ◌^◌, ◌<◌, ◌≤◌, List, [], ◌∷◌, ◌++◌, length, sym, ap, ◌∙◌, arith}
 use Rattle.std.proofs.Common.{min, append_assoc, append-nil, subst}
 use Rattle.std.proofs.lemmas.List.{length_push}
 use Rattle.payload.specs.declared.by.By.{By}
@@ -26,21 +26,6 @@ pub record HasWalked (how : By) (sent : List Message) (all rest : List Span) (pa
   pub counted : bytes + bytes_in rest ≡ bytes_in all
   pub few : length taken + left ≤ size
   pub most : bytes + left ≤ size
-
--- At first none was.
-pub walked_none : (how : By) (sent : List Message) (all : List Span) (path : Ledger) (arrivals : List Arrival)
-    (runs : List ByteRun) (size : ℕ) → Audits sent [] path
-    → HasWalked how sent all all path arrivals arrivals runs runs 0 size size
-walked_none how sent all path arrivals runs size audits = record {
-  taken = [];
-  audits = audits;
-  messages = refl;
-  arrived = refl;
-  run = refl;
-  counted = omega arith;
-  few = omega arith;
-  most = omega arith;
-}
 
 module _ (how : By) (sent : List Message) (all rest : List Span) (path after : Ledger)
     (first_arrivals arrivals new_arrivals : List Arrival) (first_runs runs new_runs : List ByteRun)
@@ -95,29 +80,3 @@ module _ (how : By) (sent : List Message) (all rest : List Span) (path after : L
         few = omega (arith, few, some, sized);
         most = omega (arith, most, is, sized);
       }
-
--- All were.
-pub record AreAllWalked (how : By) (sent : List Message) (all : List Span) (path : Ledger)
-    (first_arrivals arrivals : List Arrival) (first_runs runs : List ByteRun) (bytes size : ℕ) : Type 0 where
-  pub audits : Audits sent (messages_in all) path
-  pub arrived : arrivals ≡ first_arrivals ++ arrivals_after how sent [] all
-  pub run : runs ≡ first_runs ++ byte_runs all
-  pub counted : bytes ≡ bytes_in all
-  pub few : length (messages_in all) ≤ size
-
-pub walked_all : (how : By) (sent : List Message) (all : List Span) (path : Ledger)
-    (first_arrivals arrivals : List Arrival) (first_runs runs : List ByteRun) (bytes left size : ℕ)
-    → HasWalked how sent all [] path first_arrivals arrivals first_runs runs bytes left size
-    → AreAllWalked how sent all path first_arrivals arrivals first_runs runs bytes size
-walked_all how sent all path first_arrivals arrivals first_runs runs bytes left size has =
-    let messages = has.messages ∙ append-nil has.taken in
-    let long = ap length messages in
-    let few = has.few in
-    let counted = has.counted in
-    record {
-      audits = subst (λ l. Audits sent l path) (sym messages) has.audits;
-      arrived = sym (has.arrived ∙ append-nil arrivals);
-      run = sym (has.run ∙ append-nil runs);
-      counted = omega (arith, counted);
-      few = omega (arith, few, long);
-    }

@@ -27,8 +27,7 @@ use Rattle.ffi.specs.EventsChecked.{AreOfEvents}
 use Rattle.ffi.specs.Images.{Judged}
 use Rattle.ffi.specs.Numbers.{numbers_of}
 use Rattle.ffi.specs.PushedAll.{AllTaken, AreNext, AreWritten, AreWrittenFirst, EndsPushAll, FillRoom}
-use Rattle.ffi.specs.PushedAll.{HaveNoRoom}
-use Rattle.ffi.specs.PushedAll.{NoEvent, NoRoom}
+use Rattle.ffi.specs.PushedAll.{HaveNoRoom, NoEvent, NoRoom, ReportsPushAll}
 use Rattle.ffi.specs.declared.encoder_state.EncoderNumbers.{EncoderNumbers}
 use Rattle.ffi.specs.declared.events.EventNumbers.{EventNumbers}
 use Rattle.ffi.specs.declared.numbers.PacketNumbers.{PacketNumbers}
@@ -80,11 +79,11 @@ module _ (image : Judged) (program : Image) (period : ℕ) (mode : Mode) (log ne
   no_nexts : AreNext image program period mode log nexts state [] → log ++ nexts ≡ log
   no_nexts next = ap (λ es. log ++ es) (same_events [] nexts [] next.are refl) ∙ append-nil log
 
-  pub stands_none : AreNext image program period mode log nexts state []
+  stands_none : AreNext image program period mode log nexts state []
       → NumbersStand (words_of program) period mode (log ++ nexts) state
   stands_none next = subst (λ l. NumbersStand (words_of program) period mode l state) (sym (no_nexts next)) next.stand
 
-  pub written_none : (old : List PacketNumbers) → AreNext image program period mode log nexts state []
+  written_none : (old : List PacketNumbers) → AreNext image program period mode log nexts state []
       → AreWritten (packets_so_far (words_of program) period mode log)
       (packets_so_far (words_of program) period mode (log ++ nexts)) 0 old old
   written_none old next = record {
@@ -97,7 +96,7 @@ module _ (image : Judged) (program : Image) (period : ℕ) (mode : Mode) (log ne
   }
 
 -- Nothing is written for no event.
-pub first_none : (image : Judged) (program : Image) (period n : ℕ) (mode : Mode) (log nexts : List Event)
+first_none : (image : Judged) (program : Image) (period n : ℕ) (mode : Mode) (log nexts : List Event)
     (state : EncoderNumbers) (numbers : List EventNumbers) (new : List PacketNumbers) → n ≤ 0
     → AreNext image program period mode log nexts state (take n numbers)
     → AreWrittenFirst (packets_so_far (words_of program) period mode log)
@@ -114,6 +113,23 @@ first_none image program period n mode log nexts state numbers new low next =
       within = omega arith;
       written = refl;
     }
+
+-- Where none was taken, and the state and the buffer stay, this is reported.
+pub none_reported : (image : Judged) (state : EncoderNumbers) (numbers : List EventNumbers) (status : ℕ)
+    (old : List PacketNumbers) → EndsPushAll image state numbers 0 status → ¬ (status ≡ TOO_SMALL)
+    → ReportsPushAll image numbers status state state 0 0 old old
+none_reported image state numbers status old ends other = record {
+  ends = ends;
+  stands = λ program period mode log nexts next. stands_none image program period mode log nexts state next;
+  packets = λ program period mode log nexts next. written_none image program period mode log nexts state old next;
+  front = λ program period n mode log nexts few next.
+      first_none image program period n mode log nexts state numbers old few next;
+  no_room = λ program period mode log nexts next small are. absurd (other small);
+  two = λ small. absurd (other small);
+  fill = record { two = omega arith; fit = omega arith; behind = refl };
+  untaken = λ none. (refl, refl);
+  again = λ were. were;
+}
 
 module _ (image : Judged) (made : Image) (makes : image ≡ Ok made) (state : EncoderNumbers)
     (read : EncoderState) (only : (other : EncoderState) → IsOfState state other → Some read ≡ Some other)
@@ -139,11 +155,11 @@ module _ (image : Judged) (made : Image) (makes : image ≡ Ok made) (state : En
         (subst (λ es. Legal (words_of made) (log ++ es)) (sym events)
         (subst (λ p. Legal (words_of p) (log ++ nexts)) (sym same) legal))))
 
-    pub reaches : AreNext image program period mode log nexts state (take taken numbers)
+    reaches : AreNext image program period mode log nexts state (take taken numbers)
         → EncoderStands (words_of program) period mode (log ++ nexts) encoder
     reaches next = (stands_on next.stand next.made next.are next.legal).stands
 
-    pub written_all : AreNext image program period mode log nexts state (take taken numbers)
+    written_all : AreNext image program period mode log nexts state (take taken numbers)
         → AreWritten (packets_so_far (words_of program) period mode log)
         (packets_so_far (words_of program) period mode (log ++ nexts)) count old new
     written_all next =
@@ -157,7 +173,7 @@ module _ (image : Judged) (made : Image) (makes : image ≡ Ok made) (state : En
         }
 
     -- The first packets are those of the first events that are next, whatever comes after these.
-    pub written_first : (n : ℕ) → n ≤ taken → AreNext image program period mode log nexts state (take n numbers)
+    written_first : (n : ℕ) → n ≤ taken → AreNext image program period mode log nexts state (take n numbers)
         → AreWrittenFirst (packets_so_far (words_of program) period mode log)
         (packets_so_far (words_of program) period mode (log ++ nexts)) count new
     written_first n few next =
@@ -194,7 +210,7 @@ module _ (image : Judged) (made : Image) (makes : image ≡ Ok made) (state : En
         }
 
     -- The packets of the event after those have no room.
-    pub room_is_full : (next : Event) (status : ℕ) → EndsPushes (words_of made) numbers taken encoder count old status
+    room_is_full : (next : Event) (status : ℕ) → EndsPushes (words_of made) numbers taken encoder count old status
         → status ≡ TOO_SMALL
         → AreNext image program period mode log (nexts ++ next ∷ []) state (take (taken + 1) numbers)
         → HaveNoRoom (packets_so_far (words_of program) period mode (log ++ nexts))
@@ -221,7 +237,7 @@ module _ (image : Judged) (made : Image) (makes : image ≡ Ok made) (state : En
         record { more = packets; grown = given period mode (log ++ nexts) on.stands legal; small = full }
 
   -- How the pushes end.
-  pub ends_all : AreOfEncoder state → (status : ℕ)
+  ends_all : AreOfEncoder state → (status : ℕ)
       → EndsPushes (words_of made) numbers taken encoder count old status
       → EndsPushAll image state numbers taken status
   ends_all are status (steps.AllPushed all done) =
@@ -233,26 +249,50 @@ module _ (image : Judged) (made : Image) (makes : image ≡ Ok made) (state : En
       NoEvent are made makes pushed.events pushed.read next at none said
 
   -- Room for one packet at most is left.
-  pub two_left : (status : ℕ) → EndsPushes (words_of made) numbers taken encoder count old status
+  two_left : (status : ℕ) → EndsPushes (words_of made) numbers taken encoder count old status
       → status ≡ TOO_SMALL → length old < count + 2
   two_left status (steps.AllPushed all done) small = let no = sym done ∙ small in cc
   two_left status (steps.NoRoom next at packets gives few full said) small = omega (arith, few, full)
   two_left status (steps.NoEvent next at none said) small = let no = sym said ∙ small in cc
 
   -- Where none was taken, the encoder is as it was, and so is the buffer.
-  pub encoder_stays : taken ≡ 0 → encoder ≡ first
+  encoder_stays : taken ≡ 0 → encoder ≡ first
   encoder_stays none = pushed.still none
 
-  pub buffer_stays : taken ≡ 0 → new ≡ old
+  buffer_stays : taken ≡ 0 → new ≡ old
   buffer_stays none =
       let two = pushed.two in
       let no : count ≡ 0 = omega (arith, two, none) in
       let empty = no_elements pushed.packets (sym pushed.counted ∙ no) in
       pushed.written ∙ ap (λ ps. map numbers_of ps ++ drop count old) empty ∙ ap (λ n. drop n old) no
 
-  pub fill : FillRoom taken count old new
+  fill : FillRoom taken count old new
   fill = record {
     two = pushed.two;
     fit = pushed.fit;
     behind = behind_front numbers_of old pushed.packets count new (sym pushed.counted) pushed.written;
+  }
+
+  -- So this is reported, with the numbers of the encoder's state.
+  pub all_reported : AreOfEncoder state → (status : ℕ)
+      → EndsPushes (words_of made) numbers taken encoder count old status → (after : EncoderState)
+      → ((words : Words) (period : ℕ) (mode : Mode) (log : List Event) → EncoderStands words period mode log encoder
+      → StateStands words period mode log after)
+      → (kept : EncoderNumbers) → IsOfState kept after → (encoder ≡ first → kept ≡ state)
+      → ReportsPushAll image numbers status state kept taken count old new
+  all_reported are status ends after stood kept is back = record {
+    ends = ends_all are status ends;
+    stands = λ program period mode log nexts next. record {
+      state = after;
+      is = is;
+      stands = stood (words_of program) period mode (log ++ nexts) (reaches program period mode log nexts next);
+    };
+    packets = λ program period mode log nexts next. written_all program period mode log nexts next;
+    front = λ program period n mode log nexts few next. written_first program period mode log nexts n few next;
+    no_room = λ program period mode log nexts next small are.
+        room_is_full program period mode log nexts next status ends small are;
+    two = λ small. two_left status ends small;
+    fill = fill;
+    untaken = λ none. (back (encoder_stays none), buffer_stays none);
+    again = λ were. (after, is);
   }

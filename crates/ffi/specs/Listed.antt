@@ -46,41 +46,39 @@ list_end closed stop = record {
   whole = flag (is_none stop && first_unclosed closed == length closed);
 }
 
--- The text is the listing of a capture by the program of an image, with places named by symbols, and how it ends.
-pub record HasListing (image : Judged) (harts : ℕ) (capture symbols : List ℕ) (format : Form) (text : List ℕ)
-    (end : TextEnd) : Type 0 where
-  pub program : Image
-  pub file : Option (List ℕ)
+-- The text is the listing of a capture in a format by a program, with places named by a file of symbols, and how it ends.
+pub record HasListing (harts : ℕ) (capture : List ℕ) (format : Form) (program : Image) (file : Option (List ℕ))
+    (text : List ℕ) (end : TextEnd) : Type 0 where
   pub closed : List Bool
   pub stop : Option (ℕ × CaptureFault)
-  pub made : image ≡ Ok program
-  pub named : symbols_in symbols ≡ Ok file
   pub listed : IsListing (words_of program) format every_hart harts file capture closed stop text
   pub ended : end ≡ list_end closed stop
 
--- The result for a capture, in a format that is named: its listing; or the image makes no program, or else the symbols
--- are not read; or an allocation failed.
-abbrev pub IsListedAs : Form → Judged → ℕ → List ℕ → List ℕ → Result Written TextFault → Type 0
-IsListedAs format image harts capture symbols (Ok found) =
-    HasListing image harts capture symbols format found.text.items found.end
-IsListedAs format image harts capture symbols (Err (text.Of Memory)) = Unit {0}
-IsListedAs format image harts capture symbols (Err (text.Of (NoProgram why))) = image ≡ Err why
-IsListedAs format image harts capture symbols (Err (text.Symbols reading.Memory)) = Unit {0}
-IsListedAs format image harts capture symbols (Err (text.Symbols why)) =
+-- The result in a format that is named, where these are the texts by a program and a file of symbols, and how they end:
+-- such a text by the program of the image and the symbols that are read; or the image makes no program, or else the
+-- symbols are not read; or an allocation failed.
+abbrev pub IsTextBy : Judged → List ℕ → (Image → Option (List ℕ) → List ℕ → TextEnd → Type 0)
+    → Result Written TextFault → Type 0
+IsTextBy image symbols IsText (Ok found) =
+    (program : Image) × (file : Option (List ℕ)) × (image ≡ Ok program) × (symbols_in symbols ≡ Ok file)
+    × IsText program file found.text.items found.end
+IsTextBy image symbols IsText (Err (text.Of Memory)) = Unit {0}
+IsTextBy image symbols IsText (Err (text.Of (NoProgram why))) = image ≡ Err why
+IsTextBy image symbols IsText (Err (text.Symbols reading.Memory)) = Unit {0}
+IsTextBy image symbols IsText (Err (text.Symbols why)) =
     (program : Image) × (image ≡ Ok program) × (symbols_in symbols ≡ Err why)
-IsListedAs format image harts capture symbols (Err other) = ⊥
+IsTextBy image symbols IsText (Err other) = ⊥
 
 -- The same, where the format is a number: it comes first, and names none, or the format.
-pub data IsListed (image : Judged) (harts : ℕ) (capture symbols : List ℕ) (format : ℕ)
-    (written : Result Written TextFault) : Type 0 where
-  NoFormat : format_of format ≡ None → written ≡ Err (text.Of Range)
-      → IsListed image harts capture symbols format written
-  InFormat : (named : Form) → format_of format ≡ Some named
-      → IsListedAs named image harts capture symbols written
-      → IsListed image harts capture symbols format written
+pub data IsTextIn (image : Judged) (symbols : List ℕ) (format : ℕ)
+    (IsText : Form → Image → Option (List ℕ) → List ℕ → TextEnd → Type 0) (written : Result Written TextFault)
+    : Type 0 where
+  NoFormat : format_of format ≡ None → written ≡ Err (text.Of Range) → IsTextIn image symbols format IsText written
+  InFormat : (named : Form) → format_of format ≡ Some named → IsTextBy image symbols (IsText named) written
+      → IsTextIn image symbols format IsText written
 
 -- The listing of a capture was written, and the result was reported.
 abbrev pub ReportsList : Judged → ℕ → List ℕ → List ℕ → ℕ → ℕ → ℕ → ℕ → TextEnd → TextEnd → List ℕ → List ℕ → Type 0
 ReportsList image harts capture symbols format status wanted_before wanted ended_before ended old new =
-    (written : Result Written TextFault) × IsListed image harts capture symbols format written
+    (written : Result Written TextFault) × IsTextIn image symbols format (HasListing harts capture) written
     × ReportsText written status wanted_before wanted ended_before ended old new

@@ -1,5 +1,5 @@
 -- What a call reports of what salvaging does with each message of a capture.
-use Rattle.std.specs.Prelude.{ℕ, ◌≡◌, List, Option, Some, None, Result, Ok, Err}
+use Rattle.std.specs.Prelude.{ℕ, ◌≡◌, List, Option, Result}
 use Rattle.std.specs.List.{list_any}
 use Rattle.std.specs.declared.alloc.Global.{Global}
 use Rattle.message.specs.Range.{every_hart, selected}
@@ -16,17 +16,14 @@ use Rattle.salvaging.specs.declared.treatment.Treated.{Treated}
 use Rattle.frames.specs.Harts.{harts_counted}
 use Rattle.frames.specs.Search.{mode_of}
 use Rattle.frames.specs.Start.{spans_of}
-use Rattle.symbols.specs.declared.fault.SymbolsFault.TheVariants as reading
 use Rattle.salvage_reports.specs.TreatedText.{treated_text_of}
 use Rattle.ffi.specs.Images.{Judged}
-use Rattle.ffi.specs.Listed.{format_of, symbols_in}
+use Rattle.ffi.specs.Listed.{IsTextIn}
 use Rattle.ffi.specs.Salvaged.{harts_asked, salvage_end}
 use Rattle.ffi.specs.Texts.{ReportsText}
-use Rattle.ffi.specs.declared.fault.Fault.TheVariants.{Memory, NoProgram, Range}
 use Rattle.listing.specs.declared.form.Form.{Form}
 use Rattle.ffi.specs.declared.texts.TextEnd.{TextEnd}
 use Rattle.ffi.specs.declared.texts.TextFault.{TextFault}
-use Rattle.ffi.specs.declared.texts.TextFault.TheVariants as text
 use Rattle.ffi.specs.declared.texts.Written.{Written}
 
 -- This is done with each message of all harts of a capture behind this header, or with none, where this count of harts
@@ -36,47 +33,22 @@ AreTreatedBehind header asked program capture treated =
     AreTreated (words_of program) (mode_of header) (harts_counted asked header capture)
     (selected every_hart (messages_in (spans_of header capture))) treated
 
--- The text is what salvaging does with each message of a capture by the program of an image, with places named by
--- symbols, and how it ends, which is how salvaging ends.
-pub record HasTreated (format : Form) (image : Judged) (asked : Option ℕ) (capture symbols text : List ℕ)
-    (end : TextEnd) : Type 0 where
-  pub program : Image
-  pub file : Option (List ℕ)
+-- The text is what salvaging does with each message of a capture in a format by a program, with places named by a file
+-- of symbols, and how it ends, which is how salvaging ends.
+pub record HasTreated (asked : Option ℕ) (capture : List ℕ) (format : Form) (program : Image)
+    (file : Option (List ℕ)) (text : List ℕ) (end : TextEnd) : Type 0 where
   pub header : Option Header
   pub why : Option MessageFault
   pub salvaged : Salvaged Global
   pub treated : List Treated
-  pub made : image ≡ Ok program
-  pub named : symbols_in symbols ≡ Ok file
   pub found : IsSalvagedCapture asked program capture header why salvaged
   pub done : AreTreatedBehind header asked program capture treated
   pub laid_out : text ≡ treated_text_of format every_hart file header capture treated
   pub ended : end ≡ salvage_end every_hart why (list_any is_run (spans_of header capture)) salvaged
 
--- The result for a capture, in a format that is named: what is done with its messages; or the image makes no program,
--- or else the symbols are not read; or an allocation failed.
-abbrev pub IsTreatedAs : Form → Judged → Option ℕ → List ℕ → List ℕ → Result Written TextFault → Type 0
-IsTreatedAs format image asked capture symbols (Ok found) =
-    HasTreated format image asked capture symbols found.text.items found.end
-IsTreatedAs format image asked capture symbols (Err (text.Of Memory)) = Unit {0}
-IsTreatedAs format image asked capture symbols (Err (text.Of (NoProgram why))) = image ≡ Err why
-IsTreatedAs format image asked capture symbols (Err (text.Symbols reading.Memory)) = Unit {0}
-IsTreatedAs format image asked capture symbols (Err (text.Symbols why)) =
-    (program : Image) × (image ≡ Ok program) × (symbols_in symbols ≡ Err why)
-IsTreatedAs format image asked capture symbols (Err other) = ⊥
-
--- The same, where the format is a number: it comes first, and names none, or the format.
-pub data IsTreatedIn (image : Judged) (harts : ℕ) (capture symbols : List ℕ) (format : ℕ)
-    (written : Result Written TextFault) : Type 0 where
-  NoFormat : format_of format ≡ None → written ≡ Err (text.Of Range)
-      → IsTreatedIn image harts capture symbols format written
-  InFormat : (named : Form) → format_of format ≡ Some named
-      → IsTreatedAs named image (harts_asked harts) capture symbols written
-      → IsTreatedIn image harts capture symbols format written
-
 -- What salvaging does with each message of a capture was written, and the result was reported.
 abbrev pub ReportsTreated : Judged → ℕ → List ℕ → List ℕ → ℕ → ℕ → ℕ → ℕ → TextEnd → TextEnd → List ℕ → List ℕ
     → Type 0
 ReportsTreated image harts capture symbols format status wanted_before wanted ended_before ended old new =
-    (written : Result Written TextFault) × IsTreatedIn image harts capture symbols format written
+    (written : Result Written TextFault) × IsTextIn image symbols format (HasTreated (harts_asked harts) capture) written
     × ReportsText written status wanted_before wanted ended_before ended old new

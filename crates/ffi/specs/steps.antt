@@ -7,7 +7,6 @@ pub mod FeedingAll
 pub mod Adding
 pub mod Walking
 pub mod Listing
-pub mod Treating
 pub mod Explaining
 pub mod Measuring
 pub mod Comparing

@@ -1,6 +1,6 @@
 //! How a capture compares with logs, as text.
 
-ghost use Rattle.std.specs.Prelude.{◌≡◌, ◌≤◌, IfErr, IfOk, length, option_map};
+ghost use Rattle.std.specs.Prelude.{◌≡◌, ◌≤◌, IfErr, IfOk, length};
 ghost use Rattle.comparing.specs.Compared.{got_by, gots_by};
 ghost use Rattle.comparing.specs.Lines.{line_of};
 ghost use Rattle.comparing.specs.steps.Held.{count_in};
@@ -9,9 +9,9 @@ ghost use Rattle.receiver.specs.Received.{events_in};
 ghost use Rattle.retire.specs.Log.{most_rows};
 ghost use Rattle.rvclass.specs.Image.{Image};
 ghost use Rattle.ffi.specs.Compared.{IsCompared, ReportsCompare, ReportsCompared, text_row};
-ghost use Rattle.ffi.specs.Encoded.{IsNoLegalText, IsRefusedLog};
+ghost use Rattle.ffi.specs.Encoded.{IsRefusedLog};
 ghost use Rattle.ffi.specs.Images.{OfPieces};
-ghost use Rattle.ffi.specs.steps.Comparing.{AreCompared, IsComparedText, Writes};
+ghost use Rattle.ffi.specs.steps.Comparing.{AreCompared, Writes};
 
 use crate::decoding::{stop_fault, stop_place};
 use crate::encoding::{LogPlace, text_between};
@@ -21,8 +21,9 @@ use crate::images::{ImagePiece, Judged, judge_pieces};
 use crate::legal_texts::legal_events;
 use crate::status::MEMORY;
 use crate::texts::{TextEnd, TextFault, Written, first_unclosed};
+use bench::ComparedHart;
 use captures::{CaptureFault, CaptureOutcome, decode_capture};
-use comparing::{ComparedHart, Comparing, HartCount, counts_of, write_comparison};
+use comparing::{Comparing, HartCount, counts_of, write_comparison};
 use retire::{Event, WriteFault};
 use rvclass::ProgramOver;
 use std::alloc::Global;
@@ -122,15 +123,7 @@ fn compare_logs(
     if ends.len() != outcome.harts.len() {
         return Err((0, TextFault::Count));
     }
-    let lines = match compare_each(
-        alloc,
-        program,
-        logs,
-        ends,
-        outcome.harts.as_slice(),
-        outcome.closed.as_slice(),
-        counts.as_slice(),
-    ) {
+    let lines = match compare_each(alloc, program, logs, ends, &outcome, counts.as_slice()) {
         Ok(lines) => lines,
         Err((place, why)) => return Err((place, TextFault::Of(why))),
     };
@@ -172,14 +165,13 @@ fn compare_each(
     program: &ProgramOver<'_>,
     logs: &[u8],
     ends: &[u64],
-    lists: &[Vec<Event>],
-    closed: &[bool],
+    outcome: &CaptureOutcome,
     counts: &[HartCount],
 ) -> Result<Vec<ComparedHart>, (u64, Fault)>
-    requires many { length ends.now ≡ length lists.now }
-    requires flags { length closed.now ≡ length lists.now }
+    requires many { length ends.now ≡ length outcome.now.harts.items }
+    requires flags { length outcome.now.closed.items ≡ length outcome.now.harts.items }
     ensures lines { IfOk result (λ lines. AreCompared program.now logs.now ends.now
-        (gots_by (count_in counts.now) 0 (events_in lists.now) closed.now) lines.items) }
+        (gots_by (count_in counts.now) 0 (events_in outcome.now.harts.items) outcome.now.closed.items) lines.items) }
     ensures refused { IfErr result (λ why. IsRefusedLog program.now logs.now ends.now why.0 why.1) }
 {
     let mut lines = Vec::new(alloc);
@@ -187,19 +179,14 @@ fn compare_each(
     for place in 0..ends.len() {
         let end = ends[place];
         let text = text_between(logs, from, end);
-        let decoded = lists[place].as_slice();
-        let line = match compare_text(
-            alloc,
-            program,
-            text,
-            place,
-            decoded,
-            closed[place],
-            count_at(counts, place),
-        ) {
-            Ok(line) => line,
+        let events = match legal_events(alloc, program, text) {
+            Ok(events) => events,
             Err(fault) => return Err((place as u64, fault)),
         };
+        let decoded = &outcome.harts[place];
+        let closed = outcome.closed[place];
+        let count = count_at(counts, place);
+        let line = line_of(place, decoded.as_slice(), closed, count, events.as_slice());
         match lines.push(line) {
             Ok(()) => {}
             Err(_) => return Err((place as u64, Fault::Memory)),
@@ -216,26 +203,6 @@ fn count_at(counts: &[HartCount], hart: usize) -> HartCount
     match counts.get(hart) {
         Some(count) => *count,
         None => HartCount::NONE,
-    }
-}
-
-/// The line of a hart by the legal log of a text.
-fn compare_text(
-    alloc: Global,
-    program: &ProgramOver<'_>,
-    text: Option<&[u8]>,
-    hart: usize,
-    decoded: &[Event],
-    closed: bool,
-    count: HartCount,
-) -> Result<ComparedHart, Fault>
-    ensures line { IfOk result (IsComparedText program.now (option_map (λ own. own.now) text.entry) hart
-        (got_by count decoded.now closed)) }
-    ensures fault { IfErr result (IsNoLegalText program.now (option_map (λ own. own.now) text.entry)) }
-{
-    match legal_events(alloc, program, text) {
-        Ok(events) => Ok(line_of(hart, decoded, closed, count, events.as_slice())),
-        Err(why) => Err(why),
     }
 }
 

@@ -24,7 +24,7 @@ pub const CLOSED: u32 = 3;
 
 /// All that a decoder remembers, as numbers. A flag is 0 or 1. What a flag says is absent is 0.
 #[repr(C)]
-#[derive(Clone, Copy, PartialEq, Eq)]
+#[derive(Clone, Copy)]
 pub struct DecoderNumbers {
     /// How far the trace has come: [`UNOPENED`], [`RUNNING`], [`PASSING_OVER`] or [`CLOSED`].
     pub phase: u32,

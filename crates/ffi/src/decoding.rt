@@ -73,36 +73,13 @@ pub fn tracebench_decode_all(
         ended.old ended.new buffer.old buffer.new ends.old ends.new) }
 {
     let judged = judge_pieces(alloc, pieces);
-    report_decode_all(alloc, &judged, harts, capture, buffer, wanted, ends, ended)
-}
-
-/// Decodes a capture, and reports the logs of its harts.
-fn report_decode_all(
-    alloc: Global,
-    image: &Judged<'_>,
-    harts: u16,
-    capture: &[u8],
-    buffer: &mut [u8],
-    wanted: &mut u64,
-    ends: &mut [HartEnd],
-    ended: &mut DecodeAllEnd,
-) -> u32
-    ensures { ReportsDecodeAll image.now harts capture.now result wanted.old wanted.new ended.old ended.new buffer.old
-        buffer.new ends.old ends.new }
-{
-    match decode_harts(alloc, image, harts, capture) {
-        Ok(decoded) => {
-            *ended = decoded.end;
-            hand_out_texts(
-                decoded.text.as_slice(),
-                decoded.ends.as_slice(),
-                buffer,
-                wanted,
-                ends,
-            )
-        }
-        Err(fault) => fault.status(),
-    }
+    let decoded = match decode_harts(alloc, &judged, harts, capture) {
+        Ok(decoded) => decoded,
+        Err(fault) => return fault.status(),
+    };
+    *ended = decoded.end;
+    let (text, places) = (decoded.text.as_slice(), decoded.ends.as_slice());
+    hand_out_texts(text, places, buffer, wanted, ends)
 }
 
 /// Writes texts to the start of a buffer, and where each ends to that of another. Where one of them is too small, none is

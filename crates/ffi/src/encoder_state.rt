@@ -25,7 +25,7 @@ pub const DUE_HANDLER: u32 = 5;
 
 /// What an encoder keeps between two events, as numbers.
 #[repr(C)]
-#[derive(Clone, Copy, PartialEq, Eq)]
+#[derive(Clone, Copy)]
 pub struct EncoderNumbers {
     /// How many retirements come between two periodic syncs: the period less 1.
     pub between: u16,

@@ -2,7 +2,7 @@
 
 ghost use Rattle.std.specs.Prelude.{◌≡◌, ◌≤◌, Err, IfErr, IfOk, IfSome, None, length, option_map};
 ghost use Rattle.message.specs.Version.{most_harts};
-ghost use Rattle.ffi.specs.Encoded.{AreInRange, AreLogs, IsEncoded, IsLegalText, IsMade, IsNoLegalText};
+ghost use Rattle.ffi.specs.Encoded.{AreInRange, AreLogs, IsLegalText, IsMade, IsNoLegalText};
 ghost use Rattle.ffi.specs.Encoded.{IsOutOfRange, IsRefusedLog, ReportsEncode, ReportsMade, mode_of};
 ghost use Rattle.ffi.specs.Encoded.{text_between, version_of};
 ghost use Rattle.ffi.specs.Images.{judged_pieces};
@@ -37,6 +37,17 @@ pub struct LogPlace {
     pub row: u64,
 }
 
+/// What a capture of logs is made with.
+#[derive(Clone, Copy)]
+pub(crate) struct Settings {
+    /// The period of synchronisations in retirements, 1 or more.
+    pub(crate) period: u16,
+    /// How addresses are reported.
+    pub(crate) mode: Mode,
+    /// Whether the capture has a header.
+    pub(crate) version: Version,
+}
+
 /// Writes the capture of harts' logs to a buffer, hart 0 first. `logs` holds the texts of the logs, one after the
 /// other, and `ends` where each ends; what is after the last end is not looked at. There are 1 to 1,024 logs, in
 /// version 1 at most 64, the period is 1 or more, the mode is [`DIFFERENTIAL`] or [`FULL`], and the version
@@ -62,7 +73,12 @@ pub fn tracebench_encode(
     ensures { ReportsEncode (judged_pieces pieces.now) logs.now ends.now period mode version result wanted.old
         wanted.new place.old place.new buffer.old buffer.new }
 {
-    let made = encode_logs(alloc, pieces, logs, ends, period, mode, version);
+    let settings = match settings_of(ends, period, mode, version) {
+        Some(settings) => settings,
+        None => return report_made(Err((0, Fault::Range)), buffer, wanted, place),
+    };
+    let copied = copy_pieces(alloc, pieces);
+    let made = encode_logs(alloc, &copied, logs, ends, settings);
     report_made(made, buffer, wanted, place)
 }
 
@@ -87,35 +103,10 @@ pub(crate) fn report_made(
     }
 }
 
-/// The capture of logs, or the log that is at fault and why.
-fn encode_logs(
-    alloc: Global,
-    pieces: &[ImagePiece<'_>],
-    logs: &[u8],
-    ends: &[u64],
-    period: u16,
-    mode: u32,
-    version: u32,
-) -> Result<Vec<u8>, (u64, Fault)>
-    ensures { IsEncoded (judged_pieces pieces.now) logs.now ends.now period mode version result }
-{
-    match settings_of(ends, period, mode, version) {
-        Some((mode, version)) => {
-            let copied = copy_pieces(alloc, pieces);
-            capture_of_texts(alloc, &copied, logs, ends, period, mode, version)
-        }
-        None => Err((0, Fault::Range)),
-    }
-}
-
-/// The mode and the version that numbers name, where all are within their ranges.
-pub(crate) fn settings_of(
-    ends: &[u64],
-    period: u16,
-    mode: u32,
-    version: u32,
-) -> Option<(Mode, Version)>
-    ensures within { IfSome result (λ named. AreInRange ends.now period mode version named.0 named.1) }
+/// The settings that numbers name, where all are within their ranges.
+pub(crate) fn settings_of(ends: &[u64], period: u16, mode: u32, version: u32) -> Option<Settings>
+    ensures within { IfSome result (λ named. AreInRange ends.now period mode version named.mode named.version) }
+    ensures period { IfSome result (λ named. named.period ≡ period) }
     ensures out { result ≡ None → IsOutOfRange ends.now period mode version }
 {
     let Some(mode) = mode_of(mode) else {
@@ -127,25 +118,32 @@ pub(crate) fn settings_of(
     if period == 0 || ends.is_empty() || ends.len() > usize::from(version.most_harts()) {
         return None;
     }
-    Some((mode, version))
+    Some(Settings {
+        period,
+        mode,
+        version,
+    })
 }
 
-/// The capture of logs in this version, or the log that is at fault and why.
-fn capture_of_texts(
+/// The capture of logs in these settings, or the log that is at fault and why.
+fn encode_logs(
     alloc: Global,
     copied: &Copied,
     logs: &[u8],
     ends: &[u64],
-    period: u16,
-    mode: Mode,
-    version: Version,
+    settings: Settings,
 ) -> Result<Vec<u8>, (u64, Fault)>
-    requires period { 1 ≤ period }
+    requires period { 1 ≤ settings.period }
     requires some { 1 ≤ length ends.now }
-    requires few { length ends.now ≤ most_harts version }
-    ensures made { IsMade copied.now logs.now ends.now period mode version result }
+    requires few { length ends.now ≤ most_harts settings.version }
+    ensures made { IsMade copied.now logs.now ends.now settings.period settings.mode settings.version result }
     ensures memory { copied.now ≡ Err ImageFault.Memory → result ≡ Err (0, Memory) }
 {
+    let Settings {
+        period,
+        mode,
+        version,
+    } = settings;
     let program = match copied {
         Ok(program) => program,
         Err(ImageFault::Memory) => return Err((0, Fault::Memory)),

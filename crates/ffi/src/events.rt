@@ -15,7 +15,7 @@ pub const TRAP_TAKEN: u32 = 1;
 
 /// A retirement or a trap as numbers. What an event of this kind does not have is 0.
 #[repr(C)]
-#[derive(Clone, Copy, PartialEq, Eq)]
+#[derive(Clone, Copy)]
 pub struct EventNumbers {
     /// Which event it is: [`RETIREMENT`] or [`TRAP_TAKEN`].
     pub kind: u32,

@@ -13,7 +13,7 @@ use rvclass::{PieceFault, ProgramFault};
 use std::alloc::AllocError;
 
 /// Why an image makes no program.
-#[derive(Clone, Copy, Debug)]
+#[derive(Clone, Copy)]
 pub enum ImageFault {
     /// The image, or the first piece of one, makes none.
     First(ProgramFault),
@@ -40,7 +40,7 @@ impl ImageFault {
 }
 
 /// Why a call gives no answer.
-#[derive(Clone, Copy, Debug)]
+#[derive(Clone, Copy)]
 pub enum Fault {
     /// An allocation failed.
     Memory,

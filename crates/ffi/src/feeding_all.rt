@@ -1,10 +1,9 @@
 //! Decoding, many steps at a call: payloads in, their events out.
 
-ghost use Rattle.std.specs.Prelude.{◌≡◌, ◌≤◌, ◌-◌, Ok, length, option_map};
+ghost use Rattle.std.specs.Prelude.{◌≡◌, ◌≤◌, IfOk, Ok, length, option_map};
 ghost use Rattle.ffi.specs.DecoderKept.{IsOfState};
-ghost use Rattle.ffi.specs.FedAll.{AreFed, EndsFeeds, ReportsFeedAll};
+ghost use Rattle.ffi.specs.FedAll.{ReportsFeedAll};
 ghost use Rattle.ffi.specs.Images.{OfPieces, Judged as AnyJudged};
-ghost use Rattle.ffi.specs.declared.status.TheConstants.{DONE};
 ghost use Rattle.ffi.specs.steps.FeedingAll.{IsNextFed};
 
 use crate::decoder_state::{DecoderNumbers, state_of};
@@ -60,87 +59,90 @@ pub fn tracebench_feed_all(
         taken.new count.new events.old events.new) }
 {
     let judged = judge_pieces(alloc, pieces);
-    report_feed_all(alloc, &judged, state, payloads, ends, events, taken, count)
+    let fed = feed_while_room(alloc, &judged, state, payloads, ends, events);
+    *taken = fed.taken;
+    *count = fed.count;
+    fed.status
 }
 
-/// Feeds payloads to the decoder with these numbers, and reports what came of them.
-#[inline(always)]
-fn report_feed_all(
-    alloc: Global,
-    image: &Judged<'_>,
-    state: &mut DecoderNumbers,
-    payloads: &[u8],
-    ends: &[u64],
-    events: &mut [EventNumbers],
-    taken: &mut u64,
-    count: &mut u64,
-) -> u32
-    ensures { ReportsFeedAll image.now payloads.now ends.now result state.old state.new taken.new count.new events.old
-        events.new }
-{
-    *taken = 0;
-    *count = 0;
-    let first = match state_of(state) {
-        Some(first) => first,
-        None => return BAD_STATE,
-    };
-    let program = match image {
-        Ok(program) => program,
-        Err(fault) => return fault.status(),
-    };
-    feed_while_room(
-        alloc, program, first, state, payloads, ends, events, taken, count,
-    )
+/// How far payloads were fed to a decoder.
+#[derive(Clone, Copy)]
+struct FedPayloads {
+    /// How many were taken.
+    taken: u64,
+    /// How many events were written.
+    count: u64,
+    /// Why the next one was not taken, if any is left.
+    status: u32,
 }
 
-/// Feeds payloads to the decoder with this state and these numbers, as long as their events have room.
+/// Feeds payloads to the decoder with these numbers, as long as their events have room.
 fn feed_while_room(
     alloc: Global,
-    program: &ProgramOver,
-    first: DecoderState,
+    image: &Judged<'_>,
     numbers: &mut DecoderNumbers,
     payloads: &[u8],
     ends: &[u64],
     events: &mut [EventNumbers],
-    taken: &mut u64,
-    count: &mut u64,
-) -> u32
-    ensures fed { (image : AnyJudged) → image ≡ Ok program.now → IsOfState numbers.old first →
-        AreFed image payloads.now ends.now numbers.old numbers.new taken.new count.new events.old events.new }
-    ensures ends { (image : AnyJudged) → image ≡ Ok program.now → IsOfState numbers.old first →
-        EndsFeeds image payloads.now ends.now taken.new numbers.new (length events.old - count.new) result }
+) -> FedPayloads
+    ensures { ReportsFeedAll image.now payloads.now ends.now result.status numbers.old numbers.new result.taken
+        result.count events.old events.new }
 {
+    let first = match state_of(numbers) {
+        Some(first) => first,
+        None => {
+            return FedPayloads {
+                taken: 0,
+                count: 0,
+                status: BAD_STATE,
+            };
+        }
+    };
+    let program = match image {
+        Ok(program) => program,
+        Err(fault) => {
+            return FedPayloads {
+                taken: 0,
+                count: 0,
+                status: fault.status(),
+            };
+        }
+    };
     let mut list = Vec::new(alloc);
     let mut kept = first;
     let mut from = 0;
     let mut written = 0;
     for place in 0..ends.len() {
-        *taken = place as u64;
-        *count = written as u64;
         let end = ends[place];
-        let mut more = 0;
-        let status = feed_next(
+        let payload = text_between(payloads, from, end);
+        match feed_next(
             program,
             &mut kept,
             numbers,
-            text_between(payloads, from, end),
+            payload,
             &mut list,
             &mut events[written..],
-            &mut more,
-        );
-        if status != DONE {
-            return status;
+        ) {
+            Ok(more) => written += more,
+            Err(status) => {
+                return FedPayloads {
+                    taken: place as u64,
+                    count: written as u64,
+                    status,
+                };
+            }
         }
-        written += more as usize;
         from = end;
     }
-    *taken = ends.len() as u64;
-    *count = written as u64;
-    DONE
+    FedPayloads {
+        taken: ends.len() as u64,
+        count: written as u64,
+        status: DONE,
+    }
 }
 
 /// Feeds the next payload to the decoder with this state and these numbers, and writes its events, for which it uses
-/// the list. Where they have no room, nothing changes but the list.
+/// the list. Returns how many they are, or why the payload is not taken. Then nothing changes but the list.
 fn feed_next(
     program: &ProgramOver,
     kept: &mut DecoderState,
@@ -148,31 +150,32 @@ fn feed_next(
     payload: Option<&[u8]>,
     list: &mut Vec<Event>,
     events: &mut [EventNumbers],
-    count: &mut u64,
-) -> u32
+) -> Result<usize, u32>
     ensures fed { (image : AnyJudged) → image ≡ Ok program.now → IsOfState numbers.old kept.old →
         IsNextFed image (option_map (λ own. own.now) payload.entry) result numbers.old numbers.new kept.old
-        kept.new count.new events.old events.new }
-    ensures fits { result ≡ DONE → count.new ≤ length events.old }
+        kept.new events.old events.new }
+    ensures fits { IfOk result (λ count. count ≤ length events.old) }
 {
     let payload = match payload {
         Some(payload) => payload,
-        None => return OUT_OF_RANGE,
+        None => return Err(OUT_OF_RANGE),
     };
     let packet = match unpack(payload) {
         Ok(packet) => packet,
-        Err(why) => return pack_status(why),
+        Err(why) => return Err(pack_status(why)),
     };
     list.clear();
     let mut next = *kept;
     let after = match feed_packet(program, &mut next, &packet, list) {
         Ok(after) => after,
-        Err(why) => return decode_status(why),
+        Err(why) => return Err(decode_status(why)),
     };
-    let status = hand_out_events(list.as_slice(), events, count);
-    if status == DONE {
-        *kept = next;
-        *numbers = after;
+    let mut count = 0;
+    let status = hand_out_events(list.as_slice(), events, &mut count);
+    if status != DONE {
+        return Err(status);
     }
-    status
+    *kept = next;
+    *numbers = after;
+    Ok(count as usize)
 }

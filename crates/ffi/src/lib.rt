@@ -36,7 +36,6 @@ mod images;
 mod legal_texts;
 mod lines;
 mod listing_capture;
-mod listing_salvaged;
 mod measuring_logs;
 mod messages;
 mod numbers;
@@ -75,8 +74,7 @@ pub use feeding_all::tracebench_feed_all;
 pub use headers::{HeaderNumbers, tracebench_read_header, tracebench_write_header};
 pub use images::ImagePiece;
 pub use lines::{LinesRefusal, tracebench_capture_of_lines};
-pub use listing_capture::{CSV, TEXT, tracebench_list};
-pub use listing_salvaged::tracebench_list_salvaged;
+pub use listing_capture::{CSV, TEXT, tracebench_list, tracebench_list_salvaged};
 pub use measuring_logs::tracebench_measure;
 pub use messages::{MessageNumbers, tracebench_read_message, tracebench_write_message};
 pub use numbers::{

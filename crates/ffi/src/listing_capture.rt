@@ -1,21 +1,24 @@
-//! The listing of a capture.
+//! The listings of a capture: what each message carries, or what salvaging does with it.
 
-ghost use Rattle.std.specs.Prelude.{◌≡◌, IfErr, IfOk, Ok, Some};
-ghost use Rattle.listing.specs.Listing.{AppendsListing, IsListing, names_in};
-ghost use Rattle.rvclass.specs.Fetch.{words_of};
+ghost use Rattle.std.specs.Prelude.{◌≡◌, IfErr, IfOk, Ok, option_map};
 ghost use Rattle.ffi.specs.Images.{OfPieces};
-ghost use Rattle.ffi.specs.Listed.{IsListed, IsListedAs, ReportsList, format_of, list_end};
-ghost use Rattle.ffi.specs.Listed.{symbols_in};
-ghost use Rattle.ffi.specs.steps.Listing.{AreNotRead};
+ghost use Rattle.ffi.specs.Listed.{HasListing, IsTextBy, IsTextIn, ReportsList, format_of, list_end, symbols_in};
+ghost use Rattle.ffi.specs.Treated.{HasTreated, ReportsTreated};
+ghost use Rattle.ffi.specs.steps.Listing.{AreNotRead, HasAccount};
 
 use crate::copying::copy_bytes;
 use crate::decoding::{stop_fault, stop_place};
 use crate::fault::Fault;
 use crate::images::{ImagePiece, Judged, judge_pieces};
+use crate::salvaged::{end_of_found, harts_asked};
 use crate::texts::{TextEnd, TextFault, Written, first_unclosed, report_text};
+use frames::{harts_counted, mode_of, start_of};
 use listing::{Form, ListInput, Listed, list_capture};
 use message::{HartRange, NoProgress};
 use retire::WriteFault;
+use rvclass::ProgramOver;
+use salvage_reports::{TreatedCapture, find_salvaged, write_treated};
+use salvaging::treat_watched;
 use std::alloc::Global;
 use symbols::{Symbols, SymbolsFault};
 
@@ -47,29 +50,69 @@ pub fn tracebench_list(
         wanted.new ended.old ended.new buffer.old buffer.new) }
 {
     let judged = judge_pieces(alloc, pieces);
-    let listed = list_text(alloc, &judged, harts, capture, symbols, format);
+    let account = Account::Decoded { harts };
+    let listed = list_text(alloc, account, &judged, capture, symbols, format);
     report_text(listed, buffer, wanted, ended)
 }
 
-/// The listing of a capture, or why there is none.
-fn list_text(
+/// Writes what salvaging does with each message of a capture to a buffer, as `tracebench list --salvage` prints it: a
+/// line for each message that is found among its bytes, with what it says and what is done with it, and one for each
+/// run of bytes between. The messages and the harts are those of [`tracebench_salvage`](crate::tracebench_salvage), and
+/// so is `ended`. Symbols and formats are those of [`tracebench_list`].
+///
+/// The status is [`DONE`](crate::status::DONE), [`TOO_SMALL`](crate::status::TOO_SMALL),
+/// [`OUT_OF_RANGE`](crate::status::OUT_OF_RANGE) where the format is none, [`MEMORY`](crate::status::MEMORY), or says
+/// what is wrong with the pieces, or with the symbols. All but the first two write nothing.
+pub fn tracebench_list_salvaged(
     alloc: Global,
-    image: &Judged<'_>,
+    pieces: &[ImagePiece<'_>],
     harts: u16,
     capture: &[u8],
     symbols: &[u8],
     format: u32,
+    buffer: &mut [u8],
+    wanted: &mut u64,
+    ended: &mut TextEnd,
+) -> u32
+    ensures { OfPieces pieces.now (λ image. ReportsTreated image harts capture.now symbols.now format result wanted.old
+        wanted.new ended.old ended.new buffer.old buffer.new) }
+{
+    let judged = judge_pieces(alloc, pieces);
+    let account = Account::Salvaged {
+        asked: harts_asked(harts),
+    };
+    let treated = list_text(alloc, account, &judged, capture, symbols, format);
+    report_text(treated, buffer, wanted, ended)
+}
+
+/// What is said of each message.
+#[derive(Clone, Copy)]
+enum Account {
+    /// What it carries, and the events that it settles. The harts are these where no header counts them.
+    Decoded { harts: u16 },
+    /// What salvaging does with it. This count of harts is asked for, if one is.
+    Salvaged { asked: Option<u16> },
+}
+
+/// The text of a listing, or why there is none.
+fn list_text(
+    alloc: Global,
+    account: Account,
+    image: &Judged<'_>,
+    capture: &[u8],
+    symbols: &[u8],
+    format: u32,
 ) -> Result<Written, TextFault>
-    ensures { IsListed image.now harts capture.now symbols.now format result }
+    ensures { IsTextIn image.now symbols.now format (HasAccount account capture.now) result }
 {
     match format_of(format) {
-        Some(format) => list_as(alloc, format, image, harts, capture, symbols),
+        Some(format) => list_as(alloc, account, format, image, capture, symbols),
         None => Err(TextFault::Of(Fault::Range)),
     }
 }
 
 /// The format of a number.
-pub(crate) fn format_of(number: u32) -> Option<Form>
+fn format_of(number: u32) -> Option<Form>
     ensures { result ≡ format_of number }
 {
     match number {
@@ -79,16 +122,16 @@ pub(crate) fn format_of(number: u32) -> Option<Form>
     }
 }
 
-/// The listing of a capture in a format, or why there is none.
-fn list_as<'x>(
+/// The text of a listing in a format, or why there is none.
+fn list_as(
     alloc: Global,
+    account: Account,
     format: Form,
-    image: &'x Judged<'x>,
-    harts: u16,
-    capture: &'x [u8],
+    image: &Judged<'_>,
+    capture: &[u8],
     symbols: &[u8],
 ) -> Result<Written, TextFault>
-    ensures { IsListedAs format image.now harts capture.now symbols.now result }
+    ensures { IsTextBy image.now symbols.now (HasAccount account capture.now format) result }
 {
     let program = match image {
         Ok(program) => program,
@@ -98,26 +141,14 @@ fn list_as<'x>(
         Ok(symbols) => symbols,
         Err(why) => return Err(TextFault::Symbols(why)),
     };
-    let input = ListInput {
-        program,
-        harts,
-        only: HartRange::ALL,
-        capture,
-        symbols: symbols.as_ref(),
-        form: format,
-    };
-    let mut text = Vec::new(alloc);
-    match list_in(alloc, &input, &mut text) {
-        Ok(listed) => Ok(Written {
-            text,
-            end: end_of(&listed),
-        }),
+    match list_by(alloc, account, format, program, capture, symbols.as_ref()) {
+        Ok(written) => Ok(written),
         Err(_) => Err(TextFault::Of(Fault::Memory)),
     }
 }
 
 /// The symbols of bytes, if there are any.
-pub(crate) fn symbols_of(alloc: Global, bytes: &[u8]) -> Result<Option<Symbols>, SymbolsFault>
+fn symbols_of(alloc: Global, bytes: &[u8]) -> Result<Option<Symbols>, SymbolsFault>
     ensures read { IfOk result (λ symbols. symbols_in bytes.now ≡ Ok symbols) }
     ensures refused { IfErr result (AreNotRead bytes.now) }
 {
@@ -134,13 +165,51 @@ pub(crate) fn symbols_of(alloc: Global, bytes: &[u8]) -> Result<Option<Symbols>,
     }
 }
 
-/// Writes a listing after what the text has.
-fn list_in(alloc: Global, input: &ListInput<'_>, text: &mut Vec<u8>) -> Result<Listed, WriteFault>
-    ensures { IfOk result (λ listed. AppendsListing
-        (IsListing (words_of input.now.program.now) input.now.form input.now.only input.now.harts (names_in input.now)
-        input.now.capture.now) listed.closed.items listed.fault (Some text.old.items) (Some text.new.items)) }
+/// The text of a listing by a program in a format.
+fn list_by(
+    alloc: Global,
+    account: Account,
+    format: Form,
+    program: &ProgramOver<'_>,
+    capture: &[u8],
+    symbols: Option<&Symbols>,
+) -> Result<Written, WriteFault>
+    ensures { IfOk result (λ written. HasAccount account capture.now format program.now
+        (option_map (λ file. file.now) symbols.entry) written.text.items written.end) }
 {
-    list_capture(alloc, input, text, &NoProgress)
+    match account {
+        Account::Decoded { harts } => list_decoded(alloc, harts, format, program, capture, symbols),
+        Account::Salvaged { asked } => treat_by(alloc, asked, format, program, capture, symbols),
+    }
+}
+
+/// What each message of a capture carries, and the events that it settles, by a program in a format.
+fn list_decoded<'x>(
+    alloc: Global,
+    harts: u16,
+    format: Form,
+    program: &'x ProgramOver<'x>,
+    capture: &'x [u8],
+    symbols: Option<&'x Symbols>,
+) -> Result<Written, WriteFault>
+    ensures { IfOk result (λ written. HasListing harts capture.now format program.now
+        (option_map (λ file. file.now) symbols.entry) written.text.items written.end) }
+{
+    let input = ListInput {
+        program,
+        harts,
+        only: HartRange::ALL,
+        capture,
+        symbols,
+        form: format,
+    };
+    let mut listed_text = Vec::new(alloc);
+    let listed = list_capture(alloc, &input, &mut listed_text, &NoProgress)?;
+    let end = end_of(&listed);
+    Ok(Written {
+        text: listed_text,
+        end,
+    })
 }
 
 /// How a listing ends, in numbers.
@@ -157,4 +226,42 @@ fn end_of(listed: &Listed) -> TextEnd
         fault: stop_fault(listed.fault),
         whole: u32::from(listed.fault.is_none() && unclosed == harts),
     }
+}
+
+/// What salvaging does with each message of a capture by a program in a format.
+fn treat_by(
+    alloc: Global,
+    asked: Option<u16>,
+    format: Form,
+    program: &ProgramOver<'_>,
+    capture: &[u8],
+    symbols: Option<&Symbols>,
+) -> Result<Written, WriteFault>
+    ensures { IfOk result (λ written. HasTreated asked capture.now format program.now
+        (option_map (λ file. file.now) symbols.entry) written.text.items written.end) }
+{
+    let start = start_of(capture);
+    let harts = harts_counted(asked, start.header, capture);
+    let mode = mode_of(start.header);
+    let found = find_salvaged(
+        alloc,
+        program,
+        start,
+        harts,
+        HartRange::ALL,
+        capture,
+        &NoProgress,
+    )?;
+    let messages = found.frames.messages.as_slice();
+    let treated = treat_watched(alloc, program, harts, mode, messages, &NoProgress)?;
+    let all = TreatedCapture {
+        header: start.header,
+        only: HartRange::ALL,
+        bytes: capture,
+        treated: treated.as_slice(),
+    };
+    let mut text = Vec::new(alloc);
+    write_treated(format, symbols, all, &mut text)?;
+    let end = end_of_found(&found);
+    Ok(Written { text, end })
 }

@@ -1,6 +1,6 @@
 //! What logs cost, as a table.
 
-ghost use Rattle.std.specs.Prelude.{◌≡◌, ◌≤◌, ◌^◌, All, IfErr, IfOk, length, option_map};
+ghost use Rattle.std.specs.Prelude.{◌≡◌, ◌≤◌, IfErr, IfOk, length, option_map};
 ghost use Rattle.legalpath.specs.Legal.{Legal};
 ghost use Rattle.legalpath.specs.ProgramLog.{program_log};
 ghost use Rattle.captures.specs.Bounds.{AreWithin, most_counted};
@@ -62,7 +62,7 @@ fn measure_logs(
     ensures { IsMeasured image.now logs.now ends.now period mode result }
 {
     match settings_of(ends, period, mode, VERSION_TWO) {
-        Some((mode, _)) => measure_in(alloc, image, logs, ends, period, mode),
+        Some(settings) => measure_in(alloc, image, logs, ends, period, settings.mode),
         None => Err((0, Fault::Range)),
     }
 }

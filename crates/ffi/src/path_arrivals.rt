@@ -52,9 +52,8 @@ fn take_passage(
 ) -> Result<u64, AllocError>
     ensures audits { (sent received : List AnyMessage) → IsAudit sent received path.old
         → IsAudit sent (received ++ messages_in (span_of passage.entry ∷ [])) path.new }
-    ensures by { path.new.by ≡ path.old.by }
-    ensures header { path.new.header ≡ path.old.header }
-    ensures harts { length path.new.harts ≡ length path.old.harts }
+    ensures same { (path.new.by ≡ path.old.by) × (path.new.header ≡ path.old.header)
+        × (length path.new.harts ≡ length path.old.harts) }
     ensures arrivals { (sent received : List AnyMessage) → IsAudit sent received path.old
         → OnOk result (arrivals.new.items
         ≡ arrivals.old.items ++ arrivals_after path.old.by sent received (span_of passage.entry ∷ [])) }

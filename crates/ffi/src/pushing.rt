@@ -1,18 +1,14 @@
 //! The packets that open a trace, and those that close it.
 
-ghost use Rattle.std.specs.Prelude.{◌≡◌, ◌≢◌, ◌<◌, ◌⊎◌, ◌∷◌, [], ℕ, List, Some, length, map};
-ghost use Rattle.encoder.specs.Packets.{packets as packets_of};
+ghost use Rattle.std.specs.Prelude.{◌≡◌, ◌≢◌, ◌<◌, ◌∷◌, [], Some, map};
 ghost use Rattle.encoder.specs.PacketsSoFar.{packets_so_far};
 ghost use Rattle.payload.specs.declared.mode.Mode.{Mode};
-ghost use Rattle.retire.specs.declared.event.Event.{Event as AnyEvent};
-ghost use Rattle.rvclass.specs.Fetch.{words_of};
-ghost use Rattle.rvclass.specs.Image.{Image};
 ghost use Rattle.rvclass.specs.Words.{Words};
 ghost use Rattle.ffi.specs.Encoded.{mode_of};
 ghost use Rattle.ffi.specs.EncoderKept.{NumbersStand};
 ghost use Rattle.ffi.specs.Images.{OfPieces};
 ghost use Rattle.ffi.specs.Numbers.{numbers_of};
-ghost use Rattle.ffi.specs.Pushed.{AreFew, AreMore, EndsFinish, IsOn, ReportsFinish, new_status};
+ghost use Rattle.ffi.specs.Pushed.{ReportsFinish, new_status};
 ghost use Rattle.ffi.specs.declared.status.TheConstants.{DONE, TOO_SMALL};
 
 use crate::encoder_state::{EncoderNumbers, numbers_of_state, state_of};
@@ -83,18 +79,11 @@ fn finish_over(
     packets: &mut [PacketNumbers],
     count: &mut u64,
 ) -> u32
-    ensures ends { EndsFinish image.now state.now result }
-    ensures packets { (program : Image) (period : ℕ) (mode : Mode) (log : List AnyEvent) →
-        IsOn image.now program period mode log state.now →
-        AreMore (packets_so_far (words_of program) period mode log) (packets_of (words_of program) period mode log)
-        result count.new packets.old packets.new }
-    ensures refused { result ≢ DONE → packets.new ≡ packets.old }
-    ensures counted { result ≢ DONE → result ≢ TOO_SMALL → count.new ≡ count.old }
-    ensures two { result ≡ TOO_SMALL → length packets.old < 2 }
-    ensures few { (result ≡ DONE) ⊎ (result ≡ TOO_SMALL) → AreFew result count.new packets.old packets.new }
+    ensures { ReportsFinish image.now state.now result count.old count.new packets.old packets.new }
 {
-    let Some(kept) = state_of(state) else {
-        return BAD_STATE;
+    let kept = match state_of(state) {
+        Some(kept) => kept,
+        None => return BAD_STATE,
     };
     let program = match image {
         Ok(program) => program,

@@ -1,14 +1,8 @@
 //! The packets of a log, many steps at a call: events in, their packets out.
 
-ghost use Rattle.std.specs.Prelude.{◌≡◌, ◌+◌, ◌<◌, ◌≤◌, ◌++◌, ◌∷◌, [], ℕ, List, length, take};
-ghost use Rattle.encoder.specs.PacketsSoFar.{packets_so_far};
-ghost use Rattle.payload.specs.declared.mode.Mode.{Mode};
-ghost use Rattle.retire.specs.declared.event.Event.{Event as AnyEvent};
+ghost use Rattle.std.specs.Prelude.{◌+◌, ◌<◌};
 ghost use Rattle.rvclass.specs.Fetch.{words_of};
-ghost use Rattle.rvclass.specs.Image.{Image};
-ghost use Rattle.ffi.specs.EncoderKept.{AreOfEncoder, NumbersStand};
 ghost use Rattle.ffi.specs.Images.{OfPieces};
-ghost use Rattle.ffi.specs.PushedAll.{AreNext, AreWritten, AreWrittenFirst, EndsPushAll, FillRoom, HaveNoRoom};
 ghost use Rattle.ffi.specs.PushedAll.{ReportsPushAll};
 ghost use Rattle.ffi.specs.declared.status.TheConstants.{TOO_SMALL};
 ghost use Rattle.ffi.specs.steps.PushingAll.{ArePushed, EndsPushes, IsPushed};
@@ -66,29 +60,8 @@ fn push_all_over(
     taken: &mut u64,
     count: &mut u64,
 ) -> u32
-    ensures ends { EndsPushAll image.now state.old events.now taken.new result }
-    ensures stands { (program : Image) (period : ℕ) (mode : Mode) (log nexts : List AnyEvent) →
-        AreNext image.now program period mode log nexts state.old (take taken.new events.now) →
-        NumbersStand (words_of program) period mode (log ++ nexts) state.new }
-    ensures packets { (program : Image) (period : ℕ) (mode : Mode) (log nexts : List AnyEvent) →
-        AreNext image.now program period mode log nexts state.old (take taken.new events.now) →
-        AreWritten (packets_so_far (words_of program) period mode log)
-        (packets_so_far (words_of program) period mode (log ++ nexts)) count.new packets.old packets.new }
-    // The packets of the first events are written, as long as these are legal, whatever comes after them.
-    ensures front { (program : Image) (period n : ℕ) (mode : Mode) (log nexts : List AnyEvent) → n ≤ taken.new →
-        AreNext image.now program period mode log nexts state.old (take n events.now) →
-        AreWrittenFirst (packets_so_far (words_of program) period mode log)
-        (packets_so_far (words_of program) period mode (log ++ nexts)) count.new packets.new }
-    ensures no_room { (program : Image) (period : ℕ) (mode : Mode) (log nexts : List AnyEvent) (next : AnyEvent) →
-        result ≡ TOO_SMALL →
-        AreNext image.now program period mode log (nexts ++ next ∷ []) state.old
-        (take (taken.new + 1) events.now) →
-        HaveNoRoom (packets_so_far (words_of program) period mode (log ++ nexts))
-        (packets_so_far (words_of program) period mode (log ++ nexts ++ next ∷ [])) count.new packets.old }
-    ensures two { result ≡ TOO_SMALL → length packets.old < count.new + 2 }
-    ensures fill { FillRoom taken.new count.new packets.old packets.new }
-    ensures untaken { taken.new ≡ 0 → (state.new ≡ state.old) × (packets.new ≡ packets.old) }
-    ensures again { AreOfEncoder state.old → AreOfEncoder state.new }
+    ensures { ReportsPushAll image.now events.now result state.old state.new taken.new count.new packets.old
+        packets.new }
 {
     *taken = 0;
     *count = 0;

@@ -11,7 +11,7 @@ use crate::decoder_state::{CLOSED, DecoderNumbers, numbers_of_state, state_of};
 use crate::encoding::mode_of;
 use crate::events::EventNumbers;
 use crate::feeding::report_feed;
-use crate::images::{ImagePiece, Judged, judge_pieces};
+use crate::images::{ImagePiece, judge_pieces};
 use crate::packing::pack_status;
 use crate::status::{AFTER_CLOSE, BAD_STATE, DONE, GAP, OUT_OF_RANGE, REPEAT};
 use decoder::Decoder;
@@ -23,7 +23,7 @@ const END_OF_NUMBERS: u64 = 1 << 63;
 
 /// What is kept of a hart from one message to the next.
 #[repr(C)]
-#[derive(Clone, Copy, PartialEq, Eq)]
+#[derive(Clone, Copy)]
 pub struct HartNumbers {
     /// What the hart's decoder remembers.
     pub decoder: DecoderNumbers,
@@ -64,25 +64,6 @@ pub fn tracebench_receive(
         count.new missing.old missing.new events.old events.new) }
 {
     let judged = judge_pieces(alloc, pieces);
-    report_receive(
-        alloc, &judged, hart, number, payload, events, count, missing,
-    )
-}
-
-/// Takes the next message of a hart, and reports what came of it.
-fn report_receive(
-    alloc: Global,
-    image: &Judged<'_>,
-    hart: &mut HartNumbers,
-    number: u64,
-    payload: &[u8],
-    events: &mut [EventNumbers],
-    count: &mut u64,
-    missing: &mut u64,
-) -> u32
-    ensures { ReportsReceive image.now number payload.now result hart.old hart.new count.old count.new missing.old
-        missing.new events.old events.new }
-{
     let said = number_status(hart, number);
     if said != DONE {
         return said;
@@ -96,13 +77,14 @@ fn report_receive(
         return GAP;
     }
     let mut decoder = hart.decoder;
-    let status = report_feed(alloc, image, &mut decoder, payload, events, count);
-    if status == DONE {
-        *hart = HartNumbers {
-            decoder,
-            expected: number + 1,
-        };
+    let status = report_feed(alloc, &judged, &mut decoder, payload, events, count);
+    if status != DONE {
+        return status;
     }
+    *hart = HartNumbers {
+        decoder,
+        expected: number + 1,
+    };
     status
 }
 

@@ -13,11 +13,14 @@ use Rattle.frames.specs.declared.span.Span.{Span}
 use Rattle.frames.specs.declared.span.Span.TheVariants.{Frame, Bytes}
 use Rattle.frames.proofs.FrameLemmas.{frame_in-message, is_complete-message}
 use Rattle.frames.proofs.ScatteredLemmas.{after_message}
-use Rattle.frames.proofs.TakenLemmas.{or_at_left}
+use Rattle.frames.proofs.TakenLemmas.{or_at_left, or_neither}
 use Rattle.frames.specs.Amid.{IsSentMessage, NoneBegins, NoneBeginsIn}
 use Rattle.frames.specs.Passages.{Sees, spans_from}
-use Rattle.frames.specs.GuidedTaken.{after, ends_or_begins, goes_on, is_same, is_sent_at, is_taken, is_taken_first}
-use Rattle.frames.proofs.PassageLemmas.{Ends, sent-taken, spans-frame, spans-run}
+use Rattle.frames.proofs.KnownLemmas.{first_by_number}
+use Rattle.frames.specs.GuidedTaken.{KnowsNone, after, ends_or_begins, goes_on, is_kept, is_known_at, is_same, is_sent_at}
+use Rattle.frames.specs.GuidedTaken.{is_taken_anywhere, is_taken_first}
+use Rattle.frames.specs.Taken.{is_sure}
+use Rattle.frames.proofs.PassageLemmas.{Ends, anywhere-taken, spans-frame, spans-run}
 
 -- A message that is taken is the first span.
 message-taken : (sees : Sees) (offset : ℕ) (m : Message) (rest : List ℕ) → IsMessage m
@@ -45,30 +48,35 @@ goes_on-capture (m ∷ ms) all =
     (ap ends_or_begins (after_message m (capture ms)) ∙ ends_or_begins-capture ms (All-tail IsMessage m ms all))
 
 -- Messages one after the other are found each at its place, and nothing else is.
-pub complete : (sees : Sees) (offset : ℕ) (ms : List Message) → All IsMessage ms
+pub complete : (sees : Sees) (offset : ℕ) (ms : List Message) → KnowsNone sees → All IsMessage ms
     → spans_from sees offset (capture ms) ≡ frames_from offset ms
-complete sees offset [] all = refl
-complete sees offset (m ∷ ms) all =
+complete sees offset [] none all = refl
+complete sees offset (m ∷ ms) none all =
     let is = All-head IsMessage m ms all in
     let others = All-tail IsMessage m ms all in
     let rest = capture ms in
     let goes : goes_on (after (message_bytes m ++ rest)) ≡ true =
     ap goes_on (after_message m rest) ∙ goes_on-capture ms others in
     let taken : is_taken_first sees (message_bytes m ++ rest) ≡ true =
-    and_from _ _ (is_complete-message m rest is) (or_at_left (goes_on (after (message_bytes m ++ rest))) _ goes) in
+    first_by_number sees (message_bytes m ++ rest) none (is_complete-message m rest is)
+    ∙ or_at_left (goes_on (after (message_bytes m ++ rest))) _ goes in
     message-taken sees offset m rest is taken
-    ∙ ap (λ (l : List Span). Frame offset m ∷ l) (complete sees (offset + length (message_bytes m)) ms others)
+    ∙ ap (λ (l : List Span). Frame offset m ∷ l) (complete sees (offset + length (message_bytes m)) ms none others)
 
 -- Where no message begins, none is taken.
-none_taken : (sees : Sees) (xs : List ℕ) → is_complete xs ≡ false → is_taken_first sees xs ≡ false
-none_taken sees xs none = and_left (is_complete xs) _ none
+none_anywhere : (sees : Sees) (xs : List ℕ) → is_complete xs ≡ false → is_taken_anywhere sees xs ≡ false
+none_anywhere sees xs none =
+    or_neither (is_sent_at sees xs) (is_sure (is_known_at sees) xs) (and_left (is_complete xs) _ none)
+    (and_left (is_known_at sees xs) _ (and_left (is_complete xs) _ none))
 
-none_sent : (sees : Sees) (xs : List ℕ) → is_complete xs ≡ false → is_sent_at sees xs ≡ false
-none_sent sees xs none = and_left (is_complete xs) _ none
+none_taken : (sees : Sees) (xs : List ℕ) → is_complete xs ≡ false → is_taken_first sees xs ≡ false
+none_taken sees xs none =
+    or_neither (is_taken_anywhere sees xs) (is_kept sees xs) (none_anywhere sees xs none)
+    (and_left (is_complete xs) _ none)
 
 -- Bytes before the end, or before a message that was sent, are one run, or no span where there are none.
 run-before : (sees : Sees) (offset : ℕ) (before tail : List ℕ) → NoneBeginsIn before tail
-    → (length tail ≡ 0) ⊎ (is_sent_at sees tail ≡ true)
+    → (length tail ≡ 0) ⊎ (is_taken_anywhere sees tail ≡ true)
     → spans_from sees offset (before ++ tail) ≡ run_at offset before ++ spans_from sees (offset + length before) tail
 run-before sees offset [] tail none ends =
     let e : offset ≡ offset + 0 = omega arith in ap (λ (o : ℕ). spans_from sees o tail) e
@@ -78,23 +86,24 @@ run-before sees offset (b ∷ before) tail none ends =
     let gone : drop (length front) (front ++ tail) ≡ tail = drop_at front tail (length front) refl in
     spans-run sees false (length front) offset (front ++ tail) (omega arith) (omega (arith, long))
     (none_taken sees (front ++ tail) (none 0 (omega arith)))
-    (λ k some less. none_sent sees (drop k (front ++ tail)) (none k less))
+    (λ k some less. none_anywhere sees (drop k (front ++ tail)) (none k less))
     (ended gone long ends)
     ∙ ap (λ (l : List ℕ). Bytes offset (length front) ∷ spans_from sees (offset + length front) l) gone
   where
     ended : drop (length (b ∷ before)) ((b ∷ before) ++ tail) ≡ tail
         → length ((b ∷ before) ++ tail) ≡ length (b ∷ before) + length tail
-        → (length tail ≡ 0) ⊎ (is_sent_at sees tail ≡ true)
+        → (length tail ≡ 0) ⊎ (is_taken_anywhere sees tail ≡ true)
         → Ends sees (length (b ∷ before)) ((b ∷ before) ++ tail)
     ended gone long (inl none) = inl (omega (arith, long, none))
-    ended gone long (inr sent) = inr (ap (is_sent_at sees) gone ∙ sent)
+    ended gone long (inr sent) = inr (ap (is_taken_anywhere sees) gone ∙ sent)
 
 -- A message that was sent begins its bytes.
 message-sent : (sees : Sees) (m : Message) (rest : List ℕ) → IsSentMessage sees m
-    → is_sent_at sees (message_bytes m ++ rest) ≡ true
+    → is_taken_anywhere sees (message_bytes m ++ rest) ≡ true
 message-sent sees m rest is =
-    and_from _ _ (is_complete-message m rest is.ranges)
-    (ap (λ (n : Message). is_same (sees n)) (frame_in-message m rest is.ranges) ∙ ap is_same is.sent)
+    or_at_left (is_sent_at sees (message_bytes m ++ rest)) _
+    (and_from _ _ (is_complete-message m rest is.ranges)
+    (ap (λ (n : Message). is_same (sees n)) (frame_in-message m rest is.ranges) ∙ ap is_same is.sent))
 
 -- Messages that were sent among other bytes are found each at its place, where no message begins in those.
 pub amid : (sees : Sees) (offset : ℕ) (ss : List Scattered) (last : List ℕ)
@@ -112,6 +121,6 @@ amid sees offset (s ∷ more) last all none =
     let sent = message-sent sees m rest is in
     run-before sees offset s.before (message_bytes m ++ rest) none.0 (inr sent)
     ∙ ap (λ (l : List Span). run_at offset s.before ++ l)
-    (message-taken sees place m rest is.ranges (sent-taken sees false (message_bytes m ++ rest) sent)
+    (message-taken sees place m rest is.ranges (anywhere-taken sees false (message_bytes m ++ rest) sent)
     ∙ ap (λ (l : List Span). Frame place m ∷ l)
     (amid sees (place + length (message_bytes m)) more last others none.1))

@@ -23,7 +23,7 @@ module _ (bytes : List ℕ) (count : ℕ) (begins : Some count ≡ message_size 
   both true is e = (is, same_some count (frame_size bytes) e)
   both false is e = absurd (never e)
 
-  its : (is_complete bytes ≡ true) × (count ≡ frame_size bytes)
+  pub its : (is_complete bytes ≡ true) × (count ≡ frame_size bytes)
   its = both (is_complete bytes) refl begins
 
   -- It is within the bytes, and its payload within its range.
@@ -39,6 +39,18 @@ module _ (bytes : List ℕ) (count : ℕ) (begins : Some count ≡ message_size 
       let bytes_of : length (message_bytes (frame_in bytes)) ≡ 11 + length (frame_in bytes).payload = omega arith in
       let same = its.1 in
       omega (arith, bytes_of, long, same)
+
+-- Bytes of which no size is known begin with none.
+pub none_begins : (bytes : List ℕ) → None ≡ message_size bytes → is_complete bytes ≡ false
+none_begins bytes none = by (is_complete bytes) refl none
+  where
+    never : (a : ℕ) → Some a ≡ None → ⊥
+    never a e = cc
+
+    by : (c : Bool) → is_complete bytes ≡ c → None ≡ (if c then Some (frame_size bytes) else None)
+        → is_complete bytes ≡ false
+    by true is e = absurd (never (frame_size bytes) (sym e))
+    by false is e = is
 
 -- Where it is taken, it is the first span from its place on.
 pub next_taken : (sees : Sees) (at count : ℕ) (bytes rest : List ℕ) → rest ≡ drop at bytes

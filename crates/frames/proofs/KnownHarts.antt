@@ -3,7 +3,6 @@ use Rattle.std.proofs.Common.{◌≡◌, ◌<◌, ◌≤◌, ◌+◌, ◌-◌, �
 use Rattle.std.proofs.Common.{arith, refl, if◌then◌else◌}
 use Rattle.std.proofs.Math.Nat.{le-max_right}
 use Rattle.std.proofs.lemmas.Bool.{and_parts, ltb-true}
-use Rattle.message.specs.declared.message.Message.{Message}
 use Rattle.frames.specs.Frame.{end_of_frames, frame_in, frame_size, hart_in, is_complete, is_frame, number_in}
 use Rattle.frames.specs.Spans.{spans_after, spans_from, with_byte}
 use Rattle.frames.specs.Taken.{is_taken}
@@ -66,22 +65,3 @@ pub record HasCounted (known : ℕ) (all left : List Span) (harts : ℕ) : Type 
 pub none_counted : (known : ℕ) (spans : List Span) → AreBelow known spans → HasCounted known spans spans 1
 none_counted known spans below =
     let some = some_hart spans in record { below = below; some = omega arith; counted = omega (arith, some) }
-
--- One more is counted: a frame may raise the count, bytes do not.
-pub frame_counted : (known : ℕ) (all left : List Span) (harts place : ℕ) (message : Message)
-    → HasCounted known all (Frame place message ∷ left) harts
-    → HasCounted known all left (max harts (message.hart + 1))
-frame_counted known all left harts place message so_far =
-    let some = so_far.some in
-    let counted = so_far.counted in
-    record { below = so_far.below.1; some = omega (arith, some); counted = omega (arith, counted) }
-
-pub bytes_counted : (known : ℕ) (all left : List Span) (harts place count : ℕ)
-    → HasCounted known all (Bytes place count ∷ left) harts → HasCounted known all left harts
-bytes_counted known all left harts place count so_far =
-    record { below = so_far.below; some = so_far.some; counted = so_far.counted }
-
--- All are counted.
-pub all_counted : (known : ℕ) (all : List Span) (harts : ℕ) → HasCounted known all [] harts → harts ≡ harts_in all
-all_counted known all harts so_far =
-    let some = so_far.some in let counted = so_far.counted in omega (arith, some, counted)

@@ -3,9 +3,13 @@ pub mod Places
 pub mod ScatteredLemmas
 mod SpanLemmas
 pub mod TakenLemmas
-mod AmidLemmas
+pub mod CountedLemmas
+pub mod AmidLemmas
 mod PassageLemmas
 mod Seeing
+mod KnownLemmas
+pub mod FramedLemmas
+mod PassedOver
 mod GuidedTakenLemmas
 mod ChosenSpans
 mod KnownHarts

@@ -4,23 +4,21 @@ use Rattle.std.proofs.Common.{drop, length, min, refl, ap, ap₂, sym, ◌∙◌
 use Rattle.std.proofs.Math.Nat.{min-eq_left, min-eq_right}
 use Rattle.std.proofs.lemmas.Bool.{and_from, and_parts, cases_lt}
 use Rattle.std.proofs.lemmas.List.{drop-drop, length-drop, nil_from_length}
-use Rattle.frames.proofs.TakenLemmas.{or_at_left, or_at_right}
-use Rattle.frames.specs.Frame.{frame_in, frame_size, is_complete}
+use Rattle.frames.proofs.TakenLemmas.{or_at_left}
+use Rattle.frames.specs.Frame.{frame_in, frame_size}
 use Rattle.frames.specs.Spans.{with_byte}
 use Rattle.frames.specs.declared.span.Span.{Span}
 use Rattle.frames.specs.declared.span.Span.TheVariants.{Frame, Bytes}
 use Rattle.message.proofs.Answering.{not_both}
 use Rattle.message.specs.declared.message.Message.{Message}
 use Rattle.frames.specs.Passages.{Sees, spans_after, spans_from}
-use Rattle.frames.specs.GuidedTaken.{after, goes_on, is_counted_at, is_same, is_sent_at, is_taken, is_taken_first}
+use Rattle.frames.specs.GuidedTaken.{is_kept, is_taken, is_taken_anywhere, is_taken_first}
 
--- A message that was sent is taken.
-pub sent-taken : (sees : Sees) (astray : Bool) (xs : List ℕ) → is_sent_at sees xs ≡ true → is_taken sees astray xs ≡ true
-sent-taken sees true xs sent = sent
-sent-taken sees false xs sent =
-    let parts = and_parts (is_complete xs) (is_same (sees (frame_in xs))) sent in
-    and_from _ _ parts.0
-    (or_at_right (goes_on (after xs)) _ (or_at_left (is_same (sees (frame_in xs))) _ parts.1))
+-- A message that is taken anywhere is taken.
+pub anywhere-taken : (sees : Sees) (astray : Bool) (xs : List ℕ) → is_taken_anywhere sees xs ≡ true
+    → is_taken sees astray xs ≡ true
+anywhere-taken sees true xs taken = taken
+anywhere-taken sees false xs taken = or_at_left (is_taken_anywhere sees xs) (is_kept sees xs) taken
 
 -- What belongs to a message that was taken is passed over at once.
 pub spans-rest : (sees : Sees) (astray : Bool) (n offset : ℕ) (xs : List ℕ)
@@ -33,7 +31,7 @@ spans-rest sees astray (suc n) offset (b ∷ bytes) =
     spans-rest sees astray n (offset + 1) bytes ∙ ap (λ (o : ℕ). spans_after sees astray zero o (drop n bytes)) e
 
 -- What the spans of bytes are, by whether a message that begins them is taken.
-abbrev by_first : Sees → ℕ → ℕ → List ℕ → Bool → List Span
+abbrev pub by_first : Sees → ℕ → ℕ → List ℕ → Bool → List Span
 by_first sees offset b bytes taken =
     if taken
     then Frame offset (frame_in (b ∷ bytes)) ∷ spans_after sees false (frame_size (b ∷ bytes) - 1) (offset + 1) bytes
@@ -61,12 +59,12 @@ spans-byte : (sees : Sees) (astray : Bool) (offset b : ℕ) (bytes : List ℕ) �
     → spans_after sees astray zero offset (b ∷ bytes) ≡ with_byte offset (spans_after sees true zero (offset + 1) bytes)
 spans-byte sees astray offset b bytes none = ap (by_first sees offset b bytes) none
 
--- The bytes end there, or a message begins there that was sent.
+-- The bytes end there, or a message begins there that is taken anywhere.
 abbrev pub Ends : Sees → ℕ → List ℕ → Type 0
-Ends sees count xs = (count ≡ length xs) ⊎ (is_sent_at sees (drop count xs) ≡ true)
+Ends sees count xs = (count ≡ length xs) ⊎ (is_taken_anywhere sees (drop count xs) ≡ true)
 
--- A byte before the end, or before a message that was sent, is a run by itself.
-alone : (sees : Sees) (offset : ℕ) (bytes : List ℕ) → (length bytes ≡ 0) ⊎ (is_sent_at sees bytes ≡ true)
+-- A byte before the end, or before a message that is taken anywhere, is a run by itself.
+alone : (sees : Sees) (offset : ℕ) (bytes : List ℕ) → (length bytes ≡ 0) ⊎ (is_taken_anywhere sees bytes ≡ true)
     → with_byte offset (spans_after sees true zero (offset + 1) bytes)
     ≡ Bytes offset 1 ∷ spans_from sees (offset + 1) bytes
 alone sees offset [] ends = refl
@@ -74,25 +72,25 @@ alone sees offset (x ∷ bytes) (inl none) = absurd (omega (arith, none))
 alone sees offset (x ∷ bytes) (inr sent) =
     let xs = x ∷ bytes in
     let here = spans-frame sees true (offset + 1) xs sent in
-    let again = spans-frame sees false (offset + 1) xs (sent-taken sees false xs sent) in
+    let again = spans-frame sees false (offset + 1) xs (anywhere-taken sees false xs sent) in
     ap (with_byte offset) here ∙ ap (λ (l : List Span). Bytes offset 1 ∷ l) (sym again)
 
--- Bytes up to the next message that was sent, or to the end, are the first span, where no message that begins them is
+-- Bytes up to the next message that is taken anywhere, or to the end, are the first span, where no message that begins them is
 -- taken.
 pub spans-run : (sees : Sees) (astray : Bool) (count offset : ℕ) (xs : List ℕ)
     → 1 ≤ count → count ≤ length xs → is_taken sees astray xs ≡ false
-    → ((k : ℕ) → 1 ≤ k → k < count → is_sent_at sees (drop k xs) ≡ false) → Ends sees count xs
+    → ((k : ℕ) → 1 ≤ k → k < count → is_taken_anywhere sees (drop k xs) ≡ false) → Ends sees count xs
     → spans_after sees astray zero offset xs ≡ Bytes offset count ∷ spans_from sees (offset + count) (drop count xs)
 spans-run sees astray zero offset xs some within none passed ends = absurd (omega (arith, some))
 spans-run sees astray (suc count) offset [] some within none passed ends = absurd (omega (arith, within))
 spans-run sees astray (suc zero) offset (b ∷ bytes) some within none passed ends =
     spans-byte sees astray offset b bytes none ∙ alone sees offset bytes (ended ends)
   where
-    ended : Ends sees 1 (b ∷ bytes) → (length bytes ≡ 0) ⊎ (is_sent_at sees bytes ≡ true)
+    ended : Ends sees 1 (b ∷ bytes) → (length bytes ≡ 0) ⊎ (is_taken_anywhere sees bytes ≡ true)
     ended (inl all) = inl (omega (arith, all))
     ended (inr sent) = inr sent
 spans-run sees astray (suc (suc count)) offset (b ∷ bytes) some within none passed ends =
-    let more : (k : ℕ) → 1 ≤ k → k < suc count → is_sent_at sees (drop k bytes) ≡ false =
+    let more : (k : ℕ) → 1 ≤ k → k < suc count → is_taken_anywhere sees (drop k bytes) ≡ false =
     λ k first less. passed (suc k) (omega arith) (omega (arith, less)) in
     let rest = spans-run sees true (suc count) (offset + 1) bytes (omega arith) (omega (arith, within))
     (passed 1 (omega arith) (omega arith)) more (ended ends) in
@@ -117,7 +115,7 @@ next-frame sees at size bytes rest m here taken sized is =
 
 pub next-run : (sees : Sees) (at count : ℕ) (bytes rest : List ℕ) → rest ≡ drop at bytes
     → is_taken_first sees rest ≡ false → 1 ≤ count → count ≤ length rest
-    → ((k : ℕ) → 1 ≤ k → k < count → is_sent_at sees (drop k rest) ≡ false) → Ends sees count rest
+    → ((k : ℕ) → 1 ≤ k → k < count → is_taken_anywhere sees (drop k rest) ≡ false) → Ends sees count rest
     → spans_from sees at (drop at bytes) ≡ Bytes at count ∷ spans_from sees (at + count) (drop (at + count) bytes)
 next-run sees at count bytes rest here none some within passed ends =
     ap (spans_from sees at) (sym here) ∙ spans-run sees false count at rest some within none passed ends

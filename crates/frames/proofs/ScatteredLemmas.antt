@@ -50,13 +50,13 @@ written known offset (m ∷ ms) all =
     let others = All-tail (IsFrame known) m ms all in
     let rest = capture ms in
     let frame = is_frame-message known m rest is in
-    let firm : is_firm known (message_bytes m ++ rest) ≡ true =
-    and_from _ _ frame (ap (ends_or_goes_on known) (after_message m rest) ∙ goes_on ms others) in
+    let firm : is_firm (is_frame known) (message_bytes m ++ rest) ≡ true =
+    and_from _ _ frame (ap (ends_or_goes_on (is_frame known)) (after_message m rest) ∙ goes_on ms others) in
     let taken : is_taken known (message_bytes m ++ rest) ≡ true = and_from _ _ frame (or_at_left _ _ firm) in
     message-taken known offset m rest is.ranges taken
     ∙ ap (λ (l : List Span). Frame offset m ∷ l) (written known (offset + length (message_bytes m)) ms others)
   where
-    goes_on : (ms : List Message) → All (IsFrame known) ms → ends_or_goes_on known (capture ms) ≡ true
+    goes_on : (ms : List Message) → All (IsFrame known) ms → ends_or_goes_on (is_frame known) (capture ms) ≡ true
     goes_on [] all = refl
     goes_on (n ∷ ns) all = is_frame-message known n (capture ns) (All-head (IsFrame known) n ns all)
 
@@ -132,14 +132,14 @@ scattered known offset (s ∷ more) last all alone =
     let next = place + length (message_bytes m) in
     let before : (k : ℕ) → k < length s.before → is_taken known (drop k (s.before ++ tail)) ≡ false =
     λ k less. none_taken known (drop k (s.before ++ tail)) (λ frame. too_early k less (first_or_later offset s more (offset + k) (alone k frame))) in
-    let inside : (k : ℕ) → 1 ≤ k → k < frame_size tail → is_firm known (drop k tail) ≡ false =
+    let inside : (k : ℕ) → 1 ≤ k → k < frame_size tail → is_firm (is_frame known) (drop k tail) ≡ false =
     λ k some less. and_left (is_frame known (drop k tail)) _
     (is_false (is_frame known (drop k tail))
     (λ frame. amid k some less (first_or_later offset s more (offset + (length s.before + k))
     (alone (length s.before + k) (ap (is_frame known) (drop_after k s.before tail) ∙ frame))))) in
     let frame = is_frame-message known m rest is in
     let taken : is_taken known tail ≡ true =
-    and_from _ _ frame (or_at_right (is_firm known tail) _ (ap not (inside-none known tail inside))) in
+    and_from _ _ frame (or_at_right (is_firm (is_frame known) tail) _ (ap not (inside-none (is_frame known) tail inside))) in
     let apart : NoOtherFrame known next rest (offsets_from next more) =
     λ k frame. beyond k (first_or_later offset s more (offset + (length s.before + (length (message_bytes m) + k)))
     (alone (length s.before + (length (message_bytes m) + k))

@@ -1,13 +1,13 @@
 -- The lines of spans, one after the other.
-use Rattle.std.proofs.Common.{◌≡◌, ◌++◌, ◌||◌, ◌∙◌, Bool, true, false, ℕ, List, [], ◌∷◌, Option, refl, sym, subst}
-use Rattle.std.proofs.Common.{ap, append-nil, append_assoc}
+use Rattle.std.proofs.Common.{◌≡◌, ◌++◌, ◌||◌, ◌∙◌, Bool, true, ℕ, List, [], ◌∷◌, Option, refl, sym, subst}
+use Rattle.std.proofs.Common.{ap, append_assoc}
 use Rattle.std.proofs.lemmas.List.Concat.{flat_map-append}
 use Rattle.std.proofs.lemmas.List.Elements.{filter-append}
 use Rattle.std.proofs.lemmas.List.Folds.{list_any-append}
 use Rattle.std.specs.Io.KnownBytes.{Appends}
 use Rattle.std.specs.List.{list_any}
-use Rattle.std.proofs.KnownBytes.{Appends-nil, Appends-trans}
-use Rattle.std.proofs.Math.Bool.{or-false, or_assoc}
+use Rattle.std.proofs.KnownBytes.{Appends-trans}
+use Rattle.std.proofs.Math.Bool.{or_assoc}
 use Rattle.output.specs.Begun.{AppendsBeginning}
 use Rattle.output.proofs.Beginnings.{begun_between}
 use Rattle.payload.specs.declared.mode.Mode.{Mode}
@@ -21,10 +21,6 @@ pub record HasWritten (harts : HartRange) (mode : Mode) (all left : List Span) (
   pub parted : spans_text mode (chosen harts all) ≡ text ++ spans_text mode (chosen harts left)
   pub flag : list_any is_damaged (chosen harts all) ≡ (damaged || list_any is_damaged (chosen harts left))
   pub appended : Appends old new text
-
--- None is written yet.
-pub none_written : (harts : HartRange) (mode : Mode) (all : List Span) (old : Option (List ℕ)) → HasWritten harts mode all all false old old
-none_written harts mode all old = record { text = []; parted = refl; flag = refl; appended = Appends-nil old }
 
 -- The lines of a span and of those behind it, and their flag.
 text_joined : (harts : HartRange) (mode : Mode) (span : Span) (left : List Span)
@@ -74,13 +70,3 @@ next_begun harts mode all left span damaged old mid new so_far begun =
     (sym (so_far.parted ∙ ap (λ (l : List ℕ). so_far.text ++ l) (text_joined harts mode span left)))
     (begun_between so_far.text (spans_text mode (chosen harts (span ∷ []))) (spans_text mode (chosen harts left))
     old mid new so_far.appended begun)
-
--- All are written.
-pub all_written : (harts : HartRange) (mode : Mode) (all : List Span) (damaged : Bool) (old new : Option (List ℕ))
-    → HasWritten harts mode all [] damaged old new → Appends old new (spans_text mode (chosen harts all))
-all_written harts mode all damaged old new so_far =
-    subst (Appends old new) (sym (so_far.parted ∙ append-nil so_far.text)) so_far.appended
-
-pub all_flagged : (harts : HartRange) (mode : Mode) (all : List Span) (damaged : Bool) (old new : Option (List ℕ))
-    → HasWritten harts mode all [] damaged old new → damaged ≡ list_any is_damaged (chosen harts all)
-all_flagged harts mode all damaged old new so_far = sym (so_far.flag ∙ or-false damaged)

@@ -1,10 +1,10 @@
--- Firm frames at a row of places.
+-- Firm messages of a kind at a row of places.
 use Rattle.std.proofs.Common.{◌≡◌, ◌<◌, ◌≤◌, ◌+◌, ◌-◌, ◌||◌, ℕ, zero, suc, Bool, true, false, List, drop, refl, ap}
 use Rattle.std.proofs.Common.{◌∙◌, arith}
 use Rattle.std.proofs.lemmas.List.{drop-drop}
 use Rattle.message.proofs.Answering.{not_both}
 use Rattle.frames.specs.Frame.{frame_size}
-use Rattle.frames.specs.Taken.{has_firm, has_firm_inside, is_firm}
+use Rattle.frames.specs.Taken.{Kind, has_firm, has_firm_inside, is_firm}
 
 pub or_at_left : (x y : Bool) → x ≡ true → (x || y) ≡ true
 or_at_left true y e = refl
@@ -14,7 +14,7 @@ pub or_at_right : (x y : Bool) → y ≡ true → (x || y) ≡ true
 or_at_right true y e = refl
 or_at_right false y e = e
 
-or_neither : (x y : Bool) → x ≡ false → y ≡ false → (x || y) ≡ false
+pub or_neither : (x y : Bool) → x ≡ false → y ≡ false → (x || y) ≡ false
 or_neither true y e f = absurd (not_both true refl e)
 or_neither false y e f = f
 
@@ -22,36 +22,36 @@ or_neither false y e f = f
 pub drop_later : (k : ℕ) (xs : List ℕ) → drop k (drop 1 xs) ≡ drop (suc k) xs
 drop_later k xs = drop-drop k 1 xs ∙ ap (λ (n : ℕ). drop n xs) (let e : 1 + k ≡ suc k = omega arith in e)
 
--- A firm frame at one of the places is one among them.
-pub has_firm-here : (known n k : ℕ) (xs : List ℕ) → k < n → is_firm known (drop k xs) ≡ true
-    → has_firm known n xs ≡ true
-has_firm-here known zero k xs less firm = absurd (omega (arith, less))
-has_firm-here known (suc n) zero xs less firm = or_at_left (is_firm known xs) _ firm
-has_firm-here known (suc n) (suc k) xs less firm =
-    or_at_right (is_firm known xs) _
-    (has_firm-here known n k (drop 1 xs) (omega (arith, less))
-    (ap (is_firm known) (drop_later k xs) ∙ firm))
+-- A firm one at one of the places is one among them.
+pub has_firm-here : (kind : Kind) (n k : ℕ) (xs : List ℕ) → k < n → is_firm kind (drop k xs) ≡ true
+    → has_firm kind n xs ≡ true
+has_firm-here kind zero k xs less firm = absurd (omega (arith, less))
+has_firm-here kind (suc n) zero xs less firm = or_at_left (is_firm kind xs) _ firm
+has_firm-here kind (suc n) (suc k) xs less firm =
+    or_at_right (is_firm kind xs) _
+    (has_firm-here kind n k (drop 1 xs) (omega (arith, less))
+    (ap (is_firm kind) (drop_later k xs) ∙ firm))
 
 -- Where none begins at any of the places, there is none among them.
-pub has_firm-none : (known n : ℕ) (xs : List ℕ) → ((k : ℕ) → k < n → is_firm known (drop k xs) ≡ false)
-    → has_firm known n xs ≡ false
-has_firm-none known zero xs none = refl
-has_firm-none known (suc n) xs none =
-    or_neither (is_firm known xs) _ (none 0 (omega arith))
-    (has_firm-none known n (drop 1 xs)
-    (λ k less. ap (is_firm known) (drop_later k xs) ∙ none (suc k) (omega (arith, less))))
+pub has_firm-none : (kind : Kind) (n : ℕ) (xs : List ℕ) → ((k : ℕ) → k < n → is_firm kind (drop k xs) ≡ false)
+    → has_firm kind n xs ≡ false
+has_firm-none kind zero xs none = refl
+has_firm-none kind (suc n) xs none =
+    or_neither (is_firm kind xs) _ (none 0 (omega arith))
+    (has_firm-none kind n (drop 1 xs)
+    (λ k less. ap (is_firm kind) (drop_later k xs) ∙ none (suc k) (omega (arith, less))))
 
--- The same inside a frame.
-pub inside-here : (known k : ℕ) (xs : List ℕ) → 1 ≤ k → k < frame_size xs → is_firm known (drop k xs) ≡ true
-    → has_firm_inside known xs ≡ true
-inside-here known zero xs some less firm = absurd (omega (arith, some))
-inside-here known (suc k) xs some less firm =
-    has_firm-here known (frame_size xs - 1) k (drop 1 xs) (omega (arith, less))
-    (ap (is_firm known) (drop_later k xs) ∙ firm)
+-- The same inside a message.
+pub inside-here : (kind : Kind) (k : ℕ) (xs : List ℕ) → 1 ≤ k → k < frame_size xs → is_firm kind (drop k xs) ≡ true
+    → has_firm_inside kind xs ≡ true
+inside-here kind zero xs some less firm = absurd (omega (arith, some))
+inside-here kind (suc k) xs some less firm =
+    has_firm-here kind (frame_size xs - 1) k (drop 1 xs) (omega (arith, less))
+    (ap (is_firm kind) (drop_later k xs) ∙ firm)
 
-pub inside-none : (known : ℕ) (xs : List ℕ)
-    → ((k : ℕ) → 1 ≤ k → k < frame_size xs → is_firm known (drop k xs) ≡ false)
-    → has_firm_inside known xs ≡ false
-inside-none known xs none =
-    has_firm-none known (frame_size xs - 1) (drop 1 xs)
-    (λ k less. ap (is_firm known) (drop_later k xs) ∙ none (suc k) (omega arith) (omega (arith, less)))
+pub inside-none : (kind : Kind) (xs : List ℕ)
+    → ((k : ℕ) → 1 ≤ k → k < frame_size xs → is_firm kind (drop k xs) ≡ false)
+    → has_firm_inside kind xs ≡ false
+inside-none kind xs none =
+    has_firm-none kind (frame_size xs - 1) (drop 1 xs)
+    (λ k less. ap (is_firm kind) (drop_later k xs) ∙ none (suc k) (omega arith) (omega (arith, less)))

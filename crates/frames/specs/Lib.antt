@@ -1,4 +1,5 @@
 pub mod Frame
+pub mod Framed
 pub mod Taken
 pub mod Spans
 pub mod Written
@@ -6,6 +7,7 @@ pub mod GuidedTaken
 pub mod Passages
 pub mod Counted
 pub mod Amid
+pub mod PassedOver
 pub mod Borrowed
 pub mod Start
 pub mod Harts

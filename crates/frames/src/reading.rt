@@ -12,6 +12,7 @@ ghost use Rattle.message.specs.declared.message.Message.{Message as AnyMessage};
 ghost use Rattle.frames.specs.Counted.{span_size};
 ghost use Rattle.frames.specs.Borrowed.{HasPayload, span_of};
 ghost use Rattle.frames.specs.Amid.{IsSentMessage, NoneBegins};
+ghost use Rattle.frames.specs.GuidedTaken.{KnowsNone};
 ghost use Rattle.frames.specs.Passages.{Left, Sees, spans_from, spans_left};
 
 use crate::borrowed_span::{BorrowedMessage, BorrowedSpan};
@@ -32,9 +33,15 @@ use std::marker::Model;
 /// changed or never sent is kept among others. Bytes that were lost, added or overwritten cost the messages that they
 /// were in, and a message that begins inside one that is taken, as where a length was changed.
 ///
+/// Where numbers are not looked at, a message is [known](Sight::Known) by its payload. A known message is *firm* where
+/// after it the bytes end or another known one begins. A message is *clear* where no firm one begins inside it. A known
+/// message counts as sent where it is firm or clear. Any other is taken only where it is clear. A known one after it counts
+/// as one whose hart and number were sent.
+///
 /// Whether a message was sent is asked at most three times at each place: after a message that no other follows, before
-/// a run of bytes, and inside one. Whether a message is complete is asked three times more. So time is linear in the
-/// bytes, whatever they are. Takes no memory.
+/// a run of bytes, and inside one. Where payloads make messages known, it is asked for the 28 places inside it too, and
+/// after the message there. Whether a message is complete is asked three times more. So time is linear in the bytes,
+/// whatever they are. Takes no memory.
 #[derive(Drop)]
 pub struct GuidedScan<'a> {
     bytes: &'a [u8],
@@ -56,8 +63,9 @@ impl<'a> GuidedScan<'a> {
         ensures spans { (sees : Sees) → spans_left sees result ≡ spans_from sees from (drop from bytes.now) }
         ensures few { length result.bytes ≤ length bytes.now }
 
-        // Messages one after the other are found each at its place, and nothing else is, whatever was sent.
-        ensures complete { (sees : Sees) (messages : List AnyMessage) → All IsMessage messages
+        // Messages one after the other are found each at its place, and nothing else is, whatever was sent, unless
+        // messages are known by their payloads alone.
+        ensures complete { (sees : Sees) (messages : List AnyMessage) → KnowsNone sees → All IsMessage messages
             → drop from bytes.now ≡ capture messages
             → spans_left sees result ≡ frames_from from messages }
 

@@ -1,6 +1,7 @@
 //! What is known of a message.
 
-ghost use Rattle.std.specs.Prelude.{◌≡◌};
+ghost use Rattle.std.specs.Prelude.{◌≡◌, IsTrue};
+ghost use Rattle.frames.specs.GuidedTaken.{KnowsNone};
 
 use message::Message;
 
@@ -13,6 +14,8 @@ pub enum Sight {
     Numbered,
     /// Its hart and number were not sent.
     Strange,
+    /// Its number is not looked at: its hart was sent this payload.
+    Known,
 }
 
 /// What was sent, as far as a message is recognised.
@@ -25,4 +28,8 @@ pub trait Sent {
     /// What is known of a message. Takes no memory.
     fn sight(&self, message: &Message) -> Sight
         ensures { result ≡ sees self.now message.now };
+
+    /// Whether no message at all is [`Sight::Known`]. Then fewer messages are asked for. Takes no memory.
+    fn knows_none(&self) -> bool
+        ensures { IsTrue result → KnowsNone (sees self.now) };
 }

@@ -3,7 +3,7 @@
 use message::Message;
 
 /// What is at a place of damaged bytes. The offset counts from the first of all bytes, from 0.
-#[derive(PartialEq, Eq, Drop)]
+#[derive(Drop)]
 pub enum Span {
     /// A message that is taken.
     Frame {

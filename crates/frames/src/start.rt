@@ -8,7 +8,7 @@ use message::{HEADER_SIZE, Header, MOST_HARTS, MessageFault, Messages};
 
 /// How a capture begins. Where it begins with no valid header, its messages may still be looked for from its first byte
 /// on.
-#[derive(Clone, Copy, PartialEq, Eq)]
+#[derive(Clone, Copy)]
 pub struct CaptureStart {
     /// The header, where a valid one begins the capture.
     pub header: Option<Header>,

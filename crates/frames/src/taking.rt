@@ -2,13 +2,13 @@
 
 ghost use Rattle.std.specs.Prelude.{◌≡◌, ◌≤◌, ◌<◌, ◌-◌, ◌⊎◌, ℕ, true, false, length, drop};
 ghost use Rattle.frames.specs.Taken.{has_firm_inside, is_firm, is_taken};
-ghost use Rattle.frames.specs.Frame.{frame_size};
+ghost use Rattle.frames.specs.Frame.{frame_size, is_frame};
 
 use crate::frame::{begins_frame, frame_size};
 
 /// Whether a frame begins the bytes after which they end or another frame begins.
 fn is_firm(bytes: &[u8], known: u16) -> bool
-    ensures { result ≡ is_firm known bytes.now }
+    ensures { result ≡ is_firm (is_frame known) bytes.now }
 {
     if !begins_frame(bytes, known) {
         return false;
@@ -21,7 +21,7 @@ fn is_firm(bytes: &[u8], known: u16) -> bool
 #[inline(never)]
 fn has_firm_inside(bytes: &[u8], known: u16) -> bool
     requires frame { frame_size bytes.now ≤ length bytes.now }
-    ensures { result ≡ has_firm_inside known bytes.now }
+    ensures { result ≡ has_firm_inside (is_frame known) bytes.now }
 {
     for at in 1..frame_size(bytes) {
         if is_firm(&bytes[at..], known) {

@@ -5,7 +5,7 @@
 //! its capacity. Then the port sends many messages before it waits again. One of the waiting ports stays awake for a
 //! while and looks for the outlet's call, which then costs the outlet no system call. The others sleep.
 //!
-//! No contract says anything about this. Tests in `channel_tests` show that ports are woken, that one is called at the
+//! No contract says anything about this. Tests in `trace_tests` show that ports are woken, that one is called at the
 //! mark, and that all are called where no message waits and where the outlet is dropped. No test shows the rest: that
 //! no port is called before the mark; that none is called where no message waits and one was called since the last
 //! message; which port stays awake, and when. All of this changes when a port goes on, and not what is sent: it is a
@@ -18,7 +18,7 @@ use std::sync::{Arc, Wait};
 use std::time::Duration;
 
 /// The most milliseconds that a port sleeps. Before that one is called at a mark where none is awake, and all of them
-/// where no message waits. `funnels/waking.rt` and `funnels/calling.rt` of `channel_tests` count on so many.
+/// where no message waits. `funnels/waking.rt` and `funnels/calling.rt` of `trace_tests` count on so many.
 const LONGEST: u64 = 10;
 
 /// How often a port looks for a free place before it waits, in a funnel so small that each message that is taken

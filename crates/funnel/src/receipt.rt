@@ -31,7 +31,7 @@ impl<A: Allocator> Model for Receipt<A> {
 }
 
 /// What the outlet and a receipt say of one hart.
-#[derive(Clone, Copy, PartialEq, Eq)]
+#[derive(Clone, Copy)]
 pub struct Settled {
     /// The hart.
     pub hart: u16,

@@ -8,7 +8,7 @@ use retire::{Event, ITYPE_TAKEN};
 use rvclass::{Class, ProgramOver};
 
 /// Where the event after another may be.
-#[derive(Clone, Copy, PartialEq, Eq)]
+#[derive(Clone, Copy)]
 pub enum Next {
     /// At this address alone.
     One(u64),

@@ -1,18 +1,11 @@
 -- Events by their count, and by the places of the first and of the last.
-use Rattle.std.proofs.Common.{◌≡◌, ◌≤◌, ◌<◌, ◌-◌, ◌++◌, ℕ, suc, List, [], ◌∷◌, Option, codes, get_or, length}
+use Rattle.std.proofs.Common.{◌≡◌, ◌≤◌, ◌-◌, ◌++◌, ℕ, suc, List, [], ◌∷◌, Option, codes, get_or, length}
 use Rattle.std.proofs.Common.{sym, ap, ap₂, ◌∙◌, arith}
 use Rattle.std.specs.Fmt.{decimal}
 use Rattle.retire.specs.Events.{place}
 use Rattle.retire.specs.declared.event.Event.{Event}
 use Rattle.listing.proofs.LastPlaces.{last_is}
 use Rattle.listing.specs.EffectText.{added_text, place_text, places_text}
-
--- One event, at this place.
-pub one_event : (symbols : Option (List ℕ)) (added : List Event) (at to : ℕ) (d : Event) → at ≡ place (get_or added 0 d)
-    → 1 ≤ length added → length added < 2 → places_text symbols (length added) at to ≡ added_text symbols added
-one_event symbols [] at to d is some few = absurd (omega (arith, some))
-one_event symbols (event ∷ []) at to d is some few = ap (λ at. codes "1 event, " ++ place_text symbols at) is
-one_event symbols (event ∷ next ∷ rest) at to d is some few = absurd (omega (arith, few))
 
 -- Several events, from this place to that one.
 pub several_events : (symbols : Option (List ℕ)) (added : List Event) (from to : ℕ) (d e : Event)

@@ -17,29 +17,29 @@ use Rattle.listing.specs.SettledRows.{rows_text}
 use Rattle.listing.specs.declared.form.Form.TheVariants.{Lines}
 
 -- A retirement at machine level, and an exception.
-abbrev at : ℕ → Event
+abbrev pub at : ℕ → Event
 at address = Retire address 0 3
 
-abbrev exception : ℕ → Event
+abbrev pub exception : ℕ → Event
 exception epc = Trap 3 false 2 epc 0x1234
 
-abbrev symbols : Option (List ℕ)
+abbrev pub symbols : Option (List ℕ)
 symbols = Some (codes "80000004 t loop\n80000000 T _start\n80000010 D data\n")
 
 -- The messages of a hart: its trace is opened, synchronised, goes on with a packet that waits, and is closed.
 abbrev message : ℕ → List ℕ → Message
 message number payload = record { hart = 0; number = number; payload = payload }
 
-abbrev opening : Message
+abbrev pub opening : Message
 opening = message 0 (0x1f ∷ [])
 
-abbrev synchronising : Message
+abbrev pub synchronising : Message
 synchronising = message 1 (0x73 ∷ 0 ∷ 0 ∷ 0 ∷ 0x20 ∷ [])
 
-abbrev waiting : Message
+abbrev pub waiting : Message
 waiting = message 2 (0x12 ∷ [])
 
-abbrev closing : Message
+abbrev pub closing : Message
 closing = message 3 (0xcf ∷ 0 ∷ [])
 
 abbrev effects : List Effect

@@ -1,14 +1,12 @@
 -- Rows that were worked by hand, as the definitions give them.
-use Rattle.std.proofs.Common.{◌≡◌, ℕ, true, false, List, [], ◌∷◌, ◌++◌, Option, Some, None, Ok, refl}
+use Rattle.std.proofs.Common.{◌≡◌, true, false, [], ◌∷◌, ◌++◌, Some, None, Ok, refl}
 use Rattle.std.specs.Prelude.{codes}
 use Rattle.std.specs.Fmt.{digits}
 use Rattle.csv.specs.Writing.{escaped}
-use Rattle.retire.specs.declared.event.Event.{Event}
-use Rattle.retire.specs.declared.event.Event.TheVariants.{Retire, Trap}
+use Rattle.retire.specs.declared.event.Event.TheVariants.{Trap}
 use Rattle.payload.specs.Extension.{extended, magnitude}
 use Rattle.payload.specs.declared.mode.Mode.TheVariants.{Differential, Full}
 use Rattle.payload.specs.declared.packet.Packet.TheVariants as packet
-use Rattle.message.specs.declared.message.Message.{Message}
 use Rattle.listing.specs.Effect.{Effect}
 use Rattle.output.specs.Fields.{fields_line}
 use Rattle.listing.specs.Packets.{packet_fields}
@@ -16,34 +14,9 @@ use Rattle.listing.specs.Entries.{placed_entries}
 use Rattle.listing.specs.Placed.{placed}
 use Rattle.listing.specs.Rows.{columns, effect_row, incomplete_row, refused_row}
 use Rattle.listing.specs.declared.form.Form.TheVariants.{Table}
+use Rattle.listing.proofs.WorkedLines.{at, closing, exception, opening, symbols, synchronising, waiting}
 
--- A retirement at machine level, and an exception.
-abbrev at : ℕ → Event
-at address = Retire address 0 3
-
-abbrev exception : ℕ → Event
-exception epc = Trap 3 false 2 epc 0x1234
-
-abbrev symbols : Option (List ℕ)
-symbols = Some (codes "80000004 t loop\n80000000 T _start\n80000010 D data\n")
-
--- The messages of a hart: its trace is opened, synchronised, goes on with a packet that waits, and is closed.
-abbrev message : ℕ → List ℕ → Message
-message number payload = record { hart = 0; number = number; payload = payload }
-
-abbrev opening : Message
-opening = message 0 (0x1f ∷ [])
-
-abbrev synchronising : Message
-synchronising = message 1 (0x73 ∷ 0 ∷ 0 ∷ 0 ∷ 0x20 ∷ [])
-
-abbrev waiting : Message
-waiting = message 2 (0x12 ∷ [])
-
-abbrev closing : Message
-closing = message 3 (0xcf ∷ 0 ∷ [])
-
--- What they do.
+-- What the messages do.
 abbrev nothing : Effect
 nothing = record { added = []; rows = 0; waits = false; closes = false }
 

@@ -1,5 +1,5 @@
 -- The parts of which a row is written.
-use Rattle.std.specs.Prelude.{ℕ, ◌++◌, List, [], Option, Result, codes}
+use Rattle.std.specs.Prelude.{ℕ, ◌++◌, List, Option, Result, codes}
 use Rattle.std.specs.List.{flat_map}
 use Rattle.payload.specs.declared.fault.PackFault.{PackFault}
 use Rattle.payload.specs.declared.mode.Mode.{Mode}
@@ -7,27 +7,12 @@ use Rattle.payload.specs.declared.packet.Packet.{Packet}
 use Rattle.message.specs.declared.message.Message.{Message}
 use Rattle.symbols.specs.Nearest.{Naming}
 use Rattle.output.specs.Quoted.{quoted_field}
-use Rattle.retire.specs.LogText.{hex}
-use Rattle.captures.specs.PacketText.{map_text}
 use Rattle.listing.specs.Packets.{packet_fields}
 use Rattle.listing.specs.Rows.{begin_fields, distance_field, name_field, naming_at}
-use Rattle.listing.specs.declared.cell.Cell.{Cell}
-use Rattle.listing.specs.declared.cell.Cell.TheVariants as cell
 
 -- Fields with a comma after each.
 abbrev pub cells : List (List ℕ) → List ℕ
 cells fields = flat_map (λ field. field ++ codes ",") fields
-
--- The text of a field.
-abbrev pub cell_text : Cell → List ℕ
-cell_text cell.Empty = []
-cell_text (cell.Word word) = word.now
-cell_text (cell.Hex number) = hex number
-cell_text (cell.Map outcomes) = map_text outcomes.now
-
--- The same with a comma after it.
-abbrev pub cell_part : Cell → List ℕ
-cell_part one = cell_text one ++ codes ","
 
 -- The fields of a message of this kind up to those of its packet, which its payload unpacks to.
 abbrev pub message_cells : List ℕ → Mode → ℕ → ℕ → Message → Result Packet PackFault → List ℕ

@@ -12,7 +12,6 @@
 #![tactic(auto)]
 
 mod capture_listing;
-mod cell;
 mod cells;
 mod endings;
 mod entries;

@@ -1,14 +1,12 @@
 //! The fields of a packet.
 
 ghost use Rattle.std.specs.Prelude.{◌≡◌, Ok, Some};
-ghost use Rattle.std.specs.List.{flat_map};
-ghost use Rattle.captures.specs.PacketText.{address_report_text};
 ghost use Rattle.listing.specs.Packets.{cause_field, ended_field, hex_unless, is_full};
 ghost use Rattle.listing.specs.Packets.{mode_field, packet_fields, support_field};
-ghost use Rattle.listing.specs.Cells.{cell_part, cell_text, cells};
+ghost use Rattle.listing.specs.Cells.{cells};
 
-use crate::cell::{Cell, CellRow, branch_field};
-use payload::{Mode, PackFault, Packet, Report, Support};
+use captures::{MapText, address_report_text, branch_text};
+use payload::{Mode, PackFault, Packet, Support};
 use std::fmt;
 use std::fmt::Display;
 
@@ -25,85 +23,92 @@ impl fmt::Display for PacketCells<'_> {
 
     fn fmt<W: fmt::Write>(&self, f: &mut fmt::Formatter<W>) -> fmt::Result {
         match self.read {
-            Ok(packet) => {
-                let fields = fields_of(self.mode, packet);
-                CellRow(&fields).fmt(f)
+            Ok(packet) => FieldsOf {
+                mode: self.mode,
+                packet,
             }
+            .fmt(f),
             Err(why) => write!(f, "bad,,,,,,,,,,,,,,{why},"),
         }
     }
 }
 
-/// The fields of a packet.
-fn fields_of(mode: Mode, packet: &Packet) -> [Cell<'_>; 15]
-    ensures { flat_map cell_part result ≡ cells (packet_fields mode (Ok packet.now)) }
-{
-    let e = Cell::Empty;
-    match *packet {
-        Packet::Sync {
-            taken,
-            privilege,
-            address,
-        } => {
-            let kind = Cell::Word("sync");
-            let addr = Cell::Hex(address);
-            let level = Cell::Hex(u64::from(privilege));
-            let branch = Cell::Word(branch_field(taken));
-            [kind, addr, e, level, branch, e, e, e, e, e, e, e, e, e, e]
-        }
-        Packet::Trap {
-            taken,
-            privilege,
-            cause,
-            interrupt,
-            handler,
-            address,
-            tval,
-        } => {
-            let kind = Cell::Word("trap");
-            let level = Cell::Hex(u64::from(privilege));
-            let branch = Cell::Word(branch_field(taken));
-            let trap = Cell::Word(cause_field(interrupt));
-            let cause = Cell::Hex(u64::from(cause));
-            let tval = hex_unless(interrupt, tval);
-            let at = hex_unless(!handler, address);
-            let epc = hex_unless(handler, address);
-            [
-                kind, e, e, level, branch, trap, cause, tval, at, epc, e, e, e, e, e,
-            ]
-        }
-        Packet::Support(support) => {
-            let kind = Cell::Word(support_field(support));
-            let mode = Cell::Word(mode_field(support));
-            let ended = Cell::Word(ended_field(support));
-            [kind, e, e, e, e, e, e, e, e, e, e, e, mode, ended, e]
-        }
-        Packet::Address {
-            ref outcomes,
-            delta,
-            report,
-        } => {
-            let kind = Cell::Word("address");
-            let full = is_full(mode);
-            let addr = hex_unless(!full, delta);
-            let diff = hex_unless(full, delta);
-            let map = Cell::Map(outcomes);
-            let why = Cell::Word(report_field(report));
-            [kind, addr, diff, e, e, e, e, e, e, e, map, why, e, e, e]
-        }
-        Packet::Map(ref outcomes) => {
-            let kind = Cell::Word("map");
-            let map = Cell::Map(outcomes);
-            [kind, e, e, e, e, e, e, e, e, e, map, e, e, e, e]
+/// The fields of a packet, with a comma after each.
+#[derive(Clone, Copy)]
+struct FieldsOf<'a> {
+    mode: Mode,
+    packet: &'a Packet,
+}
+
+impl fmt::Display for FieldsOf<'_> {
+    ghost output = { λ fields. Some (cells (packet_fields fields.mode (Ok fields.packet.now))) };
+
+    fn fmt<W: fmt::Write>(&self, f: &mut fmt::Formatter<W>) -> fmt::Result {
+        match *self.packet {
+            Packet::Sync {
+                taken,
+                privilege,
+                address,
+            } => {
+                let branch = branch_text(taken);
+                write!(f, "sync,{address:x},,{privilege:x},{branch},,,,,,,,,,,")
+            }
+            Packet::Trap {
+                taken,
+                privilege,
+                cause,
+                interrupt,
+                handler,
+                address,
+                tval,
+            } => {
+                let branch = branch_text(taken);
+                let trap = cause_field(interrupt);
+                let tval = HexUnless(interrupt, tval);
+                let at = HexUnless(!handler, address);
+                let epc = HexUnless(handler, address);
+                write!(
+                    f,
+                    "trap,,,{privilege:x},{branch},{trap},{cause:x},{tval},{at},{epc},,,,,,"
+                )
+            }
+            Packet::Support(support) => {
+                let kind = support_field(support);
+                let mode = mode_field(support);
+                let ended = ended_field(support);
+                write!(f, "{kind},,,,,,,,,,,,{mode},{ended},,")
+            }
+            Packet::Address {
+                ref outcomes,
+                delta,
+                report,
+            } => {
+                let full = is_full(self.mode);
+                let addr = HexUnless(!full, delta);
+                let diff = HexUnless(full, delta);
+                let map = MapText(outcomes);
+                let report = address_report_text(report);
+                write!(f, "address,{addr},{diff},,,,,,,,{map},{report},,,,")
+            }
+            Packet::Map(ref outcomes) => write!(f, "map,,,,,,,,,,{},,,,,", MapText(outcomes)),
         }
     }
 }
 
 /// A number in hexadecimal, unless this is so.
-fn hex_unless<'a>(test: bool, number: u64) -> Cell<'a>
-    ensures { cell_text result ≡ hex_unless test number }
-{
-    if test { Cell::Empty } else { Cell::Hex(number) }
+#[derive(Clone, Copy)]
+struct HexUnless(bool, u64);
+
+impl fmt::Display for HexUnless {
+    ghost output = { λ number. Some (hex_unless number.0 number.1) };
+
+    fn fmt<W: fmt::Write>(&self, f: &mut fmt::Formatter<W>) -> fmt::Result {
+        if self.0 {
+            f.write_str("")
+        } else {
+            write!(f, "{:x}", self.1)
+        }
+    }
 }
 
 /// Whether a trap is an interrupt or an exception.
@@ -152,16 +157,5 @@ fn ended_field(support: Support) -> &'static str
         Support::Open(_) => "",
         Support::EndedRep => "ended_rep",
         Support::EndedNtr => "ended_ntr",
-    }
-}
-
-/// Why an address is reported.
-fn report_field(report: Report) -> &'static str
-    ensures { result.now ≡ address_report_text report }
-{
-    match report {
-        Report::Plain => "plain",
-        Report::Updiscon => "updiscon",
-        Report::Notify => "notify",
     }
 }

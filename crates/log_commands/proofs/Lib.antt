@@ -3,7 +3,6 @@ mod Generated
 mod Gots
 mod Headers
 mod JoinedParts
-mod JoinedTexts
 mod MadeLogs
 mod PartLogs
 mod Reports

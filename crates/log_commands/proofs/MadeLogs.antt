@@ -139,16 +139,6 @@ module _ {X : Type 0} (Makes : ℕ → ProgramLog → X → Type 0) where
                 refused = refused;
               })
 
-      -- Where something was made of each log, there is one thing for each.
-      pub made_count : (made : Vec X Global) (end : Result (Unit {0}) LogsFault)
-          (result : Result (Vec X Global) Fault)
-          → AreMade OfEvents OfIllegal content program most paths made.items end
-          → result ≡ all_or_fault made end → IfOk result (λ all. length all.items ≡ length paths)
-      made_count made (Ok end) result are is =
-          subst (λ r. IfOk r (λ all. length all.items ≡ length paths)) (sym is) (are.all refl)
-      made_count made (Err last) result are is =
-          subst (λ r. IfOk r (λ all. length all.items ≡ length paths)) (sym is) tt
-
       -- Then all logs are legal.
       pub made_of_legal : (made : Vec X Global) (end : Result (Unit {0}) LogsFault)
           (result : Result (Vec X Global) Fault)

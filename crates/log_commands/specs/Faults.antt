@@ -35,10 +35,6 @@ Once Finds Holds = finding.Once Finds Holds
 abbrev pub log_reason_status : LogReason → Status
 log_reason_status why = Refused
 
--- The status at a fault.
-abbrev pub status_of : Fault → Status
-status_of why = inputs.status_of log_reason_status why
-
 -- The status that such a subcommand ended with: the one that it returned, or the one of its fault.
 abbrev pub final_status : Result Status Fault → Status
 final_status ended = inputs.final_status log_reason_status ended

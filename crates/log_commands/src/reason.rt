@@ -8,12 +8,13 @@ use bench::Setup;
 use command_inputs::{Reason, Status};
 use funnel::ScheduleFault;
 use std::fmt;
+use std::fmt::Display;
 
 /// Why a subcommand that reads logs stops.
 pub type Fault<'a> = command_inputs::Fault<'a, LogReason>;
 
 /// An option of `generate` that is given and does not go with what is made.
-#[derive(Clone, Copy, PartialEq, Eq)]
+#[derive(Clone, Copy)]
 pub enum Stray {
     /// `--hart`, which goes with a log.
     Hart,
@@ -34,7 +35,7 @@ pub enum Stray {
 }
 
 /// What only a subcommand that reads or makes logs stops at.
-#[derive(Clone, Copy, PartialEq, Eq)]
+#[derive(Clone, Copy)]
 pub enum LogReason {
     /// The text of the schedule is no schedule.
     Schedule(ScheduleFault),
@@ -79,7 +80,7 @@ impl fmt::Display for LogReason {
         match self {
             LogReason::Schedule(why) => write!(f, "schedule: {why}"),
             LogReason::LargeSchedule => f.write_str("schedule: larger than 134217728 bytes"),
-            LogReason::Unsent(why) => write!(f, "{why}"),
+            LogReason::Unsent(why) => why.fmt(f),
             LogReason::FirstAlone => f.write_str("--first needs --of"),
             LogReason::ManyHarts(most) => write!(f, "more than {most} harts"),
             LogReason::FirstHart(harts) => write!(f, "first hart is not below {harts}"),

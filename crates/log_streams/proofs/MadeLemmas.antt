@@ -1,6 +1,6 @@
 -- What was made of logs.
-use Rattle.std.proofs.Common.{◌≡◌, ℕ, List, [], ◌∷◌, Result, Some, Ok, Err, IfErr, slice_get, length, refl, sym, zero-le}
-use Rattle.std.proofs.Common.{inl, subst}
+use Rattle.std.proofs.Common.{◌≡◌, ℕ, List, Result, Some, Ok, Err, IfErr, slice_get, length, refl}
+use Rattle.std.proofs.Common.{inl}
 use Rattle.std.specs.Borrow.{Bor}
 use Rattle.retire.specs.declared.event.Event.{Event}
 use Rattle.retire.specs.declared.fault.LogFault.TheVariants.{Memory}
@@ -17,27 +17,6 @@ use Rattle.log_streams.specs.steps.Allowed.{IsMadeAt}
 -- An allocation that failed may always be the reason.
 abbrev pub MayBeDenied : {X : Type 0} → (List ℕ → ℕ → Result X Stop → Type 0) → Type 0
 MayBeDenied IsMade = (path : List ℕ) (hart : ℕ) → IsMade path hart (Err (stop.Unread Memory))
-
-module _ {X : Type 0} (IsMade : List ℕ → ℕ → Result X Stop → Type 0) (denied : MayBeDenied IsMade) where
-  fault-of : (paths : List (Bor (List ℕ))) (end : Result (Unit {0}) LogsFault)
-      → IfErr end (λ fault. (slice_get paths 0 ≡ Some fault.path) × (fault.why ≡ stop.Unread Memory))
-      → IfErr end (λ fault. (slice_get paths 0 ≡ Some fault.path) × IsMade fault.path.now 0 (Err fault.why))
-  fault-of paths (Ok u) h = tt
-  fault-of paths (Err fault) (at, why) =
-      (at, subst (λ why. IsMade fault.path.now 0 (Err why)) (sym why) (denied fault.path.now 0))
-
-  -- Nothing is made where an allocation fails.
-  pub none-made : (paths : List (Bor (List ℕ))) (made : List X) (end : Result (Unit {0}) LogsFault) → made ≡ []
-      → (end ≡ Ok tt → length paths ≡ 0)
-      → IfErr end (λ fault. (slice_get paths 0 ≡ Some fault.path) × (fault.why ≡ stop.Unread Memory))
-      → AreMadeBy IsMade paths made end
-  none-made paths [] end is all fault = record {
-    few = zero-le;
-    each = λ hart path one at made. cc made;
-    all = λ done. sym (all done);
-    fault = fault-of paths end fault;
-  }
-  none-made paths (one ∷ rest) end is all fault = cc is
 
 module _ {X : Type 0} (P Q : List ℕ → ℕ → Result X Stop → Type 0)
     (leads : (path : List ℕ) (hart : ℕ) (one : Result X Stop) → P path hart one → Q path hart one) where

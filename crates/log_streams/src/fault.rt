@@ -3,7 +3,7 @@
 use thiserror::Error;
 
 /// Why a file gives no bytes.
-#[derive(Clone, Copy, Debug, PartialEq, Eq, Error)]
+#[derive(Clone, Copy, Debug, Error)]
 pub enum FileFault {
     /// There is no such file, or it was not read to its end.
     #[error("cannot be read")]

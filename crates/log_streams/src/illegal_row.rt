@@ -4,7 +4,7 @@ use legalpath::PathFault;
 use retire::Event;
 
 /// The first illegal row of a log, and what it follows.
-#[derive(Clone, Copy, PartialEq, Eq)]
+#[derive(Clone, Copy)]
 pub struct IllegalRow {
     /// The number of the row, and why it is illegal.
     pub fault: PathFault,

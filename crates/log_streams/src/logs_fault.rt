@@ -3,7 +3,7 @@
 use crate::stop::Stop;
 
 /// The first fault of some logs, in their order.
-#[derive(Clone, Copy, PartialEq, Eq)]
+#[derive(Clone, Copy)]
 pub struct LogsFault<'a> {
     /// The path of the log.
     pub path: &'a str,

@@ -12,7 +12,7 @@ use crate::stop::Stop;
 use crate::task::LogTask;
 use crate::watched::{Origin, Watched};
 use crate::{FileFault, Files};
-use retire::{Event, LogFault, LogReader, PieceBuffer, Source};
+use retire::{LogFault, LogReader, PieceBuffer, Source};
 use rvclass::ProgramOver;
 use std::alloc::Global;
 use std::marker::Brand;
@@ -44,7 +44,6 @@ fn made_at<O: Origin, F: Files, X: Drop, T: LogTask<X>>(
     most: u32,
     task: &T,
     hart: usize,
-    piece: &mut Vec<Event>,
 ) -> Result<X, Stop>
     requires { (gave : Gave) → F.Gives at.files.now at.path.now gave → IsGiven O.Gives gave }
     ensures made { IsMadeOf (T.Makes task.now program.now) (T.MakesOfIllegal task.now program.now)
@@ -64,7 +63,8 @@ fn made_at<O: Origin, F: Files, X: Drop, T: LogTask<X>>(
     };
     let watched: Watched<'_, O, F> = Watched::new(at, file);
     let mut reader = LogReader::new(buffer, alloc, most, watched);
-    let found = made_of(program, most, task, hart, &mut reader, piece);
+    let mut piece = Vec::new(alloc);
+    let found = made_of(program, most, task, hart, &mut reader, &mut piece);
     if is_confirmed(&found, reader.source()) {
         return found;
     }
@@ -75,20 +75,17 @@ fn made_at<O: Origin, F: Files, X: Drop, T: LogTask<X>>(
 /// What a task makes of the log of a hart, which is in the file at this path.
 pub(crate) fn made_of_file<F: Files, X: Drop, T: LogTask<X>>(
     alloc: Global,
-    files: &F,
+    at: FileAt<'_, F>,
     program: &ProgramOver,
     most: u32,
     task: &T,
     hart: usize,
-    path: &str,
-    piece: &mut Vec<Event>,
 ) -> Result<X, Stop>
     ensures made { IsMadeOf (T.Makes task.now program.now) (T.MakesOfIllegal task.now program.now)
-        (F.content files.now path.now) program.now most hart result }
+        (F.content at.entry.files.now at.entry.path.now) program.now most hart result }
     ensures given { IsMadeOfGiven (T.Makes task.now program.now) (T.MakesOfIllegal task.now program.now)
-        (F.Gives files.now path.now) program.now most hart result }
+        (F.Gives at.entry.files.now at.entry.path.now) program.now most hart result }
     ensures refused { IfErr result (MayStop (T.MayRefuse task.now)) }
 {
-    let at = FileAt { files, path };
-    made_at::<Brand, F, X, T>(alloc, at, program, most, task, hart, piece)
+    made_at::<Brand, F, X, T>(alloc, at, program, most, task, hart)
 }

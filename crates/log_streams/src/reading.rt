@@ -1,6 +1,6 @@
 //! One log, which is read and checked a piece at a time.
 
-ghost use Rattle.std.specs.Prelude.{◌≡◌, ◌≤◌, ◌++◌, ℕ, List, [], IfErr, None, OnOk, length};
+ghost use Rattle.std.specs.Prelude.{◌≤◌, ℕ, List, [], IfErr, None, OnOk, length};
 ghost use Rattle.retire.specs.Log.{most_long_rows};
 ghost use Rattle.std.specs.Io.KnownBytes.{Keeps};
 ghost use Rattle.retire.specs.HasRead.{HasRead, content_of};
@@ -9,7 +9,7 @@ ghost use Rattle.rvclass.specs.Fetch.{words_of};
 ghost use Rattle.log_streams.specs.Illegal.{IsIllegalRow};
 ghost use Rattle.log_streams.specs.Refusing.{MayStop};
 ghost use Rattle.log_streams.specs.steps.Judging.{HasJudged};
-ghost use Rattle.log_streams.specs.steps.Reading.{HasReadAndJudged, IsFinished, IsMadeOfSource, IsNotRead, IsReadOn};
+ghost use Rattle.log_streams.specs.steps.Reading.{IsFinished, IsMadeOfSource, IsNotRead, IsReadOn};
 
 use crate::illegal_row::IllegalRow;
 use crate::judging::{Judging, judge_piece};
@@ -63,40 +63,6 @@ fn made_of_illegal<S: Source, X, T: LogTask<X>>(
     }
 }
 
-/// Reads a log whose events so far are checked, checks the others, and makes something of it.
-fn made_from<S: Source, X, T: LogTask<X>>(
-    program: &ProgramOver,
-    most: u32,
-    task: &T,
-    hart: usize,
-    judged: Judging<T::State>,
-    reader: &mut LogReader<S>,
-    piece: &mut Vec<Event>,
-) -> Result<X, Stop>
-    requires { HasReadAndJudged (T.Keeps task.now program.now hart) program.now S.given S.left most reader.old
-        judged }
-    ensures made { IsMadeOfSource (T.Makes task.now program.now) (T.MakesOfIllegal task.now program.now) program.now
-        most hart S.given S.left reader.new result }
-    ensures refused { IfErr result (MayStop (T.MayRefuse task.now)) }
-    ensures kept { Keeps (content_of S.given S.left reader.old) (content_of S.given S.left reader.new) }
-{
-    let mut judging = judged;
-    for _ in 0..u64::MAX {
-        piece.clear();
-        match reader.next(piece) {
-            Ok(true) => {}
-            Ok(false) => return finished(program, task, judging),
-            Err(fault) => return Err(Stop::Unread(fault)),
-        }
-        match judge_piece(program, task, &mut judging, piece) {
-            Ok(None) => {}
-            Ok(Some(row)) => return made_of_illegal(program, task, row, reader, piece),
-            Err(AllocError) => return Err(Stop::Unread(LogFault::Memory)),
-        }
-    }
-    Err(Stop::Unread(LogFault::Memory))
-}
-
 /// Makes something of a legal log, all of whose events are checked.
 fn finished<X, T: LogTask<X>>(
     program: &ProgramOver,
@@ -135,10 +101,23 @@ pub(crate) fn made_of<S: Source, X, T: LogTask<X>>(
     let Ok(state) = task.begin(program, hart) else {
         return Err(Stop::Unread(LogFault::Memory));
     };
-    let judging = Judging {
+    let mut judging = Judging {
         check: PathCheck::new(),
         state,
         before: None,
     };
-    made_from(program, most, task, hart, judging, reader, piece)
+    for _ in 0..u64::MAX {
+        piece.clear();
+        match reader.next(piece) {
+            Ok(true) => {}
+            Ok(false) => return finished(program, task, judging),
+            Err(fault) => return Err(Stop::Unread(fault)),
+        }
+        match judge_piece(program, task, &mut judging, piece) {
+            Ok(None) => {}
+            Ok(Some(row)) => return made_of_illegal(program, task, row, reader, piece),
+            Err(AllocError) => return Err(Stop::Unread(LogFault::Memory)),
+        }
+    }
+    Err(Stop::Unread(LogFault::Memory))
 }

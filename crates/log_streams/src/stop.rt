@@ -4,7 +4,7 @@ use legalpath::PathFault;
 use retire::LogFault;
 
 /// Why nothing is made of a log.
-#[derive(Clone, Copy, PartialEq, Eq)]
+#[derive(Clone, Copy)]
 pub enum Stop {
     /// The log was not read to its end. [`LogFault::Read`] says that the file was not opened or not read to its end.
     Unread(LogFault),

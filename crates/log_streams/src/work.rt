@@ -4,6 +4,7 @@ ghost use Rattle.log_streams.specs.steps.Allowed.{AreEntries, MayBeMadeIn};
 
 use crate::Files;
 use crate::entry::Entry;
+use crate::file_at::FileAt;
 use crate::one_log::made_of_file;
 use crate::places::Places;
 use crate::task::LogTask;
@@ -95,17 +96,11 @@ fn read_log<F: Files, X: Drop, T: LogTask<X>>(
     let Some(path) = work.paths.get(place) else {
         return false;
     };
-    let mut piece = Vec::new(work.alloc);
-    let made = made_of_file(
-        work.alloc,
-        work.files,
-        work.program,
-        work.most,
-        work.task,
-        place,
+    let at = FileAt {
+        files: work.files,
         path,
-        &mut piece,
-    );
+    };
+    let made = made_of_file(work.alloc, at, work.program, work.most, work.task, place);
     let is_made = made.is_ok();
     if !is_made {
         work.end.fetch_min(place, Ordering::SeqCst);

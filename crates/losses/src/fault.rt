@@ -9,6 +9,7 @@ use message::DemuxFault;
 use std::alloc::AllocError;
 use std::error::Error;
 use std::fmt;
+use std::fmt::Display;
 
 /// Why messages are not collected. What was collected before the fault is dropped.
 #[derive(Clone, Copy, Debug, PartialEq, Eq)]
@@ -26,8 +27,8 @@ impl fmt::Display for LossyFault {
 
     fn fmt<W: fmt::Write>(&self, f: &mut fmt::Formatter<W>) -> fmt::Result {
         match *self {
-            LossyFault::Demux(_, why) => write!(f, "{why}"),
-            LossyFault::Decode(_, why) => write!(f, "{why}"),
+            LossyFault::Demux(_, why) => why.fmt(f),
+            LossyFault::Decode(_, why) => why.fmt(f),
             LossyFault::Memory => f.write_str("out of memory"),
         }
     }

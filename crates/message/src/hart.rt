@@ -11,7 +11,7 @@ use payload::{Packet, unpack};
 const END_OF_NUMBERS: u64 = 1 << 63;
 
 /// What is expected of a hart. [`Demux`](crate::Demux) holds one for each hart that it knows.
-#[derive(Clone, Copy, PartialEq, Eq)]
+#[derive(Clone, Copy)]
 pub struct Hart {
     /// The number of its next message.
     pub expected: u64,

@@ -8,7 +8,7 @@ pub trait ProgressSink {
 }
 
 /// Nobody is told.
-#[derive(Clone, Copy, PartialEq, Eq)]
+#[derive(Clone, Copy)]
 pub struct NoProgress;
 
 impl ProgressSink for NoProgress {

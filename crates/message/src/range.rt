@@ -7,7 +7,7 @@ ghost use Rattle.message.specs.Text.{range_text};
 use std::fmt;
 
 /// The harts from one to another, both among them. Its text is `A to B`, in decimal.
-#[derive(Clone, Copy, PartialEq, Eq)]
+#[derive(Clone, Copy)]
 pub struct HartRange {
     /// The first of them.
     pub first: u16,

@@ -1,7 +1,8 @@
 -- Texts of items, one after the other.
 use Rattle.std.proofs.Common.{ℕ, ◌+◌, ◌<◌, ◌≤◌, List, ◌++◌, Option, length, get_or, drop}
-use Rattle.std.proofs.Common.{Result, Ok, Err, subst}
+use Rattle.std.proofs.Common.{Result, Ok, Err, ap, subst, sym, take, take-append-drop, ◌∙◌}
 use Rattle.std.proofs.KnownBytes.{Appends-trans}
+use Rattle.std.proofs.lemmas.Grind.{flat_map-append}
 use Rattle.std.proofs.lemmas.List.{drop_all, drop_more}
 use Rattle.std.specs.Io.KnownBytes.{Appends}
 use Rattle.std.specs.List.{flat_map}
@@ -34,6 +35,18 @@ module _ {A : Type 0} (text : A → List ℕ) (items : List A) (place : ℕ) (ol
   items_all past =
       part_all (flat_map text items) old mid
       (subst (λ left. HasWritten (flat_map text items) (flat_map text left) old mid) (drop_all place items past) has)
+
+-- The texts of the first items were appended, so those of the others are left.
+pub items_front : {A : Type 0} (text : A → List ℕ) (items : List A) (place : ℕ) (old mid : Option (List ℕ))
+    → Appends old mid (flat_map text (take place items))
+    → HasWritten (flat_map text items) (flat_map text (drop place items)) old mid
+items_front text items place old mid first = record {
+  front = flat_map text (take place items);
+  parted =
+      ap (flat_map text) (sym (take-append-drop place items))
+      ∙ flat_map-append text (take place items) (drop place items);
+  appended = first;
+}
 
 -- A text is written, and then, unless the output fails, another one.
 pub ok_behind : {T E : Type 0} (front back : List ℕ) (old mid new : Option (List ℕ)) (r : Result T E)

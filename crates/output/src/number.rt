@@ -4,6 +4,7 @@ ghost use Rattle.std.specs.Prelude.{Some};
 ghost use Rattle.output.specs.Fields.{number_field};
 
 use std::fmt;
+use std::fmt::Display;
 
 /// The decimal digits of a number, where there is one. The field of none is empty.
 #[derive(Clone, Copy)]
@@ -14,7 +15,7 @@ impl fmt::Display for Number {
 
     fn fmt<W: fmt::Write>(&self, f: &mut fmt::Formatter<W>) -> fmt::Result {
         match self.0 {
-            Some(number) => write!(f, "{number}"),
+            Some(number) => number.fmt(f),
             None => f.write_str(""),
         }
     }

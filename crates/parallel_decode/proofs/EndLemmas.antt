@@ -29,10 +29,6 @@ slice_get-push (a ∷ xs) y (suc i) x is = behind (slice_get-push xs y i x is)
     behind (inr last) = inr (ap suc last.0, last.1)
 
 module _ {A : Type 0} (words : Words) (announced : Option Mode) (bytes : List ℕ) (places : List (Vec ℕ A)) where
-  -- At first there is none.
-  pub ends-none : AreEnds words announced bytes places []
-  ends-none hart own end its is = cc
-
   -- With the next hart there is one more.
   pub ends-next : (ends : List HartEnd) (entry : Entry) → AreEnds words announced bytes places ends
       → IsEntry words announced bytes places entry → entry.hart ≡ length ends

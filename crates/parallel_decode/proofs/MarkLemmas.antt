@@ -108,14 +108,6 @@ module _ (words : Words) (messages more : List Message) (log added : List Event)
     behind = All-push (IsUpTo (length whole)) marks mark up_to (omega (arith, taken));
   }
 
--- At first there is none.
-pub on_way-none : (words : Words) → AreOnWay words [] [] []
-on_way-none words = record {
-  marked = All-nil (IsMark words [] []);
-  rising = tt;
-  behind = All-nil (IsUpTo 0);
-}
-
 -- How many events there are, counted up to the greatest number.
 pub counted-more : (log added : List Event) (so_far more : ℕ) → so_far ≡ min (2 ^ 64 - 1) (length log)
     → more ≡ min (2 ^ 64 - 1) (length added)

@@ -5,7 +5,6 @@ use Rattle.std.specs.Prelude.{IfSome, Option}
 use Rattle.std.proofs.Common.{Some, None, Ok, drop, get_or, length, slice_get, take, arith, refl, sym, ap, subst, ◌∙◌, take-append-drop}
 use Rattle.std.proofs.lemmas.List.{append-nil, append_assoc, drop-drop, drop_at, drop_more, length-append, length-drop, take_all, take_more}
 use Rattle.std.proofs.lemmas.List.Elements.{All-cons, All-nil}
-use Rattle.message.proofs.Elements.{All-slice_get}
 use Rattle.std.specs.declared.vec.Vec.{Vec}
 use Rattle.message.proofs.Selecting.{none_selected, one_selected, selected-append}
 use Rattle.message.specs.Range.{selected, selects}
@@ -22,7 +21,7 @@ use Rattle.message.specs.Harts.{Harts}
 use Rattle.message.specs.OfHart.{of_hart}
 use Rattle.message.specs.declared.message.Message.{Message}
 use Rattle.receiver.proofs.AcceptLemmas.{packet_read}
-use Rattle.parallel_decode.specs.Places.{AreAt, AreFirst, AreListed, ArePlaced, EachAt, HasPacketAt, IsAdded, IsAt, IsReadOf}
+use Rattle.parallel_decode.specs.Places.{AreFirst, AreListed, ArePlaced, EachAt, HasPacketAt, IsAdded, IsAt, IsReadOf}
 
 -- What is selected of a message and others behind it.
 pub selected_first : (range : HartRange) (message : Message) (messages : List Message)
@@ -167,17 +166,6 @@ pub record Places {A : Type 0} (range : HartRange) (bytes : List ℕ) (places : 
   pub rest : List ℕ
   pub left_is : left ≡ capture (drop count messages) ++ rest
   pub placed : ArePlaced bytes places (selected range (take count messages))
-
--- At first none is.
-pub places_none : {A : Type 0} (range : HartRange) (bytes : List ℕ) (places : List (Vec ℕ A)) (left : List ℕ)
-    (count : ℕ) (messages : List Message) → All (λ (own : Vec ℕ A). own.items ≡ []) places → left ≡ bytes
-    → AreFirst range bytes count messages → Places range bytes places left 0 messages
-places_none range bytes places left count messages empty same first = record {
-  rest = first.rest;
-  left_is = same ∙ first.whole;
-  placed = λ hart own is.
-      subst (λ items. AreAt bytes items []) (sym (All-slice_get (λ (own : Vec ℕ _). own.items ≡ []) places hart own is empty)) tt;
-}
 
 module _ {A : Type 0} (range : HartRange) (bytes : List ℕ) (places : List (Vec ℕ A)) (left : List ℕ) (n count : ℕ)
     (messages : List Message) (first : AreFirst range bytes count messages)

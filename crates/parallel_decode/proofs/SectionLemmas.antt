@@ -6,7 +6,7 @@ use Rattle.std.specs.declared.alloc.AllocError.{AllocError}
 use Rattle.std.specs.declared.vec.Vec.{Vec}
 use Rattle.std.proofs.lemmas.List.{append_assoc, append-nil, get_or-drop, length-append, length-drop, length-take-le}
 use Rattle.std.proofs.lemmas.List.{take_more}
-use Rattle.std.proofs.lemmas.List.Elements.{All-nil, All-push}
+use Rattle.std.proofs.lemmas.List.Elements.{All-push}
 use Rattle.retire.specs.declared.event.Event.{Event}
 use Rattle.rvclass.specs.Words.{Words}
 use Rattle.payload.specs.declared.mode.Mode.{Mode}
@@ -128,15 +128,6 @@ section-next words announced bytes places hart first number from to next events 
           (ap (λ m. now ++ m ∷ []) (found messages are) ∙ sym further)
           (passed-next words announced now message from to next events more whole (is.passed messages are) step counted);
     }
-
--- Nothing was added.
-pub added-none : (words : Words) (announced : Option Mode) (bytes places : List ℕ) (hart : ℕ) (ends : List SectionEnd)
-    → AreAdded words announced bytes places hart ends ends
-added-none words announced bytes places hart ends = record {
-  added = [];
-  behind = sym (append-nil ends);
-  are = All-nil (IsSectionOf words announced bytes places hart);
-}
 
 -- One section more was added.
 pub added-next : (words : Words) (announced : Option Mode) (bytes places : List ℕ) (hart : ℕ)

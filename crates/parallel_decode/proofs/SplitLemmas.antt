@@ -1,5 +1,5 @@
 -- Text on its way to a writer.
-use Rattle.std.proofs.Common.{◌≡◌, ◌∙◌, ◌==◌, true, length, ℕ, List, [], ◌++◌, arith, Option, append_assoc, append-nil, ap, subst, sym, refl}
+use Rattle.std.proofs.Common.{◌≡◌, ◌∙◌, ◌==◌, true, length, ℕ, List, [], ◌++◌, arith, Option, append_assoc, append-nil, ap, subst, sym}
 use Rattle.std.proofs.KnownBytes.{Appends-nil, Appends-trans}
 use Rattle.std.proofs.lemmas.Grind.{common_steps, flat_map-append}
 use Rattle.std.proofs.lemmas.List.{nil_from_length}
@@ -63,10 +63,6 @@ pub record HandsOut (old new : Option (List ℕ)) (start room : List ℕ) (all l
   pub done : List Event
   pub parts : all ≡ done ++ left
   pub text : Split old new room (start ++ rows done)
-
--- At first all are left.
-pub hands_none : (old : Option (List ℕ)) (start : List ℕ) (all : List Event) → HandsOut old old start start all all
-hands_none old start all = record { done = []; parts = refl; text = split_none old start }
 
 module _ (old mid : Option (List ℕ)) (start held : List ℕ) (all piece left : List Event)
     (h : HandsOut old mid start held all (piece ++ left)) where

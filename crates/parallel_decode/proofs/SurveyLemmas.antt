@@ -1,34 +1,30 @@
 -- How far the messages of bytes were received in the first pass.
-use Rattle.std.proofs.Common.{◌≡◌, ◌⊎◌, inl, inr, ℕ, ◌+◌, true, All, List, [], ◌∷◌, ◌++◌, Option, Some, None, length}
-use Rattle.std.proofs.Common.{refl, sym, ap, subst, ◌∙◌}
-use Rattle.std.proofs.lemmas.List.{length_push}
-use Rattle.std.proofs.lemmas.List.Elements.{All-append, All-nil, All-push}
-use Rattle.message.proofs.Selecting.{selected-append}
+use Rattle.std.proofs.Common.{◌≡◌, ◌⊎◌, inl, inr, ℕ, ◌+◌, true, List, [], ◌++◌, Option, Some, None, length}
+use Rattle.std.proofs.Common.{sym, ap, subst}
 use Rattle.message.specs.Range.{selected, selects}
 use Rattle.message.specs.declared.range.HartRange.{HartRange}
 use Rattle.rvclass.specs.Words.{Words}
 use Rattle.payload.specs.declared.mode.Mode.{Mode}
 use Rattle.decoder.specs.declared.fault.DecodeFault.TheVariants.{Memory}
 use Rattle.message.specs.Accepted.{newcomers}
-use Rattle.message.specs.Capture.{capture, message_bytes}
+use Rattle.message.specs.Capture.{message_bytes}
 use Rattle.message.specs.Cut.{IsMessage, IsCut, HasBadLength}
 use Rattle.message.specs.declared.fault.MessageFault.{MessageFault}
 use Rattle.message.specs.declared.fault.MessageFault.TheVariants as message
 use Rattle.message.specs.declared.message.Message.{Message}
-use Rattle.receiver.specs.Agreeing.{Agrees}
 use Rattle.receiver.proofs.HoldLemmas.{holds_decoded}
-use Rattle.receiver.specs.Holds.{AreDecoded, HasReceived, Holds}
+use Rattle.receiver.specs.Holds.{AreDecoded, Holds}
 use Rattle.receiver.specs.NotReceived.{IsNotReceived}
 use Rattle.receiver.specs.Received.{Received}
 use Rattle.receiver.specs.declared.fault.ReceiveFault.{ReceiveFault}
 use Rattle.receiver.specs.declared.fault.ReceiveFault.TheVariants as receiving
-use Rattle.captures.proofs.Reaching.{capture_next}
+use Rattle.captures.proofs.ReachingHarts.{ReachesOf, stops_at}
 use Rattle.captures.specs.Decoded.{as_capture_fault}
 use Rattle.captures.specs.NoMessage.{BeginsNone}
 use Rattle.captures.specs.Returned.{IsMemory}
 use Rattle.captures.specs.declared.outcome.CaptureFault.{CaptureFault}
 use Rattle.captures.specs.declared.outcome.CaptureFault.TheVariants as capture_fault
-use Rattle.captures.specs.OfHarts.{BeginsRefusedOf, StopsDecodingOf, StopsOf}
+use Rattle.captures.specs.OfHarts.{StopsOf}
 use Rattle.parallel_decode.specs.Surveyed.{NeverMemory}
 use Rattle.parallel_decode.proofs.PlaceLemmas.{all_read}
 use Rattle.parallel_decode.specs.declared.indexing.Survey.{Survey}
@@ -42,49 +38,7 @@ never_memory_of (receiving.Demux why) other is = is
 never_memory_of receiving.Mode other is = is
 never_memory_of (receiving.Decode why) other is = other (ap receiving.Decode is)
 
--- Of so many messages those of some harts were received, none of which opens a trace in another mode than the announced
--- one, and these bytes are left.
-pub record ReachesOf (range : HartRange) (words : Words) (harts : ℕ) (announced : Option Mode) (bytes left : List ℕ)
-    (number : ℕ) (received : Received) : Type 0 where
-  pub messages : List Message
-  pub counted : number ≡ length messages
-  pub ranges : All IsMessage messages
-  pub whole : bytes ≡ capture messages ++ left
-  pub agree : All (Agrees announced) (selected range messages)
-  pub takes : HasReceived (λ hart. words) harts (selected range messages) received
-
 module _ (range : HartRange) (words : Words) (harts : ℕ) (announced : Option Mode) (bytes : List ℕ) where
-  -- At first none was.
-  pub reaches_first : (received : Received) → HasReceived (λ hart. words) harts [] received
-      → ReachesOf range words harts announced bytes bytes 0 received
-  reaches_first received has = record {
-    messages = [];
-    counted = refl;
-    ranges = All-nil IsMessage;
-    whole = refl;
-    agree = All-nil (Agrees announced);
-    takes = has;
-  }
-
-  -- One message more.
-  pub reaches_next : (left next : List ℕ) (number : ℕ) (old new : Received) (message : Message)
-      → (r : ReachesOf range words harts announced bytes left number old)
-      → IsMessage message → left ≡ message_bytes message ++ next
-      → All (Agrees announced) (selected range (message ∷ []))
-      → HasReceived (λ hart. words) harts (selected range r.messages ++ selected range (message ∷ [])) new
-      → ReachesOf range words harts announced bytes next (number + 1) new
-  reaches_next left next number old new message r is here agree has =
-      let parts = selected-append range r.messages (message ∷ []) in
-      record {
-        messages = r.messages ++ message ∷ [];
-        counted = ap (λ n. n + 1) r.counted ∙ sym (length_push r.messages message);
-        ranges = All-push IsMessage r.messages message r.ranges is;
-        whole = r.whole ∙ ap (λ rest. capture r.messages ++ rest) here ∙ sym (capture_next r.messages message next);
-        agree = subst (All (Agrees announced)) (sym parts)
-            (All-append (Agrees announced) (selected range r.messages) (selected range (message ∷ [])) r.agree agree);
-        takes = subst (λ ms. HasReceived (λ hart. words) harts ms new) (sym parts) has;
-      }
-
   -- Receiving stops there.
   surveyed : (left : List ℕ) (number : ℕ) (old new : Received) (stop : Option (ℕ × CaptureFault))
       → (r : ReachesOf range words harts announced bytes left number old)
@@ -132,31 +86,10 @@ module _ (range : HartRange) (words : Words) (harts : ℕ) (announced : Option M
       → IsNotReceived words harts announced (selected range r.messages) message why
       → fault ≡ as_capture_fault why → ¬ (why ≡ receiving.Decode Memory)
       → IsSurveyedUpTo range words harts announced bytes new number (Some (number, fault))
-  surveyed_at left next number old new message why fault r is here of_range holds refused is_fault other =
-      surveyed left number old new (Some (number, fault)) r holds (
-        r.counted,
-        subst (StopsDecodingOf range words harts announced (selected range r.messages) left) (sym is_fault)
-            (stops why begins),
-      )
+  surveyed_at left next number old new message why fault r is here own holds refused is_fault other =
+      surveyed left number old new (Some (number, fault)) r holds
+      (stops_at range words harts announced bytes left next number old message why fault r is here own refused is_fault)
       (subst (λ f. ¬ IsMemory f) (sym is_fault) (never_memory_of why other))
-    where
-      begins : BeginsRefusedOf range words harts announced (selected range r.messages) left why
-      begins = record {
-        begins = record {
-          message = message;
-          rest = next;
-          ranges = is;
-          begins = here;
-          refused = refused;
-        };
-        of_range = of_range;
-      }
-
-      stops : (why : ReceiveFault) → BeginsRefusedOf range words harts announced (selected range r.messages) left why
-          → StopsDecodingOf range words harts announced (selected range r.messages) left (as_capture_fault why)
-      stops (receiving.Demux why) b = b
-      stops receiving.Mode b = b
-      stops (receiving.Decode why) b = b
 
 -- What was received and placed is a survey.
 pub survey_is : {A : Type 0} (range : HartRange) (words : Words) (harts : ℕ) (announced : Option Mode)

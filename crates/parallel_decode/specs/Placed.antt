@@ -20,11 +20,3 @@ pub record ArePlacedLogs {A : Type 0} (words : Words) (bytes : List ℕ) (places
   pub count : length logs ≡ length places
   pub each : (hart : ℕ) (own : Vec ℕ A) (log : List Event) → slice_get places hart ≡ Some own
       → slice_get logs hart ≡ Some log → IsPlacedLog words bytes own.items log
-
--- There is such a log.
-abbrev pub HavePlacedLog : Words → List ℕ → List ℕ → Type 0
-HavePlacedLog words bytes places = (log : List Event) × IsPlacedLog words bytes places log
-
--- There are such logs.
-abbrev pub HavePlacedLogs : {A : Type 0} → Words → List ℕ → List (Vec ℕ A) → Type 0
-HavePlacedLogs words bytes places = (logs : List (List Event)) × ArePlacedLogs words bytes places logs

@@ -14,22 +14,22 @@ use payload::Mode;
 
 /// The messages of a capture, and what its header says of them.
 #[derive(Drop)]
-pub struct Body<'b> {
+pub(crate) struct Body<'b> {
     /// How many harts there are.
-    pub harts: u16,
+    pub(crate) harts: u16,
     /// The mode that the header announces, if there is a header.
-    pub announced: Option<Mode>,
+    pub(crate) announced: Option<Mode>,
     /// The messages' bytes. There are none where the header is cut short or bad.
-    pub bytes: &'b [u8],
+    pub(crate) bytes: &'b [u8],
     /// Whether the header is cut short or bad.
-    pub fault: Option<MessageFault>,
+    pub(crate) fault: Option<MessageFault>,
 }
 
 /// The messages of a capture, which has the harts below the count in its header, if it is of version 2, and else those
 /// below `harts`.
 ///
 /// What the messages decode to is what the capture does, with [`Body::fault_or`] for the fault.
-pub fn body_of(harts: u16, bytes: &[u8]) -> Body<'_>
+pub(crate) fn body_of(harts: u16, bytes: &[u8]) -> Body<'_>
     ensures { (range : AnyRange) (words : Words) (lists : List (List AnyEvent)) (closed : List Bool)
         (stop : Option (ℕ × AnyFault))
         → AreHartsDecoded range words result.harts result.announced result.bytes.now lists closed stop
@@ -60,7 +60,7 @@ pub fn body_of(harts: u16, bytes: &[u8]) -> Body<'_>
 
 impl Body<'_> {
     /// The fault of the capture, where this is the fault of its messages: a header that is cut short or bad comes first.
-    pub fn fault_or(&self, fault: Option<(u64, CaptureFault)>) -> Option<(u64, CaptureFault)>
+    pub(crate) fn fault_or(&self, fault: Option<(u64, CaptureFault)>) -> Option<(u64, CaptureFault)>
         ensures { result ≡ end_of self.now.fault fault }
     {
         match self.fault {

@@ -32,7 +32,7 @@ impl RowBuffers {
 }
 
 /// Writes the line of a hart and the line of its log's header.
-pub fn write_head<O: Write>(
+pub(crate) fn write_head<O: Write>(
     hart: usize,
     rows: &mut RowBuffers,
     out: &mut O,

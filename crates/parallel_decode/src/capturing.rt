@@ -4,8 +4,9 @@ ghost use Rattle.std.specs.Prelude.{IfOk};
 ghost use Rattle.rvclass.specs.Fetch.{words_of};
 ghost use Rattle.parallel_decode.specs.CaptureMarked.{IsMarkedCaptureSurvey};
 
+use crate::Selection;
+use crate::body::body_of;
 use crate::surveying::{MarkedSurvey, survey_side_by_side};
-use crate::{Selection, body_of};
 use message::ProgressSink;
 use std::alloc::{AllocError, Global};
 use std::thread::Threads;

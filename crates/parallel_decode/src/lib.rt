@@ -67,8 +67,7 @@ mod turns;
 mod walking;
 mod writing;
 
-pub use body::{Body, body_of};
-pub use buffers::{RowBuffers, write_head};
+pub use buffers::RowBuffers;
 pub use capturing::{MarkedCaptureSurvey, survey_capture_side_by_side};
 pub use decoded::{DecodedHarts, write_decoded_side_by_side};
 pub use events::HartEvents;

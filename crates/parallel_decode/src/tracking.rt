@@ -1,22 +1,17 @@
 //! The receiving end of several harts in the first pass: it keeps no events.
 
-ghost use Rattle.std.specs.Prelude.{ℕ, ◌≡◌, ◌≢◌, ◌<◌, ◌↔◌, ◌++◌, true, All, List, [], ◌∷◌, Ok, Err, IfErr, IfOk};
-ghost use Rattle.std.specs.Prelude.{OnErr, OnOk, length, replicate};
+ghost use Rattle.std.specs.Prelude.{ℕ, ◌≡◌, ◌<◌, ◌++◌, true, All, List, [], ◌∷◌, Ok, Err, IfOk, OnErr, OnOk, length};
+ghost use Rattle.std.specs.Prelude.{replicate};
 ghost use Rattle.message.specs.Range.{selected, selects};
 ghost use Rattle.retire.specs.declared.event.Event.{Event as AnyEvent};
 ghost use Rattle.rvclass.specs.Fetch.{words_of};
 ghost use Rattle.rvclass.specs.Words.{Words};
-ghost use Rattle.payload.specs.ClosedTrace.{last_is_closing};
 ghost use Rattle.payload.specs.Reading.{reading};
-ghost use Rattle.decoder.specs.Describes.{Describes};
-ghost use Rattle.decoder.specs.Order.{IsOpen};
-ghost use Rattle.decoder.specs.declared.fault.DecodeFault.TheVariants.{NotOpened, AfterClose, Memory};
-ghost use Rattle.message.specs.OfHart.{packets_of};
+ghost use Rattle.decoder.specs.declared.fault.DecodeFault.TheVariants.{Memory};
 ghost use Rattle.message.specs.declared.message.Message.{Message as AnyMessage};
 ghost use Rattle.receiver.specs.Agreeing.{Agrees};
 ghost use Rattle.receiver.specs.Holds.{HasReceived, Holds};
-ghost use Rattle.receiver.specs.NotReceived.{IsNotReceived};
-ghost use Rattle.parallel_decode.specs.steps.Tracking.{IsTracker, received_of};
+ghost use Rattle.parallel_decode.specs.steps.Tracking.{IsReceivedNext, IsTracker, RefusesPacket, received_of};
 
 use crate::feeding::feed_packet;
 use decoder::{DecodeFault, Decoder};
@@ -68,19 +63,12 @@ impl<A: Allocator + Copy> Tracker<A> {
         requires tracker { IsTracker self.old }
         ensures received { (harts : ℕ) (messages : List AnyMessage) (lists : List (List AnyEvent))
             → HasReceived (λ hart. words_of program.now) harts messages (received_of self.old lists)
-            → OnOk result ((more : List (List AnyEvent)) × HasReceived (λ hart. words_of program.now) harts
-            (messages ++ selected range (message.now ∷ [])) (received_of self.new more)) }
-        ensures held { (harts : ℕ) (messages : List AnyMessage) (lists : List (List AnyEvent))
-            → HasReceived (λ hart. words_of program.now) harts messages (received_of self.old lists)
-            → OnErr result (Holds (λ hart. words_of program.now) harts messages (received_of self.new lists)) }
-        ensures not_received { (harts : ℕ) (messages : List AnyMessage) (lists : List (List AnyEvent))
-            → HasReceived (λ hart. words_of program.now) harts messages (received_of self.old lists)
-            → IfErr result (λ fault. IsNotReceived (words_of program.now) harts announced messages message.now fault) }
+            → IsReceivedNext (words_of program.now) announced harts messages (selected range (message.now ∷ []))
+            message.now self.new lists result }
         ensures of_range { OnErr result (selects range message.now.hart ≡ true) }
         ensures never_memory { ¬ (result ≡ Err (ReceiveFault.Decode Memory)) }
         ensures agree { OnOk result (All (Agrees announced) (selected range (message.now ∷ []))) }
-        ensures tracker { IsTracker self.new }
-        ensures harts { length self.new.demux ≡ length self.old.demux }
+        ensures tracker { IsTracker self.new × (length self.new.demux ≡ length self.old.demux) }
     {
         if range.selects(message.hart) {
             self.receive(program, announced, message, piece)
@@ -102,18 +90,11 @@ impl<A: Allocator + Copy> Tracker<A> {
         requires tracker { IsTracker self.old }
         ensures received { (harts : ℕ) (messages : List AnyMessage) (lists : List (List AnyEvent))
             → HasReceived (λ hart. words_of program.now) harts messages (received_of self.old lists)
-            → OnOk result ((more : List (List AnyEvent)) × HasReceived (λ hart. words_of program.now) harts
-            (messages ++ message.now ∷ []) (received_of self.new more)) }
-        ensures held { (harts : ℕ) (messages : List AnyMessage) (lists : List (List AnyEvent))
-            → HasReceived (λ hart. words_of program.now) harts messages (received_of self.old lists)
-            → OnErr result (Holds (λ hart. words_of program.now) harts messages (received_of self.new lists)) }
-        ensures not_received { (harts : ℕ) (messages : List AnyMessage) (lists : List (List AnyEvent))
-            → HasReceived (λ hart. words_of program.now) harts messages (received_of self.old lists)
-            → IfErr result (λ fault. IsNotReceived (words_of program.now) harts announced messages message.now fault) }
+            → IsReceivedNext (words_of program.now) announced harts messages (message.now ∷ []) message.now self.new
+            lists result }
         ensures never_memory { ¬ (result ≡ Err (ReceiveFault.Decode Memory)) }
         ensures agrees { OnOk result (Agrees announced message.now) }
-        ensures tracker { IsTracker self.new }
-        ensures harts { length self.new.demux ≡ length self.old.demux }
+        ensures tracker { IsTracker self.new × (length self.new.demux ≡ length self.old.demux) }
     {
         let packet = match self.demux.accept(message) {
             Ok(packet) => packet,
@@ -143,20 +124,12 @@ impl<A: Allocator + Copy> Tracker<A> {
             → Holds (λ hart. words_of program.now) harts messages (received_of self.old lists)
             → OnOk result ((more : List (List AnyEvent)) × Holds (λ hart. words_of program.now) harts
             (messages ++ message ∷ []) (received_of self.new more)) }
-        ensures none { (harts : ℕ) (messages : List AnyMessage) (lists : List (List AnyEvent))
+        ensures refuses { (harts : ℕ) (messages : List AnyMessage) (lists : List (List AnyEvent))
             → Holds (λ hart. words_of program.now) harts messages (received_of self.old lists)
-            → IfErr result (λ fault. (log : List AnyEvent)
-            → ¬ Describes (words_of program.now) (packets_of hart messages ++ packet.now ∷ []) log) }
-        ensures not_opened { (harts : ℕ) (messages : List AnyMessage) (lists : List (List AnyEvent))
-            → Holds (λ hart. words_of program.now) harts messages (received_of self.old lists)
-            → (result ≡ Err NotOpened) ↔ ((packets_of hart messages ≡ []) × ¬ IsOpen packet.now) }
-        ensures after_close { (harts : ℕ) (messages : List AnyMessage) (lists : List (List AnyEvent))
-            → Holds (λ hart. words_of program.now) harts messages (received_of self.old lists)
-            → (result ≡ Err AfterClose) ↔ (last_is_closing (packets_of hart messages) ≡ true) }
+            → RefusesPacket (words_of program.now) hart messages packet.now result }
         ensures never_memory { ¬ (result ≡ Err Memory) }
-        ensures expected { self.new.demux ≡ self.old.demux }
         ensures kept { OnErr result ((lists : List (List AnyEvent)) → received_of self.new lists ≡ received_of self.old lists) }
-        ensures tracker { IsTracker self.new }
+        ensures tracker { IsTracker self.new × (self.new.demux ≡ self.old.demux) }
     {
         let hart = usize::from(hart);
         piece.clear();

@@ -6,8 +6,9 @@ ghost use Rattle.parallel_decode.specs.Put.{IsPut};
 ghost use Rattle.parallel_decode.specs.steps.Putting.{PutsOn, PutsRest};
 ghost use Rattle.parallel_decode.specs.steps.Stretches.{HavePart, HaveTexts, IsPartOf, head_if, stretch_text};
 
+use crate::buffers::{RowBuffers, write_head};
 use crate::stretch::{Plan, Stretch};
-use crate::{RowBuffers, write_head, write_part};
+use crate::write_part;
 use output::write_bytes;
 use retire::WriteFault;
 use std::io::Write;

@@ -1,22 +1,19 @@
 -- Messages that are read by hart.
-use Rattle.std.proofs.Common.{◌≡◌, ◌⊎◌, inl, inr, ◌∙◌, ◌+◌, ℕ, List, [], ◌∷◌, ◌++◌, Option, Some, None, false, true, length, map}
-use Rattle.std.proofs.Common.{refl, sym, ap, subst, append-nil}
+use Rattle.std.proofs.Common.{◌≡◌, inl, inr, ◌∙◌, ◌+◌, ℕ, List, [], ◌∷◌, ◌++◌, Option, Some, None, false, true, length, map}
+use Rattle.std.proofs.Common.{refl, sym, ap, subst}
 use Rattle.std.proofs.lemmas.List.{map-append}
 use Rattle.std.proofs.lemmas.List.Sums.{sum_by-cons}
 use Rattle.std.specs.Prelude.{◌&&◌, cond, is_some, nat_lt, not}
 use Rattle.payload.specs.declared.by.By.{By}
 use Rattle.captures.proofs.HeaderFaults.{has_header, marked_by}
 use Rattle.captures.proofs.WholeCaptures.{HasRead, front_stops, never_both, whole_only}
-use Rattle.captures.specs.NoMessage.{BeginsNoHeader, BeginsNone}
+use Rattle.captures.specs.NoMessage.{BeginsNoHeader}
 use Rattle.captures.specs.Whole.{BeginsWith, IsFront, IsWhole}
 use Rattle.captures.specs.declared.capture_reading.ReadFault.TheVariants as read
-use Rattle.captures.specs.steps.Reading.{AreReadUpTo}
 use Rattle.message.specs.Range.{selected, selects}
 use Rattle.message.specs.declared.range.HartRange.{HartRange}
 use Rattle.message.specs.Capture.{capture}
-use Rattle.message.specs.Cut.{HasBadLength, IsCut}
 use Rattle.message.specs.declared.fault.MessageFault.{MessageFault}
-use Rattle.message.specs.declared.fault.MessageFault.TheVariants as fault
 use Rattle.message.specs.declared.header.Header.{Header}
 use Rattle.message.specs.declared.message.Message.{Message}
 use Rattle.frames.specs.Start.{IsStart}
@@ -47,29 +44,6 @@ kept_more harts messages m own new has pushed by split = record {
       (sym by)
       (subst (λ n. AreSplit own.payloads.by n (selected harts (messages ++ m ∷ [])) new.payloads.lists)
       (sym split.count) split);
-}
-
--- Bytes that begin with no message, by the fault.
-none_begins : (left : List ℕ) (why : MessageFault) → (why ≡ fault.Short) ⊎ (why ≡ fault.BadLength)
-    → (why ≡ fault.Short → IsCut left) → (why ≡ fault.BadLength → HasBadLength left) → BeginsNone left why
-none_begins left why (inl short) cut bad = subst (BeginsNone left) (sym short) (cut short)
-none_begins left why (inr long) cut bad = subst (BeginsNone left) (sym long) (bad long)
-
--- They were read to the end.
-pub read_to_end : (bytes left : List ℕ) (messages : List Message) → HasRead bytes left messages → left ≡ []
-    → AreReadUpTo bytes messages None
-read_to_end bytes left messages has none =
-    (has.ranges, has.whole ∙ ap (λ rest. capture messages ++ rest) none ∙ append-nil (capture messages))
-
--- Or up to the first place where there is none.
-pub read_to_fault : (bytes left : List ℕ) (messages : List Message) (why : MessageFault) → HasRead bytes left messages
-    → (why ≡ fault.Short) ⊎ (why ≡ fault.BadLength) → (why ≡ fault.Short → IsCut left)
-    → (why ≡ fault.BadLength → HasBadLength left) → AreReadUpTo bytes messages (Some why)
-read_to_fault bytes left messages why has which cut bad = record {
-  rest = left;
-  ranges = has.ranges;
-  whole = has.whole;
-  stops = none_begins left why which cut bad;
 }
 
 -- The front of a whole capture are its messages.

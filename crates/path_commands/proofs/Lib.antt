@@ -13,4 +13,5 @@ pub mod SpanRows
 pub mod Sums
 mod CaptureRuns
 mod CaptureSteps
+mod StreamedLines
 mod GeneratedCaptures

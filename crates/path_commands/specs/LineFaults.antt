@@ -10,9 +10,9 @@ use Rattle.command_inputs.specs.Printed as printed
 use Rattle.command_inputs.specs.declared.fault.Fault.{Fault as AnyFault}
 use Rattle.command_inputs.specs.declared.fault.Fault.TheVariants as fault
 use Rattle.command_inputs.specs.declared.status.Status.{Status}
-use Rattle.command_inputs.specs.declared.status.Status.TheVariants.{Refused}
+use Rattle.command_inputs.specs.declared.status.Status.TheVariants.{NotWhole, Refused}
 use Rattle.path_commands.specs.declared.line_reason.LineReason.{LineReason}
-use Rattle.path_commands.specs.declared.line_reason.LineReason.TheVariants.{Line}
+use Rattle.path_commands.specs.declared.line_reason.LineReason.TheVariants.{Line, Skipped}
 
 -- A fault of `capture`.
 abbrev pub Fault : Type 0
@@ -30,13 +30,11 @@ Meaning = meaning.Meaning LineReason
 abbrev pub Once : {A : Type 0} → (Result A Fault → Type 0) → (A → Type 0) → Type 0
 Once Finds Holds = finding.Once Finds Holds
 
--- The status at a reason of `capture`'s own: what is asked for, or the lines, are refused.
+-- The status at a reason of `capture`'s own: what is asked for, or the lines, are refused. Where lines are skipped, the
+-- capture is not that of all lines.
 abbrev pub line_reason_status : LineReason → Status
+line_reason_status (Skipped path count) = NotWhole
 line_reason_status why = Refused
-
--- The status at a fault.
-abbrev pub status_of : Fault → Status
-status_of why = inputs.status_of line_reason_status why
 
 -- The status that `capture` ended with: the one that it returned, or the one of its fault.
 abbrev pub final_status : Result Status Fault → Status

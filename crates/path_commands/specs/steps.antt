@@ -4,3 +4,4 @@ pub mod Noting
 pub mod Summing
 pub mod Matching
 pub mod Ready
+pub mod Streaming

@@ -9,6 +9,7 @@ ghost use Rattle.path_commands.specs.AuditRows.{message_fields};
 use crate::ending::verdict_text;
 use auditing::{AlignedTotal, Line};
 use std::fmt;
+use std::fmt::Display;
 
 /// The row of a message in a table.
 #[derive(Clone, Copy)]
@@ -37,7 +38,7 @@ impl fmt::Display for ArrivalFields {
                     number,
                     skips,
                 };
-                write!(f, "{row}")
+                row.fmt(f)
             }
         }
     }

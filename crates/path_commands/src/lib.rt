@@ -24,6 +24,7 @@ mod received;
 mod report;
 mod rows;
 mod sides;
+mod streaming;
 mod table_rows;
 mod total;
 

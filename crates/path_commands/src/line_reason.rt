@@ -16,8 +16,12 @@ pub type Fault<'a> = command_inputs::Fault<'a, LineReason<'a>>;
 pub enum LineReason<'a> {
     /// More harts are asked for than this many, the most that a capture of the version has.
     ManyHarts(u16),
+    /// Lines that have a fault are to be skipped, and the lines are not written as they come.
+    SkipAlone,
     /// The line with this number of the file at this path, counted from 1, is the first that has a fault.
     Line(&'a str, u64, LineFault),
+    /// So many lines of the file at this path have a fault and were skipped.
+    Skipped(&'a str, u64),
 }
 
 impl fmt::Display for LineReason<'_> {
@@ -26,7 +30,9 @@ impl fmt::Display for LineReason<'_> {
     fn fmt<W: fmt::Write>(&self, f: &mut fmt::Formatter<W>) -> fmt::Result {
         match self {
             LineReason::ManyHarts(most) => write!(f, "more than {most} harts"),
+            LineReason::SkipAlone => f.write_str("--skip needs --harts or --v1"),
             LineReason::Line(path, line, why) => write!(f, "{path}: line {line}: {why}"),
+            LineReason::Skipped(path, count) => write!(f, "{path}: lines skipped: {count}"),
         }
     }
 }
@@ -37,7 +43,10 @@ impl Reason for LineReason<'_> {
     ghost status = { line_reason_status };
 
     fn status(&self) -> Status {
-        Status::Refused
+        match self {
+            LineReason::Skipped(..) => Status::NotWhole,
+            _ => Status::Refused,
+        }
     }
 
     ghost shown = { λ why. refl };

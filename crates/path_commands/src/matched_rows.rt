@@ -11,6 +11,7 @@ use crate::table_rows::ResultRow;
 use auditing::{AlignedTotal, HartCounts, Line};
 use command_inputs::Format;
 use std::fmt;
+use std::fmt::Display;
 
 /// The row of a message.
 #[derive(Clone, Copy)]
@@ -26,11 +27,11 @@ impl fmt::Display for ArrivalRow {
         match self.format {
             Format::Csv => {
                 let fields = ArrivalFields(self.line);
-                write!(f, "{fields}")
+                fields.fmt(f)
             }
             Format::Text | Format::Other => {
                 let text = ArrivalText(self.line);
-                write!(f, "{text}")
+                text.fmt(f)
             }
         }
     }

@@ -12,6 +12,7 @@ use crate::total::Total;
 use auditing::{Finding, HartRow, Lost};
 use command_inputs::Format;
 use std::fmt;
+use std::fmt::Display;
 
 /// What precedes all rows: in a table, the names of its columns.
 #[derive(Clone, Copy)]
@@ -178,7 +179,7 @@ impl fmt::Display for EndingRow {
             }
             Format::Text | Format::Other => {
                 let lines = EndingLines(self.ending);
-                write!(f, "{lines}")
+                lines.fmt(f)
             }
         }
     }

@@ -11,6 +11,7 @@ use crate::total::Total;
 use auditing::{Exchanged, Finding};
 use output::{Digits, Number};
 use std::fmt;
+use std::fmt::Display;
 
 /// The field of a message's fate.
 pub(crate) fn fate_field(finding: Finding) -> &'static str
@@ -34,8 +35,8 @@ impl fmt::Display for ByField {
 
     fn fmt<W: fmt::Write>(&self, f: &mut fmt::Formatter<W>) -> fmt::Result {
         match self.0 {
-            Finding::Late { by } => write!(f, "{by}"),
-            Finding::InOrder { skips } => write!(f, "{skips}"),
+            Finding::Late { by } => by.fmt(f),
+            Finding::InOrder { skips } => skips.fmt(f),
             Finding::Stranger | Finding::Changed | Finding::Repeat => f.write_str(""),
         }
     }
@@ -54,7 +55,7 @@ impl fmt::Display for SentPayload<'_> {
     fn fmt<W: fmt::Write>(&self, f: &mut fmt::Formatter<W>) -> fmt::Result {
         match self.finding {
             Finding::Changed => match self.sent {
-                Some(sent) => write!(f, "{}", Digits(sent)),
+                Some(sent) => Digits(sent).fmt(f),
                 None => f.write_str(""),
             },
             Finding::Stranger | Finding::Repeat | Finding::Late { .. } | Finding::InOrder { .. } =>
@@ -75,7 +76,7 @@ impl fmt::Display for CamePayload<'_> {
 
     fn fmt<W: fmt::Write>(&self, f: &mut fmt::Formatter<W>) -> fmt::Result {
         match self.finding {
-            Finding::Changed => write!(f, "{}", Digits(self.came)),
+            Finding::Changed => Digits(self.came).fmt(f),
             Finding::Stranger | Finding::Repeat | Finding::Late { .. } | Finding::InOrder { .. } =>
                 { f.write_str("") }
         }

@@ -1,6 +1,7 @@
 //! Audits of messages with payloads of one byte (`auditing`).
 
 use crate::fates::{put_fates, put_scans};
+use crate::spans::bytes_in;
 use auditing::{Audit, Finding, LostRuns, run_lengths};
 use cases::{Case, add_message, cut};
 use message::{Message, write_message};
@@ -111,7 +112,10 @@ pub(crate) fn audit(case: &mut Case<'_>, verb: &str) {
         "audit" => put_audit(case, &mut audit),
         "payload" => put_payload(case, &audit),
         "fates" => put_fates(case, &mut audit),
-        _ => put_scans(case, &audit),
+        _ => {
+            let came = bytes_in(case);
+            put_scans(case, came.as_slice(), &audit);
+        }
     }
 }
 

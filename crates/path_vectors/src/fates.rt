@@ -2,10 +2,11 @@
 //! (`frames`). What has to come is worked out by `checks/drawn-paths`.
 
 use crate::audits::messages_in;
+use crate::paths::by_of;
 use crate::spans::{bytes_in, put_bytes, put_message, put_span};
-use auditing::{Audit, LostRuns};
-use cases::Case;
-use frames::{BorrowedSpan, GuidedScan};
+use auditing::{Audit, KnownPayloads, LostRuns};
+use cases::{Case, message_of};
+use frames::{BorrowedSpan, GuidedScan, Sent, is_framed};
 
 /// How many runs may be lost of 12 numbers, and one more.
 const MOST_RUNS: usize = 7;
@@ -66,21 +67,33 @@ fn put_passage(case: &mut Case<'_>, passage: BorrowedSpan<'_>) {
 }
 
 /// Appends the messages and the runs of other bytes of a damaged capture, read on by what was sent, as spans and as passages.
-pub(crate) fn put_scans(case: &mut Case<'_>, audit: &Audit<'_>) {
-    let bytes = bytes_in(case);
-    let came = bytes.as_slice();
+pub(crate) fn put_scans<S: Sent>(case: &mut Case<'_>, came: &[u8], sent: &S) {
     let mut spans = GuidedScan::new(came, 0);
     let mut passages = GuidedScan::new(came, 0);
     for _ in 0..came.len().saturating_add(1) {
-        if let Some(span) = spans.next(audit) {
+        if let Some(span) = spans.next(sent) {
             put_span(case, &span);
         }
     }
     case.end_first_way();
     for _ in 0..came.len().saturating_add(1) {
-        if let Some(passage) = passages.next_passage(audit) {
+        if let Some(passage) = passages.next_passage(sent) {
             put_passage(case, passage);
         }
     }
     case.end_way("as passages");
+}
+
+/// The messages and the runs of other bytes of a damaged capture, read on by the payloads that were sent.
+pub(crate) fn known(case: &mut Case<'_>) {
+    let came = bytes_in(case);
+    let framed = is_framed(came.as_slice());
+    let mut known = KnownPayloads::new(case.alloc, by_of(case), framed);
+    for word in case.named("sent").split(',') {
+        if let Some(message) = message_of(case, word) {
+            let added = known.add(&message);
+            case.note(added);
+        }
+    }
+    put_scans(case, came.as_slice(), &known);
 }

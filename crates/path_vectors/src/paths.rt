@@ -152,6 +152,15 @@ fn add_many_messages(case: &mut Case<'_>, sent: &mut Vec<Message>, came: &mut Ve
     add_message(case, came, (0, 9), &[1]);
 }
 
+/// What payloads are compared by.
+pub(crate) fn by_of(case: &Case<'_>) -> By {
+    if case.named("by") == "packets" {
+        By::Packets
+    } else {
+        By::Bytes
+    }
+}
+
 /// What is said of messages: of words, whose letters are messages; of hart 0 with payloads in hexadecimal, compared by
 /// bytes or by packets; of many harts; and of many messages.
 pub(crate) fn path_case(case: &mut Case<'_>, verb: &str) {
@@ -173,13 +182,8 @@ pub(crate) fn path_case(case: &mut Case<'_>, verb: &str) {
             add_letters(case, &mut came, "came");
         }
     }
-    let is_by_packets = case.named("by") == "packets";
     let path = Path {
-        by: if is_by_packets {
-            By::Packets
-        } else {
-            By::Bytes
-        },
+        by: by_of(case),
         harts: harts as usize,
         sent: sent.as_slice(),
         came: came.as_slice(),

@@ -1,6 +1,6 @@
 //! The verbs.
 
-use crate::{alignments, audits, lines, naming, paths, salvages, spans, stimuli, texts};
+use crate::{alignments, audits, fates, lines, naming, paths, salvages, spans, stimuli, texts};
 use cases::{Case, Verbs};
 
 /// The verbs of this program.
@@ -29,6 +29,7 @@ fn play_path(case: &mut Case<'_>, verb: &str) {
         "path" | "spellings" | "many-harts" | "many-messages" => paths::path_case(case, verb),
         "audit" | "payload" | "fates" | "guided" => audits::audit(case, verb),
         "runs" => audits::runs(case),
+        "known" => fates::known(case),
         "align" => alignments::align(case),
         "count" => alignments::count(case),
         "most" => alignments::most(case),

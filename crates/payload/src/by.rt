@@ -1,7 +1,7 @@
 //! By what payloads are compared.
 
 /// By what a payload that came is compared with the one that was sent.
-#[derive(Clone, Copy, PartialEq, Eq)]
+#[derive(Clone, Copy)]
 pub enum By {
     /// By their bytes.
     Bytes,

@@ -11,7 +11,7 @@ use crate::given::Given;
 use std::io::Read;
 
 /// Why a source gave no bytes.
-#[derive(Clone, Copy, PartialEq, Eq)]
+#[derive(Clone, Copy)]
 pub enum SourceFault {
     /// What the bytes come from failed.
     Read,

@@ -1,6 +1,6 @@
 -- What stands at an address, by the bytes there.
-use Rattle.std.proofs.Common.{◌≡◌, ℕ, ◌+◌, ◌-◌, ◌*◌, ◌%◌, ◌^◌, ◌≤◌, ◌&&◌, true, false, if◌then◌else◌}
-use Rattle.std.proofs.Common.{Option, Some, None, slice_index, is_some, unwrap_or, sym, ap, ◌∙◌, arith}
+use Rattle.std.proofs.Common.{◌≡◌, ℕ, ◌+◌, ◌-◌, ◌*◌, ◌%◌, ◌^◌, ◌≤◌, ◌&&◌, true, if◌then◌else◌}
+use Rattle.std.proofs.Common.{Option, Some, slice_index, is_some, unwrap_or, sym, ap, ◌∙◌, arith}
 use Rattle.std.proofs.lemmas.Bool.Decides.{nat_tests}
 use Rattle.rvclass.proofs.PieceBytesLemmas.{byte_there}
 use Rattle.rvclass.specs.FetchedBytes.{byte_at, has_bytes, half_at, word_at, fetched}
@@ -21,47 +21,8 @@ module _ (m : Memory) (addr : ℕ) where
   high : (o : Option ℕ) → byte_at m (addr + 3) ≡ o → byte_at m (addr + 2 + 1) ≡ o
   high o e = let same : addr + 2 + 1 ≡ addr + 3 = omega arith in ap (byte_at m) same ∙ e
 
-  pub fetched_nothing : byte_at m addr ≡ None → fetched m addr ≡ Nothing
-  fetched_nothing e0 =
-      let four : has_bytes m addr 4 ≡ false = (λ i. is_some (e0 i) && has_bytes m (addr + 1) 3) in
-      let two : has_bytes m addr 2 ≡ false = (λ i. is_some (e0 i) && has_bytes m (addr + 1) 1) in
-      λ i. if four i then Word (word_at m addr) else if two i then Half (half_at m addr) else Nothing
-
-  pub fetched_short : (b0 : ℕ) → byte_at m addr ≡ Some b0 → byte_at m (addr + 1) ≡ None → fetched m addr ≡ Nothing
-  fetched_short b0 e0 e1 =
-      let four : has_bytes m addr 4 ≡ false =
-      (λ i. is_some (e0 i) && (is_some (e1 i) && has_bytes m (addr + 1 + 1) 2)) in
-      let two : has_bytes m addr 2 ≡ false =
-      (λ i. is_some (e0 i) && (is_some (e1 i) && has_bytes m (addr + 1 + 1) 0)) in
-      λ i. if four i then Word (word_at m addr) else if two i then Half (half_at m addr) else Nothing
-
   pub half : (b0 b1 : ℕ) → byte_at m addr ≡ Some b0 → byte_at m (addr + 1) ≡ Some b1 → half_at m addr ≡ b0 + 2 ^ 8 * b1
   half b0 b1 e0 e1 = λ i. unwrap_or (e0 i) 0 + 2 ^ 8 * unwrap_or (e1 i) 0
-
-  two_bytes : (b0 b1 : ℕ) → byte_at m addr ≡ Some b0 → byte_at m (addr + 1) ≡ Some b1 → has_bytes m addr 2 ≡ true
-  two_bytes b0 b1 e0 e1 = λ i. is_some (e0 i) && (is_some (e1 i) && true)
-
-  half_only : (b0 b1 : ℕ) → byte_at m addr ≡ Some b0 → byte_at m (addr + 1) ≡ Some b1 → has_bytes m addr 4 ≡ false
-      → fetched m addr ≡ Half (b0 + 2 ^ 8 * b1)
-  half_only b0 b1 e0 e1 four =
-      let two = two_bytes b0 b1 e0 e1 in
-      let is = half b0 b1 e0 e1 in
-      λ i. if four i then Word (word_at m addr) else if two i then Half (is i) else Nothing
-
-  pub fetched_two : (b0 b1 : ℕ) → byte_at m addr ≡ Some b0 → byte_at m (addr + 1) ≡ Some b1
-      → byte_at m (addr + 2) ≡ None → fetched m addr ≡ Half (b0 + 2 ^ 8 * b1)
-  fetched_two b0 b1 e0 e1 e2 =
-      let e2' = second None e2 in
-      half_only b0 b1 e0 e1
-      (λ i. is_some (e0 i) && (is_some (e1 i) && (is_some (e2' i) && has_bytes m (addr + 1 + 1 + 1) 1)))
-
-  pub fetched_three : (b0 b1 b2 : ℕ) → byte_at m addr ≡ Some b0 → byte_at m (addr + 1) ≡ Some b1
-      → byte_at m (addr + 2) ≡ Some b2 → byte_at m (addr + 3) ≡ None → fetched m addr ≡ Half (b0 + 2 ^ 8 * b1)
-  fetched_three b0 b1 b2 e0 e1 e2 e3 =
-      let e2' = second (Some b2) e2 in
-      let e3' = third None e3 in
-      half_only b0 b1 e0 e1
-      (λ i. is_some (e0 i) && (is_some (e1 i) && (is_some (e2' i) && (is_some (e3' i) && true))))
 
   pub fetched_four : (b0 b1 b2 b3 : ℕ) → byte_at m addr ≡ Some b0 → byte_at m (addr + 1) ≡ Some b1
       → byte_at m (addr + 2) ≡ Some b2 → byte_at m (addr + 3) ≡ Some b3

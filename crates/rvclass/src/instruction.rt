@@ -3,7 +3,7 @@
 use crate::class::Class;
 
 /// An instruction of a program: its bits, and how control goes on from it.
-#[derive(Clone, Copy, PartialEq, Eq)]
+#[derive(Clone, Copy)]
 pub struct Instruction {
     /// The bits, as a number below 2^16 or 2^32 by the length.
     pub code: u32,

@@ -1,11 +1,10 @@
 -- The offsets of each hart, one more at a time.
-use Rattle.std.proofs.Common.{◌≡◌, ℕ, zero, suc, ◌≤◌, ◌++◌, ◌==◌, ◌||◌, All, Bool, true}
+use Rattle.std.proofs.Common.{◌≡◌, ℕ, zero, suc, ◌≤◌, ◌++◌, ◌==◌, ◌||◌, Bool, true}
 use Rattle.std.proofs.Common.{false, if◌then◌else◌, List, [], ◌∷◌, Some, length, slice_get, slice_set, refl, sym, ap}
 use Rattle.std.proofs.Common.{subst, ◌∙◌, arith, append-nil, append_assoc}
 use Rattle.std.proofs.Math.Bool.{or-false}
 use Rattle.std.proofs.lemmas.Bool.{eqb-true, eq-eqb}
 use Rattle.std.proofs.lemmas.List.{length-set}
-use Rattle.std.proofs.lemmas.List.Elements.{All-head, All-tail}
 use Rattle.std.specs.List.{list_any}
 use Rattle.std.specs.declared.alloc.Global.{Global}
 use Rattle.std.specs.declared.vec.Vec.{Vec}
@@ -74,26 +73,6 @@ pub record ReadSo (harts : ℕ) (all left : List Span) (frames : Frames) : Type 
   pub offsets : (hart : ℕ) (own : Vec ℕ Global) → slice_get frames.offsets.items hart ≡ Some own
       → offsets_in hart all ≡ own.items ++ offsets_in hart left
   pub runs : list_any is_run all ≡ (frames.runs || list_any is_run left)
-
-all_at : (lists : Lists) (i : ℕ) (one : Vec ℕ Global) → All (λ (list : Vec ℕ Global). list.items ≡ []) lists
-    → slice_get lists i ≡ Some one → one.items ≡ []
-all_at [] i one each at = cc
-all_at (list ∷ lists) zero one each at =
-    let same : list ≡ one = cc in
-    subst (λ (v : Vec ℕ Global). v.items ≡ []) same (All-head (λ (v : Vec ℕ Global). v.items ≡ []) list lists each)
-all_at (list ∷ lists) (suc i) one each at =
-    all_at lists i one (All-tail (λ (v : Vec ℕ Global). v.items ≡ []) list lists each) at
-
-pub read_start : (harts : ℕ) (all : List Span) (frames : Frames) → frames.messages.items ≡ []
-    → length frames.offsets.items ≡ harts → All (λ (list : Vec ℕ Global). list.items ≡ []) frames.offsets.items
-    → frames.runs ≡ false → ReadSo harts all all frames
-read_start harts all frames messages count empty runs = record {
-  messages = ap (λ l. l ++ messages_in all) (sym messages);
-  count = count;
-  offsets = λ hart own at.
-      ap (λ l. l ++ offsets_in hart all) (sym (all_at frames.offsets.items hart own empty at));
-  runs = ap (λ b. b || list_any is_run all) (sym runs);
-}
 
 -- The list of a hart before an offset was added.
 module _ (hart offset : ℕ) (old new : Lists) (adds : AddsOffset hart offset old new) where

@@ -1,6 +1,6 @@
 -- The lines or the rows of spans that are shown, one after the other.
-use Rattle.std.proofs.Common.{◌≡◌, ◌++◌, ◌+◌, ◌∙◌, ℕ, Bool, true, false, List, [], ◌∷◌, Option, ap, arith, drop, refl, sym}
-use Rattle.std.proofs.Common.{append-nil, append_assoc, subst}
+use Rattle.std.proofs.Common.{◌≡◌, ◌++◌, ◌+◌, ◌∙◌, ℕ, Bool, true, List, [], ◌∷◌, Option, ap, arith, drop, refl, sym}
+use Rattle.std.proofs.Common.{append_assoc, subst}
 use Rattle.std.specs.Io.KnownBytes.{Appends}
 use Rattle.std.specs.Prelude.{if◌then◌else◌}
 use Rattle.std.proofs.KnownBytes.{Appends-nil, Appends-trans}
@@ -73,22 +73,3 @@ module _ (form : Form) (shows : Span → Bool) (symbols : Option (List ℕ)) (mo
       next_begun new begun =
           subst (λ (l : List ℕ). AppendsBeginning l old new) (sym shown)
           (begun_between so_far.text own (texts_from after left others) old mid new so_far.appended begun)
-
-    -- A message that is not shown is passed over.
-    pub one_passed : shows span ≡ false → HasWritten all left place (passed + 1) old mid
-    one_passed not =
-        let at : place + passed + 1 ≡ place + (passed + 1) = omega arith in
-        record {
-          text = so_far.text;
-          parted = so_far.parted
-              ∙ ap (λ (b : Bool). so_far.text ++ (if b then own ++ texts_from after left others
-              else texts_from (place + passed + 1) left (drop place treated))) not
-              ∙ ap (λ n. so_far.text ++ texts_from n left (drop place treated)) at;
-          appended = so_far.appended;
-        }
-
-  -- All are written.
-  pub all_written : (all : List Span) (place passed : ℕ) (old new : Option (List ℕ))
-      → HasWritten all [] place passed old new → Appends old new (texts_from 0 all treated)
-  all_written all place passed old new so_far =
-      subst (Appends old new) (sym (so_far.parted ∙ append-nil so_far.text)) so_far.appended

@@ -28,7 +28,7 @@ use std::io::Write;
 use symbols::Symbols;
 
 /// How what is salvaged is laid out.
-#[derive(Clone, Copy, PartialEq, Eq)]
+#[derive(Clone, Copy)]
 pub enum Layout {
     /// A line for each hart and for each part of what is left of its log, and the rows of each stretch.
     Text,

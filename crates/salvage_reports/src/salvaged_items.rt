@@ -14,6 +14,7 @@ use message::Header;
 use payload::Mode;
 use salvaging::{Part, Reason};
 use std::fmt;
+use std::fmt::Display;
 
 /// Which messages of a hart are counted.
 #[derive(Clone, Copy)]
@@ -269,7 +270,7 @@ impl fmt::Display for ItemLine {
                     harts,
                     messages,
                 };
-                write!(f, "{piece}")
+                piece.fmt(f)
             }
         }
     }
@@ -298,7 +299,7 @@ impl fmt::Display for ReasonField {
         let why = self.0;
         match why {
             Reason::Closing { .. } => write!(f, "\"{why}\""),
-            Reason::Packet(_) | Reason::Decode(_) => write!(f, "{why}"),
+            Reason::Packet(_) | Reason::Decode(_) => why.fmt(f),
         }
     }
 }

@@ -154,7 +154,7 @@ module _ (words : Words) (program : IsProgram words) (mode : Mode) where
       (hart_suits words program own treats.upto treats.beyond shares treats.are_shares) in
       let marks = (parts_treated words mode messages hart program salvaged treats).marks in
       let done = map treatment_of shares in
-      let long_shares = hart_many words program own treats.upto treats.beyond shares treats.are_shares
+      let long_shares = hart_many words own treats.upto treats.beyond shares treats.are_shares
       ∙ sym (ap length treats.cut.whole) in
       let copies = copies_once messages _ hart.copies (treated_copies messages entries shares treated by)
       salvaged.copies in
@@ -171,7 +171,7 @@ module _ (words : Words) (program : IsProgram words) (mode : Mode) where
       (doubts_none makes_taken refl entries shares suit) treated by refl
       ∙ rows_shares makes_taken entries shares long_shares in
       let passed_is = passes
-      ∙ hart_passes words program own treats.upto treats.beyond shares treats.are_shares salvaged.goods goods
+      ∙ hart_passes words own treats.upto treats.beyond shares treats.are_shares salvaged.goods goods
       ∙ ap (λ es. passed false 0 es salvaged.goods) (sym treats.cut.whole ∙ sym same)
       ∙ sym salvaged.tallied.passed in
       let good = good_shares shares in

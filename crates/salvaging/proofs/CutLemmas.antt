@@ -1,21 +1,16 @@
 -- The entries of a hart up to its end, and those beyond.
-use Rattle.std.proofs.Common.{◌≡◌, ◌<◌, ℕ, ◌+◌, ◌++◌, List, [], ◌∷◌, length, map, refl, sym, ap, subst, ◌∙◌, arith}
-use Rattle.std.proofs.lemmas.List.{append-nil, length-append}
+use Rattle.std.proofs.Common.{◌≡◌, ◌<◌, ℕ, ◌+◌, ◌++◌, List, [], ◌∷◌, map, sym, ap, ◌∙◌}
+use Rattle.std.proofs.lemmas.List.{append-nil}
 use Rattle.std.proofs.lemmas.List.Elements.{All-cons, All-head, All-nil, All-tail}
 use Rattle.rvclass.specs.Words.{Words}
 use Rattle.payload.specs.declared.mode.Mode.{Mode}
 use Rattle.message.specs.Harts.{end_of_numbers}
 use Rattle.losses.specs.Apart.{AreRising}
-use Rattle.losses.specs.Runs.{first_run}
-use Rattle.salvaging.specs.Ends.{AreCutAtEnd, EndsAtLast, HartLeaves, none_good}
+use Rattle.salvaging.specs.Ends.{AreCutAtEnd, EndsAtLast}
 use Rattle.salvaging.specs.Entries.{Entry, entry_number}
-use Rattle.salvaging.specs.Leaving.{EntriesLeave, own_mode}
-use Rattle.salvaging.specs.PartsIn.{parts_in}
-use Rattle.salvaging.specs.declared.trail.Trail.{Trail}
-use Rattle.salvaging.specs.steps.Ending.{TakesBeyond}
+use Rattle.salvaging.specs.Leaving.{own_mode}
 use Rattle.salvaging.specs.steps.Grouping.{AreSmall}
 use Rattle.salvaging.proofs.EntriesTaken.{own_mode-more}
-use Rattle.salvaging.proofs.HartSalvaged.{leaves_count}
 
 pub rising_front : (from : ℕ) (front later : List Entry) → AreRising from (map entry_number (front ++ later))
     → AreRising from (map entry_number front)
@@ -49,32 +44,3 @@ mode_of_front words reads mode entries upto beyond cut = by_beyond beyond cut.wh
     by_beyond (first ∷ beyond) whole (front, last, is, end, lower) =
         ap (own_mode mode) is ∙ by_front front last (first ∷ beyond)
         ∙ ap (λ l. own_mode mode (l ++ first ∷ beyond)) (sym is) ∙ ap (own_mode mode) (sym whole)
-
-none_good_count : (entries : List Entry) → length (none_good entries) ≡ length entries
-none_good_count [] = refl
-none_good_count (entry ∷ entries) = let rest = none_good_count entries in omega (arith, rest)
-
--- What was taken up to the end and beyond it is what the hart leaves.
-module _ {A : Type 0} (words : Words) (reads mode : Mode) (entries upto beyond : List Entry) (taken new : Trail A)
-    (cut : AreCutAtEnd words reads entries upto beyond) (reads_is : reads ≡ own_mode mode entries)
-    (leaves : EntriesLeave words (own_mode mode upto) first_run 0 upto taken.goods.items (parts_in taken.parts.items))
-    (takes : TakesBeyond words reads beyond taken new) where
-  pub hart_left : HartLeaves words reads upto beyond new.goods.items (parts_in new.parts.items)
-  hart_left = record {
-    good_first = taken.goods.items;
-    first = parts_in taken.parts.items;
-    after = takes.after;
-    leaves = subst (λ m. EntriesLeave words m first_run 0 upto taken.goods.items (parts_in taken.parts.items))
-        (mode_of_front words reads mode entries upto beyond cut ∙ sym reads_is) leaves;
-    beyond_leaves = takes.leaves;
-    goods_are = takes.goods;
-    parts_are = takes.parts;
-  }
-
-  pub goods_count : length new.goods.items ≡ length entries
-  goods_count =
-      let good = leaves_count words (own_mode mode upto) upto taken.goods.items first_run 0 _ leaves in
-      let none = none_good_count beyond in
-      let all = ap length takes.goods ∙ length-append taken.goods.items (none_good beyond) in
-      let whole = ap length cut.whole ∙ length-append upto beyond in
-      omega (arith, good, none, all, whole)

@@ -12,12 +12,35 @@ use Rattle.salvaging.specs.LeftParts.{LeftPart}
 use Rattle.salvaging.specs.Shares.{AllShareBeyond, EntriesShare, HartShares, Share, SharesBeyond, UsedShares}
 use Rattle.salvaging.specs.Shares.{Adds, Passes, Spoils, StandsAlone, Doubts}
 use Rattle.salvaging.specs.Treatments.{is_good_treatment, treatment_of}
+use Rattle.salvaging.specs.steps.Trails.{goods_of}
 use Rattle.salvaging.proofs.EntriesOfLog.{same_packet}
 use Rattle.salvaging.proofs.OneWay.{good_not_bad}
 
--- Which of the entries are good, by what they do.
-abbrev pub goods_of : List Share → List Bool
-goods_of shares = map is_good_treatment (map treatment_of shares)
+pub goods_append : (front back : List Share) → goods_of (front ++ back) ≡ goods_of front ++ goods_of back
+goods_append front back =
+    ap (map is_good_treatment) (map-append treatment_of front back)
+    ∙ map-append is_good_treatment (map treatment_of front) (map treatment_of back)
+
+-- Beyond the end none is good.
+module _ (words : Words) (mode : Mode) where
+  one_beyond : (entry : Entry) (following : Option ℕ) (share : Share) → SharesBeyond words mode entry following share
+      → false ≡ is_good_treatment (treatment_of share)
+  one_beyond entry following (Spoils why) does = refl
+  one_beyond entry following StandsAlone does = refl
+  one_beyond entry following Doubts does = refl
+  one_beyond (Used number place payload) following (Adds events) does = absurd does
+  one_beyond (Used number place payload) following Passes does = absurd does
+  one_beyond (Doubtful number first second) following (Adds events) does = absurd does
+  one_beyond (Doubtful number first second) following Passes does = absurd does
+
+  pub beyond_good : (entries : List Entry) (shares : List Share) → AllShareBeyond words mode entries shares
+      → none_good entries ≡ goods_of shares
+  beyond_good [] [] share = refl
+  beyond_good [] (one ∷ shares) share = absurd share
+  beyond_good (entry ∷ entries) [] share = absurd share
+  beyond_good (entry ∷ entries) (one ∷ shares) share =
+      ap (λ l. false ∷ l) (beyond_good entries shares share.1)
+      ∙ ap (λ b. b ∷ goods_of shares) (one_beyond entry (next_used entries) one share.0)
 
 module _ (words : Words) (program : IsProgram words) (mode : Mode) where
   module _ (run : Run) (number place : ℕ) (payload : List ℕ) (following : Option ℕ) (goods : List Bool)
@@ -68,25 +91,6 @@ module _ (words : Words) (program : IsProgram words) (mode : Mode) where
       ∙ ap (λ l. false ∷ l) (entries_good entries (run_of 1 []) number goods rest shares follows rests)
       ∙ sym (ap (λ s. goods_of (s ∷ shares)) doubts)
 
-  one_beyond : (entry : Entry) (following : Option ℕ) (share : Share) → SharesBeyond words mode entry following share
-      → false ≡ is_good_treatment (treatment_of share)
-  one_beyond entry following (Spoils why) does = refl
-  one_beyond entry following StandsAlone does = refl
-  one_beyond entry following Doubts does = refl
-  one_beyond (Used number place payload) following (Adds events) does = absurd does
-  one_beyond (Used number place payload) following Passes does = absurd does
-  one_beyond (Doubtful number first second) following (Adds events) does = absurd does
-  one_beyond (Doubtful number first second) following Passes does = absurd does
-
-  pub beyond_good : (entries : List Entry) (shares : List Share) → AllShareBeyond words mode entries shares
-      → none_good entries ≡ goods_of shares
-  beyond_good [] [] share = refl
-  beyond_good [] (one ∷ shares) share = absurd share
-  beyond_good (entry ∷ entries) [] share = absurd share
-  beyond_good (entry ∷ entries) (one ∷ shares) share =
-      ap (λ l. false ∷ l) (beyond_good entries shares share.1)
-      ∙ ap (λ b. b ∷ goods_of shares) (one_beyond entry (next_used entries) one share.0)
-
   -- The same are good to what a hart leaves and to what its entries do.
   pub hart_good : (upto beyond : List Entry) (goods : List Bool) (parts : List LeftPart) (shares : List Share)
       → HartLeaves words mode upto beyond goods parts → HartShares words mode upto beyond shares
@@ -95,7 +99,5 @@ module _ (words : Words) (program : IsProgram words) (mode : Mode) where
       let first = entries_good upto first_run 0 leaves.good_first leaves.first share.first leaves.leaves
       share.shares_upto in
       leaves.goods_are ∙ ap (λ l. l ++ none_good beyond) first
-      ∙ ap (λ l. goods_of share.first ++ l) (beyond_good beyond share.after share.shares_beyond)
-      ∙ sym (ap goods_of share.whole
-      ∙ ap (map is_good_treatment) (map-append treatment_of share.first share.after)
-      ∙ map-append is_good_treatment (map treatment_of share.first) (map treatment_of share.after))
+      ∙ ap (λ l. goods_of share.first ++ l) (beyond_good words mode beyond share.after share.shares_beyond)
+      ∙ sym (ap goods_of share.whole ∙ goods_append share.first share.after)

@@ -1,29 +1,87 @@
 -- What is salvaged of a hart is put together.
-use Rattle.std.proofs.Common.{◌≡◌, ℕ, suc, ◌+◌, Bool, true, false, List, [], ◌∷◌, length, refl, ap}
+use Rattle.std.proofs.Common.{◌≡◌, ℕ, ◌++◌, List, length, map, refl, subst, sym, ap, ◌∙◌}
+use Rattle.std.proofs.lemmas.List.{length-map, map-append}
+use Rattle.std.specs.Prelude.{count_by}
 use Rattle.rvclass.specs.Words.{Words}
 use Rattle.payload.specs.declared.mode.Mode.{Mode}
-use Rattle.losses.specs.Runs.{Run}
-use Rattle.salvaging.specs.Entries.{Entry, Used, Doubtful}
-use Rattle.salvaging.specs.LeftParts.{LeftPart}
-use Rattle.salvaging.specs.Leaving.{EntriesLeave}
+use Rattle.salvaging.specs.Ends.{HartLeaves}
+use Rattle.salvaging.specs.Entries.{Entry}
+use Rattle.salvaging.specs.PartsIn.{parts_in}
+use Rattle.salvaging.specs.Shares.{HartShares, Share}
+use Rattle.salvaging.specs.Tallies.{used_count}
+use Rattle.salvaging.specs.Treatments.{treatment_of}
+use Rattle.salvaging.specs.declared.mark.Verdict.{Verdict}
+use Rattle.salvaging.specs.declared.received.ReceivedMessage.{ReceivedMessage}
+use Rattle.salvaging.specs.declared.trail.HartOutcome.{HartOutcome}
+use Rattle.salvaging.specs.declared.treatment.Treatment.{Treatment}
+use Rattle.salvaging.specs.declared.working.WorkedHart.{WorkedHart}
+use Rattle.salvaging.specs.steps.Arrivals.{Arrival, arrivals_in}
+use Rattle.salvaging.specs.steps.Ending.{TakesBeyond, share_of_part}
+use Rattle.salvaging.specs.steps.Grouping.{entries_by}
+use Rattle.salvaging.specs.steps.Marks.{is_used, verdict_of}
+use Rattle.salvaging.specs.steps.Trails.{TakesAll, goods_of}
+use Rattle.salvaging.specs.steps.Working.{IsWorkedOut}
+use Rattle.salvaging.proofs.BeyondLemmas.{all_share_beyond}
+use Rattle.salvaging.proofs.GoodsTreated.{beyond_good, goods_append}
+use Rattle.salvaging.proofs.PartsTreated.{hart_many}
+use Rattle.salvaging.proofs.TallySteps.{count_verdicts, hart_used, is_used_by}
 
--- Each entry is good or not.
-pub leaves_count : (words : Words) (mode : Mode) (entries : List Entry) (goods : List Bool) (run : Run) (next : ℕ)
-    (parts : List LeftPart) → EntriesLeave words mode run next entries goods parts → length goods ≡ length entries
-leaves_count words mode [] [] run next parts leaves = refl
-leaves_count words mode [] (good ∷ goods) run next parts leaves = absurd leaves
-leaves_count words mode (entry ∷ entries) [] run next parts leaves = by_entry entry leaves
-  where
-    by_entry : (entry : Entry) → EntriesLeave words mode run next (entry ∷ entries) [] parts
-        → length {A = Bool} [] ≡ length (entry ∷ entries)
-    by_entry (Used number place payload) leaves = absurd leaves
-    by_entry (Doubtful number one other) leaves = absurd leaves
-leaves_count words mode (Used number place payload ∷ entries) (true ∷ goods) run next parts
-    (before, leaves, rest, is, (packet, good, further)) =
-    ap suc (leaves_count words mode entries goods _ (number + 1) rest further)
-leaves_count words mode (Used number place payload ∷ entries) (false ∷ goods) run next parts
-    (before, leaves, rest, is, (why, bad, left, over, more, parts_is, further)) =
-    ap suc (leaves_count words mode entries goods _ (number + 1) more further)
-leaves_count words mode (Doubtful number one other ∷ entries) (good ∷ goods) run next parts
-    (none, before, leaves, rest, is, further) =
-    ap suc (leaves_count words mode entries goods _ number rest further)
+-- What was taken up to the end and beyond it is what the hart leaves and does.
+module _ {A M : Type 0} (kept : Treatment → M) (words : Words) (mode : Mode) (upto beyond : List Entry)
+    (taken new : HartOutcome A M) (t : TakesAll kept words mode upto taken)
+    (b : TakesBeyond kept words mode beyond taken new) where
+  abbrev after : List Share
+  after = map share_of_part b.after
+
+  abbrev pub hart_shares : List Share
+  hart_shares = t.shares ++ after
+
+  pub hart_does : HartShares words mode upto beyond hart_shares
+  hart_does = record {
+    first = t.shares;
+    after = after;
+    shares_upto = t.share;
+    shares_beyond = all_share_beyond words mode beyond b.after b.leaves;
+    whole = refl;
+  }
+
+  pub hart_left : HartLeaves words mode upto beyond (goods_of hart_shares) (parts_in new.parts.items)
+  hart_left = record {
+    good_first = goods_of t.shares;
+    first = parts_in taken.parts.items;
+    after = b.after;
+    leaves = t.leaves;
+    beyond_leaves = b.leaves;
+    goods_are = goods_append t.shares after ∙ ap (λ l. goods_of t.shares ++ l)
+        (sym (beyond_good words mode beyond after (all_share_beyond words mode beyond b.after b.leaves)));
+    parts_are = b.parts;
+  }
+
+  pub hart_marks : new.marks.items ≡ map kept (map treatment_of hart_shares)
+  hart_marks =
+      b.marks ∙ ap (λ l. l ++ map kept (map treatment_of after)) t.marks
+      ∙ sym (map-append kept (map treatment_of t.shares) (map treatment_of after))
+      ∙ ap (map kept) (sym (map-append treatment_of t.shares after))
+
+-- The messages of a hart are those of its list.
+pub worked_in : {A M : Type 0} (kept : Treatment → M) (words : Words) (mode : Mode) (came : List Arrival)
+    (list : List ReceivedMessage) (hart : WorkedHart A M) → list ≡ hart.came.items
+    → IsWorkedOut kept words mode came (arrivals_in list) hart
+    → IsWorkedOut kept words mode came (arrivals_in hart.came.items) hart
+worked_in kept words mode came list hart is k = subst (λ l. IsWorkedOut kept words mode came (arrivals_in l) hart) is k
+
+-- Something is kept for each number.
+pub worked_count : {A M : Type 0} (kept : Treatment → M) (words : Words) (mode : Mode) (came ordered : List Arrival)
+    (hart : WorkedHart A M) → IsWorkedOut kept words mode came ordered hart
+    → length hart.marks.items ≡ length (entries_by ordered)
+worked_count kept words mode came ordered hart k =
+    ap length k.marks ∙ length-map (map treatment_of k.shares) kept ∙ length-map k.shares treatment_of
+    ∙ hart_many words hart.mode k.upto k.beyond k.shares k.does ∙ sym (ap length k.cut.whole)
+
+-- As many verdicts are of used numbers as numbers are used.
+pub worked_used : {A : Type 0} (words : Words) (mode : Mode) (came ordered : List Arrival) (hart : WorkedHart A Verdict)
+    → IsWorkedOut verdict_of words mode came ordered hart → (verdicts : List Verdict) → verdicts ≡ hart.marks.items
+    → (used : ℕ) → used ≡ count_by is_used verdicts → used ≡ used_count (entries_by ordered)
+worked_used words mode came ordered hart k verdicts same used counted =
+    counted ∙ ap (count_by is_used) (same ∙ k.marks) ∙ count_verdicts is_used is_used_by (λ share. refl) k.shares
+    ∙ hart_used words hart.mode k.upto k.beyond k.shares k.does ∙ sym (ap used_count k.cut.whole)

@@ -1,28 +1,41 @@
 -- How many messages are late, from an entry to the one before it.
 use Rattle.std.proofs.Common.{◌≡◌, ℕ, zero, suc, ◌+◌, ◌-◌, ◌≤◌, ◌<◌, ◌++◌, Bool, true, false, List, [], ◌∷◌, Option}
-use Rattle.std.proofs.Common.{drop, get_or, length, refl, sym, ap, subst, ◌∙◌, arith, append_assoc}
+use Rattle.std.proofs.Common.{drop, get_or, length, map, refl, sym, ap, subst, ◌∙◌, arith, append_assoc}
 use Rattle.std.proofs.lemmas.List.{get_or_default, length_push}
 use Rattle.salvaging.specs.Entries.{Entry, Used, Doubtful}
-use Rattle.salvaging.specs.Late.{counted, is_late, late}
+use Rattle.salvaging.specs.Late.{counted, late}
+use Rattle.salvaging.specs.declared.mark.Verdict.{Verdict}
+use Rattle.salvaging.specs.steps.Marks.{is_good}
 use Rattle.salvaging.specs.steps.Lateness.{earliest, earliest_with, is_late_behind}
 use Rattle.salvaging.proofs.LateByEarliest.{late_by_earliest}
 
--- Of the entries behind these so many are late, and this is the place of the earliest good message. The first of their
--- goods stands at this place.
-pub record LateSo (entries : List Entry) (goods : List Bool) (count : ℕ) (first : Option ℕ) (rest : List Entry)
-    (at : ℕ) : Type 0 where
+-- Of the entries behind these so many are late, and this is the place of the earliest good message. The verdict
+-- on the first of them stands at this place.
+pub record LateSo (entries : List Entry) (verdicts : List Verdict) (count : ℕ) (first : Option ℕ)
+    (rest : List Entry) (at : ℕ) : Type 0 where
   pub later : List Entry
   pub whole : entries ≡ rest ++ later
   pub at_is : at ≡ length rest
-  pub counted : count ≡ late later (drop at goods)
-  pub first_is : first ≡ earliest later (drop at goods)
-  pub few : count + at ≤ length goods
+  pub counted : count ≡ late later (map is_good (drop at verdicts))
+  pub first_is : first ≡ earliest later (map is_good (drop at verdicts))
+  pub few : count + at ≤ length verdicts
 
-pub drop_good : (goods : List Bool) (at : ℕ) (good : Bool) → at < length goods → good ≡ get_or goods at good
-    → drop at goods ≡ good ∷ drop (suc at) goods
-drop_good [] at good within is = absurd (omega (arith, within))
-drop_good (one ∷ goods) zero good within is = ap (λ g. g ∷ goods) (sym is)
-drop_good (one ∷ goods) (suc at) good within is = drop_good goods at good (omega (arith, within)) is
+drop_one : {X : Type 0} (xs : List X) (at : ℕ) (x : X) → at < length xs → x ≡ get_or xs at x
+    → drop at xs ≡ x ∷ drop (suc at) xs
+drop_one [] at x within is = absurd (omega (arith, within))
+drop_one (one ∷ xs) zero x within is = ap (λ y. y ∷ xs) (sym is)
+drop_one (one ∷ xs) (suc at) x within is = drop_one xs at x (omega (arith, within)) is
+
+-- What is kept of the last of these entries stands before the others.
+pub one_less : (at : ℕ) (rest front : List Entry) (entry : Entry) → at ≡ length rest → rest ≡ front ++ entry ∷ []
+    → at ≡ suc (length front)
+one_less at rest front entry here parted =
+    let long = ap length parted ∙ length_push front entry in omega (arith, here, long)
+
+pub drop_last : {X : Type 0} (xs : List X) (at : ℕ) (one d : X) → at - 1 < length xs → one ≡ get_or xs (at - 1) d
+    → suc (at - 1) ≡ at → drop (at - 1) xs ≡ one ∷ drop at xs
+drop_last xs at one d within is back =
+    drop_one xs (at - 1) one within (is ∙ get_or_default xs (at - 1) d one within) ∙ ap (λ n. one ∷ drop n xs) back
 
 -- One entry before others.
 late_one : (entry : Entry) (entries : List Entry) (good : Bool) (goods : List Bool)
@@ -43,29 +56,21 @@ few_counted : (late : Bool) (count at long : ℕ) → count + suc at ≤ long �
 few_counted true count at long few = omega (arith, few)
 few_counted false count at long few = omega (arith, few)
 
-module _ (entries : List Entry) (goods : List Bool) (count : ℕ) (first : Option ℕ) (rest : List Entry) (at : ℕ)
-    (l : LateSo entries goods count first rest at) (front : List Entry) (entry : Entry)
+module _ (entries : List Entry) (verdicts : List Verdict) (count : ℕ) (first : Option ℕ) (rest : List Entry)
+    (at : ℕ) (l : LateSo entries verdicts count first rest at) (front : List Entry) (entry : Entry)
     (parted : rest ≡ front ++ entry ∷ []) where
-  -- Its good stands before the others.
-  pub one_less : at ≡ suc (length front)
-  one_less =
-      let here = l.at_is in
-      let long = ap length parted ∙ length_push front entry in
-      omega (arith, here, long)
-
-  pub good_within : at - 1 < length goods
-  good_within = let few = l.few in let here = one_less in omega (arith, few, here)
-
-  pub late_before : (good d : Bool) → good ≡ get_or goods (at - 1) d → (is_late : Bool)
+  pub late_before : (one d : Verdict) → one ≡ get_or verdicts (at - 1) d → (is_late : Bool)
       → is_late ≡ is_late_behind entry first → (new : ℕ) → new ≡ counted is_late count → (earlier : Option ℕ)
-      → earlier ≡ earliest_with entry good first → LateSo entries goods new earlier front (at - 1)
-  late_before good d is_good is_late late_is new new_is earlier earlier_is =
-      let here = one_less in
+      → earlier ≡ earliest_with entry (is_good one) first
+      → LateSo entries verdicts new earlier front (at - 1)
+  late_before one d is is_late late_is new new_is earlier earlier_is =
+      let here = one_less at rest front entry l.at_is parted in
       let back : suc (at - 1) ≡ at = omega (arith, here) in
-      let any = get_or_default goods (at - 1) d good good_within in
-      let mark = drop_good goods (at - 1) good good_within (is_good ∙ any) ∙ ap (λ n. good ∷ drop n goods) back in
+      let few = l.few in
+      let mark = drop_last verdicts at one d (omega (arith, few, here)) is back in
       let es = l.later in
-      let gs = drop at goods in
+      let gs = map is_good (drop at verdicts) in
+      let good = is_good one in
       record {
         later = entry ∷ es;
         whole = l.whole ∙ ap (λ l. l ++ es) parted ∙ append_assoc front (entry ∷ []) es;
@@ -73,13 +78,13 @@ module _ (entries : List Entry) (goods : List Bool) (count : ℕ) (first : Optio
         counted =
             new_is ∙ ap (λ b. counted b count) (late_is ∙ ap (is_late_behind entry) l.first_is)
             ∙ ap (counted (is_late_behind entry (earliest es gs))) l.counted
-            ∙ sym (late_one entry es good gs) ∙ sym (ap (late (entry ∷ es)) mark);
+            ∙ sym (late_one entry es good gs) ∙ sym (ap (λ ts. late (entry ∷ es) (map is_good ts)) mark);
         first_is =
             earlier_is ∙ ap (earliest_with entry good) l.first_is ∙ sym (earliest_one entry es good gs)
-            ∙ sym (ap (earliest (entry ∷ es)) mark);
-        few = subst (λ n. n + (at - 1) ≤ length goods) (sym new_is)
-            (few_counted is_late count (at - 1) (length goods)
-            (subst (λ n. count + n ≤ length goods) (sym back) l.few));
+            ∙ sym (ap (λ ts. earliest (entry ∷ es) (map is_good ts)) mark);
+        few = subst (λ n. n + (at - 1) ≤ length verdicts) (sym new_is)
+            (few_counted is_late count (at - 1) (length verdicts)
+            (subst (λ n. count + n ≤ length verdicts) (sym back) few));
       }
 
 pub late_if : (test : Bool) (count more : ℕ) → test ≡ true → more ≡ count + 1 → more ≡ counted test count

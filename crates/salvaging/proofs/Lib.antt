@@ -46,9 +46,6 @@ pub mod DistributedAll
 pub mod EntriesOnce
 pub mod CutOnce
 pub mod OneWay
-pub mod SharedSteps
-pub mod SharedSoFar
-pub mod SharedBeyond
 pub mod AddedOf
 pub mod RowSteps
 pub mod FirstLike
@@ -56,7 +53,6 @@ pub mod RowFound
 pub mod TreatedAt
 pub mod SortedOut
 pub mod TreatedAll
-pub mod SortedEach
 pub mod StretchesBehind
 pub mod PartedAtClosing
 pub mod OrderedEntries

@@ -65,7 +65,7 @@ module _ (words : Words) (program : IsProgram words) (mode : Mode) where
   entries_suit [] run next shares share = tt
   entries_suit (entry ∷ entries) run next [] share = tt
   entries_suit (Used number place payload ∷ entries) run next (one ∷ shares) share =
-      let rest = used_rest words program mode (run_behind (number - next) run) payload (next_used entries) one
+      let rest = used_rest words mode (run_behind (number - next) run) payload (next_used entries) one
       (λ behind. EntriesShare words mode behind (number + 1) entries shares) share in
       entries_suit entries rest.0 (number + 1) shares rest.1
   entries_suit (Doubtful number first second ∷ entries) run next (one ∷ shares) share =
@@ -92,7 +92,7 @@ module _ (words : Words) (program : IsProgram words) (mode : Mode) where
   hart_suits upto beyond shares share =
       subst (SuitAll (upto ++ beyond)) (sym share.whole)
       (suit-append upto beyond share.first share.after
-      (shares_many words program mode upto first_run 0 share.first share.shares_upto)
+      (shares_many words mode upto first_run 0 share.first share.shares_upto)
       (entries_suit upto first_run 0 share.first share.shares_upto)
       (beyond_suit beyond share.after share.shares_beyond))
 

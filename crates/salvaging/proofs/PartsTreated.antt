@@ -47,6 +47,44 @@ nothing_kept mode zero packets p none = absurd (no_item packets p none)
 nothing_kept mode (suc missing) packets p none =
     (ap (opened mode) (none_before packets p none), ap (opened mode) none)
 
+-- Each entry does something.
+module _ (words : Words) (mode : Mode) where
+  pub used_rest : (run : Run) (payload : List ℕ) (following : Option ℕ) (share : Share) (Rest : Run → Type 0)
+      → UsedShares words mode run payload following share Rest → (behind : Run) × Rest behind
+  used_rest run payload following (Spoils why) Rest (bad, rest) = (run_of 1 [], rest)
+  used_rest run payload following (Adds events) Rest (q, good, given, rest) = (longer run (q ∷ []), rest)
+  used_rest run payload following Passes Rest (q, good, given, rest) = (longer run (q ∷ []), rest)
+  used_rest run payload following StandsAlone Rest (q, good, given, rest) = absurd given
+  used_rest run payload following Doubts Rest (q, good, given, rest) = absurd given
+
+  pub shares_many : (entries : List Entry) (run : Run) (next : ℕ) (shares : List Share)
+      → EntriesShare words mode run next entries shares → length shares ≡ length entries
+  shares_many [] run next [] share = refl
+  shares_many [] run next (one ∷ shares) share = absurd share
+  shares_many (entry ∷ entries) run next [] share = absurd share
+  shares_many (Used number place payload ∷ entries) run next (one ∷ shares) share =
+      let rest = used_rest (run_behind (number - next) run) payload (next_used entries) one
+      (λ behind. EntriesShare words mode behind (number + 1) entries shares) share in
+      ap suc (shares_many entries rest.0 (number + 1) shares rest.1)
+  shares_many (Doubtful number first second ∷ entries) run next (one ∷ shares) share =
+      ap suc (shares_many entries (run_of 1 []) number shares share.1)
+
+  beyond_many : (entries : List Entry) (shares : List Share) → AllShareBeyond words mode entries shares
+      → length shares ≡ length entries
+  beyond_many [] [] share = refl
+  beyond_many [] (one ∷ shares) share = absurd share
+  beyond_many (entry ∷ entries) [] share = absurd share
+  beyond_many (entry ∷ entries) (one ∷ shares) share = ap suc (beyond_many entries shares share.1)
+
+  pub hart_many : (upto beyond : List Entry) (shares : List Share) → HartShares words mode upto beyond shares
+      → length shares ≡ length (upto ++ beyond)
+  hart_many upto beyond shares share =
+      let first = shares_many upto first_run 0 share.first share.shares_upto in
+      let after = beyond_many beyond share.after share.shares_beyond in
+      let all = ap length share.whole ∙ length-append share.first share.after in
+      let whole = length-append upto beyond in
+      omega (arith, first, after, all, whole)
+
 module _ (words : Words) (program : IsProgram words) (mode : Mode) where
   -- The events of a run that is over.
   run_events : (run : Run) (next : ℕ) (parts : List LeftPart) (before : List Event)
@@ -231,34 +269,6 @@ module _ (words : Words) (program : IsProgram words) (mode : Mode) where
       one_agrees entry entries (next_used entries) one shares part parts leaves.0 share.0
       (beyond_agrees entries parts shares leaves.1 share.1)
 
-  -- There is one for each entry.
-  pub used_rest : (run : Run) (payload : List ℕ) (following : Option ℕ) (share : Share) (Rest : Run → Type 0)
-      → UsedShares words mode run payload following share Rest → (behind : Run) × Rest behind
-  used_rest run payload following (Spoils why) Rest (bad, rest) = (run_of 1 [], rest)
-  used_rest run payload following (Adds events) Rest (q, good, given, rest) = (longer run (q ∷ []), rest)
-  used_rest run payload following Passes Rest (q, good, given, rest) = (longer run (q ∷ []), rest)
-  used_rest run payload following StandsAlone Rest (q, good, given, rest) = absurd given
-  used_rest run payload following Doubts Rest (q, good, given, rest) = absurd given
-
-  pub shares_many : (entries : List Entry) (run : Run) (next : ℕ) (shares : List Share)
-      → EntriesShare words mode run next entries shares → length shares ≡ length entries
-  shares_many [] run next [] share = refl
-  shares_many [] run next (one ∷ shares) share = absurd share
-  shares_many (entry ∷ entries) run next [] share = absurd share
-  shares_many (Used number place payload ∷ entries) run next (one ∷ shares) share =
-      let rest = used_rest (run_behind (number - next) run) payload (next_used entries) one
-      (λ behind. EntriesShare words mode behind (number + 1) entries shares) share in
-      ap suc (shares_many entries rest.0 (number + 1) shares rest.1)
-  shares_many (Doubtful number first second ∷ entries) run next (one ∷ shares) share =
-      ap suc (shares_many entries (run_of 1 []) number shares share.1)
-
-  beyond_many : (entries : List Entry) (shares : List Share) → AllShareBeyond words mode entries shares
-      → length shares ≡ length entries
-  beyond_many [] [] share = refl
-  beyond_many [] (one ∷ shares) share = absurd share
-  beyond_many (entry ∷ entries) [] share = absurd share
-  beyond_many (entry ∷ entries) (one ∷ shares) share = ap suc (beyond_many entries shares share.1)
-
   hart_agrees : (upto beyond : List Entry) (goods : List Bool) (parts : List LeftPart) (shares : List Share)
       → HartLeaves words mode upto beyond goods parts → HartShares words mode upto beyond shares
       → Agree [] (upto ++ beyond) shares parts
@@ -266,7 +276,7 @@ module _ (words : Words) (program : IsProgram words) (mode : Mode) where
       let first = entries_agree upto first_run 0 leaves.good_first leaves.first share.first [] leaves.leaves
       share.shares_upto (describes_nothing words) in
       let after = beyond_agrees beyond leaves.after share.after leaves.beyond_leaves share.shares_beyond in
-      let many = shares_many upto first_run 0 share.first share.shares_upto in
+      let many = shares_many words mode upto first_run 0 share.first share.shares_upto in
       record {
         events = ap events_in leaves.parts_are ∙ events_append leaves.first leaves.after
             ∙ ap (λ l. l ++ events_in leaves.after) first.events ∙ ap (λ l. added_in share.first ++ l) after.events
@@ -279,15 +289,6 @@ module _ (words : Words) (program : IsProgram words) (mode : Mode) where
             (alike_append (marks_in leaves.first) (marks_in leaves.after) (marks_of upto share.first)
             (marks_of beyond share.after) first.marks after.marks));
       }
-
-  pub hart_many : (upto beyond : List Entry) (shares : List Share) → HartShares words mode upto beyond shares
-      → length shares ≡ length (upto ++ beyond)
-  hart_many upto beyond shares share =
-      let first = shares_many upto first_run 0 share.first share.shares_upto in
-      let after = beyond_many beyond share.after share.shares_beyond in
-      let all = ap length share.whole ∙ length-append share.first share.after in
-      let whole = length-append upto beyond in
-      omega (arith, first, after, all, whole)
 
 -- Rows say how many events their messages add.
 count_added : (events : List Event) → (added_of events).count ≡ length events
@@ -333,7 +334,7 @@ parts_treated words mode messages hart program salvaged treats =
     (parts_in hart.parts.items)) same salvaged.parts)) in
     let agree = hart_agrees words program own treats.upto treats.beyond salvaged.goods (parts_in hart.parts.items)
     treats.shares leaves treats.are_shares in
-    let many = hart_many words program own treats.upto treats.beyond treats.shares treats.are_shares
+    let many = hart_many words own treats.upto treats.beyond treats.shares treats.are_shares
     ∙ sym (ap length treats.cut.whole) in
     let marks : AreAlikeParts (marks_in (parts_in hart.parts.items)) (marks_of treats.entries treats.shares) =
     subst (λ es. AreAlikeParts (marks_in (parts_in hart.parts.items)) (marks_of es treats.shares))

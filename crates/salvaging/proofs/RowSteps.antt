@@ -1,7 +1,6 @@
 -- The rows of a hart's numbers, from an entry to the one before it.
-use Rattle.std.proofs.Common.{◌≡◌, ℕ, zero, suc, ◌-◌, ◌≤◌, ◌<◌, ◌++◌, Bool, List, [], ◌∷◌, Option}
+use Rattle.std.proofs.Common.{◌≡◌, ℕ, suc, ◌-◌, ◌≤◌, ◌++◌, Bool, List, [], ◌∷◌, Option}
 use Rattle.std.proofs.Common.{None, drop, get_or, length, map, refl, sym, ap, subst, ◌∙◌, append_assoc, arith}
-use Rattle.std.proofs.lemmas.List.{get_or_default, length_push}
 use Rattle.salvaging.specs.Entries.{Entry, Used, Doubtful, entry_number}
 use Rattle.salvaging.specs.Treatments.{is_good_treatment, is_late_entry, row_of, rows}
 use Rattle.salvaging.specs.declared.rows.NumberRow.{NumberRow}
@@ -9,13 +8,7 @@ use Rattle.salvaging.specs.declared.treatment.Treatment.{Treatment}
 use Rattle.salvaging.specs.steps.Lateness.{earliest, earliest_with, is_late_behind}
 use Rattle.salvaging.specs.steps.Rows.{AreRowsBack, row_by}
 use Rattle.salvaging.proofs.LateByEarliest.{late_by_earliest}
-use Rattle.salvaging.proofs.LateSteps.{earliest_one}
-
-drop_one : {X : Type 0} (xs : List X) (at : ℕ) (x : X) → at < length xs → x ≡ get_or xs at x
-    → drop at xs ≡ x ∷ drop (suc at) xs
-drop_one [] at x within is = absurd (omega (arith, within))
-drop_one (one ∷ xs) zero x within is = ap (λ y. y ∷ xs) (sym is)
-drop_one (one ∷ xs) (suc at) x within is = drop_one xs at x (omega (arith, within)) is
+use Rattle.salvaging.proofs.LateSteps.{drop_last, earliest_one, one_less}
 
 -- Of the entries behind these there are the rows, and this is the place of the earliest good message of them.
 pub record RowsSo (entries : List Entry) (treatments : List Treatment) (rest : List Entry) (first : Option ℕ) (at : ℕ)
@@ -50,15 +43,6 @@ late_entry (Doubtful number one other) later goods = refl
 module _ (entries : List Entry) (treatments : List Treatment) (rest : List Entry) (first : Option ℕ) (at : ℕ)
     (found : List NumberRow) (r : RowsSo entries treatments rest first at found) (front : List Entry) (entry : Entry)
     (parted : rest ≡ front ++ entry ∷ []) where
-  pub row_less : at ≡ suc (length front)
-  row_less =
-      let here = r.at_is in
-      let long = ap length parted ∙ length_push front entry in
-      omega (arith, here, long)
-
-  pub row_within : at - 1 < length treatments
-  row_within = let few = r.within in let here = row_less in omega (arith, few, here)
-
   pub rows_before : (one d : Treatment) → one ≡ get_or treatments (at - 1) d → (late : Bool)
       → late ≡ is_late_behind entry first → (row : NumberRow)
       → row_by row
@@ -67,13 +51,12 @@ module _ (entries : List Entry) (treatments : List Treatment) (rest : List Entry
       → earlier ≡ earliest_with entry (is_good_treatment one) first
       → RowsSo entries treatments front earlier (at - 1) more
   rows_before one d is late late_is row row_is more pushed earlier earlier_is =
-      let here = row_less in
+      let here = one_less at rest front entry r.at_is parted in
       let back : suc (at - 1) ≡ at = omega (arith, here) in
-      let any = get_or_default treatments (at - 1) d one row_within in
-      let mark = drop_one treatments (at - 1) one row_within (is ∙ any) ∙ ap (λ n. one ∷ drop n treatments) back in
+      let few = r.within in
+      let mark = drop_last treatments at one d (omega (arith, few, here)) is back in
       let es = r.later in
       let ts = drop at treatments in
-      let few = r.within in
       let late_now : late ≡ is_late_entry entry es (map is_good_treatment ts) =
       late_is ∙ ap (is_late_behind entry) r.first_is ∙ late_entry entry es (map is_good_treatment ts) in
       record {

@@ -1,112 +1,144 @@
--- The tally of a hart's messages, from one entry to the next.
-use Rattle.std.proofs.Common.{◌≡◌, ℕ, suc, ◌+◌, ◌≤◌, ◌<◌, ◌&&◌, ◌==◌, Bool, true, false, List, [], ◌∷◌, drop}
-use Rattle.std.proofs.Common.{get_or, length, refl, sym, ap, subst, ◌∙◌, arith}
-use Rattle.std.specs.Prelude.{not}
+-- How many of a hart's numbers are used, by what its entries do and among its messages.
+use Rattle.std.proofs.Common.{◌≡◌, ℕ, suc, ◌+◌, ◌-◌, ◌≤◌, ◌++◌, ◌&&◌, ◌==◌, Bool, true, false, cond, List, [], ◌∷◌}
+use Rattle.std.proofs.Common.{Option, length, map, refl, sym, ap, ◌∙◌, arith}
+use Rattle.std.specs.Prelude.{count_by}
 use Rattle.std.specs.Str.{bytes_eq}
 use Rattle.std.proofs.lemmas.Bool.{eqb-true}
-use Rattle.std.proofs.lemmas.List.{get_or_default, length-drop}
-use Rattle.std.proofs.lemmas.List.Elements.{All-tail}
-use Rattle.message.specs.Harts.{end_of_numbers}
-use Rattle.salvaging.specs.Entries.{Entry, entry_number, is_used}
+use Rattle.std.proofs.lemmas.List.Sums.{sum_by-append}
+use Rattle.rvclass.specs.Words.{Words}
+use Rattle.payload.specs.declared.mode.Mode.{Mode}
+use Rattle.losses.specs.Runs.{Run, first_run, run_behind, run_of}
+use Rattle.salvaging.specs.Entries.{Entry, Used, Doubtful, entry_number, is_used, next_used}
 use Rattle.salvaging.specs.Late.{counted}
-use Rattle.salvaging.specs.Tallies.{good_count, looks_behind, next_behind, passed, used_count}
-use Rattle.salvaging.specs.declared.received.ReceivedMessage.{ReceivedMessage}
-use Rattle.salvaging.specs.declared.tally.HartTally.{HartTally}
-use Rattle.salvaging.specs.steps.Arrivals.{Arrival, arrivals_in}
-use Rattle.salvaging.specs.steps.Grouping.{AreSmall, are_alike, copies_by, copies_on, entries_by, entries_on, entry_by}
+use Rattle.salvaging.specs.Shares.{AllShareBeyond, EntriesShare, HartShares, Share, SharesBeyond, UsedShares}
+use Rattle.salvaging.specs.Shares.{Adds, Passes, Spoils, StandsAlone, Doubts}
+use Rattle.salvaging.specs.Tallies.{used_count}
+use Rattle.salvaging.specs.TreatedCounts.{makes_passed, makes_taken}
+use Rattle.salvaging.specs.Treatments.{is_good_treatment, treatment_of}
+use Rattle.salvaging.specs.declared.mark.Verdict.{Verdict}
+use Rattle.salvaging.specs.declared.treatment.Treatment.{Treatment}
+use Rattle.salvaging.specs.steps.Arrivals.{Arrival}
+use Rattle.salvaging.specs.steps.Grouping.{are_alike, copies_by, copies_on, entries_by, entries_on, entry_by}
 use Rattle.salvaging.specs.steps.Grouping.{entry_with, join_or_begin, one_more}
-use Rattle.salvaging.specs.steps.Tallying.{with_entry}
-use Rattle.salvaging.proofs.LateSteps.{drop_good}
+use Rattle.salvaging.specs.steps.Marks.{is_good, is_passed, is_taken, is_used as says_used, verdict_of}
+use Rattle.salvaging.specs.steps.Trails.{goods_of}
+use Rattle.salvaging.proofs.CountedRows.{count_cons}
 use Rattle.salvaging.proofs.OneMore.{number_kept}
-use Rattle.salvaging.proofs.TakenSoFar.{behind, behind-is}
+use Rattle.salvaging.proofs.PartsTreated.{used_rest}
+use Rattle.salvaging.proofs.TreatedTallies.{share_cons, share_count}
 
-counted_moves : (b : Bool) (n m : ℕ) → counted b n + m ≡ n + counted b m
-counted_moves true n m = omega arith
-counted_moves false n m = omega arith
+-- This is done with a number that is used.
+abbrev pub is_used_by : Treatment → Bool
+is_used_by treatment = says_used (verdict_of treatment)
 
-counted_most : (b : Bool) (n at : ℕ) → n ≤ at → counted b n ≤ at + 1
-counted_most true n at few = omega (arith, few)
-counted_most false n at few = omega (arith, few)
+-- Verdicts count as what entries do.
+pub count_verdicts : (p : Verdict → Bool) (q : Treatment → Bool)
+    → ((share : Share) → p (verdict_of (treatment_of share)) ≡ q (treatment_of share)) → (shares : List Share)
+    → count_by p (map verdict_of (map treatment_of shares)) ≡ share_count q shares
+count_verdicts p q same [] = refl
+count_verdicts p q same (share ∷ shares) =
+    let verdicts = map verdict_of (map treatment_of shares) in
+    count_cons p (verdict_of (treatment_of share)) verdicts
+    ∙ ap (λ b. cond b (suc (count_by p verdicts)) (count_by p verdicts)) (same share)
+    ∙ ap (λ n. cond (q (treatment_of share)) (suc n) n) (count_verdicts p q same shares)
+    ∙ sym (count_cons (λ (one : Share). q (treatment_of one)) share shares)
 
--- A good message is decoded or passed over.
-either_counted : (good looks : Bool) (d p m : ℕ)
-    → counted (good && not looks) d + counted (good && looks) p + m ≡ d + p + counted good m
-either_counted true true d p m = omega arith
-either_counted true false d p m = omega arith
-either_counted false true d p m = omega arith
-either_counted false false d p m = omega arith
+pub says_taken : (share : Share) → is_taken (verdict_of (treatment_of share)) ≡ makes_taken (treatment_of share)
+says_taken (Adds events) = refl
+says_taken Passes = refl
+says_taken (Spoils why) = refl
+says_taken StandsAlone = refl
+says_taken Doubts = refl
 
--- The entries before these are counted, of which the first stands at this place.
-pub record TallySo (came : List ReceivedMessage) (goods : List Bool) (rest : List ReceivedMessage) (at : ℕ) (looks : Bool)
-    (next : ℕ) (tally : HartTally) : Type 0 where
-  pub small : AreSmall (entries_by (arrivals_in rest))
-  pub shorter : length rest ≤ length came
-  pub long : at + length (entries_by (arrivals_in rest)) ≡ length goods
-  pub used : tally.used + used_count (entries_by (arrivals_in rest)) ≡ used_count (entries_by (arrivals_in came))
-  pub passed : tally.passed + passed looks next (entries_by (arrivals_in rest)) (drop at goods)
-      ≡ passed false 0 (entries_by (arrivals_in came)) goods
-  pub decoded : tally.decoded + tally.passed + good_count (drop at goods) ≡ good_count goods
-  pub few_used : tally.used ≤ at
-  pub few_decoded : tally.decoded ≤ at
-  pub few_passed : tally.passed ≤ at
+pub says_passed : (share : Share) → is_passed (verdict_of (treatment_of share)) ≡ makes_passed (treatment_of share)
+says_passed (Adds events) = refl
+says_passed Passes = refl
+says_passed (Spoils why) = refl
+says_passed StandsAlone = refl
+says_passed Doubts = refl
 
-module _ (came : List ReceivedMessage) (goods : List Bool) where
-  module _ (rest : List ReceivedMessage) (at : ℕ) (looks : Bool) (next : ℕ) (tally : HartTally)
-      (t : TallySo came goods rest at looks next tally) (entry : Entry) (later : List Entry)
-      (first : entries_by (arrivals_in rest) ≡ entry ∷ later) where
-    pub good_within : at < length goods
-    good_within = let long = t.long in let one = ap length first in omega (arith, long, one)
+says_good : (share : Share) → is_good (verdict_of (treatment_of share)) ≡ is_good_treatment (treatment_of share)
+says_good (Adds events) = refl
+says_good Passes = refl
+says_good (Spoils why) = refl
+says_good StandsAlone = refl
+says_good Doubts = refl
 
-    pub tally_next : (count : ℕ) → later ≡ entries_by (arrivals_in (drop count rest)) → (good d : Bool)
-        → good ≡ get_or goods at d → (behind_it : Bool) → behind_it ≡ looks_behind looks next entry good → (following : ℕ)
-        → following ≡ next_behind entry → (used : Bool) → used ≡ is_used entry → (new : HartTally)
-        → new ≡ with_entry tally used good behind_it
-        → TallySo came goods (behind rest count) (at + 1) behind_it following new
-    tally_next count later_is good d good_is behind_it behind_is following following_is used used_so new new_so =
-        let new_is = new_so ∙ ap (λ b. with_entry tally b good behind_it) used_so in
-        let left = behind rest count in
-        let same : entries_by (arrivals_in left) ≡ later =
-        ap (λ l. entries_by (arrivals_in l)) (behind-is rest count) ∙ sym later_is in
-        let on : suc at ≡ at + 1 = omega arith in
-        let mark : drop at goods ≡ good ∷ drop (at + 1) goods =
-        drop_good goods at good good_within (good_is ∙ get_or_default goods at d good good_within)
-        ∙ ap (λ n. good ∷ drop n goods) on in
-        let one = ap length first in
-        let many = ap length same in
-        let long = t.long in
-        let passes = good && behind_it in
-        let decodes = good && not behind_it in
-        let used_is = ap (λ (y : HartTally). y.used) new_is in
-        let decoded_is = ap (λ (y : HartTally). y.decoded) new_is in
-        let passed_is = ap (λ (y : HartTally). y.passed) new_is in
-        let before_used = sym (ap (λ es. tally.used + used_count es) first) ∙ t.used in
-        let before_passed = sym (ap (λ es. tally.passed + passed looks next es (drop at goods)) first
-        ∙ ap (λ gs. tally.passed + passed looks next (entry ∷ later) gs) mark) ∙ t.passed in
-        let before_good = sym (ap (λ gs. tally.decoded + tally.passed + good_count gs) mark) ∙ t.decoded in
-        record {
-          small = subst AreSmall (sym same)
-              (All-tail (λ (one : Entry). entry_number one < end_of_numbers) entry later (subst AreSmall first t.small));
-          shorter = let less = t.shorter in let left_is = ap length (behind-is rest count) ∙ length-drop count rest in
-              omega (arith, less, left_is);
-          long = omega (arith, one, many, long);
-          used = ap (λ n. n + used_count (entries_by (arrivals_in left))) used_is
-              ∙ ap (λ es. counted (is_used entry) tally.used + used_count es) same
-              ∙ counted_moves (is_used entry) tally.used (used_count later) ∙ before_used;
-          passed = ap (λ n. n + passed behind_it following (entries_by (arrivals_in left)) (drop (at + 1) goods)) passed_is
-              ∙ ap (λ es. counted passes tally.passed + passed behind_it following es (drop (at + 1) goods)) same
-              ∙ ap (λ n. counted passes tally.passed + passed behind_it n later (drop (at + 1) goods)) following_is
-              ∙ counted_moves passes tally.passed (passed behind_it (next_behind entry) later (drop (at + 1) goods))
-              ∙ ap (λ b. tally.passed + counted (good && b) (passed b (next_behind entry) later (drop (at + 1) goods)))
-              behind_is
-              ∙ before_passed;
-          decoded = ap (λ n. n + new.passed + good_count (drop (at + 1) goods)) decoded_is
-              ∙ ap (λ n. counted decodes tally.decoded + n + good_count (drop (at + 1) goods)) passed_is
-              ∙ either_counted good behind_it tally.decoded tally.passed (good_count (drop (at + 1) goods))
-              ∙ before_good;
-          few_used = subst (λ n. n ≤ at + 1) (sym used_is) (counted_most (is_used entry) tally.used at t.few_used);
-          few_decoded = subst (λ n. n ≤ at + 1) (sym decoded_is) (counted_most decodes tally.decoded at t.few_decoded);
-          few_passed = subst (λ n. n ≤ at + 1) (sym passed_is) (counted_most passes tally.passed at t.few_passed);
-        }
+pub verdicts_good : (shares : List Share) → map is_good (map verdict_of (map treatment_of shares)) ≡ goods_of shares
+verdicts_good [] = refl
+verdicts_good (share ∷ shares) =
+    ap (λ b. b ∷ map is_good (map verdict_of (map treatment_of shares))) (says_good share)
+    ∙ ap (λ l. is_good_treatment (treatment_of share) ∷ l) (verdicts_good shares)
+
+module _ (words : Words) (mode : Mode) where
+  used_by_share : (run : Run) (payload : List ℕ) (following : Option ℕ) (share : Share) (Rest : Run → Type 0)
+      → UsedShares words mode run payload following share Rest → is_used_by (treatment_of share) ≡ true
+  used_by_share run payload following (Adds events) Rest does = refl
+  used_by_share run payload following Passes Rest does = refl
+  used_by_share run payload following (Spoils why) Rest does = refl
+  used_by_share run payload following StandsAlone Rest does = refl
+  used_by_share run payload following Doubts Rest (packet, good, none, rest) = absurd none
+
+  entries_used : (entries : List Entry) (run : Run) (next : ℕ) (shares : List Share)
+      → EntriesShare words mode run next entries shares → share_count is_used_by shares ≡ used_count entries
+  entries_used [] run next [] share = refl
+  entries_used [] run next (one ∷ shares) share = absurd share
+  entries_used (entry ∷ entries) run next [] share = absurd share
+  entries_used (Used number place payload ∷ entries) run next (one ∷ shares) share =
+      let behind = run_behind (number - next) run in
+      let rest = used_rest words mode behind payload (next_used entries) one
+      (λ later. EntriesShare words mode later (number + 1) entries shares) share in
+      share_cons is_used_by one shares
+      ∙ ap (λ b. counted b (share_count is_used_by shares)) (used_by_share behind payload (next_used entries) one
+      (λ later. EntriesShare words mode later (number + 1) entries shares) share)
+      ∙ ap suc (entries_used entries rest.0 (number + 1) shares rest.1)
+  entries_used (Doubtful number first second ∷ entries) run next (one ∷ shares) share =
+      share_cons is_used_by one shares
+      ∙ ap (λ s. counted (is_used_by (treatment_of s)) (share_count is_used_by shares)) share.0
+      ∙ entries_used entries (run_of 1 []) number shares share.1
+
+  used_beyond : (entry : Entry) (following : Option ℕ) (share : Share) → SharesBeyond words mode entry following share
+      → is_used_by (treatment_of share) ≡ is_used entry
+  used_beyond (Used number place payload) following (Adds events) does = refl
+  used_beyond (Used number place payload) following Passes does = refl
+  used_beyond (Used number place payload) following (Spoils why) does = refl
+  used_beyond (Used number place payload) following StandsAlone does = refl
+  used_beyond (Used number place payload) following Doubts does = absurd does
+  used_beyond (Doubtful number first second) following Doubts does = refl
+  used_beyond (Doubtful number first second) following (Adds events) does = absurd does
+  used_beyond (Doubtful number first second) following Passes does = absurd does
+  used_beyond (Doubtful number first second) following (Spoils why) does = absurd does
+  used_beyond (Doubtful number first second) following StandsAlone does = absurd does
+
+  beyond_used : (entries : List Entry) (shares : List Share) → AllShareBeyond words mode entries shares
+      → share_count is_used_by shares ≡ used_count entries
+  beyond_used [] [] share = refl
+  beyond_used [] (one ∷ shares) share = absurd share
+  beyond_used (entry ∷ entries) [] share = absurd share
+  beyond_used (entry ∷ entries) (one ∷ shares) share =
+      share_cons is_used_by one shares
+      ∙ ap (λ b. counted b (share_count is_used_by shares)) (used_beyond entry (next_used entries) one share.0)
+      ∙ ap (counted (is_used entry)) (beyond_used entries shares share.1)
+
+  used_append : (upto beyond : List Entry) → used_count (upto ++ beyond) ≡ used_count upto + used_count beyond
+  used_append [] beyond = omega arith
+  used_append (entry ∷ upto) beyond =
+      ap (counted (is_used entry)) (used_append upto beyond) ∙ by_used (is_used entry)
+    where
+      by_used : (b : Bool) → counted b (used_count upto + used_count beyond) ≡ counted b (used_count upto) + used_count beyond
+      by_used true = omega arith
+      by_used false = refl
+
+  -- As many entries are used as do what is done with a number that is used.
+  pub hart_used : (upto beyond : List Entry) (shares : List Share) → HartShares words mode upto beyond shares
+      → share_count is_used_by shares ≡ used_count (upto ++ beyond)
+  hart_used upto beyond shares share =
+      let first = entries_used upto first_run 0 share.first share.shares_upto in
+      let after = beyond_used beyond share.after share.shares_beyond in
+      let both = sum_by-append (λ (one : Share). cond (is_used_by (treatment_of one)) 1 0) share.first share.after in
+      let whole = ap (share_count is_used_by) share.whole in
+      let all = used_append upto beyond in
+      omega (arith, first, after, both, whole, all)
 
 -- The copies and the used ones among messages in their order are no more than all.
 used_on : (entry : Entry) (before : Arrival) (arrivals : List Arrival) → entry_number entry ≡ before.message.number

@@ -1,8 +1,9 @@
 -- What is under way of a hart, from one step to the next.
 use Rattle.std.proofs.Common.{◌≡◌, ◌<◌, ℕ, zero, suc, ◌+◌, ◌-◌, Bool, true, false, List, [], ◌∷◌, ◌++◌, Option}
 use Rattle.std.proofs.Common.{Some}
-use Rattle.std.proofs.Common.{None, length, refl, sym, ap, subst, ◌∙◌, arith}
-use Rattle.std.proofs.lemmas.List.{append-nil, length_push}
+use Rattle.std.proofs.Common.{None, drop, length, refl, sym, ap, subst, take, ◌∙◌, arith}
+use Rattle.std.proofs.Math.Seq.{drop-append_seam}
+use Rattle.std.proofs.lemmas.List.{append-nil, length-append, length_push, take_all}
 use Rattle.std.proofs.Common.{⊎_elim}
 use Rattle.std.specs.Prelude.{⊤, ◌≢◌, Result, Ok, Err, OnOk, IfErr, IfOk}
 use Rattle.std.specs.declared.alloc.AllocError.{AllocError}
@@ -18,21 +19,26 @@ use Rattle.decoder.specs.Describes.{Describes}
 use Rattle.decoder.specs.declared.fault.DecodeFault.{DecodeFault}
 use Rattle.decoder.specs.declared.fault.DecodeFault.TheVariants.{Memory}
 use Rattle.losses.specs.Runs.{Run, from_sync, longer, mode_of_first, run_behind, run_of, trace_after}
+use Rattle.losses.specs.Runs.{trace_of_run}
 use Rattle.losses.specs.steps.DecoderSteps.{Feeds}
 use Rattle.losses.specs.steps.FollowingRuns.{FollowsRun, IsNotDecodedInRun, Refuses}
 use Rattle.losses.proofs.RunFeeding.{FedRun, feeds_first, feeds_later}
 use Rattle.losses.proofs.RunLemmas.{from_sync-begun, from_sync-none}
-use Rattle.salvaging.specs.Bad.{IsBad, IsUndecoded}
+use Rattle.salvaging.specs.Bad.{IsBad, IsGood, IsUndecoded}
 use Rattle.salvaging.specs.LeftParts.{LeftPart, BadNumber, gap}
 use Rattle.salvaging.proofs.PushedParts.{adds_both}
 use Rattle.salvaging.specs.Leaving.{LeavesBefore, RunLeaves, kept}
-use Rattle.salvaging.specs.steps.UnderWay.{AddsParts, BeginsWith, GoesOn, IsUnderWay, Judged, TakesBad, TakesUsed}
-use Rattle.salvaging.specs.steps.UnderWay.{are_lost, begun_by, early}
+use Rattle.salvaging.specs.Shares.{Spoils}
+use Rattle.salvaging.specs.Treatments.{treatment_of}
+use Rattle.salvaging.specs.steps.UnderWay.{AddsParts, BeginsWith, GoesOn, IsUnderWay, Judged, StaysRead, TakesBad}
+use Rattle.salvaging.specs.steps.UnderWay.{TakesUsed, Took, are_lost, begun_by, early, share_by}
 use Rattle.salvaging.specs.Tallies.{is_sync}
 use Rattle.salvaging.specs.steps.UnderWay.{reads_behind}
 use Rattle.salvaging.specs.declared.reason.Reason.{Reason}
 use Rattle.salvaging.specs.declared.reason.Reason.TheVariants as reason
 use Rattle.salvaging.specs.declared.trail.Trail.{Trail}
+use Rattle.salvaging.specs.declared.treatment.Treatment.{Treatment}
+use Rattle.salvaging.specs.declared.treatment.Treatment.TheVariants as treatment
 
 -- A stretch that has not begun begins behind any number.
 pub begins_anew : (begun : Option ℕ) (next number : ℕ) → BeginsWith begun next [] → BeginsWith begun number []
@@ -223,65 +229,83 @@ module _ {A : Type 0} (words : Words) (mode reads : Mode) where
         begins = subst (λ b. BeginsWith b number []) (sym begun) (begins_anew gone.begun next number v.begins);
       }
 
-  -- A used message is taken that is good.
+module _ {A : Type 0} (words : Words) (mode : Mode) where
+  -- What a good message does, by whether its stretch has begun.
+  good_by_begun : (run : Run) (number place : ℕ) (payload : List ℕ) (following : Option ℕ) (gone judged : Trail A)
+      (rest : List Event) (packet : Packet) → IsUnderWay words mode mode run number false gone
+      → IsGood words mode run payload following packet
+      → IsUnderWay words mode mode (longer run (packet ∷ [])) (number + 1) (is_closing_packet packet) judged
+      → judged.events.items ≡ gone.events.items ++ rest → (begun : Option ℕ)
+      → BeginsWith begun (number + 1) (kept run.missing (run.packets ++ packet ∷ []))
+      → Took words mode run number place payload following (share_by begun rest) [] judged
+  good_by_begun run number place payload following gone judged rest packet u good v is None none =
+      (refl, packet, good, none, v)
+  good_by_begun run number place payload following gone judged rest packet u good v is (Some first) (at, some) = (
+    refl,
+    packet,
+    good,
+    (
+      some,
+      gone.events.items,
+      u.follows.described,
+      subst (λ l. Describes words (trace_of_run mode (longer run (packet ∷ []))) l) is v.follows.described,
+    ),
+    v,
+  )
+
+  -- A used message is taken that is good: it adds the events behind those of before.
   pub takes_good : (run : Run) (next number place : ℕ) (payload : List ℕ) (following : Option ℕ)
-      (old gone judged new : Trail A) → GoesOn words mode reads run next number old gone → judged.parts ≡ gone.parts
-      → Judged words mode reads (run_behind (number - next) run) number payload following None judged
-      → new.decoder ≡ judged.decoder → new.events.items ≡ judged.events.items → new.looking ≡ judged.looking
-      → new.begun ≡ judged.begun → new.next ≡ judged.next → new.parts ≡ judged.parts
-      → new.goods.items ≡ old.goods.items ++ true ∷ []
-      → TakesUsed words mode reads run next number place payload following old new
-  takes_good run next number place payload following old gone judged new went same (packet, good, u) decoder events looking
-      begun at parts goods =
+      (old gone judged : Trail A) (rest : List Event) (treatment : Treatment)
+      → GoesOn words mode mode run next number old gone → judged.parts ≡ gone.parts
+      → Judged words mode mode (run_behind (number - next) run) number payload following None judged
+      → StaysRead mode (run_behind (number - next) run) payload → judged.events.items ≡ gone.events.items ++ rest
+      → treatment ≡ treatment_of (share_by judged.begun rest)
+      → TakesUsed words mode run next number place payload following treatment old judged
+  takes_good run next number place payload following old gone judged rest treatment went same (packet, good, u) stays is
+      treated =
       let behind = run_behind (number - next) run in
-      let same_parts : new.parts.items ≡ gone.parts.items = ap (λ (v : _). v.items) (parts ∙ same) in
-      let way : IsUnderWay words mode (reads_behind mode reads behind.missing behind.packets packet)
-      (longer behind (packet ∷ [])) (number + 1) (is_closing_packet packet) new =
+      let same_parts : judged.parts.items ≡ gone.parts.items = ap (λ (v : _). v.items) same in
+      let own = stays packet good.read in
+      let way = subst (λ m. IsUnderWay words mode m (longer behind (packet ∷ [])) (number + 1)
+      (is_closing_packet packet) judged) own u in
       record {
-        follows = subst (λ d. FollowsRun words mode (reads_behind mode reads behind.missing behind.packets packet)
-            behind.missing (behind.packets ++ packet ∷ []) (is_closing_packet packet) new.events.items d) (sym decoder)
-            (subst (λ e. FollowsRun words mode (reads_behind mode reads behind.missing behind.packets packet)
-            behind.missing (behind.packets ++ packet ∷ []) (is_closing_packet packet) e judged.decoder) (sym events)
-            u.follows);
-        first_reads = u.first_reads;
-        next_is = at ∙ u.next_is;
-        looking = looking ∙ u.looking;
-        begins = subst (λ b. BeginsWith b (number + 1) (kept behind.missing (behind.packets ++ packet ∷ [])))
-            (sym begun) u.begins;
-      } in
-      record {
-        good = true;
+        share = share_by judged.begun rest;
+        treated = treated;
         before = went.left;
         leaves = went.leaves;
         added = [];
-        took = (refl, (packet, good, way));
+        took = good_by_begun behind number place payload following gone judged rest packet went.under_way
+            (subst (λ m. IsGood words m behind payload following packet) own good) way is judged.begun way.begins;
         parts = subst (AddsParts (went.left ++ []) old.parts.items) (sym same_parts)
             (subst (λ l. AddsParts l old.parts.items gone.parts.items) (sym (append-nil went.left)) went.added);
-        goods = goods;
       }
 
   -- A used message is taken that is bad.
   pub takes_bad : (run : Run) (next number place : ℕ) (payload : List ℕ) (following : Option ℕ) (why : Reason)
-      (old gone judged new : Trail A) → GoesOn words mode reads run next number old gone → judged.parts ≡ gone.parts
-      → IsBad words reads (run_behind (number - next) run) payload following why
-      → TakesBad words mode reads (run_behind (number - next) run) number place why judged new
-      → judged.goods.items ≡ old.goods.items
-      → TakesUsed words mode reads run next number place payload following old new
-  takes_bad run next number place payload following why old gone judged new went same bad k goods =
+      (old gone judged new : Trail A) → GoesOn words mode mode run next number old gone → judged.parts ≡ gone.parts
+      → IsBad words mode (run_behind (number - next) run) payload following why
+      → TakesBad words mode (run_behind (number - next) run) number place why judged new
+      → TakesUsed words mode run next number place payload following (treatment.Bad why) old new
+  takes_bad run next number place payload following why old gone judged new went same bad k =
       let added = k.left ++ BadNumber number place why ∷ [] in
       let same_parts : judged.parts.items ≡ gone.parts.items = ap (λ (v : _). v.items) same in
       record {
-        good = false;
+        share = Spoils why;
+        treated = refl;
         before = went.left;
         leaves = went.leaves;
         added = added;
-        took = (why, bad, k.left, k.leaves, refl, k.under_way);
+        took = (bad, k.left, k.leaves, refl, k.under_way);
         parts = adds_both went.left added old.parts.items gone.parts.items new.parts.items went.added
             (subst (λ l. AddsParts added l new.parts.items) same_parts k.parts);
-        goods = k.goods ∙ ap (λ l. l ++ false ∷ []) goods;
       }
 
--- What follows from what holds where a result is no error.
-pub on_ok : {X E : Type 0} (result : Result X E) (P Q : Type 0) → (P → Q) → OnOk result P → OnOk result Q
-on_ok (Ok x) P Q then holds = then holds
-on_ok (Err e) P Q then holds = tt
+-- What lies behind a front, as a slice of the whole.
+pub behind_front : {X : Type 0} (front rest all : List X) (count : ℕ) → all ≡ front ++ rest → count ≡ length front
+    → take (length all - count) (drop count all) ≡ rest
+behind_front front rest all count is long =
+    let parted : drop count all ≡ rest =
+    ap (λ n. drop n all) long ∙ ap (λ l. drop (length front) l) is ∙ drop-append_seam front rest in
+    let whole = ap length is ∙ length-append front rest in
+    ap (λ l. take (length all - count) l) parted
+    ∙ take_all (length all - count) rest (omega (arith, whole, long))

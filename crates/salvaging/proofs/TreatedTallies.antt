@@ -3,9 +3,9 @@ use Rattle.std.proofs.Common.{◌≡◌, ◌≢◌, ℕ, zero, suc, ◌+◌, ◌
 use Rattle.std.proofs.Common.{List, [], ◌∷◌, Option, Ok, Result, length, map, refl, sym, ap, ◌∙◌, arith}
 use Rattle.std.specs.Prelude.{◌||◌, count_by, nat_lt, not}
 use Rattle.std.proofs.lemmas.Bool.{le-ltb, lt-ltb}
-use Rattle.std.proofs.lemmas.List.{length-map, map-append}
+use Rattle.std.proofs.lemmas.List.{length-map}
 use Rattle.std.proofs.lemmas.List.Sums.{sum_by-append}
-use Rattle.rvclass.specs.Words.{Words, IsProgram}
+use Rattle.rvclass.specs.Words.{Words}
 use Rattle.payload.specs.Reading.{reading}
 use Rattle.payload.specs.declared.fault.PackFault.{PackFault}
 use Rattle.payload.specs.declared.mode.Mode.{Mode}
@@ -25,8 +25,9 @@ use Rattle.salvaging.specs.Treatments.{Row, is_good_treatment, rows, treatment_o
 use Rattle.salvaging.specs.declared.treatment.Treated.{Treated}
 use Rattle.salvaging.specs.declared.treatment.Treatment.{Treatment}
 use Rattle.salvaging.specs.declared.treatment.Treatment.TheVariants as treatment
+use Rattle.salvaging.specs.steps.Trails.{goods_of}
 use Rattle.salvaging.proofs.CountedRows.{NoneDoubtful, count_cons, own_row}
-use Rattle.salvaging.proofs.GoodsTreated.{beyond_good, goods_of}
+use Rattle.salvaging.proofs.GoodsTreated.{beyond_good, goods_append}
 use Rattle.salvaging.proofs.MarksCounted.{SuitAll}
 use Rattle.salvaging.proofs.PartsTreated.{shares_many}
 
@@ -114,7 +115,7 @@ looks_lost run next number = by_lost (number - next) refl
 abbrev pub share_count : (Treatment → Bool) → List Share → ℕ
 share_count p shares = count_by (λ (share : Share). p (treatment_of share)) shares
 
-share_cons : (p : Treatment → Bool) (share : Share) (shares : List Share)
+pub share_cons : (p : Treatment → Bool) (share : Share) (shares : List Share)
     → share_count p (share ∷ shares) ≡ counted (p (treatment_of share)) (share_count p shares)
 share_cons p share shares =
     count_cons (λ (one : Share). p (treatment_of one)) share shares ∙ by_test (p (treatment_of share))
@@ -157,16 +158,11 @@ passed_front looks next (entry ∷ upto) beyond (good ∷ goods) long =
     ap (counted (good && looks_behind looks next entry good))
     (passed_front (looks_behind looks next entry good) (next_behind entry) upto beyond goods (omega (arith, long)))
 
-goods_append : (front back : List Share) → goods_of (front ++ back) ≡ goods_of front ++ goods_of back
-goods_append front back =
-    ap (map is_good_treatment) (map-append treatment_of front back)
-    ∙ map-append is_good_treatment (map treatment_of front) (map treatment_of back)
-
 goods_long : (shares : List Share) → length (goods_of shares) ≡ length shares
 goods_long shares =
     length-map (map treatment_of shares) is_good_treatment ∙ length-map shares treatment_of
 
-module _ (words : Words) (program : IsProgram words) (mode : Mode) where
+module _ (words : Words) (mode : Mode) where
   module _ (run : Run) (looks : Bool) (looking : looks_in run ≡ looks) (payload : List ℕ) (following : Option ℕ) (rows_passed : ℕ)
       (Passed : Bool → ℕ) (Rest : Run → Type 0)
       (more : (behind : Run) (after : Bool) → looks_in behind ≡ after → Rest behind → rows_passed ≡ Passed after) where
@@ -248,10 +244,10 @@ module _ (words : Words) (program : IsProgram words) (mode : Mode) where
       let whole = ap (share_count makes_passed) share.whole in
       let upto_is = entries_pass upto first_run 0 share.first false refl share.shares_upto in
       let goods_split = goods_are ∙ ap goods_of share.whole ∙ goods_append share.first share.after in
-      let none = beyond_good words program mode beyond share.after share.shares_beyond in
+      let none = beyond_good words mode beyond share.after share.shares_beyond in
       let all = ap (passed false 0 (upto ++ beyond)) (goods_split ∙ ap (λ l. goods_of share.first ++ l) (sym none))
       ∙ passed_front false 0 upto beyond (goods_of share.first)
-      (goods_long share.first ∙ shares_many words program mode upto first_run 0 share.first share.shares_upto) in
+      (goods_long share.first ∙ shares_many words mode upto first_run 0 share.first share.shares_upto) in
       omega (arith, after, both, whole, upto_is, all)
 
 -- A doubtful number passes no such test.

@@ -2,12 +2,12 @@
 pub mod Arrivals
 pub mod Grouping
 pub mod UnderWay
+pub mod Marks
 pub mod Ending
 pub mod Trails
-pub mod Sharing
+pub mod Working
 pub mod Rows
 pub mod Looking
 pub mod SortedOut
 pub mod Lateness
-pub mod Tallying
 pub mod Distributing

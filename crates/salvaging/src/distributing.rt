@@ -30,13 +30,10 @@ pub(crate) fn is_stranger(harts: u16, message: &Message) -> bool
 pub(crate) fn strangers(harts: u16, messages: &[Message]) -> usize
     ensures { result ≡ count_by (is_stranger harts) messages.now }
 {
-    let mut count = 0;
-    for message in messages {
-        if is_stranger(harts, message) {
-            count += 1;
-        }
-    }
-    count
+    messages
+        .iter()
+        .filter(|message| is_stranger(harts, *message))
+        .count()
 }
 
 /// So many empty lists.

@@ -1,13 +1,15 @@
 //! How many messages of a hart are late.
 
-ghost use Rattle.std.specs.Prelude.{◌≡◌, length};
+ghost use Rattle.std.specs.Prelude.{◌≡◌, length, map};
 ghost use Rattle.salvaging.specs.Late.{late};
 ghost use Rattle.salvaging.specs.steps.Arrivals.{arrivals_in};
 ghost use Rattle.salvaging.specs.steps.Grouping.{entries_by, entry_of};
+ghost use Rattle.salvaging.specs.steps.Marks.{is_good};
 ghost use Rattle.salvaging.specs.steps.Lateness.{comes_before, earliest_with, is_late_behind};
 
 use crate::entry::Entry;
 use crate::grouping::last_entry;
+use crate::mark::Verdict;
 use crate::received::ReceivedMessage;
 
 /// Whether there is a place, and it comes before this one.
@@ -46,22 +48,29 @@ pub(crate) fn earliest_with(entry: Entry<'_>, good: bool, first: Option<usize>) 
     }
 }
 
-/// How many used messages came after a good one with a greater number. `goods` says which of the entries are good. The
-/// messages are in the order of their numbers.
-pub(crate) fn late(came: &[ReceivedMessage<'_>], goods: &[bool]) -> usize
-    requires { length goods.now ≡ length (entries_by (arrivals_in came.now)) }
-    ensures { result ≡ late (entries_by (arrivals_in came.now)) goods.now }
+/// Whether a message is good.
+fn is_good(verdict: Verdict) -> bool
+    ensures { result ≡ is_good verdict }
+{
+    matches!(verdict, Verdict::Passed | Verdict::Taken)
+}
+
+/// How many used messages came after a good one with a greater number, by the verdict on each number. The messages are
+/// in the order of their numbers.
+pub(crate) fn late(came: &[ReceivedMessage<'_>], verdicts: &[Verdict]) -> usize
+    requires { length verdicts.now ≡ length (entries_by (arrivals_in came.now)) }
+    ensures { result ≡ late (entries_by (arrivals_in came.now)) (map is_good verdicts.now) }
 {
     let mut count = 0;
     let mut first = None;
     let mut rest = came;
-    let mut at = goods.len();
+    let mut at = verdicts.len();
     while let Some((entry, front)) = last_entry(rest) {
         at -= 1;
         if is_late_behind(entry, first) {
             count += 1;
         }
-        first = earliest_with(entry, goods[at], first);
+        first = earliest_with(entry, is_good(verdicts[at]), first);
         rest = &rest[..front];
     }
     count

@@ -21,6 +21,7 @@ mod hart;
 mod late;
 mod laws;
 mod lookup;
+mod mark;
 mod own_mode;
 mod part;
 mod reason;
@@ -28,14 +29,13 @@ mod received;
 mod rows;
 mod salvaged;
 mod salvaging;
-mod sharing;
-mod sharing_beyond;
 mod sorting_out;
 mod tally;
 mod trail;
 mod treating;
 mod treatment;
 mod used;
+mod working;
 
 pub use laws::{
     harts_are_salvaged_in_one_way, harts_end_at_their_lowest_number,

@@ -6,12 +6,12 @@ ghost use Rattle.message.specs.declared.message.Message.{Message as AnyMessage};
 ghost use Rattle.salvaging.specs.steps.Arrivals.{HaveNumbers, arrivals_in, placed_from};
 ghost use Rattle.salvaging.specs.steps.SortedOut.{IsSortedOut};
 
-use crate::ending::count_to_end;
-use crate::own_mode::own_mode;
-use crate::received::{ReceivedMessage, put_in_order};
+use crate::received::ReceivedMessage;
 use crate::rows::{NumberRow, rows_back};
-use crate::sharing::share_all;
-use crate::sharing_beyond::share_beyond;
+use crate::treatment::Treatment;
+use crate::working::work_out;
+use decoder::StraightRuns;
+use message::ProgressSink;
 use payload::Mode;
 use rvclass::ProgramOver;
 use std::alloc::{AllocError, Allocator};
@@ -23,25 +23,27 @@ pub(crate) struct HartRows<'a, A: Allocator> {
     pub(crate) rows: Vec<NumberRow, A>,
 }
 
-/// What is done with the messages of a hart, which are in the order in which they came.
-pub(crate) fn sort_out<'a, A: Allocator + Copy>(
+/// What is done with the messages of a hart, which are in the order in which they came. Each message is told of.
+pub(crate) fn sort_out<'a, A: Allocator + Copy, V: ProgressSink>(
     alloc: A,
     program: &ProgramOver,
+    lines: &mut StraightRuns<'_, A>,
     mode: Mode,
-    mut came: Vec<ReceivedMessage<'a>, A>,
+    came: Vec<ReceivedMessage<'a>, A>,
+    watch: &V,
 ) -> Result<HartRows<'a, A>, AllocError>
-    requires { HaveNumbers (arrivals_in came.items) }
-    ensures { (messages : List AnyMessage) → arrivals_in came.entry.items ≡ placed_from 0 messages
+    requires lines { lines.old.program.now ≡ program.now }
+    requires numbers { HaveNumbers (arrivals_in came.items) }
+    ensures sorted { (messages : List AnyMessage) → arrivals_in came.entry.items ≡ placed_from 0 messages
         → IfOk result (IsSortedOut (words_of program.now) mode messages) }
+    ensures lines { lines.new.program ≡ lines.old.program }
 {
-    put_in_order(came.as_mut_slice());
-    let ordered = came.as_slice();
-    let own = own_mode(mode, ordered);
-    let end = count_to_end(alloc, program, own, ordered)?;
-    let upto = &ordered[..end];
-    let mut treatments = share_all(alloc, program, own, upto)?;
-    let beyond = &ordered[end..];
-    share_beyond(alloc, program, own, beyond, &mut treatments)?;
-    let rows = rows_back(alloc, ordered, treatments.as_slice())?;
-    Ok(HartRows { came, rows })
+    let mut worked = work_out::<A, V, Treatment>(alloc, program, lines, mode, came, watch)?;
+    // The events are of no use here.
+    worked.parts.clear();
+    let rows = rows_back(alloc, worked.came.as_slice(), worked.marks.as_slice())?;
+    Ok(HartRows {
+        came: worked.came,
+        rows,
+    })
 }

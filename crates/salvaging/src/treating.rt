@@ -1,6 +1,6 @@
 //! What is done with each message of a capture.
 
-ghost use Rattle.std.specs.Prelude.{ℕ, ◌≡◌, ◌<◌, ◌≤◌, ◌+◌, ◌^◌, All, IfOk, Some, length, slice_get};
+ghost use Rattle.std.specs.Prelude.{ℕ, ◌≡◌, ◌<◌, ◌+◌, ◌^◌, All, IfOk, Some, length, slice_get};
 ghost use Rattle.rvclass.specs.Fetch.{words_of};
 ghost use Rattle.payload.specs.declared.mode.Mode.{Mode as AnyMode};
 ghost use Rattle.rvclass.specs.Words.{Words};
@@ -15,13 +15,14 @@ use crate::lookup::treated_at;
 use crate::received::ReceivedMessage;
 use crate::sorting_out::{HartRows, sort_out};
 use crate::treatment::{Treated, Treatment};
+use decoder::StraightRuns;
 use message::{Message, ProgressSink};
 use payload::Mode;
 use rvclass::ProgramOver;
 use std::alloc::{AllocError, Allocator};
 use std::mem;
 
-/// Sorts out the messages of each hart. Each list is taken out. Tells of the messages of each hart.
+/// Sorts out the messages of each hart. Each list is taken out. Each message is told of.
 fn sort_each<'a, A: Allocator + Copy, V: ProgressSink>(
     alloc: A,
     program: &ProgramOver,
@@ -32,11 +33,11 @@ fn sort_each<'a, A: Allocator + Copy, V: ProgressSink>(
     requires { All (λ list. HaveNumbers (arrivals_in list.items)) lists.old.items }
     ensures { IfOk result (λ harts. AreSortedOf (words_of program.now) mode lists.old.items harts.items) }
 {
+    let mut lines = StraightRuns::new(alloc, program);
     let mut harts = Vec::with_capacity(alloc, lists.len())?;
     for hart in 0..lists.len() {
         let came = mem::replace(&mut lists[hart], Vec::new(alloc));
-        watch.note(came.len());
-        harts.push_reserved(sort_out(alloc, program, mode, came)?);
+        harts.push_reserved(sort_out(alloc, program, &mut lines, mode, came, watch)?);
     }
     Ok(harts)
 }

@@ -301,17 +301,6 @@ module _ (words : Words) (period : ℕ) (mode : Mode) where
           (Appends-trans old between new (capture one.more) (capture two.more) one.text two.text);
     }
 
-    -- The same where writing may have failed.
-    pub all_send_on : {E : Type 0} (messages : List Message) (mid after : List Sender) (old between new : Option (List
-        ℕ))
-        (r : Result Unit E) (one : AllSendMore words period mode harts messages mid old between)
-        → ((messages : List Message) → AreSent words period mode harts messages mid
-        → OnOk r (AllSendMore words period mode harts messages after between new))
-        → OnOk r (AllSendMore words period mode harts messages after old new)
-    all_send_on messages mid after old between new (Ok x) one two =
-        all_send_both messages mid after old between new one (two (messages ++ one.more) one.sent)
-    all_send_on messages mid after old between new (Err e) one two = tt
-
     -- One of the harts sends more.
     pub one_sends : (messages : List Message) (senders : List Sender) (hart : ℕ) (before after : Sender)
         (old new : Option (List ℕ)) → AreSent words period mode harts messages senders → hart < length senders

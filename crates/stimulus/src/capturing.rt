@@ -23,7 +23,7 @@ use std::alloc::{AllocError, Allocator};
 use std::io::Write;
 
 /// What a capture is made of.
-#[derive(Clone, Copy, PartialEq, Eq)]
+#[derive(Clone, Copy)]
 pub struct Capture {
     /// What the program does, and how the harts behave.
     pub mix: Mix,

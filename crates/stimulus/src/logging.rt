@@ -15,7 +15,7 @@ use std::alloc::Allocator;
 use std::io::Write;
 
 /// What a log is made of.
-#[derive(Clone, Copy, PartialEq, Eq)]
+#[derive(Clone, Copy)]
 pub struct Log {
     /// What the program does, and how the hart behaves.
     pub mix: Mix,

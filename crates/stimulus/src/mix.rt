@@ -4,7 +4,7 @@ ghost use Rattle.std.specs.Prelude.{◌≡◌};
 ghost use Rattle.stimulus.specs.Mix.{IsNamed, bounds_of};
 
 /// What the program of a stimulus does, and how the harts that run it behave.
-#[derive(Clone, Copy, Debug, PartialEq, Eq)]
+#[derive(Clone, Copy, Debug)]
 pub enum Mix {
     /// Loops, calls, computed jumps, branches of both outcomes, all levels, interrupts and exceptions.
     Mixed,

@@ -22,9 +22,6 @@ pub record IsReading (bytes : List ℕ) (from place : ℕ) (done : List Entry) :
   pub clear : IsClear (take (place - from) (drop from bytes))
   pub left : done ++ entries_from from (lines_of (drop from bytes)) ≡ entries_of bytes
 
-pub nothing_read : (bytes : List ℕ) → IsReading bytes 0 0 []
-nothing_read bytes = record { below = omega arith; clear = All-nil (λ byte. (byte == 10) ≡ false); left = refl }
-
 -- A byte that ends no line is passed.
 pub byte_passed : (bytes : List ℕ) (from place : ℕ) (done : List Entry) → IsReading bytes from place done
     → place < length bytes → ¬ (slice_index bytes place ≡ 10) → IsReading bytes from (place + 1) done

@@ -1,9 +1,9 @@
 -- Where there is no file, nothing that words ask for but `generate` is done: an image or a capture is read before anything
 -- is.
-use Rattle.std.proofs.Common.{◌≡◌, ◌≢◌, ◌∙◌, ◌⊎◌, ℕ, List, [], None, Option, Result, Ok, Err, ap, arith, inl, inr, map}
-use Rattle.std.proofs.Common.{subst, sym}
+use Rattle.std.proofs.Common.{◌≡◌, ◌≢◌, ◌∙◌, ◌⊎◌, ℕ, Bool, true, false, List, [], None, Option, Result, Ok, Err, ap, arith}
+use Rattle.std.proofs.Common.{inl, inr, map, subst, sym}
 use Rattle.cli.specs.Asking.{AskGenerate}
-use Rattle.command_inputs.specs.Kind.{IsGenerate}
+use Rattle.command_inputs.specs.Kind.{IsGenerate, is_streamed}
 use Rattle.command_inputs.specs.declared.words.Asked.{Asked}
 use Rattle.command_inputs.specs.declared.words.Asked.TheVariants.{Audit, Bench, Check, Decode, Dump, Encode, Listing}
 use Rattle.command_inputs.specs.declared.words.Asked.TheVariants as asked_for
@@ -25,7 +25,12 @@ use Rattle.capture_commands.specs.declared.reason.CaptureReason.TheVariants as c
 use Rattle.log_commands.specs.declared.reason.LogReason.TheVariants as log
 use Rattle.path_commands.specs.declared.reason.PathReason.TheVariants as audit
 use Rattle.capture_commands.specs.Comparing.{ComparesInput, IsCompareInput}
-use Rattle.path_commands.specs.Capturing.{AreSettings, WritesCapture}
+use Rattle.path_commands.specs.Capturing as capturing
+use Rattle.path_commands.specs.Capturing.{AreSettings, WritesCapture, WritesStream}
+use Rattle.path_commands.specs.LineFaults as lines
+use Rattle.path_commands.specs.declared.line_reason.LineReason.TheVariants as line
+use Rattle.captures.specs.declared.line_settings.Settings.{Settings}
+use Rattle.command_inputs.specs.declared.words.Capture.{Capture as AskedCapture}
 use Rattle.commands.specs.Faults.{Fault, Printed, command_reason_status, final_status, status_of}
 use Rattle.commands.specs.Joined.{joined_end, joined_printed}
 use Rattle.commands.specs.declared.reason.CommandReason.{CommandReason}
@@ -157,6 +162,25 @@ ends_so : {W : Type 0} (to : W → CommandReason) (text : List ℕ) (status : St
 ends_so to text status own is =
     same_status to status own.ended (ap (λ (p : Printed). p.ended) is)
 
+-- No lines that are written as they come end well.
+not_streamed : (asked : AskedCapture) (settings : Settings) (printed : lines.Printed) (status : Status)
+    → printed.ended ≡ Ok status → (read : Result (List ℕ) lines.Fault) → IsRead none asked.lines read
+    → WritesStream asked.lines settings asked.skip read printed → ⊥
+not_streamed asked settings printed status ended (Ok text) is writes = no_bytes asked.lines text is
+not_streamed asked settings printed status ended (Err why) is (inl quiet) =
+    let stopped : printed.ended ≡ Err why = ap (λ (p : lines.Printed). p.ended) quiet in cc
+not_streamed asked settings printed status ended (Err why) is (inr cut) =
+    let stopped : printed.ended ≡ Err why = ap (λ (p : lines.Printed). p.ended) cut.is in cc
+
+-- No lines do.
+not_lines : (streamed : Bool) (asked : AskedCapture) (settings : Settings) (printed : lines.Printed) (status : Status)
+    → printed.ended ≡ Ok status → capturing.WritesLines streamed none asked settings printed → ⊥
+not_lines true asked settings printed status ended prints =
+    not_streamed asked settings printed status ended prints.0 prints.1 prints.2
+not_lines false asked settings printed status ended prints =
+    not_first (IsRead none asked.lines) (WritesCapture asked.lines settings) printed status ended
+    (λ text read written. no_bytes asked.lines text read) prints
+
 -- Nothing is carried out to its end but `generate`.
 not_ended : (asked : Asked) (status : Status) (old new : Option (List ℕ)) → IsCarriedOut none asked (Ok status) old new
     → IsGenerate asked
@@ -230,10 +254,8 @@ not_ended (Salvage asked) status old new done =
 not_ended (asked_for.Capture asked) status old new done =
     let own = done.prints.own in
     let ends = ends_so Line done.text status own done.prints.is in
-    not_first (AreSettings asked) (λ settings. First (IsRead none asked.lines) (WritesCapture asked.lines settings))
-    own status ends
-    (λ settings are prints. not_first (IsRead none asked.lines) (WritesCapture asked.lines settings) own status ends
-    (λ text read written. no_bytes asked.lines text read) prints) done.prints.prints
+    not_first (AreSettings asked) (capturing.WritesLines (is_streamed asked) none asked) own status ends
+    (λ settings are prints. not_lines (is_streamed asked) asked settings own status ends prints) done.prints.prints
 not_ended (asked_for.Compare asked) status old new done =
     let own = done.prints.own in
     let ends = ends_so Capture done.text status own done.prints.is in
@@ -264,7 +286,10 @@ reason_faulty (Path (audit.Damaged path)) = λ is. omega arith
 reason_faulty (Path (audit.Unread path number why)) = λ is. omega arith
 reason_faulty (Path (audit.Sent sent why)) = λ is. omega arith
 reason_faulty (Path (audit.NoHart sent harts)) = λ is. omega arith
-reason_faulty (Line why) = λ is. omega arith
+reason_faulty (Line (line.ManyHarts most)) = λ is. omega arith
+reason_faulty (Line line.SkipAlone) = λ is. omega arith
+reason_faulty (Line (line.Line path number why)) = λ is. omega arith
+reason_faulty (Line (line.Skipped path count)) = λ is. omega arith
 
 -- No fault ends with status 0.
 faulty : (why : Fault) → code_of (status_of why) ≢ 0

@@ -151,6 +151,7 @@ fn put_capture(text: &mut Case<'_>, asked: &Capture<'_>) {
     put(text, "period", asked.period);
     put(text, "harts", asked.harts);
     put(text, "number_bits", asked.number_bits);
+    put(text, "skip", asked.skip);
     put(text, "lines", asked.lines);
 }
 

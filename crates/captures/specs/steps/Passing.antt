@@ -52,20 +52,3 @@ lowest_with (Some numbers) lowest number = max lowest (number + 1 - numbers / 2)
 abbrev pub lowered : Option ℕ → List ℕ → Message → List ℕ
 lowered numbers lows message =
     slice_set lows message.hart (lowest_with numbers (slice_index lows message.hart) message.number)
-
--- The message of a line and those after it. There is none from a line with a fault on.
-abbrev pub sent_with : Option ℕ → List ℕ → List ℕ → Result (Option Line) LineFault
-    → (List ℕ → List ℕ → List Message) → List Message
-sent_with numbers counts lows (Err why) later = []
-sent_with numbers counts lows (Ok None) later = later counts lows
-sent_with numbers counts lows (Ok (Some line)) later =
-    message_at numbers counts lows line
-    ∷ later (counted counts line) (lowered numbers lows (message_at numbers counts lows line))
-
--- The messages of lines, up to the first that has a fault, where so many lines of each hart were passed, and these are
--- the lowest numbers of each.
-abbrev pub sent_from : Settings → Form → List ℕ → List ℕ → List (List ℕ) → List Message
-sent_from settings form counts lows [] = []
-sent_from settings form counts lows (line ∷ lines) =
-    sent_with settings.numbers counts lows (line_of settings form line)
-    (λ counts lows. sent_from settings form counts lows lines)

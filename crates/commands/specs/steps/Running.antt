@@ -1,7 +1,7 @@
 -- A run of a subcommand, with all that is said of it.
 use Rattle.std.specs.Prelude.{◌≡◌, ℕ, List, Option, Result, Err, IfSome}
 use Rattle.log_streams.specs.Known.{Content}
-use Rattle.command_inputs.specs.Kind.{IsCheck}
+use Rattle.command_inputs.specs.Kind.{WritesAsItReads}
 use Rattle.command_inputs.specs.declared.words.Asked.{Asked}
 use Rattle.command_inputs.specs.declared.fault.Fault.TheVariants as fault
 use Rattle.command_inputs.specs.declared.status.Status.{Status}
@@ -19,4 +19,4 @@ pub record IsRun {O : Type 0} (content : Content) (asked : Asked) (contents : O 
   pub printed : IsCarriedOut content asked ended (contents old) (contents new)
   pub begun : ended ≡ Err fault.Memory → IsBegun content asked (contents old) (contents new)
   pub untouched : ¬ (WritesInParts asked) → ended ≡ Err fault.Memory → new ≡ old
-  pub refused : ¬ (IsCheck asked) → final_status ended ≡ Refused → new ≡ old
+  pub refused : ¬ (WritesAsItReads asked) → final_status ended ≡ Refused → new ≡ old

@@ -3,7 +3,7 @@ use Rattle.std.specs.Prelude.{ℕ, ◌≡◌, is_none, Bool, List, Option, lengt
 use Rattle.bench.specs.Got.{Got}
 use Rattle.captures.specs.declared.outcome.CaptureFault.{CaptureFault}
 use Rattle.comparing.specs.Lines.{are_whole_lines, line_of, lines_of, lines_text}
-use Rattle.comparing.specs.declared.hart_line.ComparedHart.{ComparedHart}
+use Rattle.bench.specs.declared.hart_line.ComparedHart.{ComparedHart}
 use Rattle.legalpath.specs.ProgramLog.{ProgramLog}
 use Rattle.rvclass.specs.Image.{Image}
 use Rattle.ffi.specs.Compared.{compare_end}

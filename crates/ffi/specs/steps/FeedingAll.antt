@@ -13,7 +13,6 @@ use Rattle.ffi.specs.FedAll.{IsNotTaken, TakesIfAny}
 use Rattle.ffi.specs.Images.{Judged}
 use Rattle.ffi.specs.declared.decoder_state.DecoderNumbers.{DecoderNumbers}
 use Rattle.ffi.specs.declared.events.EventNumbers.{EventNumbers}
-use Rattle.ffi.specs.declared.status.TheConstants.{DONE}
 
 -- A packet is that of a payload, which the decoder with these numbers and this state is fed.
 pub record IsToFeed (image : Judged) (payload : List ℕ) (numbers : DecoderNumbers) (program : Image) (packet : Packet)
@@ -29,13 +28,11 @@ IsPacketFed image payload numbers events state (Ok after) =
     TakesPayload image payload numbers after events × IsOfState after state
 IsPacketFed image payload numbers events state (Err why) = RefusesPayload image payload numbers why
 
--- The next payload was taken, and its events were written; or it was not, for this reason, and nothing changed.
-pub data IsNextFed (image : Judged) (payload : Option (List ℕ)) (status : ℕ) (before after : DecoderNumbers)
-    (kept_before kept : DecoderState) (count : ℕ) (old new : List EventNumbers) : Type 0 where
-  Taken : (events : List Event) → TakesIfAny image payload before after events → IsOfState after kept
-      → count ≡ length events → count ≤ length old → new ≡ map numbers_of_event events ++ drop count old
-      → status ≡ DONE
-      → IsNextFed image payload status before after kept_before kept count old new
-  NotTaken : IsNotTaken image payload before (length old) status
-      → after ≡ before → kept ≡ kept_before → new ≡ old
-      → IsNextFed image payload status before after kept_before kept count old new
+-- The next payload was taken, and so many events of it were written; or it was not, for this reason, and nothing changed.
+abbrev pub IsNextFed : Judged → Option (List ℕ) → Result ℕ ℕ → DecoderNumbers → DecoderNumbers → DecoderState
+    → DecoderState → List EventNumbers → List EventNumbers → Type 0
+IsNextFed image payload (Ok count) before after kept_before kept old new =
+    (events : List Event) × TakesIfAny image payload before after events × IsOfState after kept
+    × (count ≡ length events) × (count ≤ length old) × (new ≡ map numbers_of_event events ++ drop count old)
+IsNextFed image payload (Err status) before after kept_before kept old new =
+    IsNotTaken image payload before (length old) status × (after ≡ before) × (kept ≡ kept_before) × (new ≡ old)

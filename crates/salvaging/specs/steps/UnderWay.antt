@@ -1,9 +1,11 @@
 -- What is under way of a hart.
-use Rattle.std.specs.Prelude.{ℕ, zero, suc, ◌≡◌, ◌≢◌, ◌+◌, ◌-◌, ◌++◌, Bool, true, false, List, [], ◌∷◌, Option, Some}
+use Rattle.std.specs.Prelude.{ℕ, zero, suc, ◌≡◌, ◌≢◌, ◌+◌, ◌-◌, ◌++◌, Bool, true, false, List, [], ◌∷◌, Ok, Option, Some}
 use Rattle.std.specs.Prelude.{None}
 use Rattle.std.specs.Prelude.{length}
+use Rattle.retire.specs.declared.event.Event.{Event}
 use Rattle.rvclass.specs.Words.{Words}
 use Rattle.payload.specs.Closing.{is_closing_packet}
+use Rattle.payload.specs.Reading.{reading}
 use Rattle.payload.specs.declared.mode.Mode.{Mode}
 use Rattle.payload.specs.declared.packet.Packet.{Packet}
 use Rattle.losses.specs.Runs.{Run, longer, mode_of_first, mode_or, run_behind, run_of}
@@ -12,9 +14,12 @@ use Rattle.salvaging.specs.Bad.{IsBad, IsGood}
 use Rattle.salvaging.specs.LeftParts.{LeftPart, BadNumber, DoubtfulNumber, gap, stretch}
 use Rattle.salvaging.specs.Leaving.{LeavesBefore, RunLeaves, kept}
 use Rattle.salvaging.specs.PartsIn.{parts_in}
+use Rattle.salvaging.specs.Shares.{Share, Adds, Passes, Spoils, IsGoodShare}
+use Rattle.salvaging.specs.Treatments.{treatment_of}
 use Rattle.salvaging.specs.declared.part.Part.{Part}
 use Rattle.salvaging.specs.declared.reason.Reason.{Reason}
 use Rattle.salvaging.specs.declared.trail.Trail.{Trail}
+use Rattle.salvaging.specs.declared.treatment.Treatment.{Treatment}
 
 -- The stretch under way begins with this number, where the packets that give it are so many up to below `next`; or it
 -- has not begun, and there are none.
@@ -94,43 +99,53 @@ Judged words mode reads run number payload following None new =
 Judged words mode reads run number payload following (Some why) new =
     IsBad words reads run payload following why × IsUnderWay words mode reads run number false new
 
+-- The mode stays as it is when the packet of this payload is read after the run.
+abbrev pub StaysRead : Mode → Run → List ℕ → Type 0
+StaysRead mode run payload =
+    (packet : Packet) → reading payload ≡ Ok packet → reads_behind mode mode run.missing run.packets packet ≡ mode
+
+-- What a good message does whose stretch has begun with this number, if it has: these events are added by it.
+abbrev pub share_by : Option ℕ → List Event → Share
+share_by None events = Passes
+share_by (Some first) events = Adds events
+
 -- A bad message with this number was taken: the run under way was ended.
-pub record TakesBad {A : Type 0} (words : Words) (mode reads : Mode) (run : Run) (number place : ℕ) (why : Reason)
+pub record TakesBad {A : Type 0} (words : Words) (mode : Mode) (run : Run) (number place : ℕ) (why : Reason)
     (old new : Trail A) : Type 0 where
   pub left : List LeftPart
-  pub leaves : RunLeaves words reads run number left
+  pub leaves : RunLeaves words mode run number left
   pub parts : AddsParts (left ++ BadNumber number place why ∷ []) old.parts.items new.parts.items
-  pub under_way : IsUnderWay words mode reads (run_of 1 []) (number + 1) false new
-  pub goods : new.goods.items ≡ old.goods.items ++ false ∷ []
+  pub under_way : IsUnderWay words mode mode (run_of 1 []) (number + 1) false new
 
--- A used message was taken after the run under way, good or bad, and these parts were added.
-abbrev pub Took : {A : Type 0} → Words → Mode → Mode → Run → ℕ → ℕ → List ℕ → Option ℕ → Bool → List LeftPart
-    → Trail A → Type 0
-Took words mode reads run number place payload following true added new =
-    (added ≡ []) × Judged words mode reads run number payload following None new
-Took words mode reads run number place payload following false added new =
-    (why : Reason) × IsBad words reads run payload following why
-    × (left : List LeftPart) × RunLeaves words reads run number left
+-- A used message was taken after the run under way. It does this, and these parts were added.
+abbrev pub Took : {A : Type 0} → Words → Mode → Run → ℕ → ℕ → List ℕ → Option ℕ → Share → List LeftPart → Trail A
+    → Type 0
+Took words mode run number place payload following (Spoils why) added new =
+    IsBad words mode run payload following why
+    × (left : List LeftPart) × RunLeaves words mode run number left
     × (added ≡ left ++ BadNumber number place why ∷ [])
-    × IsUnderWay words mode reads (run_of 1 []) (number + 1) false new
+    × IsUnderWay words mode mode (run_of 1 []) (number + 1) false new
+Took words mode run number place payload following share added new =
+    (added ≡ []) × (packet : Packet) × IsGood words mode run payload following packet
+    × IsGoodShare words mode run packet share
+    × IsUnderWay words mode mode (longer run (packet ∷ [])) (number + 1) (is_closing_packet packet) new
 
--- A used message with this number was taken.
-pub record TakesUsed {A : Type 0} (words : Words) (mode reads : Mode) (run : Run) (next number place : ℕ)
-    (payload : List ℕ) (following : Option ℕ) (old new : Trail A) : Type 0 where
-  pub good : Bool
+-- A used message with this number was taken, with which this is done.
+pub record TakesUsed {A : Type 0} (words : Words) (mode : Mode) (run : Run) (next number place : ℕ)
+    (payload : List ℕ) (following : Option ℕ) (treatment : Treatment) (old new : Trail A) : Type 0 where
+  pub share : Share
+  pub treated : treatment ≡ treatment_of share
   pub before : List LeftPart
-  pub leaves : LeavesBefore words reads run next (number - next) before
+  pub leaves : LeavesBefore words mode run next (number - next) before
   pub added : List LeftPart
-  pub took : Took words mode reads (run_behind (number - next) run) number place payload following good added new
+  pub took : Took words mode (run_behind (number - next) run) number place payload following share added new
   pub parts : AddsParts (before ++ added) old.parts.items new.parts.items
-  pub goods : new.goods.items ≡ old.goods.items ++ good ∷ []
 
 -- A doubtful number was taken.
-pub record TakesDoubtful {A : Type 0} (words : Words) (mode reads : Mode) (run : Run)
-    (next number first second : ℕ) (closed : Bool) (old new : Trail A) : Type 0 where
+pub record TakesDoubtful {A : Type 0} (words : Words) (mode : Mode) (run : Run) (next number first second : ℕ)
+    (closed : Bool) (old new : Trail A) : Type 0 where
   pub left : List LeftPart
-  pub leaves : RunLeaves words reads run next left
+  pub leaves : RunLeaves words mode run next left
   pub parts : AddsParts (left ++ (gap (number - next) ++ DoubtfulNumber number first second ∷ []))
       old.parts.items new.parts.items
-  pub under_way : IsUnderWay words mode reads (run_of 1 []) number closed new
-  pub goods : new.goods.items ≡ old.goods.items ++ false ∷ []
+  pub under_way : IsUnderWay words mode mode (run_of 1 []) number closed new

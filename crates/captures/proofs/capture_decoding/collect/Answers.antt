@@ -1,6 +1,7 @@
 -- How far a capture was received: by lemmas on captures, which no tactic finds.
 use Rattle.std.proofs.Common.{arith}
 use Rattle.rvclass.specs.Fetch.{words_of}
+use Rattle.message.specs.Range.{selected}
 use Rattle.captures.proofs.FoundInFront.{in_front}
 use Rattle.captures.proofs.ReachingHarts.{collected_at, reaches_more, reaches_none}
 use Rattle.captures.proofs.capture_decoding.collect.Goals as goal
@@ -22,10 +23,11 @@ loop-message-preserved g c =
     said.shorter in
     let shorter = front.shorter in (
       λ harts has.
+          let r = c.loop-message.invariant.0 harts has in
           reaches_more c.args.range (words_of c.args.program.now) harts c.args.announced c.args.messages left next
-          c.loop-message.number c.loop-message.receiver c.receive_selected.new.receiver c.in-Ok-Some.message
-          (c.loop-message.invariant.0 harts has) front.is_message front.here c.in-Ok.ensures.agrees
-          (λ messages. c.in-Ok.ensures.received harts messages),
+          c.loop-message.number c.loop-message.receiver c.receive_selected.new.receiver c.in-Ok-Some.message r
+          front.is_message front.here c.in-Ok.ensures.agrees
+          (c.in-Ok.ensures.received harts (selected c.args.range r.messages) r.takes),
       omega (arith, c.loop-message.invariant.1, shorter),
     )
 

@@ -1,8 +1,10 @@
 -- The prover makes no record by itself: what is said of the subcommand's run is handed to it, with the joined reasons.
 use Rattle.std.proofs.Common.{◌∙◌, sym}
+use Rattle.std.proofs.lemmas.Bool.{false_from_ne_true}
+use Rattle.command_inputs.specs.Kind.{is_streamed}
 use Rattle.path_commands.specs.Capturing.{CanCapture, Captures, capture_meaning}
 use Rattle.commands.specs.declared.reason.CommandReason.TheVariants.{Line}
-use Rattle.commands.proofs.JoinedRuns.{joined_cut, joined_early, joined_prints, keeps_same}
+use Rattle.commands.proofs.JoinedRuns.{joined_cut, joined_early, joined_prints}
 use Rattle.commands.proofs.line_runs.run_capture.Goals as goal
 
 pub returns : goal.returns
@@ -17,8 +19,9 @@ returns g c =
           c.capture.ensures.early;
       printed = joined_prints Line (Captures content asked) (CanCapture content asked) c.capture.result
           c.joined_end.result (contents out) (contents c.capture.new.out) value c.capture.ensures.printed;
-      begun = λ memory. keeps_same contents out c.capture.new.out
-          (c.capture.ensures.untouched (c.joined_end.ensures.memory memory));
-      untouched = λ whole memory. c.capture.ensures.untouched (c.joined_end.ensures.memory memory);
-      refused = λ other ended. c.capture.ensures.refused (sym c.joined_end.ensures.status ∙ ended);
+      begun = λ memory. c.capture.ensures.begun (c.joined_end.ensures.memory memory);
+      untouched = λ whole memory. c.capture.ensures.untouched (false_from_ne_true (is_streamed asked) whole)
+          (c.joined_end.ensures.memory memory);
+      refused = λ held ended. c.capture.ensures.refused (false_from_ne_true (is_streamed asked) held)
+          (sym c.joined_end.ensures.status ∙ ended);
     }

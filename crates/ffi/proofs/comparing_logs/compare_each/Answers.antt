@@ -1,14 +1,15 @@
 -- One hart more is compared: by lemmas on texts, which no tactic finds.
-use Rattle.std.proofs.Common.{◌+◌, ◌∙◌, false, slice_index_or, refl, sym, subst, arith}
+use Rattle.std.proofs.Common.{◌+◌, ◌∙◌, slice_index_or, ap, refl, sym, subst, arith}
 use Rattle.comparing.specs.Compared.{got_by, gots_by}
+use Rattle.comparing.specs.Lines.{line_of}
 use Rattle.comparing.specs.steps.Held.{count_in}
+use Rattle.legalpath.specs.ProgramLog.{program_log}
 use Rattle.receiver.specs.Received.{events_in}
 use Rattle.ffi.proofs.ComparedInTurn.{AreComparedUpTo, compared_all, compared_more}
 use Rattle.ffi.proofs.HartsListed.{got_listed, gots_listed}
 use Rattle.ffi.proofs.TextsRead.{read_refused}
-use Rattle.ffi.specs.Encoded.{IsNoLegalText}
+use Rattle.ffi.specs.Encoded.{IsLegalText, IsNoLegalText}
 use Rattle.ffi.specs.declared.fault.Fault.TheVariants.{Memory}
-use Rattle.ffi.specs.steps.Comparing.{IsComparedText}
 use Rattle.ffi.proofs.comparing_logs.compare_each.Goals as goal
 
 pub returns-in-Err-clause-refused : goal.returns-in-Err-clause-refused
@@ -27,31 +28,36 @@ returns-in-Err-push-clause-refused c =
 
 pub loop-place-preserved : goal.loop-place-preserved
 loop-place-preserved c =
+    let program = c.args.program.now in
     let place = c.loop-place.place in
-    let lists = c.args.lists.now in
-    let closed = c.args.closed.now in
+    let lists = c.args.outcome.now.harts.items in
+    let closed = c.args.outcome.now.closed.items in
     let counts = c.args.counts.now in
     let gots = gots_by (count_in counts) 0 (events_in lists) closed in
     let end = slice_index_or c.args.ends.now place 0 in
     let within = c.loop-place-test.true in
     let many = c.requires.many in
     let flags = c.requires.flags in
-    let own = c.index-lists-place.result in
-    let got = got_by c.count_at.result c.as_slice-decoded.result.now (slice_index_or closed place false) in
-    let there = got_listed counts lists closed place own c.count_at.result c.as_slice-decoded.result.now flags
-    (omega (arith, many, within)) c.index-lists-place.is c.count_at.ensures c.as_slice-decoded.ensures.value in
+    let got = got_by c.count_at-count.result c.as_slice.result.now c.index-closed.result.now in
+    let there = got_listed counts lists closed place c.index-decoded.result.now c.count_at-count.result
+    c.as_slice.result.now c.index-closed.result.now flags (omega (arith, many, within)) c.index-decoded.ensures
+    c.count_at-count.ensures c.as_slice.ensures.value c.index-closed.ensures in
     let all = many ∙ sym (gots_listed counts lists closed flags) in
-    subst (AreComparedUpTo c.args.program.now c.args.logs.now c.args.ends.now gots (place + 1) end)
-    (sym c.in-Ok-push.ensures.items)
-    (compared_more c.args.program.now c.args.logs.now c.args.ends.now gots all place c.loop-place.from
-    c.loop-place.lines.items end got c.in-Ok.line within refl there c.loop-place.invariant
-    (subst (λ text. IsComparedText c.args.program.now text place got c.in-Ok.line) c.text_between-text.ensures
-    c.in-Ok.ensures.line))
+    subst (AreComparedUpTo program c.args.logs.now c.args.ends.now gots (place + 1) end) (sym c.in-Ok-push.ensures.items)
+    (compared_more program c.args.logs.now c.args.ends.now gots all place c.loop-place.from c.loop-place.lines.items end
+    got c.line_of-line.result within refl there c.loop-place.invariant
+    (record {
+      log = program_log program c.in-Ok.events.items;
+      legal = subst (λ text. IsLegalText program text (program_log program c.in-Ok.events.items))
+          c.text_between-text.ensures c.in-Ok.ensures.log;
+      is = c.line_of-line.ensures program
+          ∙ ap (λ events. line_of place got (program_log program events)) c.as_slice-in-loop-place.ensures.value;
+    }))
 
 pub returns-clause-lines : goal.returns-clause-lines
 returns-clause-lines c =
-    let lists = c.args.lists.now in
-    let closed = c.args.closed.now in
+    let lists = c.args.outcome.now.harts.items in
+    let closed = c.args.outcome.now.closed.items in
     let counts = c.args.counts.now in
     let past = c.loop-place-test.false in
     let up_to = c.loop-place.auto.place-end in

@@ -7,5 +7,5 @@ use Rattle.ffi.proofs.comparing_logs.compare_each.Given as goal
 
 abbrev pub invariant-loop-place : goal.invariant-loop-place
 invariant-loop-place l =
-    AreComparedUpTo l.program l.logs l.ends (gots_by (count_in l.counts) 0 (events_in l.lists) l.closed) l.place l.from
-    l.lines.items
+    AreComparedUpTo l.program l.logs l.ends
+    (gots_by (count_in l.counts) 0 (events_in l.outcome.harts.items) l.outcome.closed.items) l.place l.from l.lines.items

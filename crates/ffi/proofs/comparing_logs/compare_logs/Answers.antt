@@ -4,7 +4,7 @@ use Rattle.comparing.specs.Compared.{gots_by}
 use Rattle.comparing.specs.steps.Held.{count_in}
 use Rattle.receiver.specs.Received.{events_in}
 use Rattle.ffi.proofs.HartsListed.{gots_listed, lists_many}
-use Rattle.ffi.proofs.HeldForLogs.{comparison_found, flags_for, flags_held, held_for, log_refused, same_held}
+use Rattle.ffi.proofs.HeldForLogs.{comparison_found, flags_for, flags_held, held_for, log_refused}
 use Rattle.ffi.specs.steps.Comparing.{AreCompared, Writes}
 use Rattle.ffi.proofs.comparing_logs.compare_logs.Goals as goal
 
@@ -68,11 +68,9 @@ returns-in-Ok-write_lines c =
     (flags_held (count_in counts) 0 (events_in lists) closed (flags ∙ sym (lists_many counts lists closed)))
     c.in-Ok-compare_each.lines.items
     (subst
-    (λ g. AreCompared c.in-Ok.program c.args.logs.now c.args.ends.now g c.in-Ok-compare_each.lines.items)
-    (same_held c.as_slice-3.result.now counts c.as_slice.result.now lists c.as_slice-2.result.now closed
-    c.as_slice-3.ensures.value c.as_slice.ensures.value c.as_slice-2.ensures.value)
-    c.in-Ok-compare_each.ensures.lines)
+    (λ all. AreCompared c.in-Ok.program c.args.logs.now c.args.ends.now (gots_by (count_in all) 0 (events_in lists) closed)
+    c.in-Ok-compare_each.lines.items) c.as_slice.ensures.value c.in-Ok-compare_each.ensures.lines)
     c.in-Ok-write_lines.written
-    (subst (λ l. Writes l closed outcome.fault c.in-Ok-write_lines.written) c.as_slice-4.ensures.value
-    (subst (λ f. Writes c.as_slice-4.result.now f outcome.fault c.in-Ok-write_lines.written) c.as_slice-5.ensures.value
+    (subst (λ l. Writes l closed outcome.fault c.in-Ok-write_lines.written) c.as_slice-2.ensures.value
+    (subst (λ f. Writes c.as_slice-2.result.now f outcome.fault c.in-Ok-write_lines.written) c.as_slice-3.ensures.value
     c.in-Ok-write_lines.ensures))

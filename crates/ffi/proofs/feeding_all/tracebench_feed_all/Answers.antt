@@ -2,4 +2,4 @@
 use Rattle.ffi.proofs.feeding_all.tracebench_feed_all.Goals as goal
 
 pub returns : goal.returns
-returns c = (c.judge_pieces-judged.result, c.judge_pieces-judged.ensures, c.report_feed_all.ensures)
+returns c = (c.judge_pieces-judged.result, c.judge_pieces-judged.ensures, c.feed_while_room-fed.ensures)

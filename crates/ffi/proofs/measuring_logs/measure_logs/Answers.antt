@@ -10,6 +10,6 @@ use Rattle.ffi.proofs.measuring_logs.measure_logs.Goals as goal
 pub returns-in-Some : goal.returns-in-Some
 returns-in-Some c =
     let within = c.in-Some.ensures.within in
-    InRange c.in-Some.mode
-    (subst (λ v. AreInRange c.args.ends.now c.args.period c.args.mode VERSION_TWO c.in-Some.mode v)
-    (sym (same_Some Two c.in-Some.field-0-1 within.version_is)) within) c.measure_in.ensures
+    InRange c.in-Some.settings.mode
+    (subst (λ v. AreInRange c.args.ends.now c.args.period c.args.mode VERSION_TWO c.in-Some.settings.mode v)
+    (sym (same_Some Two c.in-Some.settings.version within.version_is)) within) c.measure_in.ensures

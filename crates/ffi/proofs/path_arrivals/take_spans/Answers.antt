@@ -44,7 +44,7 @@ loop-passage-preserved c =
           (c.in_ok-more.ensures.arrivals sent received is))
           c.in_ok-more.ensures.runs c.in_ok-more.ensures.bytes short c.in-Some.ensures.sizes.0
           c.in-Some.ensures.sizes.1),
-      c.take_passage.ensures.by ∙ by_is,
-      c.take_passage.ensures.header ∙ c.loop-passage.invariant.2,
-      c.take_passage.ensures.harts ∙ c.loop-passage.invariant.3,
+      c.take_passage.ensures.same.0 ∙ by_is,
+      c.take_passage.ensures.same.1 ∙ c.loop-passage.invariant.2,
+      c.take_passage.ensures.same.2 ∙ c.loop-passage.invariant.3,
     )

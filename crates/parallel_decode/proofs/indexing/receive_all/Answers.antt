@@ -3,7 +3,8 @@ use Rattle.std.proofs.Common.{Err, Ok, ap, arith, refl, ◌∙◌}
 use Rattle.rvclass.specs.Fetch.{words_of}
 use Rattle.captures.proofs.FoundInFront.{in_front}
 use Rattle.message.specs.Range.{selected}
-use Rattle.parallel_decode.proofs.SurveyLemmas.{reaches_first, reaches_next, surveyed_all, surveyed_at, surveyed_before}
+use Rattle.captures.proofs.ReachingHarts.{reaches_more, reaches_none}
+use Rattle.parallel_decode.proofs.SurveyLemmas.{surveyed_all, surveyed_at, surveyed_before}
 use Rattle.parallel_decode.specs.steps.Tracking.{received_of}
 use Rattle.parallel_decode.proofs.indexing.receive_all.Goals as goal
 
@@ -11,7 +12,7 @@ pub loop-message-init : goal.loop-message-init
 loop-message-init g c = record {
   reaches = λ harts lists has. (
     lists,
-    reaches_first c.args.selection.now.range (words_of c.args.selection.now.program.now) harts c.args.announced c.args.messages
+    reaches_none c.args.selection.now.range (words_of c.args.selection.now.program.now) harts c.args.announced c.args.messages
         (received_of c.args.tracker.now lists) has,
   );
   counted = omega arith;
@@ -33,13 +34,13 @@ loop-message-preserved g c =
           let r = c.loop-message.invariant.reaches harts lists has in
           let more = c.in-Ok.ensures.received harts (selected c.args.selection.now.range r.1.messages) r.0 r.1.takes in (
             more.0,
-            reaches_next c.args.selection.now.range words harts c.args.announced c.args.messages left next c.loop-message.received
+            reaches_more c.args.selection.now.range words harts c.args.announced c.args.messages left next c.loop-message.received
                 (received_of c.loop-message.tracker r.0) (received_of c.receive_selected.new.self more.0) c.in-Ok-Some.message r.1
                 front.is_message front.here c.in-Ok.ensures.agree more.1,
           );
       counted = omega (arith, c.loop-message.invariant.counted, shorter);
-      tracker = c.receive_selected.ensures.tracker;
-      harts = c.receive_selected.ensures.harts ∙ c.loop-message.invariant.harts;
+      tracker = c.receive_selected.ensures.tracker.0;
+      harts = c.receive_selected.ensures.tracker.1 ∙ c.loop-message.invariant.harts;
     }
 
 pub returns-in-Err-clause-surveyed : goal.returns-in-Err-clause-surveyed
@@ -59,13 +60,13 @@ returns-in-Err-receive_selected-clause-surveyed g c = λ harts lists has.
     let said = c.in-Ok-Some.ensures in
     let front = in_front c.loop-message.messages c.next.new.self _ c.in-Ok-Some.message c.in-Ok-Some.field-0-is
     said.ranges said.message said.shorter in
-    let told = c.in-Err-receive_selected.ensures in (
+    let told = c.in-Err-receive_selected.ensures in
+    let not = told.received harts (selected c.args.selection.now.range r.1.messages) r.0 r.1.takes in (
       r.0,
       surveyed_at c.args.selection.now.range words harts c.args.announced c.args.messages c.loop-message.messages c.next.new.self
           c.loop-message.received (received_of c.loop-message.tracker r.0) (received_of c.receive_selected.new.self r.0)
           c.in-Ok-Some.message c.in-Err-receive_selected.fault c.from.result r.1 front.is_message front.here told.of_range
-          (told.held harts (selected c.args.selection.now.range r.1.messages) r.0 r.1.takes)
-          (told.not_received harts (selected c.args.selection.now.range r.1.messages) r.0 r.1.takes)
+          not.0 not.1
           c.from.ensures (λ is. told.never_memory (ap Err is)),
     )
 

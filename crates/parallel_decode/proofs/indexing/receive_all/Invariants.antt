@@ -3,7 +3,7 @@ use Rattle.std.proofs.Common.{ℕ, ◌≡◌, ◌+◌, ◌≤◌, List, [], leng
 use Rattle.retire.specs.declared.event.Event.{Event}
 use Rattle.rvclass.specs.Fetch.{words_of}
 use Rattle.receiver.specs.Holds.{HasReceived}
-use Rattle.parallel_decode.proofs.SurveyLemmas.{ReachesOf}
+use Rattle.captures.proofs.ReachingHarts.{ReachesOf}
 use Rattle.parallel_decode.specs.steps.Tracking.{IsTracker, received_of}
 use Rattle.parallel_decode.proofs.indexing.receive_all.Given as goal
 

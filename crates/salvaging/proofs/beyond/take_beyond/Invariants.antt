@@ -5,7 +5,7 @@ use Rattle.salvaging.proofs.BeyondLemmas.{BeyondSo}
 use Rattle.salvaging.proofs.beyond.take_beyond.Given as goal
 
 abbrev pub invariant-loop-entry : goal.invariant-loop-entry
-invariant-loop-entry g l = BeyondSo (words_of l.program) l.mode l.came l.rest l.fn.trail l.trail
+invariant-loop-entry g l = BeyondSo g.M.Mark.kept (words_of l.program) l.mode l.came l.rest l.fn.outcome l.outcome
 
 abbrev pub decreases-loop-entry : goal.decreases-loop-entry
 decreases-loop-entry g l = length l.rest

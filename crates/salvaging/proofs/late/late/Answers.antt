@@ -1,8 +1,9 @@
 -- The entries so far and one before them are a lemma on lists.
-use Rattle.std.proofs.Common.{◌≡◌, refl, take}
+use Rattle.std.proofs.Common.{◌≡◌, refl, take, ap, ◌∙◌}
 use Rattle.salvaging.specs.Late.{counted}
 use Rattle.salvaging.specs.steps.Arrivals.{arrivals_in}
 use Rattle.salvaging.specs.steps.Grouping.{entries_by, entry_of}
+use Rattle.salvaging.specs.steps.Lateness.{earliest_with}
 use Rattle.salvaging.proofs.LateSteps.{late_before, late_if, none_late_if}
 use Rattle.salvaging.proofs.late.late.Goals.{then-is_late_behind, else-is_late_behind}
 use Rattle.salvaging.proofs.late.late.Goals as goal
@@ -18,7 +19,8 @@ loop-entry-preserved c =
     ] in
     let rest = c.loop-entry.rest.now in
     let front = entries_by (arrivals_in (take c.in-Some.front rest)) in
-    late_before (entries_by (arrivals_in c.args.came.now)) c.args.goods.now count c.loop-entry.first
+    late_before (entries_by (arrivals_in c.args.came.now)) c.args.verdicts.now count c.loop-entry.first
     (entries_by (arrivals_in rest)) c.loop-entry.at c.loop-entry.invariant front (entry_of c.in-Some.entry)
     c.in-Some.ensures.last _ _ refl late c.is_late_behind.ensures new new_is c.earliest_with-first.result
-    c.earliest_with-first.ensures
+    (c.earliest_with-first.ensures
+    ∙ ap (λ b. earliest_with (entry_of c.in-Some.entry) b c.loop-entry.first) c.is_good.ensures)

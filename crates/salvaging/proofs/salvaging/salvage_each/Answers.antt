@@ -1,13 +1,14 @@
 -- Which harts are salvaged is found by lemmas on lists.
-use Rattle.std.proofs.Common.{◌≡◌, ◌<◌, ◌+◌, Some, length, refl, sym, subst, ap, ◌∙◌, arith, slice_get}
+use Rattle.std.proofs.Common.{◌≡◌, ◌<◌, ◌+◌, Some, length, refl, ap, ◌∙◌, arith, slice_get}
 use Rattle.std.proofs.lemmas.List.{length-set, length_push}
-use Rattle.std.proofs.lemmas.Option.{get_or_from_slice_get, slice_get_read, slice_get_within}
+use Rattle.std.proofs.lemmas.Option.{slice_get_read}
 use Rattle.std.specs.declared.vec.Vec.{Vec}
 use Rattle.rvclass.specs.Fetch.{words_of}
 use Rattle.losses.proofs.Ending.{left_behind}
-use Rattle.salvaging.specs.steps.Arrivals.{HaveNumbers, arrivals_in}
+use Rattle.salvaging.specs.Salvaged.{IsSalvagedHart}
+use Rattle.salvaging.specs.steps.Arrivals.{arrivals_in}
 use Rattle.salvaging.specs.declared.received.ReceivedMessage.{ReceivedMessage}
-use Rattle.salvaging.proofs.SalvagedEach.{salvaged_more}
+use Rattle.salvaging.proofs.SalvagedEach.{next_numbers, one_more_hart}
 use Rattle.salvaging.proofs.salvaging.salvage_each.Goals as goal
 
 pub loop-hart-preserved : goal.loop-hart-preserved
@@ -37,7 +38,7 @@ loop-hart-preserved g c =
       count = ap length pushed ∙ length_push harts own ∙ ap (λ n. n + 1) inv.count;
       room = omega (arith, room, kept);
       left = left_behind first lists i _ inv.left;
-      done = salvaged_more (words_of c.args.program.now) c.args.mode first harts new i list own inv.count at pushed
+      done = one_more_hart (IsSalvagedHart (words_of c.args.program.now) c.args.mode) first harts new i list own inv.count at pushed
           (λ messages placed. c.in_ok-salvage_hart.ensures.salvaged messages
           (ap (λ (v : Vec ReceivedMessage _). arrivals_in v.items) c.replace-came.ensures.value ∙ placed)) inv.done;
     }
@@ -56,8 +57,4 @@ salvage_hart-requires-clause-numbers g c =
     let within : i < length lists = omega (arith, test, end, lists_count, counted) in
     let at : slice_get first i ≡ Some list = inv.left i list (omega arith)
     (slice_get_read lists (length lists) i list refl within c.index_mut.ensures.value) in
-    let before : HaveNumbers (arrivals_in list.items) =
-    subst (λ (v : Vec ReceivedMessage _). HaveNumbers (arrivals_in v.items))
-    (get_or_from_slice_get first i list list at)
-    (c.requires i list (slice_get_within first i list at)) in
-    subst (λ (v : Vec ReceivedMessage _). HaveNumbers (arrivals_in v.items)) (sym c.replace-came.ensures.value) before
+    next_numbers first i list c.replace-came.result c.requires at c.replace-came.ensures.value

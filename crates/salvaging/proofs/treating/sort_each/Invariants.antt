@@ -12,6 +12,7 @@ use Rattle.salvaging.proofs.treating.sort_each.Given as goal
 
 abbrev pub invariant-loop-hart : goal.invariant-loop-hart
 invariant-loop-hart g l = record {
+  lines : l.lines.program.now ≡ l.program;
   lists_count : length l.lists.items ≡ length l.fn.lists.items;
   count : length l.harts.items ≡ l.hart;
   room : length l.fn.lists.items ≤ vec_capacity l.harts;

@@ -5,7 +5,7 @@ use Rattle.bench.specs.declared.verdict.Verdict.{Verdict}
 use Rattle.comparing.proofs.ComparedCounts.{below_most}
 use Rattle.comparing.specs.declared.hart_count.HartCount.{HartCount}
 use Rattle.comparing.specs.declared.explained.ExplainedHart.{ExplainedHart}
-use Rattle.comparing.specs.declared.hart_line.ComparedHart.{ComparedHart}
+use Rattle.bench.specs.declared.hart_line.ComparedHart.{ComparedHart}
 use Rattle.comparing.specs.declared.near.NearRows.{NearRows}
 use Rattle.comparing.specs.steps.Held.{count_in}
 use Rattle.capture_commands.proofs.task.AgainstMessagesLogTaskExplainedHart.finish.Goals as goal

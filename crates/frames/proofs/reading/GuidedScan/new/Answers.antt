@@ -12,8 +12,8 @@ returns-clause-spans c = λ sees.
     ∙ spans-least sees c.args.from c.args.bytes.now
 
 pub returns-clause-complete : goal.returns-clause-complete
-returns-clause-complete c = λ sees messages all is.
-    returns-clause-spans c sees ∙ ap (spans_from sees c.args.from) is ∙ complete sees c.args.from messages all
+returns-clause-complete c = λ sees messages none all is.
+    returns-clause-spans c sees ∙ ap (spans_from sees c.args.from) is ∙ complete sees c.args.from messages none all
 
 pub returns-clause-amid : goal.returns-clause-amid
 returns-clause-amid c = λ sees messages last all none is.

@@ -29,38 +29,29 @@ module _ (g : _) (c : After-feed_packet g) (lists : List (List Event)) where
       c.from-hart.result c.from-hart.ensures (words_of c.args.program.now) harts messages c.index_mut.result.now holds
       (omega (arith, c.requires.known, c.requires.tracker.decoders)) c.index_mut.ensures.value
 
-pub returns-in_err-feed_packet-clause-none : goal.returns-in_err-feed_packet-clause-none
-returns-in_err-feed_packet-clause-none g c = λ harts messages lists holds.
+pub returns-in_err-feed_packet-clause-refuses : goal.returns-in_err-feed_packet-clause-refuses
+returns-in_err-feed_packet-clause-refuses g c = λ harts messages lists holds.
     let made = err_from_is_err_and c.from_residual.result c.from_residual.ensures.1 in
-    let fed = (goal.at.returns-in_err-feed_packet-clause-none g c).After-feed_packet in
-    rw made.1 (c.in_err-feed_packet.ensures.adds_none (packets_of c.args.hart messages) (own g fed lists)
-    (stand g fed lists harts messages holds))
+    let fed = (goal.at.returns-in_err-feed_packet-clause-refuses g c).After-feed_packet in
+    let packets = packets_of c.args.hart messages in
+    let stands = stand g fed lists harts messages holds in
+    let refuses = c.in_err-feed_packet.ensures in
+    record {
+      none = rw made.1 (refuses.adds_none packets (own g fed lists) stands);
+      not_opened = rw (made.1, made.2) (same_err _ _ _ (refuses.adds_first packets (own g fed lists) stands));
+      after_close = rw (made.1, made.2) (same_err _ _ _ (refuses.adds_closed packets (own g fed lists) stands));
+    }
 
-pub returns-in_err-feed_packet-clause-not_opened : goal.returns-in_err-feed_packet-clause-not_opened
-returns-in_err-feed_packet-clause-not_opened g c = λ harts messages lists holds.
-    let made = err_from_is_err_and c.from_residual.result c.from_residual.ensures.1 in
-    let fed = (goal.at.returns-in_err-feed_packet-clause-not_opened g c).After-feed_packet in
-    rw (made.1, made.2) (same_err _ _ _ (c.in_err-feed_packet.ensures.adds_first (packets_of c.args.hart messages)
-    (own g fed lists) (stand g fed lists harts messages holds)))
-
-pub returns-in_err-feed_packet-clause-after_close : goal.returns-in_err-feed_packet-clause-after_close
-returns-in_err-feed_packet-clause-after_close g c = λ harts messages lists holds.
-    let made = err_from_is_err_and c.from_residual.result c.from_residual.ensures.1 in
-    let fed = (goal.at.returns-in_err-feed_packet-clause-after_close g c).After-feed_packet in
-    rw (made.1, made.2) (same_err _ _ _ (c.in_err-feed_packet.ensures.adds_closed (packets_of c.args.hart messages)
-    (own g fed lists) (stand g fed lists harts messages holds)))
-
-pub returns-clause-not_opened : goal.returns-clause-not_opened
-returns-clause-not_opened g c = λ harts messages lists holds.
-    let fed = (goal.at.returns-clause-not_opened g c).After-feed_packet in
-    same_ok _ _ _ _ (c.in_ok-feed_packet.ensures.adds_first (packets_of c.args.hart messages) (own g fed lists)
-    (stand g fed lists harts messages holds))
-
-pub returns-clause-after_close : goal.returns-clause-after_close
-returns-clause-after_close g c = λ harts messages lists holds.
-    let fed = (goal.at.returns-clause-after_close g c).After-feed_packet in
-    same_ok _ _ _ _ (c.in_ok-feed_packet.ensures.adds_closed (packets_of c.args.hart messages) (own g fed lists)
-    (stand g fed lists harts messages holds))
+pub returns-clause-refuses : goal.returns-clause-refuses
+returns-clause-refuses g c = λ harts messages lists holds.
+    let fed = (goal.at.returns-clause-refuses g c).After-feed_packet in
+    let packets = packets_of c.args.hart messages in
+    let stands = stand g fed lists harts messages holds in
+    record {
+      none = tt;
+      not_opened = same_ok _ _ _ _ (c.in_ok-feed_packet.ensures.adds_first packets (own g fed lists) stands);
+      after_close = same_ok _ _ _ _ (c.in_ok-feed_packet.ensures.adds_closed packets (own g fed lists) stands);
+    }
 
 pub returns-clause-decoded : goal.returns-clause-decoded
 returns-clause-decoded g c = λ harts messages message lists is read holds.

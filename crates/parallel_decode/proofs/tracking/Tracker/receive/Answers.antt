@@ -42,45 +42,48 @@ returns-in-Ok-decode-clause-received g c = λ harts messages lists given.
     (more_accepted g after harts messages lists given) in (
       more.0,
       record {
-        accepts = accepts_kept harts (messages ++ message ∷ []) _ _ accepted c.in-Ok-decode.ensures.expected;
+        accepts = accepts_kept harts (messages ++ message ∷ []) _ _ accepted c.in-Ok-decode.ensures.tracker.1;
         holds = more.1;
       },
     )
 
-pub returns-then-opens_another-clause-held : goal.returns-then-opens_another-clause-held
-returns-then-opens_another-clause-held g c = λ harts messages lists given.
-    still g (goal.at.returns-then-opens_another-clause-held g c).After-accept harts messages lists given
-
-pub returns-in-Err-decode-clause-held : goal.returns-in-Err-decode-clause-held
-returns-in-Err-decode-clause-held g c = λ harts messages lists given.
-    let after = (goal.at.returns-in-Err-decode-clause-held g c).After-accept in
-    subst (Holds (λ hart. words_of c.args.program.now) harts messages) (sym (c.in-Err-decode.ensures.kept lists))
-    (still g after harts messages lists given)
+pub returns-then-opens_another-clause-received : goal.returns-then-opens_another-clause-received
+returns-then-opens_another-clause-received g c = λ harts messages lists given. (
+  still g (goal.at.returns-then-opens_another-clause-received g c).After-accept harts messages lists given,
+  record {
+    packet = c.in-Ok.packet;
+    accepted = accepted_answer harts messages (received_of c.args.self.now lists) c.args.message.now c.in-Ok.packet
+        given.accepts (sym c.accept.ensures.value ∙ c.in-Ok.is);
+    another = sym c.opens_another.ensures ∙ c.if-opens_another.true;
+  },
+)
 
 pub returns-in-Ok-decode-clause-agrees : goal.returns-in-Ok-decode-clause-agrees
 returns-in-Ok-decode-clause-agrees g c =
     agrees_by c.args.announced c.args.message.now c.in-Ok.packet ((c.accept.ensures.accepted c.in-Ok.packet).0 c.in-Ok.is).1
     (sym c.opens_another.ensures ∙ c.if-opens_another.false)
 
-pub returns-in-Err-decode-clause-not_received : goal.returns-in-Err-decode-clause-not_received
-returns-in-Err-decode-clause-not_received g c = λ harts messages lists given.
-    let after = (goal.at.returns-in-Err-decode-clause-not_received g c).After-accept in
+pub returns-in-Err-decode-clause-received : goal.returns-in-Err-decode-clause-received
+returns-in-Err-decode-clause-received g c = λ harts messages lists given.
+    let after = (goal.at.returns-in-Err-decode-clause-received g c).After-accept in
     let message = c.args.message.now in
     let packet = c.in-Ok.packet in
     let read : reading message.payload ≡ Ok packet = ((c.accept.ensures.accepted packet).0 c.in-Ok.is).1 in
     let holds = still g after harts messages lists given in
     let answer = accepted_answer harts messages (received_of c.args.self.now lists) message packet given.accepts
-    (sym c.accept.ensures.value ∙ c.in-Ok.is) in (
-      record {
-        packet = packet;
-        accepted = answer;
-        not_closed = going harts messages message packet given.accepts.accepted answer;
-        not_decoded =
-            not_decoded (words_of c.args.program.now) (packets_of message.hart messages) packet c.in-Err-decode.fault
-            (c.in-Err-decode.ensures.not_opened harts messages lists holds)
-            (c.in-Err-decode.ensures.after_close harts messages lists holds)
-            (inr (c.in-Err-decode.ensures.none harts messages lists holds))
-            (λ memory. absurd (c.in-Err-decode.ensures.never_memory memory));
-      },
-      agrees_by c.args.announced message packet read (sym c.opens_another.ensures ∙ c.if-opens_another.false),
+    (sym c.accept.ensures.value ∙ c.in-Ok.is) in
+    let refuses = c.in-Err-decode.ensures.refuses harts messages lists holds in (
+      subst (Holds (λ hart. words_of c.args.program.now) harts messages) (sym (c.in-Err-decode.ensures.kept lists)) holds,
+      (
+        record {
+          packet = packet;
+          accepted = answer;
+          not_closed = going harts messages message packet given.accepts.accepted answer;
+          not_decoded =
+              not_decoded (words_of c.args.program.now) (packets_of message.hart messages) packet c.in-Err-decode.fault
+              refuses.not_opened refuses.after_close (inr refuses.none)
+              (λ memory. absurd (c.in-Err-decode.ensures.never_memory memory));
+        },
+        agrees_by c.args.announced message packet read (sym c.opens_another.ensures ∙ c.if-opens_another.false),
+      ),
     )

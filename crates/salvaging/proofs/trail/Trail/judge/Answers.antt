@@ -24,7 +24,6 @@ returns-in-Some g c =
     record {
       judged = λ mode reads run next u. ((ap is_closing_reading read ∙ is.0, is.1), u);
       parts = refl;
-      goods = refl;
       appended = ([], sym (append-nil c.args.self.now.events.items));
     }
 
@@ -72,7 +71,6 @@ returns-in-Err-feed_by g c =
             begins = u.begins;
           });
       parts = refl;
-      goods = refl;
       appended = ([], c.in-Err-feed_by.ensures.list_kept ∙ sym (append-nil old.events.items));
     }
 

@@ -1,0 +1,55 @@
+-- Lines as they come become the capture of their text, where no line has a fault.
+use Rattle.std.proofs.Common.{◌≡◌, ◌++◌, ◌∙◌, ap, refl, ℕ, Bool, List, [], Option, Some, None, Result, Ok, Err}
+use Rattle.std.proofs.Common.{IfOk}
+use Rattle.std.specs.Prelude.{unwrap_or}
+use Rattle.std.specs.Str.Lines.{lines}
+use Rattle.captures.specs.Capture.{capture_of_text, capture_or_fault, header_with}
+use Rattle.captures.specs.Lines.{harts_up_to, lines_of, messages_of}
+use Rattle.captures.specs.Streamed.{Found, HasKnownStart, faults_in, found_in, known_form, passed_of, said_in}
+use Rattle.captures.specs.Streamed.{streamed_bytes, streamed_faults}
+use Rattle.captures.specs.Versions.{start_bytes}
+use Rattle.captures.specs.declared.line_fault.LinesFault.{LinesFault}
+use Rattle.captures.specs.declared.capture_line.Line.{Line}
+use Rattle.captures.specs.declared.line_settings.Settings.{Settings}
+use Rattle.message.specs.Capture.{capture}
+use Rattle.message.specs.declared.header.Version.{Version}
+use Rattle.message.specs.declared.header.Version.TheVariants.{One, Two}
+use Rattle.payload.specs.declared.mode.Mode.{Mode}
+use Rattle.captures.proofs.Counts.{IsAllRight, text_right}
+
+same_start : (version : Version) (harts : Option ℕ) (mode : Mode) (period some other : ℕ) → HasKnownStart version harts
+    → start_bytes version (record { mode = mode; period = period; harts = unwrap_or harts some })
+    ≡ start_bytes version (record { mode = mode; period = period; harts = unwrap_or harts other })
+same_start One harts mode period some other known = refl
+same_start Two None mode period some other known = absurd known
+same_start Two (Some harts) mode period some other known = refl
+
+same_bytes : (one other : List ℕ) → ◌≡◌ {A = Result (List ℕ) LinesFault} (Ok one) (Ok other) → one ≡ other
+same_bytes one other is = cc
+
+no_bytes : (why : LinesFault) (bytes : List ℕ) → ◌≡◌ {A = Result (List ℕ) LinesFault} (Err why) (Ok bytes) → ⊥
+no_bytes why bytes is = cc
+
+streams : (settings : Settings) (skip : Bool) (r : Result (List Line) LinesFault) (found : List Found) (bytes : List ℕ)
+    → HasKnownStart settings.version settings.harts → capture_or_fault settings r ≡ Ok bytes
+    → IfOk r (λ said. IsAllRight skip said 1 found)
+    → (start_bytes settings.version (header_with settings 1)
+    ++ capture (messages_of settings.numbers (said_in (passed_of skip found))) ≡ bytes)
+    × (faults_in 1 (passed_of skip found) ≡ [])
+streams settings skip (Err why) found bytes known is right = absurd (no_bytes why bytes is)
+streams settings skip (Ok said) found bytes known is right = (
+  ap (λ said. start_bytes settings.version (header_with settings 1) ++ capture (messages_of settings.numbers said))
+      right.said_is
+      ∙ ap (λ start. start ++ capture (messages_of settings.numbers said))
+      (same_start settings.version settings.harts settings.mode settings.period 1 (harts_up_to said) known)
+      ∙ same_bytes (start_bytes settings.version (header_with settings (harts_up_to said))
+      ++ capture (messages_of settings.numbers said)) bytes is,
+  right.none,
+)
+
+pub lines_stream : (settings : Settings) (skip : Bool) (text bytes : List ℕ)
+    → HasKnownStart settings.version settings.harts → capture_of_text settings text ≡ Ok bytes
+    → (streamed_bytes settings skip text ≡ bytes) × (streamed_faults settings skip text ≡ [])
+lines_stream settings skip text bytes known is =
+    streams settings skip (lines_of settings text)
+    (found_in settings (known_form settings.numbers) (lines text)) bytes known is (text_right skip settings text)

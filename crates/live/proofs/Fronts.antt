@@ -1,0 +1,74 @@
+-- A message that is not true leaves the front where it is.
+use Rattle.std.proofs.Common.{◌≡◌, ℕ, zero, suc, Bool, true, false, cond, not, List, [], Option, None}
+use Rattle.std.proofs.Common.{drop, refl, ap, ◌∙◌}
+use Rattle.message.specs.declared.message.Message.{Message}
+use Rattle.auditing.specs.Fates.{has_greater, has_number, is_true, true_ones}
+use Rattle.auditing.specs.Findings.{finding_by, finding_of, greatest_number}
+use Rattle.auditing.specs.declared.fate.Fate.{Fate}
+use Rattle.auditing.specs.declared.fate.Fate.TheVariants as fate
+use Rattle.auditing.specs.declared.finding.Finding.{Finding}
+use Rattle.live.specs.Lines.{Arrived}
+use Rattle.live.specs.Live.{State, Step, decides, finds, is_new, judged, judged_at, moves_to, of_its_hart, passes_all, settled}
+use Rattle.live.specs.Live.{standing_now, strange, taken, waits}
+use Rattle.live.specs.View.{up_to}
+use Rattle.live.specs.declared.standing.Standing.{Standing}
+use Rattle.live.specs.declared.standing.Standing.TheVariants as standing
+
+-- What is not true is not new.
+untrue_old : (sent came : List Message) (message : Message) → is_true sent message ≡ false
+    → is_new (finding_of sent came message) ≡ false
+untrue_old sent came message is =
+    go (has_number sent message.hart message.number) (is_true sent message)
+    (cond (has_number (true_ones sent came) message.hart message.number) fate.Repeat
+    (cond (has_greater (true_ones sent came) message.hart message.number) fate.Late fate.InOrder))
+    (greatest_number (true_ones sent came) message.hart) is
+  where
+    go : (known same : Bool) (more : Fate) (greatest : Option ℕ) → same ≡ false
+        → is_new (finding_by (cond (not known) fate.Stranger (cond (not same) fate.Changed more)) greatest message.number)
+        ≡ false
+    go false same more greatest untrue = refl
+    go true false more greatest untrue = refl
+    go true true more greatest untrue = cc
+
+-- Nothing is left of nothing.
+drop_nothing : (count : ℕ) → drop {A = Message} count [] ≡ []
+drop_nothing zero = refl
+drop_nothing (suc count) = refl
+
+-- What is not new leaves the front.
+old_stays : (window : ℕ) (sent : List Message) (state : State) (one : Arrived) (place : ℕ) (its : Finding)
+    → is_new its ≡ false → (decides window sent state one place its).state.front ≡ state.front
+old_stays window sent state one place its is =
+    ap (λ n. (moves_to window sent (cond n (up_to window state.front place) 0) (finds state one its).state).state.front) is
+    ∙ ap (λ l. (passes_all window sent (finds state one its).state l).state.front) (drop_nothing state.front)
+
+-- A message that is not true leaves it, by where it is.
+untrue_at : (beyond : State → Arrived → Step)
+    → ((state : State) (one : Arrived) → (beyond state one).state.front ≡ state.front)
+    → (window : ℕ) (sent : List Message) (state : State) (one : Arrived) → is_true sent one.message ≡ false
+    → (its : Standing) → (judged_at beyond window sent state one its).state.front ≡ state.front
+untrue_at beyond leaves window sent state one is standing.Below = refl
+untrue_at beyond leaves window sent state one is standing.Beyond = leaves state one
+untrue_at beyond leaves window sent state one is (standing.At place) =
+    old_stays window sent state one place (finding_of sent state.came one.message)
+    (untrue_old sent state.came one.message is)
+
+-- So it does where it waits beyond the view.
+pub untrue_waits : (window : ℕ) (sent : List Message) (state : State) (one : Arrived) → is_true sent one.message ≡ false
+    → (judged waits window sent state one).state.front ≡ state.front
+untrue_waits window sent state one is =
+    untrue_at waits (λ state one. refl) window sent state one is (standing_now window sent state one.message)
+
+-- And where it is a stranger there.
+pub untrue_strange : (window : ℕ) (sent : List Message) (state : State) (one : Arrived) → is_true sent one.message ≡ false
+    → (judged strange window sent state one).state.front ≡ state.front
+untrue_strange window sent state one is =
+    untrue_at strange (λ state one. refl) window sent state one is (standing_now window sent state one.message)
+
+-- And where it is taken and none of its hart waits.
+pub untrue_taken : (window : ℕ) (sent : List Message) (state : State) (one : Arrived)
+    → of_its_hart one state.waiting ≡ None → is_true sent one.message ≡ false
+    → (taken window sent state one).state.front ≡ state.front
+untrue_taken window sent state one none is =
+    ap (λ o. (judged waits window sent (settled window sent state one o).state one).state.front) none
+    ∙ untrue_waits window sent state one is

@@ -1,0 +1,9 @@
+pub mod Standings
+pub mod Searched
+pub mod Views
+pub mod Reading
+pub mod Passing
+pub mod Judging
+pub mod InView
+pub mod Fronts
+pub mod Worked

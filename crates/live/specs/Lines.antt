@@ -1,0 +1,18 @@
+-- What a live audit says, line by line.
+use Rattle.std.specs.Prelude.{ℕ, Bool}
+use Rattle.message.specs.declared.message.Message.{Message}
+use Rattle.auditing.specs.declared.finding.Finding.{Finding}
+use Rattle.auditing.specs.declared.lost.Lost.{Lost}
+
+-- A message of RECEIVED, and its place there.
+pub record Arrived : Type 0 where
+  pub place : ℕ
+  pub message : Message
+
+-- What is found of a message of RECEIVED; that it is too late; that a message of SENT is given up, and whether it came;
+-- and that these numbers of a hart are lost.
+pub data Line : Type 0 where
+  Decided : Arrived → Finding → Line
+  TooLate : Arrived → Line
+  GivenUp : Message → Bool → Line
+  Missing : ℕ → Lost → Line

@@ -1,0 +1,4 @@
+pub mod Searching
+pub mod Reading
+pub mod Passing
+pub mod Judging

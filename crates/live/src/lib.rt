@@ -1,0 +1,29 @@
+//! What a path does while it runs: the live audit, which keeps no more of SENT than a window.
+//!
+//! An audit compares the messages that a path was given, SENT, with those that came out of it, RECEIVED. A live audit reads
+//! both side by side, and each once. The front is the furthest message of SENT that came. What is looked at is in view: N
+//! messages of SENT before the front and N after it, over all harts. A message that came is looked up there. What it is
+//! found to be is an [`auditing::Finding`]; below the view it is too late, and beyond it undecided. A message of SENT that
+//! leaves the view is given up, and lost if it did not come.
+//!
+//! [`Window`] is what is held of SENT: at most 2N + 1 messages, in memory that [`Window::new`] takes once.
+//! [`Window::judge`] looks a message of RECEIVED up, and takes it. As long as [`Window::wants`] says so, the next message of
+//! SENT has to be read first, by [`Window::read`]. [`Window::pass`] moves the front by one message, and returns the one that
+//! is given up.
+#![tactic(auto)]
+
+mod fault;
+mod held;
+mod judged;
+mod laws;
+mod numbers;
+mod slots;
+mod standing;
+mod window;
+
+pub use fault::ReadFault;
+pub use held::SentMessage;
+pub use judged::Judged;
+pub use laws::{untrue_messages_leave_the_front, views_are_bounded};
+pub use standing::Standing;
+pub use window::{MOST_WINDOW, Window};
