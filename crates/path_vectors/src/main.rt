@@ -16,6 +16,7 @@ mod spans;
 mod stimuli;
 mod texts;
 mod verbs;
+mod windows;
 
 use crate::verbs::PathVerbs;
 use std::io;

@@ -1,6 +1,8 @@
 //! The verbs.
 
-use crate::{alignments, audits, fates, lines, naming, paths, salvages, spans, stimuli, texts};
+use crate::{
+    alignments, audits, fates, lines, naming, paths, salvages, spans, stimuli, texts, windows,
+};
 use cases::{Case, Verbs};
 
 /// The verbs of this program.
@@ -30,6 +32,7 @@ fn play_path(case: &mut Case<'_>, verb: &str) {
         "audit" | "payload" | "fates" | "guided" => audits::audit(case, verb),
         "runs" => audits::runs(case),
         "known" => fates::known(case),
+        "window" => windows::window(case),
         "align" => alignments::align(case),
         "count" => alignments::count(case),
         "most" => alignments::most(case),
