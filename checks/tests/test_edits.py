@@ -140,27 +140,38 @@ def written(path, text):
 class OfGate(unittest.TestCase):
     """Edits over what `rt ci` proved, of a crate that has no other below it."""
 
-    def tried(self, body):
-        """What is said of an edit with another body, and whether it is refused."""
+    def tried(self, body, times=1):
+        """What is said of an edit with another body, and whether it is refused, the last of so many times."""
         edits, here = script(f"{CHECKS}/long-edits/long-edits"), os.getcwd()
+        rt = script(f"{TOP}/tools/from-gate").kit(used=edits.USED)
         with tempfile.TemporaryDirectory() as folder:
+            rt.STORE = f"{folder}/kept"
             for name in ("checkout", "copy"):
                 written(f"{folder}/{name}/crates.txt", "low:\n")
                 written(f"{folder}/{name}/HANDLES", "Handles allowed: none.\n")
                 written(f"{folder}/{name}/crates/low/src/lib.rt", SMALL)
             written(f"{folder}/checkout/crates/low/must-fail/another.edit", f"file: src/lib.rt\nold:     number\nnew:     {body}\n")
-            with redirect_stdout(io.StringIO()) as said:
-                is_refused = edits.try_those_of_gate(f"{folder}/copy", 1, f"{folder}/checkout")
+            for _ in range(times):
+                with redirect_stdout(io.StringIO()) as said:
+                    is_refused = edits.try_those_of_gate(f"{folder}/copy", 1, f"{folder}/checkout", rt)
             os.chdir(here)
             return said.getvalue(), is_refused
 
     def test_a_wrong_body_is_refused(self):
         said, is_refused = self.tried("number / 2")
         self.assertIn("must-fail low/another.edit: refused: fn low::same: no proof", said)
+        self.assertIn("1 of 1 edits refused, 0 of them by an earlier run", said)
+        self.assertTrue(is_refused)
+
+    def test_it_is_not_tried_again(self):
+        if not hasattr(script(f"{TOP}/tools/from-gate").kit(used=()), "Kept"):
+            self.skipTest("the kit keeps nothing")
+        said, is_refused = self.tried("number / 2", times=2)
+        self.assertIn("1 of 1 edits refused, 1 of them by an earlier run", said)
         self.assertTrue(is_refused)
 
     def test_a_body_that_is_right_is_told(self):
-        said, is_refused = self.tried("number + 0")
+        said, is_refused = self.tried("number + 0", times=2)
         self.assertIn("must-fail low/another.edit: NOT REFUSED", said)
-        self.assertIn("0 of 1 edits refused", said)
+        self.assertIn("0 of 1 edits refused, 0 of them by an earlier run", said)
         self.assertFalse(is_refused)
