@@ -47,11 +47,12 @@ uninstall: # removes what install put below PREFIX
 check-docs: # compares the documents with the crates that they are about
 	checks/check-docs
 
-bench: # measures phases and commands beside the same in plain Rust (docs/PERFORMANCE.md)
+bench: $(PROGRAM) # measures phases and commands beside the same in plain Rust (docs/PERFORMANCE.md)
 	mkdir -p out/bench
 	cd crates/timing && rt run -- 80000000 data/image.bin data/log.csv
 	rustc --edition 2021 -O -C codegen-units=1 checks/yardstick/main.rs -o out/bench/yardstick
-	python3 checks/long_logs.py 4000000 out/bench
+	$(PROGRAM) generate image >out/bench/mixed.bin
+	$(PROGRAM) generate log --events 4000000 >out/bench/mixed.csv
 	crates/timing/out/timing 80000000 out/bench/mixed.bin out/bench/mixed.csv
 	out/bench/yardstick timing 80000000 out/bench/mixed.bin out/bench/mixed.csv
 

@@ -47,6 +47,12 @@ def asked_program(name, about):
     return program_at(parser.parse_args().program, parser)
 
 
+def generated(program, mix, rows):
+    """The image of a stimulus of this mix, at base 80000000, and the text of a log of so many rows."""
+    made = [["image"], ["log", "--events", str(rows)]]
+    return [subprocess.run([program, "generate", *words, "--mix", mix], stdout=subprocess.PIPE, check=True).stdout for words in made]
+
+
 def preloaded(folder, code):
     """A library of this C code, which a program loads by LD_PRELOAD before the others."""
     path = os.path.join(folder, "preloaded.so")

@@ -5,14 +5,17 @@
     python3 checks/stimulus.py capture SEED MIX HARTS MESSAGES PERIOD full|diff BURST
     python3 checks/stimulus.py cases
     python3 checks/stimulus.py runs
+    python3 checks/stimulus.py mixed
     python3 checks/stimulus.py table
 
 The first three write images, logs and captures of version 2, at base 80000000. The fourth writes the lines of
-crates/path_vectors/data/stimuli.cases that have an answer, and the fifth the runs with an output of
-crates/transcripts/data/generate.transcript. The last writes the table of docs/FORMATS.md of what comes in the first 20,000
-events.
+crates/path_vectors/data/stimuli.cases that have an answer, the fifth the runs with an output of
+crates/transcripts/data/generate.transcript, and the sixth the runs of `encode --mixed` of
+crates/transcripts/data/several_logs.transcript, by the messages that stand there. The last writes the table of
+docs/FORMATS.md of what comes in the first 20,000 events.
 """
 import itertools
+import os
 import sys
 
 import wire
@@ -299,6 +302,29 @@ class Sender:
                                    (1, bool(handler)), (63, place >> 1)] + [(64, value)] * (itype == 1))
 
 
+def weighed(seed, harts):
+    """The draws of an order, and the harts, each as often as it weighs."""
+    draw = Pcg32(seed, 0x8000).draw
+    return draw, [hart for hart in range(harts) for _ in range(draw() % 4 + 1)]
+
+
+def mixed(seed, harts):
+    """The messages of harts, in the order that `encode --mixed` writes them."""
+    harts = [list(own) for own in harts]
+    draw, listed = weighed(seed, len(harts))
+    left = 0
+    while listed:
+        if left:
+            left -= 1
+        else:
+            hart = listed[draw() % len(listed)]
+            left = draw() % 16
+        if harts[hart]:
+            yield harts[hart].pop(0)
+        else:
+            listed, left = [other for other in listed if other != hart], 0
+
+
 def capture(mix, seed, harts, messages, period=1024, full=False, burst=16):
     """The pieces of a capture, in order: its header, and its messages."""
     senders = [Sender(mix, seed, hart, period, full) for hart in range(harts)]
@@ -307,8 +333,7 @@ def capture(mix, seed, harts, messages, period=1024, full=False, burst=16):
     def sent(hart, packets):
         return b"".join(wire.message(hart, next(numbers[hart]), payload) for _, payload in packets)
 
-    draw = Pcg32(seed, 0x8000).draw
-    listed = [hart for hart in range(harts) for _ in range(draw() % 4 + 1)]
+    draw, listed = weighed(seed, harts)
     ended, hart, left, ending = set(), 0, 0, min(max(messages // 16, 256), 0xFFFFFFFF)
     yield wire.header(harts, period, int(full))
     for _ in range(messages):
@@ -438,12 +463,48 @@ def runs():
     capture_run(f" --seed {MASK} --harts 2 --burst 65535 --period 65535", "mixed", MASK, 2, 4, period=65535, burst=65535)
 
 
+LOGS = ["kinds.csv", "empty.csv", "return.csv", "branches.csv", "trap.csv"]
+
+
+def mixed_runs():
+    """Runs of `encode --mixed` with what they print, in the form of transcripts."""
+    data = os.path.join(os.path.dirname(os.path.abspath(__file__)), "../crates/transcripts/data/several_logs.transcript")
+    with open(data) as file:
+        lines = file.read().splitlines()
+
+    def messages(mode, hart, first):
+        at = lines.index(f"file {mode}{hart}.txt") + 1
+        own = itertools.takewhile(lambda line: line.startswith("| "), lines[at:])
+        return [(hart + first, *line.split()[2:]) for line in own]
+
+    def run(words, seed, logs, mode="diff", first=0, header=None):
+        print(f"$ tracebench encode --base 80000000{words} --mixed {seed} image.bin", *LOGS[:logs])
+        if header is not None:
+            print(">=", header.hex())
+        sign = "> " if "--hex" in words else ">~ "
+        for message in mixed(seed, [messages(mode, hart, first) for hart in range(logs)]):
+            print(sign + " ".join(map(str, message)))
+
+    for seed in 1, 2, 3:
+        run(" --hex", seed, 5)
+    run(" --hex", MASK, 2)
+    run(" --hex", 0, 1)
+    run("", 1, 5, header=wire.header(5, 1024, 0))
+    run(" --full", 2, 4, mode="full", header=wire.header(4, 1024, 1))
+    run(" --v1", 3, 3)
+    run(" --hex --first 2 --of 9", 1, 5, first=2)
+    run(" --first 1019 --of 1024", 1, 5, first=1019)
+    run(" --of 7", 4, 3, header=wire.header(7, 1024, 0))
+
+
 def main(what, seed=0, mix="mixed", *rest):
     seed = int(seed)
     if what == "cases":
         return cases()
     if what == "runs":
         return runs()
+    if what == "mixed":
+        return mixed_runs()
     if what == "table":
         return table()
     if what == "image":

@@ -522,16 +522,16 @@ uint32_t tracebench_measure(const struct tracebench_piece *pieces, size_t pieces
                             uint32_t mode, uint8_t *buffer, size_t buffer_length, size_t *wanted,
                             struct tracebench_log_place *place);
 
-/* Writes the capture of the lines of a text, one message a line: what `tracebench capture` writes. A line is HART
- * NUMBER BYTES, or HART BYTES; then the messages of each hart are numbered from 0. The header counts so many harts, at
- * most 1,024 and in version 1 at most 64; with 0 those up to the highest of the lines. TRACEBENCH_OUT_OF_RANGE is as
- * with tracebench_encode. TRACEBENCH_LINE_FIELDS to TRACEBENCH_LINE_ABOVE say what is wrong with the first line that
- * has a fault, and `*line` is that line, from 1 on, and else 0.
+/* Writes the capture of the lines of a text, one message a line, as `tracebench capture` does. A line is HART NUMBER
+ * BYTES, or HART BYTES; then the messages of each hart are numbered from 0. The header counts so many harts, with 0
+ * those up to the highest of the lines. A NUMBER is one of `numbers`, 2 or more, and then begins again at 0; with 0 it
+ * is the message's own. TRACEBENCH_OUT_OF_RANGE is as with tracebench_encode. TRACEBENCH_LINE_FIELDS to _LINE_ABOVE say
+ * what is wrong with the first line that has a fault, and `*line` is that line, from 1 on, and else 0.
  *     status = tracebench_capture_of_lines(text, text_length, TRACEBENCH_VERSION_TWO, TRACEBENCH_DIFFERENTIAL, 1024, 0,
- *                                          buffer, buffer_length, &wanted, &line); */
+ *                                          0, buffer, buffer_length, &wanted, &line); */
 uint32_t tracebench_capture_of_lines(const uint8_t *text, size_t text_length, uint32_t version, uint32_t mode,
-                                     uint16_t period, uint16_t harts, uint8_t *buffer, size_t buffer_length,
-                                     size_t *wanted, uint64_t *line);
+                                     uint16_t period, uint16_t harts, uint64_t numbers, uint8_t *buffer,
+                                     size_t buffer_length, size_t *wanted, uint64_t *line);
 
 /* How a dump ends. */
 struct tracebench_dump_end {

@@ -543,18 +543,20 @@ inline status encode(const program &of, const logs &given, const settings &how, 
                         [&](auto room, auto &wanted) { return encode(of, given, how, room, wanted, place); });
 }
 
-/* The capture of lines of text, of so many harts; with 0 of those up to the highest of the lines. */
+/* The capture of lines of text, of so many harts; with 0 of those up to the highest of the lines. A line has one of so
+ * many numbers, with 0 the message's own. */
 inline status capture_of_lines(span<const std::uint8_t> text, const settings &how, std::uint16_t harts,
-                               span<std::uint8_t> room, std::size_t &wanted, std::uint64_t &line) noexcept {
+                               span<std::uint8_t> room, std::size_t &wanted, std::uint64_t &line,
+                               std::uint64_t numbers = 0) noexcept {
     return status{tracebench_capture_of_lines(detail::at(text), text.size(), static_cast<std::uint32_t>(how.version),
-                                              static_cast<std::uint32_t>(how.mode), how.period, harts,
+                                              static_cast<std::uint32_t>(how.mode), how.period, harts, numbers,
                                               detail::at(room), room.size(), &wanted, &line)};
 }
 
 inline status capture_of_lines(span<const std::uint8_t> text, const settings &how, std::uint16_t harts,
-                               bytes &capture, std::uint64_t &line) noexcept {
+                               bytes &capture, std::uint64_t &line, std::uint64_t numbers = 0) noexcept {
     return detail::into(capture, [&](auto room, auto &wanted) {
-        return capture_of_lines(text, how, harts, room, wanted, line);
+        return capture_of_lines(text, how, harts, room, wanted, line, numbers);
     });
 }
 

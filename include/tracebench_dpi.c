@@ -320,8 +320,8 @@ static void hand_out_bytes(const uint8_t *bytes, size_t count, const svOpenArray
 }
 
 uint32_t tracebench_dpi_capture_of_lines(const char *lines, uint32_t version, uint32_t mode, uint16_t period,
-                                         uint16_t harts, const svOpenArrayHandle capture, uint32_t *size,
-                                         uint64_t *line) {
+                                         uint16_t harts, uint64_t numbers, const svOpenArrayHandle capture,
+                                         uint32_t *size, uint64_t *line) {
     const size_t room = (size_t)svSize(capture, 1);
     size_t wanted = 0;
     *line = 0;
@@ -329,7 +329,7 @@ uint32_t tracebench_dpi_capture_of_lines(const char *lines, uint32_t version, ui
     const uint32_t status =
         at == NULL ? TRACEBENCH_MEMORY
                    : tracebench_capture_of_lines((const uint8_t *)lines, strlen(lines), version, mode, period, harts,
-                                                 at, room, &wanted, line);
+                                                 numbers, at, room, &wanted, line);
     if (status == TRACEBENCH_DONE) hand_out_bytes(at, wanted, capture);
     *size = (uint32_t)wanted;
     free(at);

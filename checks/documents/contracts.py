@@ -91,7 +91,7 @@ def quoted(names):
 
 def wrong_item(item, own):
     """What is wrong with an item, by the calls that it has of its section."""
-    known = set().union(*(call.clauses for call in own))
+    known = set().union(*(call.clauses | call.fields for call in own))
     if strange := item.clauses() - known:
         yield f"no clause of {quoted(item.calls)}: {quoted(strange)}"
     if len(nameless := item.nameless()) > sum(call.nameless for call in own):
@@ -105,10 +105,12 @@ def wrong_item(item, own):
 
 
 def wrong_section(section, own, its_items):
-    """Which calls of a section have no item, and which of their clauses no item has."""
+    """Which calls of a section have no item, and which of their clauses no item has, nor of the fields of a record if it has
+    some of them."""
     for name, call in own.items():
         at = [item for item in its_items if name in item.calls]
-        left = call.clauses - set().union(*(item.clauses() for item in at))
+        named = set().union(*(item.clauses() for item in at))
+        left = (call.clauses | call.fields if named & call.fields else call.clauses) - named
         if not at:
             yield f"{DOCUMENT}: no item for `{name}` of `{section}`"
         elif left == call.clauses and left or left and not any("see the contract" in item.text() for item in at):

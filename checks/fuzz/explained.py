@@ -1,5 +1,6 @@
 """What `check --explain` prints below an illegal row, read from docs/FORMATS.md."""
 
+import lists
 import reading
 
 MOST_RANGES = 4
@@ -75,9 +76,11 @@ def line(program, before, event, why):
     return f"{standing_before(program, before)}: privilege {follows} follows, not {level}"
 
 
-def text(program, events, illegal):
-    """The lines below that of the first illegal row of a log that was read, and why that is."""
+def text(program, events, illegal, symbols=()):
+    """The lines below that of the first illegal row of a log that was read, and why that is. The first ends with the name of
+    the row's place, where one of the symbols is below it."""
     row, why = illegal
     before = events[row - 2] if row > 1 else None
     begins = program.bytes_at(min(base for base, _ in program.pieces), 4)
-    return f"  {line(program, before, events[row - 1], why)}\n" + ELF * (begins == b"\x7fELF")
+    name = lists.name_text(events[row - 1][1], symbols).decode()
+    return f"  {line(program, before, events[row - 1], why)}{name}\n" + ELF * (begins == b"\x7fELF")

@@ -11,7 +11,7 @@ FEW_PARTS = ("--of 1", "--of 2", "--of 3", "--of 5", "--of 8")
 # The flags that the runs of a kind have to take, but for the base: each at least once, and with each of these values.
 FLAGS = {
     "captures": (*FEW_HARTS, "--lossy"),
-    "logs": (*FORMS, *PERIODS),
+    "logs": (*FORMS, *PERIODS, "--symbols symbols", "--explain"),
     "audits": ("--packets", "--summary"),
     "measures": ("--hex", "--full", "--period 2", *PERIODS),
     "lists": (*FEW_HARTS, "--symbols symbols", "--rows", "--format csv"),

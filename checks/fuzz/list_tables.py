@@ -40,12 +40,13 @@ def place(row, which):
     return f"{at} <{name}+{distance}>" if distance else at
 
 
-def effect(row, rows=None):
-    """What a row says that the message does. So many rows come before of its hart, where that is known."""
+def effect(row, rows=None, says_rows=False):
+    """What a row says that the message does, with the rows of its hart or without. So many rows come before of its hart,
+    where that is known."""
     added, first, last = row.pop("added"), row.pop("first_row"), row.pop("last_row")
     if rows is not None and (first, last) != ((str(rows + 1), str(rows + int(added))) if added != "0" else ("", "")):
         raise NotTheText(f"rows {first} to {last} after {rows}")
-    made = "nothing"
+    made, settled = "nothing", f", row {first}" if first == last else f", rows {first} to {last}"
     if added != "0":
         first, last = place(row, "first"), place(row, "last")
         made = f"{added} events, {first} to {last}"
@@ -53,6 +54,7 @@ def effect(row, rows=None):
             if first != last:
                 raise NotTheText(f"one event at {first} and at {last}")
             made = f"1 event, {first}"
+        made += settled * says_rows
     return made + flag(row, "waits", ", waits") + flag(row, "closed", ", closed")
 
 
@@ -64,7 +66,7 @@ def word(row):
     """What a row says that salvaging does with the message."""
     what = row.pop("treatment")
     if what == "taken":
-        made = effect(row)
+        made = effect(row, says_rows=True)
     elif what == "bad":
         made = f"bad: {row.pop('reason')}"
     else:

@@ -10,6 +10,9 @@ NAMES = (
     b"main", b"a b", b"", b" x", b"_start", b"\xff\x80", b"x<+>", b"$x", b"f<1, 2>()", b'say "so"', b'"', b"a\rb", b",", b"\xc3",
 )
 NO_SYMBOL = "no symbol of code: give it what nm prints"
+REPORTED = re.compile(rb" (?:addr|handler|epc)=([0-9a-f]+)")
+# Symbols of the runs over logs, whatever the program is.
+FEW = b"8 T word\n80000004 t loop\n80000000 T main\n40 w high\n"
 
 
 def symbols_of(text):
@@ -26,6 +29,21 @@ def place_text(address, symbols):
     if not below:
         return b"%x" % address
     return b"%x <%s+%x>" % (address, symbols[max(below)], address - max(below))
+
+
+def name_text(address, symbols):
+    """What follows a place: a blank and its name, or nothing."""
+    name = place_text(address, symbols).partition(b" ")[2]
+    return b" " + name if name else b""
+
+
+def dump_with_names(found, symbols):
+    """The status, the text and the error of a dump with symbols, by those of it without: each address that a line reports is
+    named at its end."""
+    status, text, error = found
+    lines = [(line, REPORTED.search(line)) for line in text.encode().splitlines()]
+    named = (line + (name_text(int(it[1], 16), symbols) if it else b"") + b"\n" for line, it in lines)
+    return status, b"".join(named), error
 
 
 def effect(events, packet, symbols, row=None):

@@ -101,11 +101,11 @@ def places_of(capture, is_salvaged):
     return places
 
 
-def list_treated(program, harts, capture, symbols, only=None):
+def list_treated(program, harts, capture, symbols, only=None, says_rows=False):
     """The status, the text and the error of `list --salvage`."""
     if why := no_hart(only, salvaged_harts(capture, harts)):
         return 1, b"", why
-    return treated.listing(program, harts, capture, symbols, only)
+    return treated.listing(program, harts, capture, symbols, only, says_rows)
 
 
 def compared(program, harts, capture, logs, only=None, explain=False):

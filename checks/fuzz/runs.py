@@ -8,6 +8,7 @@ import audits
 import cases
 import comparisons
 import csv_tables
+import explained
 import line_texts
 import list_tables
 import lists
@@ -46,7 +47,12 @@ def of_log(maker, _, text):
     if isinstance(events, str):
         yield Run(words, 2, b"", f"case: {events}")
     elif illegal := reading.first_illegal(maker.program, events):
-        yield Run(words, 2, b"case: row %d: %s\n" % (illegal[0], illegal[1].encode()), None)
+        said = f"case: row {illegal[0]}: {illegal[1]}\n"
+        yield Run(words, 2, said.encode(), None)
+        names = ["--symbols", lists.SYMBOLS]
+        yield Run([*words, *names], 2, said.encode(), None)
+        said += explained.text(maker.program, events, illegal, lists.symbols_of(lists.FEW))
+        yield Run([*words, *names, "--explain"], 2, said.encode(), None)
     else:
         yield Run(words, 0, b"case: legal, %d events\n" % len(events), None)
         yield encoded(maker, events)
@@ -219,7 +225,7 @@ def of_treated(maker, harts, case, only=None, asked=()):
     """What `list --salvage` prints of a damaged capture, with a count of harts and without one."""
     for count, flags in ((harts, ["--harts", str(harts)]), (None, [])):
         yield from of_lists(maker, case, ["list", "--salvage", *flags], only, asked,
-                            lambda capture, known: printed.list_treated(maker.program, count, capture, known, only))
+                            lambda capture, known, rows=False: printed.list_treated(maker.program, count, capture, known, only, rows))
 
 
 def of_lists(maker, case, words, only, asked, found_of):
@@ -235,13 +241,19 @@ def of_lists(maker, case, words, only, asked, found_of):
         found = found_of(capture, known)
     is_salvaged, is_read = "--salvage" in words, symbols is None or known
     yield texts(words, found)
-    if not is_salvaged and len(capture) % 4 == 1:
+    if symbols is not None:
+        dumped = printed.searched(capture, only) if is_salvaged else printed.dumped(capture, only)
+        flags = ["--search"] * is_salvaged + ["--symbols", lists.SYMBOLS, *asked]
+        yield texts(["dump", *flags, lists.CAPTURE], lists.dump_with_names(dumped, known) if known else found)
+    if len(capture) % 4 == 1:
         yield texts([*words, "--rows"], found_of(capture, known, True) if is_read else found)
     words = [*words, "--format", "csv"]
     if found[0] == 2 or (found[2] or "").startswith("no hart of"):
         yield texts(words, (found[0], b"", found[2]))
         return
     places = only and printed.places_of(capture, is_salvaged)
+    if is_salvaged:
+        found = found_of(capture, known, True)
     yield Run(words, None, list_table_of(found, is_salvaged, places), None)
 
 
@@ -328,6 +340,8 @@ def files_of(kind, case):
         return {lists.CAPTURE: case[0]} | ({} if case[1] is None else {lists.SYMBOLS: case[1]})
     if kind == "lines":
         return {line_texts.LINES: case[0]}
+    if kind == "logs":
+        return {"case": case, lists.SYMBOLS: lists.FEW}
     if kind in ("measures", "parts"):
         return {f"case{hart}": reading.log_text(events).encode() for hart, events in enumerate(case)}
     return {"case": case}

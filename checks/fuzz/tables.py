@@ -62,7 +62,7 @@ def total(harts, names):
 def rows_of(text, unnumbered, messages):
     """The rows of the lines of a text, where so many messages of RECEIVED are taken."""
     single, harts, others = [], [], {}
-    result = {"place": messages, "strange": 0} | ({} if unnumbered else {"by": 0, "runs": 0})
+    result = {"place": messages, "strange": 0, "by": 0, "runs": 0}
     for line in text.splitlines():
         if found := MESSAGE.fullmatch(line):
             single.append(message(*found.groups()))

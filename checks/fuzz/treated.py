@@ -13,8 +13,9 @@ class Harts:
         self.own = [[message[1:] for _, message in found if message[0] == hart] for hart in range(harts)]
         self.left = [salvages.Salvage(program, mode, own) for own in self.own]
         self.came = [set() for _ in range(harts)]
+        self.last_row = [rows_of_numbers(it.added) for it in self.left]
 
-    def treat(self, message, symbols):
+    def treat(self, message, symbols, says_rows):
         """The word for the next message, and whether it is late."""
         hart, number, payload = message
         if salvages.is_stranger(message, len(self.left)):
@@ -25,21 +26,31 @@ class Harts:
         self.came[hart].add((number, payload))
         if number in it.doubtful:
             return b"doubtful", False
-        return self.word(it, number, symbols), it.is_late(number)
+        last = self.last_row[hart].get(number) if says_rows else None
+        return self.word(it, number, symbols, last), it.is_late(number)
 
     @staticmethod
-    def word(it, number, symbols):
-        """The word for a message that is used."""
+    def word(it, number, symbols, last):
+        """The word for a message that is used. Its last row is `last`, if that is to be said."""
         if number in it.bad:
             return f"bad: {it.bad[number]}".encode()
         if number in it.alone:
             return b"alone"
         if number not in it.added:
             return b"passed"
-        return lists.effect(it.added[number], reading.unpack(it.used[number][0]), symbols)
+        return lists.effect(it.added[number], reading.unpack(it.used[number][0]), symbols, last)
 
 
-def listing(program, harts, capture, symbols, only=None):
+def rows_of_numbers(added):
+    """How many rows come from the messages of a hart up to each number, by the events that each of them adds."""
+    rows, last = 0, {}
+    for number in sorted(added):
+        rows += len(added[number])
+        last[number] = rows
+    return last
+
+
+def listing(program, harts, capture, symbols, only=None, says_rows=False):
     """The status, the text and the error of a list of what salvaging does with the messages of the harts that are chosen;
     `harts` is the count that is asked for, or None. The events that the lines add have to be the rows that `salvage` prints."""
     header, at, fault = frames.start(capture)
@@ -56,7 +67,7 @@ def listing(program, harts, capture, symbols, only=None):
             continue
         if not reading.is_chosen(only, one[0]):
             continue
-        word, is_late = treated.treat(one, symbols)
+        word, is_late = treated.treat(one, symbols, says_rows)
         line = frames.message_line(one, mode)[0].encode().removesuffix(b"\n")
         text += b"%08x %s => %s%s\n" % (offset, line, word, b", late" * is_late)
     status, salvaged, error = salvages.salvage(program, harts, capture, only=only)

@@ -6,7 +6,7 @@ import crate_list
 # The crates that play files of cases, and those of test functions, small ones before large ones.
 FIRST = ("channel_vectors", "path_vectors", "vectors", "trace_tests", "ffi_vectors")
 
-# The program, which `checks/second-runs` runs. These runs are for its own crate: `transcripts` plays all below it.
+# The program, which `checks/second-runs` runs. These runs come last: `transcripts` plays all below it.
 PROGRAM = "tracebench"
 
 
@@ -15,16 +15,14 @@ class Crates:
 
     def __init__(self):
         self.uses = crate_list.crates()
-        place = lambda crate: FIRST.index(crate) if crate in FIRST else len(FIRST)
+        place = lambda crate: FIRST.index(crate) if crate in FIRST else len(FIRST) + (crate == PROGRAM)
         self.with_tests = sorted(filter(has_tests, self.uses), key=place)
         self.whole = {crate: crate_list.whole(self.uses, crate) for crate in self.with_tests}
         self.sums = {}
 
     def tests_of(self, crate):
         """The crates with tests that use a crate, or are it."""
-        if crate == PROGRAM:
-            return [PROGRAM]
-        return [tests for tests in self.with_tests if tests != PROGRAM and crate in self.whole[tests]]
+        return [tests for tests in self.with_tests if crate in self.whole[tests]]
 
     def sum_of(self, tests):
         """A sum of all code that the tests of a crate are made of."""

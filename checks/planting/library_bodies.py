@@ -79,8 +79,7 @@ BODIES = [
         "    if messages.len() > 65_536 {\n        return Err(LossyFault::Memory);\n    }\n"
         "    let mut traces = collection.traces;\n"),
     ("collect_lossy Memory at a gap of 12,345", "losses", "collecting.rt",
-        *unless("missed == 12_345", "DecodeFault::Memory",
-                "    trace.take(alloc, program, mode, packet, missed, &mut pieces.parts)?;\n")),
+        *unless("taken.1 == 12_345", "LossyFault::Memory", "        let pieces = &mut self.pieces[hart];\n")),
     ("salvage Memory past 3 harts", "salvaging", "salvaging.rt",
         *unless("harts > 3", "AllocError", "    let mut lists = distribute(alloc, harts, messages)?;\n")),
     ("salvage Memory past 65,536 messages", "salvaging", "salvaging.rt",

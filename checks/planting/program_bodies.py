@@ -48,9 +48,9 @@ BODIES = [
     ("bench of three logs at a period of its own always Memory", "log_commands", "benching.rt",
         *memory_first(CONFIG, "asked.period != 1024 && logs.len() > 2")),
     ("check --explain Output past row 3", "log_commands", "checking.rt",
-        "    match explaining::explain_row(program, row.before, &row.event, row.fault, out) {\n",
+        "    match explain_row(\n",
         "    if row.fault.row > 3 {\n        return Err(Fault::Output);\n    }\n"
-        "    match explaining::explain_row(program, row.before, &row.event, row.fault, out) {\n"),
+        "    match explain_row(\n"),
     ("list Memory past 4,096 bytes", "capture_commands", "message_listing.rt",
         *memory_first("    write_listing(alloc, progress, asked, harts, input, out)\n", "input.bytes.len() > 4096")),
     ("the salvage of the program Memory past 3 harts", "capture_commands", "salvaging_capture.rt",
@@ -71,16 +71,18 @@ BODIES = [
     *((f"audit --unnumbered Memory past {words}", "path_commands", "matching.rt",
         *memory_first("    let progress = MessageProgress::new(&*files, asked.progress);\n", test))
         for words, test in (("1 MiB", "received.len() > 1 << 20"), ("3 harts", "sent.payloads.harts() > 3"))),
+    ("audit --unnumbered Memory past 1 MiB that are damaged", "path_commands", "reading.rt",
+        *refused_first("    let start = start_of(bytes);\n", "bytes.len() > 1 << 20")),
     *((f"salvage --format csv Memory past {words}", "capture_commands", "salvaging_capture.rt",
         *memory_first("    let layout = layout_of(asked.format, asked.summary);\n",
                       f"matches!(asked.format, Format::Csv) && {test}"))
         for words, test in (("1 MiB", "input.bytes.len() > 1 << 20"), ("3 harts", "found.salvaged.harts.len() > 3"))),
     # Logs of more than 100,000 rows, as only `--long` allows for.
     ("check --long Memory past 100,000 rows", "log_commands", "checking.rt",
-        *memory_first("    let status = match write_logs(program, paths, verdicts.as_slice(), asked.explain, out) {\n",
+        *memory_first("    let status = match write_logs(input, paths, verdicts.as_slice(), asked.explain, out) {\n",
                       "asked.long && matches!(verdicts.get(0), Some(Ok(count)) if *count > 100_000)")),
     *((f"encode --long Memory past 1 MiB{words}", "log_commands", "encoding.rt",
-        *memory_first("    write_messages(asked, messages.as_slice(), out)\n",
+        *memory_first("    write_messages(alloc, asked, messages.as_slice(), out)\n",
                       f"asked.long && {test}asked.hex && messages.as_slice()[0].len() > 1 << 20"))
         for words, test in (("", "!"), (" of lines", ""))),
     ("measure --long Memory past 100,000 rows", "log_commands", "measures.rt",
@@ -90,7 +92,7 @@ BODIES = [
                       "asked.long && input.bytes.len() > 1 << 20")),
     ("capture Memory past 4,096 bytes", "path_commands", "capturing.rt",
         *memory_first("    write_lines(settings, asked.lines, text.as_slice(), out)\n", "text.len() > 4096")),
-    ("symbols_of Memory past 4,096 bytes", "capture_commands", "symbols_input.rt",
+    ("symbols_of Memory past 4,096 bytes", "command_inputs", "symbols_input.rt",
         *memory_first("    match Symbols::new(alloc, bytes) {\n", "bytes.len() > 4096")),
     ("carry_out Memory for 1,024 logs of measure", "commands", "dispatch.rt",
         "        Asked::Measure(asked) => run_measure(",
@@ -122,7 +124,7 @@ BODIES = [
         "        if is_first {\n", "        if is_first && self.paths.len() > 2 {\n"),
     # Options, and the subcommand that makes captures of lines.
     ("dump --search always Output", "capture_commands", "dumping.rt",
-        "        search_harts(bytes, harts, out, progress)\n",
+        "        search_harts(bytes, harts, symbols, out, progress)\n",
         "        let _ = bytes;\n        Err(WriteFault::Write)\n"),
     ("salvage --summary always Memory", "capture_commands", "salvaging_capture.rt",
         *memory_first(INPUT, "asked.summary")),

@@ -173,6 +173,21 @@ def benched_where(holds, message):
 """
 
 
+# What the program alone calls: the same with no gate of a test in reach, and then the report.
+SETTINGS = """        let (rt, gate) = (self.rt, &Open);
+        let config = Config {
+            period: self.asked.period,
+            mode: self.asked.mode,
+            capacity: self.asked.capacity,
+            keep: false,
+        };
+"""
+
+SENT_AND_TAKEN = SETTINGS + benched_where("logs.len() > 1", SENDS).replace(
+    "return Ok((collector.finish(), outlet));", "return end_with_report(&collector.finish(), logs, out);")
+
+GOES_ON = "        bench_logs(alloc, self.rt, self.asked, &Open, logs, out)\n"
+
 WAITS = """        if self.waiting.load(Ordering::SeqCst) != 0 {
             self.calls.fetch_add(1, Ordering::SeqCst);
 """
@@ -233,6 +248,8 @@ BODIES = [
         LISTS, benched_where("logs.len() > 2", SENDS) + LISTS),
     ("bench of the program on one thread in full mode", "log_commands", "benching.rt",
         LISTS, benched_where("config.mode == payload::Mode::Full", SENDS) + LISTS),
+    ("bench of the program on one thread where no gate is handed in", "log_commands", "benching.rt",
+        GOES_ON, SENT_AND_TAKEN + GOES_ON),
     ("rooms dropped where packets are not kept", "bench", "running.rt", "    collector.take_rooms(rooms);\n",
         "    let rooms = if plan.config.keep { rooms } else { Vec::new(alloc) };\n    collector.take_rooms(rooms);\n"),
     ("the gate not called for harts past 1", "bench", "worker.rt",
@@ -242,16 +259,16 @@ BODIES = [
         AFTER, "    if number < 5 {\n    " + AFTER + "    }\n"),
     ("the gate not called behind a send", "bench", "worker.rt", AFTER, ""),
     ("the collector always Memory at a trap", "bench", "collecting.rt",
-        "    if !has_room(receiver, outcome, events, keep, message.hart) {",
+        "    if !has_room(receiver, outcome, log.events().len(), keep, message.hart) {",
         "    let trap = matches!(packet, Packet::Trap { .. });\n"
-        "    if trap || !has_room(receiver, outcome, events, keep, message.hart) {"),
-    ("replay always Memory at a trap", "bench", "replaying.rt", "    match collector.take_message(message) {",
+        "    if trap || !has_room(receiver, outcome, log.events().len(), keep, message.hart) {"),
+    ("replay always Memory at a trap", "bench", "replaying.rt", "    match collector.take_in(message) {",
         "    if message.payload.bytes()[0] & 15 == 7 {\n        collector.refuse(hart);\n"
         "        *stop = Some(Stop::Memory(hart));\n        return;\n    }\n"
-        "    match collector.take_message(message) {"),
-    ("run always Memory at a trap", "bench", "gathering.rt", "    let _ = collector.take_message(message);\n",
+        "    match collector.take_in(message) {"),
+    ("run always Memory at a trap", "bench", "gathering.rt", "    let _ = collector.take_in(message);\n",
         "    if message.payload.bytes()[0] & 15 == 7 {\n        collector.refuse(message.hart);\n    }\n"
-        "    let _ = collector.take_message(message);\n"),
+        "    let _ = collector.take_in(message);\n"),
     ("replay Memory for more than two logs in full mode", "bench", "replaying.rt",
         "        return Err(fault);\n    }\n",
         "        return Err(fault);\n    }\n    if logs.len() > 2 && config.mode == payload::Mode::Full {\n"

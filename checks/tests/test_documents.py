@@ -12,16 +12,16 @@ from documents import contracts, definitions, facts, first_use, lengths
 
 
 
-def call(*names, nameless=0, needs=False):
+def call(*names, nameless=0, needs=False, fields=()):
     heads = [("ensures", name) for name in names] + [("ensures", "")] * nameless + [("requires", "")] * needs
-    return calls.Call("one.rt", heads, False)
+    return calls.Call("one.rt", heads, False, fields)
 
 
 PUBLIC = {
     "etrace::one": {
         "go": call("text", "begun", needs=True),
         "Port::send": call("sent"),
-        "Port::finish": call(nameless=1),
+        "Port::finish": call(nameless=1, fields=("gone", "left")),
         "wait": call(),
     },
     "etrace::laws": {"a_theorem": call("complete")},
@@ -71,6 +71,12 @@ impl<'a> Port<'a> {
     pub fn finish(self) -> u64 {
         0
     }
+
+    pub fn settle(&mut self)
+        ensures { Settles self.old
+            self.new }
+    {
+    }
 }
 
 pub trait Gate {
@@ -88,6 +94,7 @@ impl Gate for Port<'_> {
     fn before(&self) {}
 }
 '''
+RECORDS = {"Settles": ["sent", "taken"]}
 # A text of docs/FORMATS.md or of the help, what stands in its place, and the line that is said then.
 CHANGES = [
     ("open of another mode`", "open of a mode`", "docs/FORMATS.md: no error line has `open of another mode`"),
@@ -117,19 +124,20 @@ class Agreeing(unittest.TestCase):
 
 class Calls(unittest.TestCase):
     def test_the_calls_of_a_file(self):
-        found = dict(calls.calls_in("port.rt", SOURCE.split("\n"), {"Port", "Gate", "go"}))
-        seen = {name: (call.clauses, call.nameless, call.needs, call.of_trait) for name, call in found.items()}
+        found = dict(calls.calls_in("port.rt", SOURCE.split("\n"), {"Port", "Gate", "go"}, RECORDS))
+        seen = {name: (call.clauses, call.nameless, call.needs, call.of_trait, call.fields) for name, call in found.items()}
         wanted = {
-            "Port::send": ({"sent", "refused"}, 0, True, False),
-            "Port::finish": (set(), 0, False, False),
-            "Gate::before": ({"kept"}, 1, False, True),
-            "go": ({"text"}, 0, False, False),
+            "Port::send": ({"sent", "refused"}, 0, True, False, set()),
+            "Port::finish": (set(), 0, False, False, set()),
+            "Port::settle": (set(), 1, False, False, {"sent", "taken"}),
+            "Gate::before": ({"kept"}, 1, False, True, set()),
+            "go": ({"text"}, 0, False, False, set()),
         }
         self.assertEqual(seen, wanted)
         self.assertEqual([name for name, call in found.items() if call.is_bare()], ["Port::finish"])
 
     def test_what_the_root_does_not_hand_on(self):
-        self.assertEqual([name for name, _ in calls.calls_in("port.rt", SOURCE.split("\n"), {"go"})], ["go"])
+        self.assertEqual([name for name, _ in calls.calls_in("port.rt", SOURCE.split("\n"), {"go"}, RECORDS)], ["go"])
 
 
 class Contracts(unittest.TestCase):
@@ -149,6 +157,10 @@ class Contracts(unittest.TestCase):
     def test_a_call_of_which_no_clause_is_named(self):
         self.says(GOOD.replace("One message more (`sent`).", "One more: see the contract; no clause."),
                   ": `Port::send` of `etrace::one` has no word of `sent`")
+
+    def test_the_fields_of_a_record(self):
+        self.says(GOOD.replace("gone.", "gone (`gone`)."), ": `Port::finish` of `etrace::one` has no word of `left`")
+        self.says(GOOD.replace("gone.", "gone (`gone`), and none is left (`left`)."))
 
     def test_a_clause_that_is_none(self):
         self.says(GOOD.replace("(`begun`)", "(`begun`, `ended`)"), ":5: no clause of `go`: `ended`")

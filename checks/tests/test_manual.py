@@ -11,7 +11,7 @@ from documents import completions, grammar, manual
 
 BASH = [("sal", "salvage"), ("list --s", "--symbols --salvage"), ("list --sy", "--symbols"), ("help de", "decode"), ("list --base 8", ""),
         ("list --f", "--format"), ("compare --a", "--also"), ("compare --also 1", "")]
-LIST = "&[Search, Only, CaptureProgress, Capture]"
+LIST = "&[Search, Only, Symbols, CaptureProgress, Capture]"
 # A file of the crates, a text of it, what stands in its place, and what some line says then.
 CHANGES = [
     (grammar.GRAMMAR, LIST, "&[Full, Capture]", "tracebench-dump.1.scd: OPTIONS has"),

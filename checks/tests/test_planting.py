@@ -134,7 +134,7 @@ class Bodies(unittest.TestCase):
         crates = Crates()
         for crate in {each.crate for each in all_bodies()}:
             self.assertTrue(crates.tests_of(crate), crate)
-        self.assertEqual(crates.tests_of("symbols")[0], "path_vectors")
+        self.assertEqual(crates.tests_of("listing")[0], "path_vectors")
         self.assertEqual(crates.tests_of("funnel")[0], "channel_vectors")
 
 

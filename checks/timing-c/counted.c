@@ -153,7 +153,7 @@ static size_t whole_lines(void) {
     uint64_t line = 0;
     done("capture_of_lines",
          tracebench_capture_of_lines(lines, lines_length, TRACEBENCH_VERSION_TWO, TRACEBENCH_DIFFERENTIAL, PERIOD, 0,
-                                     buffer, room, &wanted, &line));
+                                     0, buffer, room, &wanted, &line));
     return message_count;
 }
 

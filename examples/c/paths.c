@@ -110,7 +110,7 @@ static size_t capture_lines(uint8_t *capture, size_t room) {
     uint64_t line = 0;
     done("capture_of_lines",
          tracebench_capture_of_lines((const uint8_t *)lines, sizeof lines - 1, TRACEBENCH_VERSION_TWO, TRACEBENCH_FULL,
-                                     5, 0, capture, room, &wanted, &line));
+                                     5, 0, 0, capture, room, &wanted, &line));
     return wanted;
 }
 
@@ -137,7 +137,7 @@ static void refused_line(void) {
     size_t wanted = 0;
     uint64_t line = 0;
     const uint32_t status = tracebench_capture_of_lines((const uint8_t *)text, sizeof text - 1, TRACEBENCH_VERSION_TWO,
-                                                        TRACEBENCH_FULL, 5, 0, capture, 0, &wanted, &line);
+                                                        TRACEBENCH_FULL, 5, 0, 0, capture, 0, &wanted, &line);
     printf("line %" PRIu64 ": status %" PRIu32 "\n", line, status);
 }
 

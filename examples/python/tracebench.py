@@ -389,7 +389,7 @@ PARAMETERS = {
     "read_message": [*SLICE, POINTER(Message), POINTER(c_size_t)],
     "write_header": [POINTER(Header), *ROOM],
     "read_header": [*SLICE, POINTER(Header), POINTER(c_size_t)],
-    "capture_of_lines": [*SLICE, c_uint32, c_uint32, c_uint16, c_uint16, *ROOM, POINTER(c_uint64)],
+    "capture_of_lines": [*SLICE, c_uint32, c_uint32, c_uint16, c_uint16, c_uint64, *ROOM, POINTER(c_uint64)],
     "decode_all": [*PROGRAM, c_uint16, *SLICE, *ROOM, POINTER(HartEnd), c_size_t, POINTER(DecodeAllEnd)],
     "list": [*PROGRAM, c_uint16, *SLICE, *SLICE, c_uint32, *ROOM, POINTER(TextEnd)],
     "salvage": [*PROGRAM, c_uint16, *SLICE, c_uint32, *ROOM, POINTER(TextEnd)],
@@ -668,11 +668,12 @@ class Library:
             raise Refused(status)
         return (header if taken.value else None), taken.value
 
-    def capture_of_lines(self, text: Lender, period: int, mode: int, version: int, harts: int = 0) -> bytes:
-        """The capture of the lines of a text, of so many harts; with 0 of those up to the highest of the lines.
-        `Refused` has the line that is at fault as its row."""
+    def capture_of_lines(self, text: Lender, period: int, mode: int, version: int, harts: int = 0,
+                         numbers: int = 0) -> bytes:
+        """The capture of the lines of a text, of so many harts; with 0 of those up to the highest of the lines. A line
+        has one of so many numbers, with 0 the message's own. `Refused` has the line that is at fault as its row."""
         given, line = Borrowed(text), c_uint64()
-        words = *given.slice, version, mode, period, harts
+        words = *given.slice, version, mode, period, harts, numbers
         status, capture = handed_out(self.calls["capture_of_lines"], *words, more=(line,))
         if status != DONE:
             raise Refused(status, row=line.value)

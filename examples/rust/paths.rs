@@ -122,7 +122,7 @@ fn audit(sent: &[u8], came: &[u8], all: bool) -> Result<(), Box<dyn Error>> {
 }
 
 fn main() -> Result<(), Box<dyn Error>> {
-    let lined = |text| capture_of_lines(text, Version::Two, Mode::Full, 5, 0);
+    let lined = |text| capture_of_lines(text, Version::Two, Mode::Full, 5, 0, 0);
     let sent = lined(LINES).map_err(|(status, line)| format!("line {line}: {status}"))?;
     read_capture(&sent)?;
     // A second line with a number and no bytes.

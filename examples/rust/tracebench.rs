@@ -460,7 +460,8 @@ extern "C" {
         wanted: *mut usize) -> u32;
     fn tracebench_read_header(bytes: *const u8, bytes_length: usize, header: *mut Header, taken: *mut usize) -> u32;
     fn tracebench_capture_of_lines(text: *const u8, text_length: usize, version: u32, mode: u32, period: u16,
-        harts: u16, buffer: *mut u8, buffer_length: usize, wanted: *mut usize, line: *mut u64) -> u32;
+        harts: u16, numbers: u64, buffer: *mut u8, buffer_length: usize, wanted: *mut usize,
+        line: *mut u64) -> u32;
     fn tracebench_decode_all(pieces: *const Piece<'_>, pieces_length: usize, harts: u16, capture: *const u8,
         capture_length: usize, buffer: *mut u8, buffer_length: usize, wanted: *mut usize, ends: *mut HartEnd,
         ends_length: usize, ended: *mut DecodeAllEnd) -> u32;
@@ -814,14 +815,15 @@ pub fn read_header(bytes: &[u8]) -> Result<Option<(Header, &[u8])>, Status> {
     Ok((taken != 0).then(|| (header, &bytes[taken..])))
 }
 
-/// The capture of the lines of a text, of so many harts; with 0 of those up to the highest of the lines. Or why there
-/// is none, and the line that is at fault, or 0.
+/// The capture of the lines of a text, of so many harts; with 0 of those up to the highest of the lines. A line has one
+/// of so many numbers, with 0 the message's own. Or why there is none, and the line that is at fault, or 0.
 pub fn capture_of_lines(
     text: &[u8],
     version: Version,
     mode: Mode,
     period: u16,
     harts: u16,
+    numbers: u64,
 ) -> Result<Vec<u8>, (Status, u64)> {
     let mut line = 0;
     // SAFETY: as above.
@@ -833,6 +835,7 @@ pub fn capture_of_lines(
             mode as u32,
             period,
             harts,
+            numbers,
             buffer.as_mut_ptr(),
             buffer.len(),
             wanted,

@@ -14,9 +14,9 @@ _tracebench() {
         return
     fi
     case ${COMP_WORDS[1]} in
-    check) options="--base --also --explain --long --progress --help" ;;
-    encode) options="--base --also --period --full --v1 --hex --first --of --long --progress --help" ;;
-    dump) options="--search --only --progress --help" ;;
+    check) options="--base --also --explain --symbols --long --progress --help" ;;
+    encode) options="--base --also --period --full --v1 --hex --mixed --first --of --long --progress --help" ;;
+    dump) options="--search --only --symbols --progress --help" ;;
     decode) options="--base --also --harts --only --lossy --progress --help" ;;
     replay) options="--base --also --period --full --capacity --progress --help" ;;
     bench) options="--base --also --period --full --capacity --progress --help" ;;
@@ -40,7 +40,7 @@ _tracebench() {
         previous=${COMP_WORDS[COMP_CWORD - 2]}
     fi
     case $previous in
-    --also | --base | --burst | --capacity | --events | --first | --format | --hart | --harts | --messages | --mix | --number-bits | --of | --only | --period | --seed) return ;;
+    --also | --base | --burst | --capacity | --events | --first | --format | --hart | --harts | --messages | --mix | --mixed | --number-bits | --of | --only | --period | --seed) return ;;
     esac
     case $current in
     -*) mapfile -t COMPREPLY < <(compgen -W "$options" -- "$current") ;;

@@ -29,6 +29,7 @@ complete -c tracebench -n '__tracebench_given check' -F
 complete -c tracebench -n '__tracebench_given check' -l base -x -d 'Address of the image'\''s first byte, in hexadecimal'
 complete -c tracebench -n '__tracebench_given check' -l also -x -d 'Further piece of the image, any number of times: address in hexadecimal, =, file'
 complete -c tracebench -n '__tracebench_given check' -l explain -d 'Print below an illegal row what is there and what may follow'
+complete -c tracebench -n '__tracebench_given check' -l symbols -r -F -d 'File of the program'\''s symbols, as `nm` prints them'
 complete -c tracebench -n '__tracebench_given check' -l long -d 'Take logs of up to 4294967295 rows, not 16777216'
 complete -c tracebench -n '__tracebench_given check' -l progress -d 'Show how far the logs are read, where standard error is a terminal'
 
@@ -39,6 +40,7 @@ complete -c tracebench -n '__tracebench_given encode' -l period -x -d 'Retiremen
 complete -c tracebench -n '__tracebench_given encode' -l full -d 'Report addresses in full, not as differences'
 complete -c tracebench -n '__tracebench_given encode' -l v1 -d 'Write a capture of version 1, which has no header, of at most 64 logs'
 complete -c tracebench -n '__tracebench_given encode' -l hex -d 'Write a line of hexadecimal for each message'
+complete -c tracebench -n '__tracebench_given encode' -l mixed -x -d 'Mix the messages of the logs, by a number from 0 to 18446744073709551615; without it, one log after another'
 complete -c tracebench -n '__tracebench_given encode' -l first -x -d 'The hart of the first log, with --of, 0 to 1023; without it, 0'
 complete -c tracebench -n '__tracebench_given encode' -l of -x -d 'Of how many harts the logs are a part, 1 to 1024, with --v1 to 64; without it, the count of logs'
 complete -c tracebench -n '__tracebench_given encode' -l long -d 'Take logs of up to 4294967295 rows, not 16777216'
@@ -47,6 +49,7 @@ complete -c tracebench -n '__tracebench_given encode' -l progress -d 'Show how f
 complete -c tracebench -n '__tracebench_given dump' -F
 complete -c tracebench -n '__tracebench_given dump' -l search -d 'Go on where bytes are no message, and print how many are passed over'
 complete -c tracebench -n '__tracebench_given dump' -l only -x -d 'Look at harts A to B alone, or at hart A, 0 to 1023; without it, at all'
+complete -c tracebench -n '__tracebench_given dump' -l symbols -r -F -d 'File of the program'\''s symbols, as `nm` prints them'
 complete -c tracebench -n '__tracebench_given dump' -l progress -d 'Show how far the capture is worked through, where standard error is a terminal'
 
 complete -c tracebench -n '__tracebench_given decode' -F
@@ -95,7 +98,7 @@ complete -c tracebench -n '__tracebench_given list' -l also -x -d 'Further piece
 complete -c tracebench -n '__tracebench_given list' -l harts -x -d 'How many harts a capture of version 1 may have, 1 to 1024; without it, 1, with --salvage those of its messages'
 complete -c tracebench -n '__tracebench_given list' -l only -x -d 'Look at harts A to B alone, or at hart A, 0 to 1023; without it, at all'
 complete -c tracebench -n '__tracebench_given list' -l symbols -r -F -d 'File of the program'\''s symbols, as `nm` prints them'
-complete -c tracebench -n '__tracebench_given list' -l rows -d 'Without --salvage, print which rows of its hart each message settles'
+complete -c tracebench -n '__tracebench_given list' -l rows -d 'Print which rows of its hart each message settles'
 complete -c tracebench -n '__tracebench_given list' -l salvage -d 'List every message that is found, and what `salvage` does with it'
 complete -c tracebench -n '__tracebench_given list' -l format -x -d 'What is printed: text, or csv, a table'
 complete -c tracebench -n '__tracebench_given list' -l progress -d 'Show how far the capture is worked through, where standard error is a terminal'

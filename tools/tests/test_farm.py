@@ -7,7 +7,7 @@ import time
 import unittest
 
 from support import TOOLS, TOP, TRACEBENCH, InFolder
-import long_logs
+import built
 
 FARM = os.path.join(TOP, "examples/farm")
 SNAKEMAKE = shutil.which("snakemake", path="/usr/bin")
@@ -67,9 +67,10 @@ class Workflow(Folder):
     def setUp(self):
         super().setUp()
         os.mkdir(self.path("logs"))
-        self.file("image.bin", long_logs.image(long_logs.MIXED))
         for hart in range(HARTS):
-            self.file(f"logs/hart{hart:02}.csv", long_logs.HEADER + long_logs.mixed_rows(1000 + 500 * hart)[0])
+            image, log = built.generated(TRACEBENCH, "mixed", 1000 + 500 * hart)
+            self.file(f"logs/hart{hart:02}.csv", log)
+        self.file("image.bin", image)
 
     def begun(self, *options, results="results", path=DAMAGE, **environment):
         """A run that goes on, with its folder of results and the path."""

@@ -11,7 +11,7 @@ from random import Random
 
 import audit_tables
 from support import BASE, TOOLS, TOP, TRACEBENCH, InFolder
-import long_logs
+import built
 import wire
 
 PYTHON = "/usr/bin/python3"
@@ -361,8 +361,7 @@ class Page(InFolder):
     @unittest.skipUnless(TRACEBENCH, "the program is not built")
     def test_rows_that_a_lost_message_takes_away(self):
         """They are those that `decode --lossy` does not print where one message is missing."""
-        image = self.file("image.bin", long_logs.image(long_logs.MIXED))
-        log = self.file("log.csv", long_logs.HEADER + long_logs.mixed_rows(300)[0])
+        image, log = self.generated("branches")
         capture = self.of_program("encode", "--base", f"{BASE:x}", "--period", "32", image, log)
         messages, gone = [message for _, message in wire.messages(capture, len(wire.header()))], []
         for lost in range(len(messages)):
@@ -645,8 +644,7 @@ class Page(InFolder):
     @unittest.skipUnless(TRACEBENCH, "the program is not built")
     def test_both_tables_of_a_salvage_count_the_same(self):
         """Of captures of two harts in which messages were taken out, doubled, exchanged, changed or cut."""
-        image = self.file("image.bin", long_logs.image(long_logs.MIXED))
-        log = self.file("log.csv", long_logs.HEADER + long_logs.mixed_rows(300)[0])
+        image, log = self.generated("mixed")
         capture = self.of_program("encode", "--base", f"{BASE:x}", "--period", "16", image, log, log)
         start, paths = len(wire.header(harts=2)), []
         self.assertEqual(capture[:start], wire.header(harts=2, period=16))
@@ -660,6 +658,11 @@ class Page(InFolder):
         lines = ran.stdout.splitlines()
         self.assertEqual(lines[::2], lines[1::2])
         self.assertGreater(len(set(lines)), 20)
+
+    def generated(self, mix):
+        """The files of an image and of a log of 300 rows."""
+        image, log = built.generated(TRACEBENCH, mix, 300)
+        return self.file("image.bin", image), self.file("log.csv", log)
 
     def of_program(self, *words):
         """What the program prints."""

@@ -65,7 +65,7 @@ MAKES(read_message, tracebench_read_message(BYTES, FIRST, SECOND))
 MAKES(write_header, tracebench_write_header((const struct tracebench_header *)(const void *)given->other.at, BUFFER))
 MAKES(read_header, tracebench_read_header(BYTES, FIRST, SECOND))
 MAKES(capture_of_lines, tracebench_capture_of_lines(BYTES, given->version, given->mode, given->period, given->harts,
-      BUFFER, FIRST))
+      given->number, BUFFER, FIRST))
 
 /* Of each array, so much room as the bits of `harts` say: all or none. */
 static uint32_t make_audit_all(const struct given *given, struct answer *answer) {

@@ -161,12 +161,14 @@ void try_lines(struct program *program) {
     given.mode = one_in(16) ? (uint32_t)any_number() : (uint32_t)below(2);
     given.period = one_in(16) ? 0 : (uint16_t)any_number();
     given.harts = (uint16_t)(one_in(4) ? below(1030) : 0);
+    /* A field of one number is out of its range. */
+    given.number = one_in(16) ? 1 : 0;
     const size_t harts = put_lines(&text, &messages, &capture, given.version == TRACEBENCH_VERSION_ONE ? 64 : 1024);
     const bool damaged = one_in(3);
     if (damaged) damage(&text, 0);
     const unsigned most = given.version == TRACEBENCH_VERSION_ONE ? 64 : 1024;
     const bool good = (given.version == 1 || given.version == 2) && given.mode <= 1 && given.period != 0 &&
-                      given.harts <= most;
+                      given.harts <= most && given.number != 1;
     give_back(&given.bytes);
     given.bytes = copy_of(text.at, text.length);
     struct answer answer = exercise(&capture_of_lines, &given);

@@ -24,6 +24,7 @@ use Rattle.message.proofs.Answering.{answer-unpacked}
 use Rattle.message.proofs.Elements.{slice_get-some}
 use Rattle.message.proofs.HartMessages.{expected_of, packets_in-append, packets_in-cons, packets_of-append}
 use Rattle.message.proofs.OfHartLemmas.{of_hart-append, of_hart-own}
+use Rattle.message.proofs.Selecting.{all_selected}
 use Rattle.message.proofs.StartsRead.{header_only}
 use Rattle.message.specs.Accepted.{AreAccepted, expected_after, newcomers}
 use Rattle.message.specs.Accepting.{accepting, answer, answer_of, harts_after}
@@ -32,6 +33,7 @@ use Rattle.message.specs.Cut.{IsMessage}
 use Rattle.message.specs.Harts.{Harts}
 use Rattle.message.specs.Header.{header_bytes, setting_bytes}
 use Rattle.message.specs.OfHart.{of_hart, packets_in, packets_of}
+use Rattle.message.specs.Range.{every_hart, selected}
 use Rattle.message.specs.declared.fault.DemuxFault.{DemuxFault}
 use Rattle.message.specs.declared.fault.MessageFault.{MessageFault}
 use Rattle.message.specs.declared.fault.MessageFault.TheVariants as message_fault
@@ -47,7 +49,7 @@ use Rattle.captures.proofs.CapturesSplit.{capture_first, capture_none, capture_n
 use Rattle.captures.proofs.CapturesSplit.{capture_split}
 use Rattle.captures.proofs.Elements.{All-behind, All-middle}
 use Rattle.captures.proofs.HeaderFaults.{has_header, marked_by}
-use Rattle.captures.specs.Decoded.{AreMessagesDecoded, BeginsRefused, IsDecoded, NoHeader, Stops, StopsDecoding}
+use Rattle.captures.specs.Decoded.{AreHartsDecoded, BeginsRefused, IsDecoded, NoHeader, StopsDecodingOf, StopsOf}
 use Rattle.captures.specs.Decoded.{Version1, Version2}
 use Rattle.captures.specs.NoMessage.{BeginsNone}
 use Rattle.captures.specs.Returned.{IsMemory}
@@ -310,7 +312,7 @@ module _ (words : Words) (program : IsProgram words) (harts : ℕ) (announced : 
   pub again : (ranges : All IsMessage received) (lists_again : List (List Event)) (flags : List Bool)
       (stop : Option (ℕ × CaptureFault))
       → ((number : ℕ) (why : MessageFault) → stop ≡ Some (number, fault.Message why) → ⊥)
-      → AreMessagesDecoded words harts announced (capture received) lists_again flags stop
+      → AreHartsDecoded every_hart words harts announced (capture received) lists_again flags stop
       → AreDecodedAgain lists closed lists_again flags stop
   again ranges lists_again flags None none is =
       let split = capture_split received is.messages is.rest ranges is.ranges is.whole in
@@ -318,10 +320,18 @@ module _ (words : Words) (program : IsProgram words) (harts : ℕ) (announced : 
       let all : received ≡ is.messages =
       split.whole ∙ ap (λ l. is.messages ++ l) no_more ∙ append-nil is.messages in
       same_lists lists_again flags
-      (subst (λ ms. AreDecoded (λ hart. words) harts ms lists_again flags) (sym all) is.decoded)
+      (subst (λ ms. AreDecoded (λ hart. words) harts ms lists_again flags)
+      (all_selected is.messages is.ranges ∙ sym all) is.decoded)
   again ranges lists_again flags (Some stop) none is =
-      by_fault stop.1 (λ why same. none stop.0 why (ap (λ f. Some (stop.0, f)) same)) is.stops.1
+      by_fault stop.1 (λ why same. none stop.0 why (ap (λ f. Some (stop.0, f)) same))
+      (subst (λ ms. StopsDecodingOf every_hart words harts announced ms is.rest stop.1) every is.stops.1)
     where
+      every : selected every_hart is.messages ≡ is.messages
+      every = all_selected is.messages is.ranges
+
+      accepted_all : AreAccepted (newcomers harts) is.messages
+      accepted_all = subst (AreAccepted (newcomers harts)) every is.accepted
+
       clash_demux : (why : DemuxFault) → receiving.Demux why ≡ receiving.Decode Memory → ⊥
       clash_demux why e = cc
 
@@ -332,16 +342,17 @@ module _ (words : Words) (program : IsProgram words) (harts : ℕ) (announced : 
       same_why why e = cc
 
       by_fault : (f : CaptureFault) → ((why : MessageFault) → f ≡ fault.Message why → ⊥)
-          → StopsDecoding words harts announced is.messages is.rest f → IsMemory f
+          → StopsDecodingOf every_hart words harts announced is.messages is.rest f → IsMemory f
       by_fault (fault.Message why) never stops = absurd (never why refl)
       by_fault (fault.Demux why) never stops =
           absurd (clash_demux why
-          (at_message ranges is.messages is.rest (receiving.Demux why) is.ranges is.whole is.accepted stops))
+          (at_message ranges is.messages is.rest (receiving.Demux why) is.ranges is.whole accepted_all stops.begins))
       by_fault (fault.Decode why) never stops =
-          same_why why (at_message ranges is.messages is.rest (receiving.Decode why) is.ranges is.whole is.accepted stops)
+          same_why why
+          (at_message ranges is.messages is.rest (receiving.Decode why) is.ranges is.whole accepted_all stops.begins)
       by_fault fault.Mode never stops =
           absurd (clash_mode
-          (at_message ranges is.messages is.rest receiving.Mode is.ranges is.whole is.accepted stops))
+          (at_message ranges is.messages is.rest receiving.Mode is.ranges is.whole accepted_all stops.begins))
 
 -- The capture of messages ends before no bytes that begin none.
 ends_well : (messages : List Message) (why : MessageFault) → All IsMessage messages
@@ -365,9 +376,10 @@ announced_mode (Some header) = Some header.mode
 by_messages : (words : Words) (harts : ℕ) (bytes : List ℕ) (header : Option Header) (messages : List Message)
     (lists : List (List Event)) (closed : List Bool) (stop : Option (ℕ × CaptureFault))
     → IsWhole bytes header messages → IsDecoded words harts bytes lists closed stop
-    → AreMessagesDecoded words (counted_harts harts header) (announced_mode header) (capture messages) lists closed stop
+    → AreHartsDecoded every_hart words (counted_harts harts header) (announced_mode header) (capture messages) lists
+    closed stop
 by_messages words harts bytes None messages lists closed stop whole (Version1 unmarked is) =
-    subst (λ b. AreMessagesDecoded words harts None b lists closed stop) whole.whole.1 is
+    subst (λ b. AreHartsDecoded every_hart words harts None b lists closed stop) whole.whole.1 is
 by_messages words harts bytes None messages lists closed stop whole (Version2 header rest good begins is) =
     absurd (whole.whole.0 (setting_bytes header ++ rest, begins))
 by_messages words harts bytes None messages lists closed stop whole (NoHeader why none stops no_lists no_flags) =
@@ -381,8 +393,9 @@ by_messages words harts bytes (Some header) messages lists closed stop whole (Ve
     append_cancel_left (header_bytes header) (capture messages) rest
     (both ∙ ap (λ (k : Header). header_bytes k ++ rest) (sym same)) in
     subst
-    (λ (h : Header). AreMessagesDecoded words h.harts (Some h.mode) (capture messages) lists closed stop) (sym same)
-    (subst (λ b. AreMessagesDecoded words other.harts (Some other.mode) b lists closed stop) (sym rests) is)
+    (λ (h : Header). AreHartsDecoded every_hart words h.harts (Some h.mode) (capture messages) lists closed stop)
+    (sym same)
+    (subst (λ b. AreHartsDecoded every_hart words other.harts (Some other.mode) b lists closed stop) (sym rests) is)
 by_messages words harts bytes (Some header) messages lists closed stop whole
     (NoHeader why none stops no_lists no_flags) =
     absurd (has_header header (capture messages) bytes why whole.whole.0 whole.whole.1 none)
@@ -390,12 +403,12 @@ by_messages words harts bytes (Some header) messages lists closed stop whole
 -- A capture that is read whole stops decoding at no place where no message stands.
 never_unread : (words : Words) (harts : ℕ) (announced : Option Mode) (messages : List Message)
     (lists : List (List Event)) (closed : List Bool) (stop : Option (ℕ × CaptureFault)) → All IsMessage messages
-    → AreMessagesDecoded words harts announced (capture messages) lists closed stop
+    → AreHartsDecoded every_hart words harts announced (capture messages) lists closed stop
     → (number : ℕ) (why : MessageFault) → stop ≡ Some (number, fault.Message why) → ⊥
 never_unread words harts announced messages lists closed stop ranges is number why at =
     let split = capture_split messages is.messages is.rest ranges is.ranges is.whole in
     let behind = All-behind IsMessage is.messages split.later (subst (All IsMessage) split.whole ranges) in
-    let stops = subst (Stops words harts announced is.messages is.rest) at is.stops in
+    let stops = subst (StopsOf every_hart words harts announced is.messages is.rest) at is.stops in
     ends_well split.later why behind (subst (λ rest. BeginsNone rest why) split.bytes stops.1)
 
 -- RECEIVED decodes as SENT does.
@@ -413,11 +426,12 @@ decoded_again how words harts sent received header messages others lists again_l
     let no_more = capture_none split.later (sym split.bytes ∙ one.stops) in
     let all : one.messages ≡ messages =
     sym (split.whole ∙ ap (λ l. one.messages ++ l) no_more ∙ append-nil one.messages) in
+    let every = all_selected one.messages one.ranges ∙ all in
     again words program (counted_harts harts header) (announced_mode header) how messages others whole.ranges other.ranges
     same
-    (subst (AreAccepted (newcomers (counted_harts harts header))) all one.accepted)
-    (subst (All (Agrees (announced_mode header))) all one.agree) lists closed
-    (subst (λ ms. AreDecoded (λ hart. words) (counted_harts harts header) ms lists closed) all one.decoded)
+    (subst (AreAccepted (newcomers (counted_harts harts header))) every one.accepted)
+    (subst (All (Agrees (announced_mode header))) every one.agree) lists closed
+    (subst (λ ms. AreDecoded (λ hart. words) (counted_harts harts header) ms lists closed) every one.decoded)
     other.ranges again_lists flags stop
     (never_unread words (counted_harts harts header) (announced_mode header) others again_lists flags stop other.ranges
     two) two

@@ -10,13 +10,18 @@ use Rattle.std.specs.Str.{bytes_eq}
 use Rattle.arrayvec.specs.ArrayVec.{ArrayVec}
 use Rattle.auditing.specs.steps.Recognising.{parts_of}
 use Rattle.message.proofs.Answering.{not_both}
+use Rattle.message.specs.Capture.{capture}
 use Rattle.message.specs.declared.message.Message.{Message}
 use Rattle.payload.specs.Same.{known_by, same}
 use Rattle.payload.specs.declared.by.By.{By}
+use Rattle.frames.proofs.AmidLemmas.{complete}
+use Rattle.frames.proofs.FramedLemmas.{framed-capture}
+use Rattle.frames.specs.Framed.{is_framed}
 use Rattle.frames.specs.GuidedTaken.{KnowsNone, is_known}
 use Rattle.frames.specs.declared.sent.Sight.TheVariants as sight
 use Rattle.auditing.specs.Ledger.{HartLedger, Ledger}
-use Rattle.auditing.specs.PayloadSights.{KeepsPayloads, KnownSent, has_key, has_payload, payload_sight, sight_by, sight_kept}
+use Rattle.auditing.specs.PayloadSights.{FramedAreTaken, KeepsPayloads, KnownSent, has_key, has_payload, payload_sight}
+use Rattle.auditing.specs.PayloadSights.{sight_by, sight_kept}
 use Rattle.auditing.specs.Seen as seen
 use Rattle.auditing.specs.steps.Seeing.{sight_found, sight_in}
 
@@ -117,3 +122,11 @@ none_found how (Some own) message = none_by how (slice_get own.payloads message.
 
 pub numbers_know_none : (ledger : Ledger) → KnowsNone (λ message. sight_in ledger message)
 numbers_know_none ledger = λ message. none_found ledger.by (slice_get ledger.harts message.hart) message
+
+-- Where RECEIVED is messages to its end, each is taken at its place.
+pub framed-taken : FramedAreTaken
+framed-taken how sent offset messages all =
+    complete (payload_sight (is_framed (capture messages)) how sent) offset messages
+    (λ message.
+    ap (λ (f : Bool). is_known (sight_by f (has_payload how sent message.hart (known_by how message.payload))))
+    (framed-capture messages all)) all

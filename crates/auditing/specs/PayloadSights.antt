@@ -1,12 +1,18 @@
 -- What is known of a message by SENT, where numbers are not looked at.
-use Rattle.std.specs.Prelude.{ℕ, ◌≡◌, ◌==◌, ◌&&◌, Bool, true, false, List}
+use Rattle.std.specs.Prelude.{ℕ, ◌≡◌, ◌==◌, ◌&&◌, All, Bool, true, false, List}
 use Rattle.std.specs.List.{list_any}
 use Rattle.std.specs.Str.{bytes_eq}
 use Rattle.payload.specs.Same.{known_by}
 use Rattle.payload.specs.declared.by.By.{By}
 use Rattle.message.specs.declared.message.Message.{Message}
+use Rattle.message.specs.Capture.{capture}
+use Rattle.message.specs.Cut.{IsMessage}
+use Rattle.frames.specs.Framed.{is_framed}
+use Rattle.frames.specs.Passages.{spans_from}
+use Rattle.frames.specs.Written.{frames_from}
 use Rattle.frames.specs.declared.sent.Sight.{Sight}
 use Rattle.frames.specs.declared.sent.Sight.TheVariants as sight
+use Rattle.frames.specs.declared.span.Span.{Span}
 
 -- SENT has a message of this hart with a payload that is known by these bytes.
 abbrev pub has_payload : By → List Message → ℕ → List ℕ → Bool
@@ -24,6 +30,17 @@ sight_by false false = sight.Strange
 abbrev pub payload_sight : Bool → By → List Message → Message → Sight
 payload_sight framed how sent message =
     sight_by framed (has_payload how sent message.hart (known_by how message.payload))
+
+-- The messages of RECEIVED and the runs of bytes between them, by the payloads that were sent, in bytes of which the first is
+-- at this offset.
+abbrev pub payload_spans : By → List Message → ℕ → List ℕ → List Span
+payload_spans how sent offset bytes = spans_from (payload_sight (is_framed bytes) how sent) offset bytes
+
+-- Messages one after the other are found each at its place, and nothing else is, whatever was sent.
+abbrev pub FramedAreTaken : Type 0
+FramedAreTaken =
+    (how : By) (sent : List Message) (offset : ℕ) (messages : List Message) → All IsMessage messages
+    → payload_spans how sent offset (capture messages) ≡ frames_from offset messages
 
 -- Harts, each with what a payload of it is known by, have this hart with these bytes.
 abbrev pub has_key : ℕ → List ℕ → List (ℕ × List ℕ) → Bool

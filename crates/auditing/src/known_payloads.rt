@@ -1,6 +1,6 @@
 //! The payloads of SENT, looked up by hart.
 
-ghost use Rattle.std.specs.Prelude.{◌≡◌, ◌==◌, ◌&&◌, ◌||◌, ◌++◌, [], ◌∷◌, ℕ, Bool, List, OnOk};
+ghost use Rattle.std.specs.Prelude.{◌≡◌, ◌==◌, ◌&&◌, ◌||◌, ◌++◌, [], ◌∷◌, ℕ, Bool, List, OnErr, OnOk};
 ghost use Rattle.std.specs.Str.{bytes_eq};
 ghost use Rattle.message.specs.declared.message.Message.{Message as AnyMessage};
 ghost use Rattle.payload.specs.declared.by.By.{By as AnyBy};
@@ -46,11 +46,12 @@ impl<A: Allocator + Copy> KnownPayloads<A> {
         }
     }
 
-    /// Adds the payload of the next message of SENT. Memory grows with the payloads that differ: about 40 bytes each, at
-    /// most twice as much.
+    /// Adds the payload of the next message of SENT. Where an allocation fails, nothing is added. Memory grows with the
+    /// payloads that differ: about 40 bytes each, at most twice as much.
     pub fn add(&mut self, message: &Message) -> Result<(), AllocError>
-        ensures { (framed : Bool) (how : AnyBy) (sent : List AnyMessage) → KeepsPayloads framed how sent self.old
+        ensures kept { (framed : Bool) (how : AnyBy) (sent : List AnyMessage) → KeepsPayloads framed how sent self.old
             → OnOk result (KeepsPayloads framed how (sent ++ message.now ∷ []) self.new) }
+        ensures refused { OnErr result (self.new ≡ self.old) }
     {
         if self.framed {
             return Ok(());
@@ -65,6 +66,7 @@ impl<A: Allocator + Copy> KnownPayloads<A> {
         ensures framed { self.new.framed ≡ self.old.framed }
         ensures has { OnOk result ((other : ℕ) (bytes : List ℕ) → has_key other bytes self.new.keys
             ≡ (((hart == other) && bytes_eq payload.now bytes) || has_key other bytes self.old.keys)) }
+        ensures refused { OnErr result (self.new ≡ self.old) }
     {
         self.keys.insert((hart, bytes_of(payload)))?;
         Ok(())

@@ -19,7 +19,7 @@ ghost use Rattle.auditing.specs.declared.fate.Fate.TheVariants as Fate;
 ghost use Rattle.auditing.specs.Audits.{Audits};
 ghost use Rattle.auditing.specs.Known.{known_all};
 ghost use Rattle.auditing.specs.Ledger.{Ledger};
-ghost use Rattle.auditing.specs.PayloadSights.{KeepsPayloads, KnownSent, payload_sight, sight_kept};
+ghost use Rattle.auditing.specs.PayloadSights.{FramedAreTaken, KeepsPayloads, KnownSent, payload_sight, sight_kept};
 ghost use Rattle.auditing.specs.Seen.{sight_of};
 ghost use Rattle.auditing.specs.steps.Seeing.{sight_in};
 ghost use Rattle.auditing.specs.Findings.{skips_in};
@@ -98,6 +98,11 @@ pub fn sights_are_of_sent()
         → Audits sent received ledger → sight_in ledger message ≡ sight_of ledger.by sent message }
     ensures unnumbered { (framed : Bool) (how : By) (sent : List Message) (own : KnownSent) (message : Message)
         → KeepsPayloads framed how sent own → sight_kept own message ≡ payload_sight framed how sent message }
+{}
+
+/// By payloads alone, a RECEIVED that is messages to its end is read as these, each at its place, whatever was sent.
+pub fn framed_messages_are_taken()
+    ensures { FramedAreTaken }
 {}
 
 /// What a demultiplexer answers to a message depends on the earlier messages of its own hart alone. The same holds of

@@ -8,7 +8,7 @@
 //! shows.
 //!
 //! Payloads are compared by their bytes and never unpacked, or with [`Audit::with`] by the packets that they unpack to.
-//! Only [`Audit::new`] and [`Audit::with`] take memory.
+//! Of the calls of [`Audit`] only [`Audit::new`] and [`Audit::with`] take memory.
 //!
 //! Where messages carry no numbers, a damaged RECEIVED is read by [`KnownPayloads`], the payloads that SENT has of each
 //! hart. Then SENT and RECEIVED are lists of messages. [`aligned_harts`] aligns the payloads of
@@ -56,8 +56,8 @@ pub use fault::SentFault;
 pub use finding::Finding;
 pub use known_payloads::KnownPayloads;
 pub use laws::{
-    counts_add_up, harts_are_received_alone, rows_add_up, sights_are_of_sent, skips_add_up,
-    whole_decodes_again, whole_is_equal, whole_is_untouched,
+    counts_add_up, framed_messages_are_taken, harts_are_received_alone, rows_add_up,
+    sights_are_of_sent, skips_add_up, whole_decodes_again, whole_is_equal, whole_is_untouched,
 };
 pub use lost::{Lost, LostRuns, RunLengths, run_lengths};
 pub use payload::By;

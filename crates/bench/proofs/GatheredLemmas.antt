@@ -13,7 +13,7 @@ use Rattle.bench.specs.declared.config.Config.{Config}
 use Rattle.bench.specs.declared.collecting.CollectFault.{CollectFault}
 use Rattle.bench.specs.steps.Gathering.{AreGathered, IsGathered}
 use Rattle.bench.specs.steps.Taking.{IsCutOff, IsTakenOf}
-use Rattle.bench.specs.steps.TakesMessage.{TakesMessage}
+use Rattle.bench.specs.TakesMessage.{TakesMessage}
 use Rattle.bench.proofs.TakingIn.{cut_off_stays, other_cut_off, other_taken, own_taken}
 use Rattle.bench.proofs.WorkLemmas.{carry_front, carry_last}
 

@@ -15,7 +15,7 @@ use Rattle.bench.specs.Got.{got_after, kept}
 use Rattle.bench.specs.declared.collecting.CollectFault.{CollectFault}
 use Rattle.bench.specs.declared.collecting.CollectFault.TheVariants as fault
 use Rattle.bench.specs.steps.Collecting.{IsCollected, IsLeftBy}
-use Rattle.bench.specs.steps.TakesMessage.{TakesMessage}
+use Rattle.bench.specs.TakesMessage.{TakesMessage}
 use Rattle.bench.proofs.RefusedHarts.{IsRefused, came_not_refused}
 use Rattle.bench.proofs.TakesIn.{TakesIn}
 use Rattle.bench.proofs.TakesNext.{not_refused, takes_next, takes_only_memory}
@@ -122,9 +122,9 @@ taken message packet old new answer going one t = record {
   others = takes_others message packet old new answer t;
   memory = takes_memory message packet old new answer t;
   undecoded = takes_undecoded message packet old new answer t;
-  not_accepted = λ why is. absurd (not_demux answer t.before t.after t.leaves why is);
+  not_accepted = λ why is. absurd (not_demux answer t.before t.after t.takes.leaves why is);
   demux = λ on why. (
-    λ is. absurd (not_demux answer t.before t.after t.leaves why is),
+    λ is. absurd (not_demux answer t.before t.after t.takes.leaves why is),
     λ is. absurd (no_refusal packet why (sym t.packet_answered ∙ is)),
   );
   passed_over = λ refused. absurd (going refused);

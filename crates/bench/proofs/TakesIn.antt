@@ -1,30 +1,24 @@
 -- What a collector has where the demultiplexer accepted a message, by what its parts are then.
-use Rattle.std.proofs.Common.{◌≡◌, ◌≢◌, ◌<◌, ◌⊎◌, ℕ, Bool, All, List, [], ◌∷◌, ◌++◌}
-use Rattle.std.proofs.Common.{Option, Some, None, Result, Ok, Err, IfErr, OnOk, length, set, get_or, slice_get}
+use Rattle.std.proofs.Common.{◌≡◌, ◌<◌, ℕ, Bool, All, List}
+use Rattle.std.proofs.Common.{Option, Some, None, Result, Ok, length, set, get_or, slice_get}
 use Rattle.std.proofs.Common.{refl, sym, ap, subst, ◌∙◌, arith}
 use Rattle.std.proofs.lemmas.List.{length-map, length-set, map-set}
 use Rattle.std.proofs.lemmas.Option.{slice_get_read}
-use Rattle.retire.specs.declared.event.Event.{Event}
-use Rattle.rvclass.specs.Fetch.{words_of}
-use Rattle.rvclass.specs.Image.{Image}
 use Rattle.rvclass.specs.Words.{Words}
 use Rattle.legalpath.specs.ProgramLog.{IsLegalLog, ProgramLog}
 use Rattle.payload.specs.declared.packet.Packet.{Packet}
-use Rattle.decoder.specs.Describes.{Describes}
-use Rattle.decoder.specs.declared.fault.DecodeFault.{DecodeFault}
 use Rattle.message.specs.Accepting.{accepting, harts_after, harts_after_found, state_after}
 use Rattle.message.specs.Harts.{Harts}
 use Rattle.message.specs.declared.fault.DemuxFault.{DemuxFault}
 use Rattle.message.specs.declared.hart.Hart.{Hart}
 use Rattle.message.specs.declared.message.Message.{Message}
 use Rattle.receiver.specs.Holds.{HoldsHart}
-use Rattle.receiver.specs.Received.{IsReceived, IsSameHart, Received}
-use Rattle.receiver.specs.NotReceived.{IsNotDecoded}
-use Rattle.bench.specs.Collected.{Collected, Taken, one_packet_more}
+use Rattle.receiver.specs.Received.{IsReceived, Received}
+use Rattle.bench.specs.Collected.{Collected, Taken}
 use Rattle.bench.specs.declared.collecting.CollectFault.{CollectFault}
-use Rattle.bench.specs.declared.collecting.CollectFault.TheVariants as fault
 use Rattle.bench.specs.declared.outcome.HartOutcome.{HartOutcome}
-use Rattle.bench.specs.steps.Collecting.{IsCollected, IsLeftBy, taken_in, taken_of_outcome}
+use Rattle.bench.specs.steps.Collecting.{IsCollected, taken_in, taken_of_outcome}
+use Rattle.bench.specs.steps.TakesPacket.{TakesPacket}
 use Rattle.bench.proofs.RefusedHarts.{taken_at}
 
 -- The answer to a message whose packet was accepted, and what a collector has then.
@@ -42,19 +36,7 @@ pub record TakesIn (message : Message) (packet : Packet) (answer : Result (Unit 
   pub logs : new.logs ≡ old.logs
   pub keep : new.keep ≡ old.keep
   pub harts : new.harts ≡ set old.harts message.hart after
-  pub counts : OnOk answer (after ≡ one_packet_more old.keep packet (length message.payload) before)
-  pub leaves : IfErr answer (λ why. IsLeftBy why before after)
-  pub stays : IfErr answer (λ why. new.received ≡ accepted)
-  pub holds : (packets : List Packet) → HoldsHart (words_of own.program) message.hart packets accepted
-      → OnOk answer (HoldsHart (words_of own.program) message.hart (packets ++ packet ∷ []) new.received)
-  pub others : (other : ℕ) → other ≢ message.hart → IsSameHart other accepted new.received
-  pub none : (packets : List Packet) → HoldsHart (words_of own.program) message.hart packets accepted
-      → IfErr answer (λ why. (why ≡ fault.Memory)
-      ⊎ ((log : List Event) → ¬ Describes (words_of own.program) (packets ++ packet ∷ []) log))
-  pub reason : (packets : List Packet) (why : DecodeFault)
-      → HoldsHart (words_of own.program) message.hart packets accepted
-      → answer ≡ Err (fault.Decode why) → IsNotDecoded (words_of own.program) packets packet why
-  pub expected : new.received.expected ≡ accepted.expected
+  pub takes : TakesPacket own.program old.keep message packet before after accepted new.received answer
   pub complete : IsReceived new.received
 
 -- What is held of a hart has no part in what is expected.
@@ -81,7 +63,7 @@ same_Ok a b is = cc
 pub takes_kept : (message : Message) (packet : Packet) (old new : Collected) (answer : Result (Unit {0}) CollectFault)
     → TakesIn message packet answer old new → IsCollected new
 takes_kept message packet old new answer t =
-    let expected = ap length t.expected ∙ ap (λ (r : Received). length r.expected) t.moved
+    let expected = ap length t.takes.expected ∙ ap (λ (r : Received). length r.expected) t.moved
     ∙ length-harts_after old.received.expected message in
     let logs = ap length t.logs in
     let harts = ap length t.harts ∙ length-set old.harts message.hart t.after in
@@ -97,31 +79,17 @@ takes_kept message packet old new answer t =
 -- The same, by what the outcomes are and what was written.
 pub takes_in : {A : Type 0} (logs : List ProgramLog) (keep : Bool) (old accepted new : Received)
     (harts : List (HartOutcome A))
-    → (message : Message) (packet : Packet) (at : ℕ) (own : ProgramLog) (image : Image)
-    (outcome written : HartOutcome A)
+    → (message : Message) (packet : Packet) (at : ℕ) (own : ProgramLog) (outcome written : HartOutcome A)
     → (answer : Result (Unit {0}) CollectFault) → at ≡ message.hart
     → IsCollected (record { logs = logs; keep = keep; received = old; harts = taken_in harts })
     → accepting old.expected message ≡ Ok packet
     → accepted ≡ record old { expected = harts_after old.expected message }
-    → message.hart < length accepted.lists
-    → own ≡ get_or logs at own → outcome ≡ get_or harts at outcome → image ≡ own.program
-    → OnOk answer (taken_of_outcome written
-    ≡ one_packet_more keep packet (length message.payload) (taken_of_outcome outcome))
-    → IfErr answer (λ why. IsLeftBy why (taken_of_outcome outcome) (taken_of_outcome written))
-    → IfErr answer (λ why. new ≡ accepted)
-    → ((packets : List Packet) → HoldsHart (words_of image) message.hart packets accepted
-    → OnOk answer (HoldsHart (words_of image) message.hart (packets ++ packet ∷ []) new))
-    → ((other : ℕ) → other ≢ message.hart → IsSameHart other accepted new)
-    → ((packets : List Packet) → HoldsHart (words_of image) message.hart packets accepted
-    → IfErr answer (λ why. (why ≡ fault.Memory)
-    ⊎ ((log : List Event) → ¬ Describes (words_of image) (packets ++ packet ∷ []) log)))
-    → ((packets : List Packet) (why : DecodeFault) → HoldsHart (words_of image) message.hart packets accepted
-    → answer ≡ Err (fault.Decode why) → IsNotDecoded (words_of image) packets packet why)
-    → new.expected ≡ accepted.expected → (IsReceived accepted → IsReceived new)
+    → message.hart < length accepted.lists → own ≡ get_or logs at own → outcome ≡ get_or harts at outcome
+    → TakesPacket own.program keep message packet (taken_of_outcome outcome) (taken_of_outcome written) accepted new answer
     → TakesIn message packet answer (record { logs = logs; keep = keep; received = old; harts = taken_in harts })
     (record { logs = logs; keep = keep; received = new; harts = taken_in (set harts at written) })
-takes_in {A} logs keep old accepted new harts message packet at own image outcome written answer here all answered moved
-    known is_log is_outcome is_image counts leaves stays holds others none reason expected complete =
+takes_in {A} logs keep old accepted new harts message packet at own outcome written answer here all answered moved known
+    is_log is_outcome takes =
     record {
       own = own;
       accepted = accepted;
@@ -136,20 +104,8 @@ takes_in {A} logs keep old accepted new harts message packet at own image outcom
       keep = refl;
       harts = map-set taken_of_outcome harts at written
           ∙ ap (λ i. set (taken_in harts) i (taken_of_outcome written)) here;
-      counts = counts;
-      leaves = leaves;
-      stays = stays;
-      holds = subst (λ image. (packets : List Packet) → HoldsHart (words_of image) message.hart packets accepted
-          → OnOk answer (HoldsHart (words_of image) message.hart (packets ++ packet ∷ []) new)) is_image holds;
-      others = others;
-      none = subst (λ image. (packets : List Packet) → HoldsHart (words_of image) message.hart packets accepted
-          → IfErr answer (λ why. (why ≡ fault.Memory)
-          ⊎ ((log : List Event) → ¬ Describes (words_of image) (packets ++ packet ∷ []) log))) is_image none;
-      reason = subst (λ image. (packets : List Packet) (why : DecodeFault)
-          → HoldsHart (words_of image) message.hart packets accepted → answer ≡ Err (fault.Decode why)
-          → IsNotDecoded (words_of image) packets packet why) is_image reason;
-      expected = expected;
-      complete = complete (record {
+      takes = takes;
+      complete = takes.complete (record {
         decoders = omega (arith, decoders, counts_expected, all_decoders);
         lists = omega (arith, lists, counts_expected, all_lists);
         closed = omega (arith, closed, counts_expected, all_closed);

@@ -56,7 +56,7 @@ module _ (message : Message) (packet : Packet) (old new : Collected) where
       let either = subst (λ (own : ProgramLog). HoldsHart (words_of own.program) message.hart first t.accepted
       → (why ≡ fault.Memory)
       ⊎ ((events : List Event) → ¬ Describes (words_of own.program) (first ++ packet ∷ []) events))
-      same (t.none first) holds in
+      same (t.takes.none first) holds in
       ⊎_elim (λ memory. memory) (λ none. absurd (none (beginning period mode log (count + 1)) described)) either
 
   -- And else adds what it settles.
@@ -79,12 +79,12 @@ module _ (message : Message) (packet : Packet) (old new : Collected) where
       t.moved has.holds in
       let held = subst (λ (own : ProgramLog). HoldsHart (words_of own.program) message.hart (take count ps) t.accepted
       → HoldsHart (words_of own.program) message.hart (take count ps ++ packet ∷ []) new.received) same
-      (t.holds (take count ps)) holds in
+      (t.takes.holds (take count ps)) holds in
       let first : take count ps ++ packet ∷ [] ≡ take (count + 1) ps =
       ap (λ one. take count ps ++ one ∷ []) (sym packet_is) ∙ sym (next_first period mode log legal count message is) in
       let now = subst (λ some. HoldsHart (words_of log.program) message.hart some new.received) first held in
       let moved : new.received.expected ≡ harts_after old.received.expected message =
-      t.expected ∙ ap (λ (r : Received). r.expected) t.moved in
+      t.takes.expected ∙ ap (λ (r : Received). r.expected) t.moved in
       let expected = ap (λ harts. slice_get harts message.hart) moved
       ∙ next_expected period mode log legal count message old has is in
       let reached = held_first period mode log legal (count + 1) message.hart new.received now few t.complete
@@ -92,7 +92,7 @@ module _ (message : Message) (packet : Packet) (old new : Collected) where
       let before = same_Some t.before (taken_by (kept old.keep (got_after period mode log count)) false)
       (sym t.taken_at ∙ has.came.taken) in
       let after : t.after ≡ taken_by (kept new.keep (got_after period mode log (count + 1))) false =
-      t.counts
+      t.takes.counts
       ∙ ap (one_packet_more old.keep packet (length message.payload)) before
       ∙ ap (λ one. one_packet_more old.keep one (length message.payload)
       (taken_by (kept old.keep (got_after period mode log count)) false)) (sym packet_is)

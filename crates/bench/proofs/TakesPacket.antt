@@ -32,7 +32,7 @@ module _ (message : Message) (packet : Packet) (old new : Collected) where
   takes_others answer t hart apart = record {
     taken = ap (λ harts. slice_get harts hart) t.harts ∙ set-other old.harts message.hart t.after hart apart;
     received = same_hart_twice hart old.received t.accepted new.received
-        (accepts_others old.received t.accepted message hart apart t.moved) (t.others hart apart);
+        (accepts_others old.received t.accepted message hart apart t.moved) (t.takes.others hart apart);
   }
 
   -- What came of the hart where its packet was not decoded.
@@ -54,12 +54,12 @@ module _ (message : Message) (packet : Packet) (old new : Collected) where
       → (got : Got) (refused : Bool)
       → HasOutcome message.hart got refused old → answer ≡ Err fault.Memory → HasOutcome message.hart got true new
   takes_memory (Ok u) t got refused came is = cc
-  takes_memory (Err (fault.Demux why)) t got refused came is = absurd t.leaves
+  takes_memory (Err (fault.Demux why)) t got refused came is = absurd t.takes.leaves
   takes_memory (Err (fault.Decode why)) t got refused came is = cc
   takes_memory (Err fault.Memory) t got refused came is =
       let before = same_Some t.before (taken_by got refused) (sym t.taken_at ∙ came.taken) in
-      came_left t.accepted t.after got refused true came.taken t.moved t.harts t.stays
-      (t.leaves ∙ ap (λ (taken : Taken). record taken { refused = true }) before) came
+      came_left t.accepted t.after got refused true came.taken t.moved t.harts t.takes.stays
+      (t.takes.leaves ∙ ap (λ (taken : Taken). record taken { refused = true }) before) came
 
   -- The packet describes something else than a log.
   pub takes_undecoded : (answer : Result (Unit {0}) CollectFault) → TakesIn message packet answer old new
@@ -67,11 +67,11 @@ module _ (message : Message) (packet : Packet) (old new : Collected) where
       → HasOutcome message.hart got refused old → answer ≡ Err (fault.Decode why)
       → HasOutcome message.hart got refused new
   takes_undecoded (Ok u) t got refused why came is = cc
-  takes_undecoded (Err (fault.Demux other)) t got refused why came is = absurd t.leaves
+  takes_undecoded (Err (fault.Demux other)) t got refused why came is = absurd t.takes.leaves
   takes_undecoded (Err fault.Memory) t got refused why came is = cc
   takes_undecoded (Err (fault.Decode other)) t got refused why came is =
       let before = same_Some t.before (taken_by got refused) (sym t.taken_at ∙ came.taken) in
-      came_left t.accepted t.after got refused refused came.taken t.moved t.harts t.stays (t.leaves ∙ before) came
+      came_left t.accepted t.after got refused refused came.taken t.moved t.harts t.takes.stays (t.takes.leaves ∙ before) came
 
   -- What follows for the packet and the log that were taken in follows for the ones that are known.
   of_known : (P : ProgramLog → Packet → Type 0) (answer : Result (Unit {0}) CollectFault)
@@ -95,7 +95,7 @@ module _ (message : Message) (packet : Packet) (old new : Collected) where
     known = ap (λ logs. slice_get logs message.hart) t.logs ∙ has.known;
     holds =
         of_known (λ its one. HoldsHart (words_of its.program) message.hart (some ++ one ∷ []) new.received) (Ok u) t
-        one log some accepts has (t.holds some);
+        one log some accepts has (t.takes.holds some);
   }
 
   -- Else no log is described with it, or an allocation failed.
@@ -107,7 +107,7 @@ module _ (message : Message) (packet : Packet) (old new : Collected) where
   takes_none (Err why) t one log some accepts has =
       of_known (λ its one. (why ≡ fault.Memory)
       ⊎ ((events : List Event) → ¬ Describes (words_of its.program) (some ++ one ∷ []) events)) (Err why) t one log
-      some accepts has (t.none some)
+      some accepts has (t.takes.none some)
 
   -- And a fault of the decoder is returned for its reason.
   pub takes_reason : (answer : Result (Unit {0}) CollectFault) → TakesIn message packet answer old new
@@ -116,7 +116,7 @@ module _ (message : Message) (packet : Packet) (old new : Collected) where
       → IsNotDecoded (words_of log.program) some one why
   takes_reason answer t one log some why accepts has is =
       of_known (λ its one. IsNotDecoded (words_of its.program) some one why) answer t one log some accepts has
-      (λ holds. t.reason some why holds is)
+      (λ holds. t.takes.reason some why holds is)
 
   -- It is counted.
   pub takes_counts : (answer : Result (Unit {0}) CollectFault) → TakesIn message packet answer old new
@@ -129,17 +129,17 @@ module _ (message : Message) (packet : Packet) (old new : Collected) where
       let packet_is : packet ≡ one = same_Ok packet one (sym t.packet_answered ∙ accepts.answer) in
       ap (λ harts. slice_get harts message.hart) t.harts
       ∙ set-at old.harts message.hart t.after (slice_get_within old.harts message.hart taken at)
-      ∙ ap Some (t.counts ∙ ap (one_packet_more old.keep packet (length message.payload)) before
+      ∙ ap Some (t.takes.counts ∙ ap (one_packet_more old.keep packet (length message.payload)) before
       ∙ ap (λ one. one_packet_more old.keep one (length message.payload) taken) packet_is)
 
   -- Of its hart another message is expected then.
   pub takes_expected : (answer : Result (Unit {0}) CollectFault) → TakesIn message packet answer old new
       → new.received.expected ≡ harts_after old.received.expected message
-  takes_expected answer t = t.expected ∙ ap (λ (r : Received). r.expected) t.moved
+  takes_expected answer t = t.takes.expected ∙ ap (λ (r : Received). r.expected) t.moved
 
   -- A fault changes nothing else of what is received.
   pub takes_kept_received : (answer : Result (Unit {0}) CollectFault) → TakesIn message packet answer old new
       → OnErr answer (new.received
       ≡ record old.received { expected = harts_after old.received.expected message })
   takes_kept_received (Ok u) t = tt
-  takes_kept_received (Err why) t = t.stays ∙ t.moved
+  takes_kept_received (Err why) t = t.takes.stays ∙ t.moved

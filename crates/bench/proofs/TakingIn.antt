@@ -22,7 +22,7 @@ use Rattle.bench.specs.declared.stop.Stop.{Stop}
 use Rattle.bench.specs.declared.stop.Stop.TheVariants as stop
 use Rattle.bench.specs.steps.Taking.{CameUnlessRefused, IsCutOff, IsFrontNext, IsNext, IsTakenOf, LacksSome}
 use Rattle.bench.specs.steps.Taking.{NamesRefusedHart}
-use Rattle.bench.specs.steps.TakesMessage.{TakesMessage}
+use Rattle.bench.specs.TakesMessage.{TakesMessage}
 use Rattle.bench.proofs.CollectedLemmas.{taken_by}
 use Rattle.bench.proofs.CollectedSame.{collected_same, cut_off_same}
 use Rattle.bench.proofs.RefusedHarts.{IsRefused, apart, came_not_refused, came_refused}

@@ -3,6 +3,7 @@ pub mod Got
 pub mod Report
 pub mod Replayed
 pub mod Collected
+pub mod TakesMessage
 pub mod Beginnings
 pub mod Setting
 pub mod Working

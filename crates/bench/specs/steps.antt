@@ -1,7 +1,7 @@
 pub mod Collecting
 pub mod Sending
+pub mod TakesPacket
 pub mod Taking
-pub mod TakesMessage
 pub mod Replaying
 pub mod Gathering
 pub mod Stopping

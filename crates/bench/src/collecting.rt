@@ -1,26 +1,20 @@
 //! What is collected of messages that were taken.
 
-ghost use Rattle.std.specs.Prelude.{ℕ, ◌+◌, ◌≡◌, ◌≢◌, ◌<◌, ◌≤◌, ◌⊎◌, ◌↔◌, ◌++◌, All, Bool, true, false, List, [], ◌∷◌};
-ghost use Rattle.std.specs.Prelude.{None, Some, Ok, Err, IfErr, IfOk, IsSomeAnd, IsTrue, OnErr, OnOk, get_or, length};
-ghost use Rattle.std.specs.Prelude.{replicate, slice_get, vec_capacity, vec_len};
-ghost use Rattle.retire.specs.declared.event.Event.{Event as AnyEvent};
-ghost use Rattle.rvclass.specs.Fetch.{words_of};
+ghost use Rattle.std.specs.Prelude.{ℕ, ◌+◌, ◌≡◌, ◌≢◌, ◌<◌, ◌≤◌, All, Bool, true, false};
+ghost use Rattle.std.specs.Prelude.{None, Some, Ok, Err, IfOk, IsSomeAnd, IsTrue, get_or, length};
+ghost use Rattle.std.specs.Prelude.{replicate, slice_get, vec_capacity};
 ghost use Rattle.legalpath.specs.ProgramLog.{IsLegalLog, ProgramLog};
 ghost use Rattle.payload.specs.declared.mode.Mode.{Mode};
-ghost use Rattle.payload.specs.declared.packet.Packet.{Packet as AnyPacket};
-ghost use Rattle.decoder.specs.Describes.{Describes};
 ghost use Rattle.decoder.specs.declared.fault.DecodeFault.{DecodeFault as AnyDecodeFault};
-ghost use Rattle.message.specs.Accepting.{accepting, harts_after};
-ghost use Rattle.message.specs.declared.fault.DemuxFault.{DemuxFault as AnyDemuxFault};
-ghost use Rattle.receiver.specs.Holds.{HoldsHart};
-ghost use Rattle.receiver.specs.Received.{IsReceived, IsSameHart, events_in};
-ghost use Rattle.receiver.specs.NotReceived.{IsNotDecoded};
-ghost use Rattle.bench.specs.Collected.{Accepts, Collected, HasCollected, HasDecoded, HasOutcome, IsMessageOf};
-ghost use Rattle.bench.specs.Collected.{IsRefusedHart, IsSameOf, Taken, one_packet_more};
+ghost use Rattle.receiver.specs.Received.{events_in};
+ghost use Rattle.bench.specs.Collected.{one_packet_more};
+ghost use Rattle.bench.specs.Collected.{Collected, HasCollected, HasOutcome};
+ghost use Rattle.bench.specs.Collected.{IsSameOf};
 ghost use Rattle.bench.specs.Got.{Got, got_of};
 ghost use Rattle.bench.specs.steps.Collecting.{IsCollected, IsLeftBy, closed_in, decoded_in, nothing, taken_in};
 ghost use Rattle.bench.specs.steps.Collecting.{taken_of_outcome};
-ghost use Rattle.bench.specs.steps.TakesMessage.{TakesMessage};
+ghost use Rattle.bench.specs.TakesMessage.{TakesMessage};
+ghost use Rattle.bench.specs.steps.TakesPacket.{TakesPacket};
 
 use crate::outcome::{HartOutcome, Outcome};
 use decoder::DecodeFault;
@@ -113,56 +107,6 @@ impl<'l, 'p, A: Allocator + Copy, B: Allocator> Collector<'l, 'p, A, B> {
     /// A fault leaves what was decoded of all harts as it was. After [`CollectFault::Memory`] the collector notes that
     /// an allocation failed for the hart. From then on messages of that hart change nothing.
     pub fn take_in(&mut self, message: Message) -> Result<(), CollectFault>
-        ensures logs { (self.new.logs ≡ self.old.logs) × (self.new.keep ≡ self.old.keep) }
-
-        // The next message of a log adds what it settles, unless an allocation fails.
-        ensures next { (period : ℕ) (mode : Mode) (count : ℕ) (log : ProgramLog)
-            → HasCollected period mode log count message.hart self.old
-            → IsMessageOf period mode log count message
-            → OnOk result (HasCollected period mode log (count + 1) message.hart self.new) }
-        ensures only_memory { (period : ℕ) (mode : Mode) (count : ℕ) (log : ProgramLog)
-            → HasCollected period mode log count message.hart self.old
-            → IsMessageOf period mode log count message → IfErr result (λ fault. fault ≡ CollectFault.Memory) }
-        ensures others { (hart : ℕ) → hart ≢ message.hart → IsSameOf hart self.old self.new }
-
-        // A fault leaves what was decoded of the hart as it was.
-        ensures memory { (got : Got) (refused : Bool) → HasOutcome message.hart got refused self.old
-            → result ≡ Err CollectFault.Memory → HasOutcome message.hart got true self.new }
-        ensures undecoded { (got : Got) (refused : Bool) (why : AnyDecodeFault)
-            → HasOutcome message.hart got refused self.old → result ≡ Err (CollectFault.Decode why)
-            → HasOutcome message.hart got refused self.new }
-        ensures not_accepted { (why : AnyDemuxFault) → result ≡ Err (CollectFault.Demux why) → self.new ≡ self.old }
-        ensures demux { ¬ IsRefusedHart message.hart self.old → (why : AnyDemuxFault)
-            → (result ≡ Err (CollectFault.Demux why)) ↔ (accepting self.old.received.expected message ≡ Err why) }
-        ensures passed_over { IsRefusedHart message.hart self.old → (result ≡ Ok tt) × (self.new ≡ self.old) }
-
-        // Of any hart for which no allocation failed, whatever its messages were. The packet of an accepted message
-        // is decoded after those before it, and counted, unless no log is described with it or an allocation fails.
-        ensures decoded { (packet : AnyPacket) (log : ProgramLog) (packets : List AnyPacket)
-            → Accepts message packet self.old → HasDecoded log message.hart packets self.old
-            → OnOk result (HasDecoded log message.hart (packets ++ packet ∷ []) self.new) }
-        ensures none { (packet : AnyPacket) (log : ProgramLog) (packets : List AnyPacket)
-            → Accepts message packet self.old → HasDecoded log message.hart packets self.old
-            → IfErr result (λ fault. (fault ≡ CollectFault.Memory)
-            ⊎ ((events : List AnyEvent) → ¬ Describes (words_of log.program) (packets ++ packet ∷ []) events)) }
-        ensures reason { (packet : AnyPacket) (log : ProgramLog) (packets : List AnyPacket) (why : AnyDecodeFault)
-            → Accepts message packet self.old → HasDecoded log message.hart packets self.old
-            → result ≡ Err (CollectFault.Decode why)
-            → IsNotDecoded (words_of log.program) packets packet why }
-        ensures counts { (packet : AnyPacket) (taken : Taken) → Accepts message packet self.old
-            → slice_get self.old.harts message.hart ≡ Some taken → OnOk result (slice_get self.new.harts message.hart
-            ≡ Some (one_packet_more self.old.keep packet (length message.payload) taken)) }
-        ensures expected { ¬ IsRefusedHart message.hart self.old
-            → self.new.received.expected ≡ harts_after self.old.received.expected message }
-        ensures kept { OnErr result (self.new.received
-            ≡ record self.old.received { expected = harts_after self.old.received.expected message }) }
-        ensures one_memory { result ≢ Err (CollectFault.Decode DecodeFault.Memory) }
-    {
-        self.take_message(message)
-    }
-
-    /// The same, with a contract of one record.
-    pub(crate) fn take_message(&mut self, message: Message) -> Result<(), CollectFault>
         ensures { TakesMessage message result self.old self.new }
     {
         let hart = usize::from(message.hart);
@@ -177,8 +121,7 @@ impl<'l, 'p, A: Allocator + Copy, B: Allocator> Collector<'l, 'p, A, B> {
         take_packet(
             &mut self.receiver,
             &mut self.harts[hart],
-            log.program(),
-            log.events().len(),
+            log,
             self.keep,
             &message,
             packet,
@@ -268,54 +211,52 @@ fn is_refused<A: Allocator>(harts: &Vec<HartOutcome<A>, A>, hart: usize) -> bool
     hart < harts.len() && harts[hart].refused
 }
 
-/// Decodes the next packet of a hart, whose log has `events` events, and counts it in the hart's outcome.
+/// Decodes the next packet of a hart, by the program of its log, and counts it in the hart's outcome.
 ///
 /// Capacity is reserved first: for the packet, where packets are kept, and, from the second packet on, for all events
 /// of the log. The second packet is the first that settles an event. So a fault leaves the receiver and the outcome as
 /// they were, but that the outcome notes an allocation that failed.
-fn take_packet<A: Allocator + Copy>(
+fn take_packet<A: Allocator + Copy, B: Allocator>(
     receiver: &mut Receiver<A>,
     outcome: &mut HartOutcome<A>,
-    program: &Program,
-    events: usize,
+    log: &LegalLog<'_, B>,
     keep: bool,
     message: &Message,
     packet: Packet,
 ) -> Result<(), CollectFault>
     requires known { message.now.hart < length receiver.old.lists }
-    ensures taken { OnOk result (taken_of_outcome outcome.new
-        ≡ one_packet_more keep packet (length message.now.payload) (taken_of_outcome outcome.old)) }
-    ensures left { IfErr result
-        (λ fault. IsLeftBy fault (taken_of_outcome outcome.old) (taken_of_outcome outcome.new)) }
-    ensures kept { IfErr result (λ fault. receiver.new ≡ receiver.old) }
-    ensures one_memory { result ≢ Err (CollectFault.Decode DecodeFault.Memory) }
-    ensures hart { (packets : List AnyPacket) → HoldsHart (words_of program.now) message.now.hart packets receiver.old
-        → OnOk result (HoldsHart (words_of program.now) message.now.hart (packets ++ packet ∷ []) receiver.new) }
-    ensures others { (other : ℕ) → other ≢ message.now.hart → IsSameHart other receiver.old receiver.new }
-    ensures none { (packets : List AnyPacket) → HoldsHart (words_of program.now) message.now.hart packets receiver.old
-        → IfErr result (λ fault. (fault ≡ CollectFault.Memory)
-        ⊎ ((log : List AnyEvent) → ¬ Describes (words_of program.now) (packets ++ packet ∷ []) log)) }
-    ensures reason { (packets : List AnyPacket) (why : AnyDecodeFault)
-        → HoldsHart (words_of program.now) message.now.hart packets receiver.old
-        → result ≡ Err (CollectFault.Decode why) → IsNotDecoded (words_of program.now) packets packet why }
-    ensures expected { receiver.new.expected ≡ receiver.old.expected }
-    ensures complete { IsReceived receiver.old → IsReceived receiver.new }
+    ensures { TakesPacket log.now.program keep message.now packet (taken_of_outcome outcome.old) (taken_of_outcome outcome.new)
+        receiver.old receiver.new result }
 {
-    if !has_room(receiver, outcome, events, keep, message.hart) {
+    if !has_room(receiver, outcome, log.events().len(), keep, message.hart) {
         outcome.refused = true;
         return Err(CollectFault::Memory);
     }
-    match receiver.decode(program, message.hart, &packet) {
+    match receiver.decode(log.program(), message.hart, &packet) {
         Ok(()) => {}
         Err(fault) => return Err(undecoded(fault, outcome)),
     }
+    count_packet(outcome, keep, message, packet);
+    Ok(())
+}
+
+/// Counts the packet of a message that was decoded, and keeps it where packets are kept.
+fn count_packet<A: Allocator>(
+    outcome: &mut HartOutcome<A>,
+    keep: bool,
+    message: &Message,
+    packet: Packet,
+)
+    requires room { keep ≡ true → length outcome.old.packets.items < vec_capacity outcome.old.packets }
+    ensures { taken_of_outcome outcome.new
+        ≡ one_packet_more keep packet (length message.now.payload) (taken_of_outcome outcome.old) }
+{
     let bytes = message.payload.bytes().len() as u64;
     outcome.taken = outcome.taken.saturating_add(1);
     outcome.bytes = outcome.bytes.saturating_add(bytes);
     if keep {
         outcome.packets.push_reserved(packet);
     }
-    Ok(())
 }
 
 /// Reserves capacity for the next packet of a hart, where packets are kept, and, from the second packet on, for

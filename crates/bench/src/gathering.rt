@@ -58,7 +58,7 @@ fn collect_one<A: Allocator + Copy, R: Wait>(
         return None;
     };
     let closing = message.payload.is_closing();
-    let _ = collector.take_message(message);
+    let _ = collector.take_in(message);
     Some(closing)
 }
 

@@ -150,7 +150,7 @@ fn collect<A: Allocator + Copy, B: Allocator>(
         return;
     };
     let hart = message.hart;
-    match collector.take_message(message) {
+    match collector.take_in(message) {
         Ok(()) => {}
         Err(CollectFault::Memory) => *stop = Some(Stop::Memory(hart)),
         Err(_) => unreachable!(),

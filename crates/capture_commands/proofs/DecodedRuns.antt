@@ -14,7 +14,7 @@ use Rattle.capture_commands.specs.CountedHarts.{HasHartBelow}
 use Rattle.capture_commands.specs.Faults.{Fault, Printed}
 use Rattle.command_inputs.specs.declared.status.Status.{Status}
 use Rattle.parallel_decode.specs.HartsText.{harts_text_of}
-use Rattle.captures.specs.OfHarts.{IsDecodedOf}
+use Rattle.captures.specs.Decoded.{IsDecodedOf}
 use Rattle.capture_commands.specs.Decoded.{CanWriteLogs, CanWriteLogsOf, WritesDecoded}
 use Rattle.capture_commands.specs.Decoded.{WritesLogs, WritesLogsOf}
 use Rattle.capture_commands.specs.Decoding.{end_of_capture_of}

@@ -1,6 +1,6 @@
 -- What a run prints that finds its input first, and the order of the faults that are found before any file is read.
 use Rattle.std.proofs.Common.{◌≡◌, ◌∙◌, ◌⊎◌, inl, inr, refl, sym, subst, ℕ, List, Option, Some, None, Result, Ok, Err}
-use Rattle.std.specs.Prelude.{IfErr, IfSome}
+use Rattle.std.specs.Prelude.{IfSome}
 use Rattle.message.specs.declared.range.HartRange.{HartRange}
 use Rattle.command_inputs.specs.declared.words.Format.{Format}
 use Rattle.command_inputs.specs.declared.words.Format.TheVariants.{Csv, Other, Text}
@@ -52,17 +52,6 @@ module _ {A : Type 0} (format : Format) (base : Option ℕ) (only : Option HartR
 
     pub early_none : only_fault {W = CaptureReason} only ≡ None → Early (format_base_or_only_fault format base only)
     early_none seen = subst Early (sym (next ∙ seen)) tt
-
--- Where this fault leads to what is lacked, a run that ends at it lacks that, or an allocation failed.
-pub lacks : {A : Type 0} (why : Fault) (ended : Result A Fault) (Finds : Type 0) (Lacks : Fault → Type 0)
-    → ended ≡ Err why → (why ≡ fault.Memory) ⊎ Finds → (Finds → Lacks why)
-    → IfErr ended (λ why. (why ≡ fault.Memory) ⊎ Lacks why)
-lacks why ended Finds Lacks is found leads =
-    subst (λ r. IfErr r (λ why. (why ≡ fault.Memory) ⊎ Lacks why)) (sym is) (go found)
-  where
-    go : (why ≡ fault.Memory) ⊎ Finds → (why ≡ fault.Memory) ⊎ Lacks why
-    go (inl memory) = inl memory
-    go (inr finds) = inr (leads finds)
 
 -- In both cases it holds.
 pub in_either : {A B C : Type 0} → (A → C) → (B → C) → A ⊎ B → C

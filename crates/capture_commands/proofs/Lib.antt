@@ -2,7 +2,6 @@ mod DecodedRuns
 mod ListedRuns
 mod InputRuns
 mod SalvageRuns
-mod SymbolsFound
 mod TreatedRuns
 mod WrittenOutcomes
 mod KeptToo

@@ -12,7 +12,7 @@ use Rattle.retire.specs.declared.fault.WriteFault.{WriteFault}
 use Rattle.retire.specs.declared.fault.WriteFault.TheVariants as write
 use Rattle.rvclass.specs.Fetch.{words_of}
 use Rattle.rvclass.specs.Image.{Image}
-use Rattle.captures.specs.OfHarts.{IsDecodedOf}
+use Rattle.captures.specs.Decoded.{IsDecodedOf}
 use Rattle.parallel_decode.specs.Surveyed.{NeverMemory}
 use Rattle.parallel_decode.specs.Written.{BeginsHartsOf}
 use Rattle.command_inputs.specs.Begun.{IsCutOf}

@@ -9,8 +9,8 @@ use Rattle.command_inputs.specs.Faults.{Path}
 use Rattle.command_inputs.specs.Finding.{After}
 use Rattle.command_inputs.specs.Found.{IsAskedBase, IsProgramAt, IsRead}
 use Rattle.command_inputs.specs.OnlyHarts.{IsOnly}
+use Rattle.command_inputs.specs.Symbols.{AreSymbols}
 use Rattle.capture_commands.specs.Faults.{Fault}
-use Rattle.capture_commands.specs.Symbols.{AreSymbols}
 
 -- The program that the harts ran, the file of symbols, if one is given, the bytes of the capture, and the harts whose
 -- messages are looked at.

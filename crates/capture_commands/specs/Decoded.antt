@@ -19,7 +19,7 @@ use Rattle.capture_commands.specs.CountedHarts.{HasHartBelow}
 use Rattle.capture_commands.specs.Faults.{Fault, Meaning, Once, Printed}
 use Rattle.capture_commands.specs.Decoding.{end_of_capture_of}
 use Rattle.parallel_decode.specs.HartsText.{harts_text_of}
-use Rattle.captures.specs.OfHarts.{IsDecodedOf}
+use Rattle.captures.specs.Decoded.{IsDecodedOf}
 use Rattle.capture_commands.specs.Pieces.{HasPieces, WritesPieces}
 
 -- The logs that a capture's bytes decode to are written, those of these harts, where messages of these alone are looked

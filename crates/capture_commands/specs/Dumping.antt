@@ -10,6 +10,7 @@ use Rattle.command_inputs.specs.Found.{IsRead}
 use Rattle.log_streams.specs.Known.{Content}
 use Rattle.command_inputs.specs.Meaning.{writing_at_once}
 use Rattle.command_inputs.specs.OnlyHarts.{IsOnly, asked_harts}
+use Rattle.command_inputs.specs.Symbols.{AreSymbols}
 use Rattle.command_inputs.specs.Order.{only_fault}
 use Rattle.command_inputs.specs.Printed.{First}
 use Rattle.capture_commands.specs.Faults.{Fault, Meaning, Once, Printed, capture_fault}
@@ -25,34 +26,44 @@ end_of_dump true None = Ok NotWhole
 end_of_dump false None = Ok Whole
 
 -- The text is the dump of what a capture has of these harts; or, where a search is asked for, what a search of it finds
--- of them.
-abbrev pub IsDumpAsked : Bool → HartRange → List ℕ → Bool → Option (ℕ × MessageFault) → List ℕ → Type 0
-IsDumpAsked false harts bytes = IsDumpOf harts bytes
-IsDumpAsked true harts bytes = IsSearchedOf harts bytes
+-- of them. Addresses are named by these symbols, if they are given.
+abbrev pub IsDumpAsked : Bool → Option (List ℕ) → HartRange → List ℕ → Bool → Option (ℕ × MessageFault) → List ℕ
+    → Type 0
+IsDumpAsked false symbols harts bytes = IsDumpOf symbols harts bytes
+IsDumpAsked true symbols harts bytes = IsSearchedOf symbols harts bytes
 
 -- The dump of a capture is written, by a search or not, and the run ends as the dump does.
-pub record WritesDump (search : Bool) (harts : HartRange) (bytes : List ℕ) (printed : Printed) : Type 0 where
+pub record WritesDump (search : Bool) (symbols : Option (List ℕ)) (harts : HartRange) (bytes : List ℕ)
+    (printed : Printed) : Type 0 where
   pub bad : Bool
   pub stop : Option (ℕ × MessageFault)
-  pub dumped : IsDumpAsked search harts bytes bad stop printed.text
+  pub dumped : IsDumpAsked search symbols harts bytes bad stop printed.text
   pub ended : printed.ended ≡ end_of_dump bad stop
 
 -- The dump of a capture is written, where it has one of these harts.
-abbrev pub WritesDumpOf : Bool → HartRange → List ℕ → Printed → Type 0
-WritesDumpOf search harts bytes = First (HasHart harts bytes) (λ _. WritesDump search harts bytes)
+abbrev pub WritesDumpOf : Bool → Option (List ℕ) → HartRange → List ℕ → Printed → Type 0
+WritesDumpOf search symbols harts bytes = First (HasHart harts bytes) (λ _. WritesDump search symbols harts bytes)
 
--- The capture is read. Where there is no fault, its dump is written.
+-- The capture is read. Where there is no fault, its dump is written, with names by these symbols, if they are given.
+abbrev pub DumpsNamed : Content → Dump → HartRange → Option (List ℕ) → Printed → Type 0
+DumpsNamed content asked harts symbols = First (IsRead content asked.capture) (WritesDumpOf asked.search symbols harts)
+
+-- The symbols are found, if they are given, and then the dump of what the capture has of these harts is written.
 abbrev pub DumpsHarts : Content → Dump → HartRange → Printed → Type 0
-DumpsHarts content asked harts = First (IsRead content asked.capture) (WritesDumpOf asked.search harts)
+DumpsHarts content asked harts = First (AreSymbols content asked.symbols) (DumpsNamed content asked harts)
 
--- The harts that are asked for are found, and then the dump of what the capture has of these is written.
+-- The harts that are asked for are found, then the symbols, and then the dump of what the capture has of these harts is
+-- written.
 abbrev pub Dumps : Content → Dump → Printed → Type 0
 Dumps content asked = First (IsOnly asked.only) (DumpsHarts content asked)
 
--- `dump` writes once it has the capture, and that has one of these harts.
-abbrev pub CanDumpHarts : Content → Dump → HartRange → Type 0
-CanDumpHarts content asked harts =
+-- `dump` writes once it has the symbols and the capture, and that has one of these harts.
+abbrev pub CanDumpNamed : Content → Dump → HartRange → Type 0
+CanDumpNamed content asked harts =
     Once (IsRead content asked.capture) (λ bytes. Once (HasHart harts bytes) (λ _. ⊤))
+
+abbrev pub CanDumpHarts : Content → Dump → HartRange → Type 0
+CanDumpHarts content asked harts = Once (AreSymbols content asked.symbols) (λ _. CanDumpNamed content asked harts)
 
 abbrev pub CanDump : Content → Dump → Type 0
 CanDump content asked = Once (IsOnly asked.only) (CanDumpHarts content asked)

@@ -8,10 +8,7 @@ use Rattle.decoder.specs.declared.fault.DecodeFault.TheVariants as decode
 use Rattle.losses.specs.declared.fault.LossyFault.{LossyFault}
 use Rattle.losses.specs.declared.fault.LossyFault.TheVariants as lossy
 use Rattle.message.specs.declared.fault.MessageFault.TheVariants.{BadHeader}
-use Rattle.symbols.specs.declared.fault.SymbolsFault.{SymbolsFault}
-use Rattle.symbols.specs.declared.fault.SymbolsFault.TheVariants as symbols
 use Rattle.command_inputs.specs.Faults as inputs
-use Rattle.command_inputs.specs.Faults.{Path}
 use Rattle.command_inputs.specs.Finding as finding
 use Rattle.command_inputs.specs.Meaning as meaning
 use Rattle.command_inputs.specs.Printed as printed
@@ -20,7 +17,7 @@ use Rattle.command_inputs.specs.declared.fault.Fault.TheVariants as fault
 use Rattle.command_inputs.specs.declared.status.Status.{Status}
 use Rattle.command_inputs.specs.declared.status.Status.TheVariants.{NotWhole, Refused}
 use Rattle.capture_commands.specs.declared.reason.CaptureReason.{CaptureReason}
-use Rattle.capture_commands.specs.declared.reason.CaptureReason.TheVariants.{Header, Logs, Message, Symbols}
+use Rattle.capture_commands.specs.declared.reason.CaptureReason.TheVariants.{Header, Logs, Message}
 
 -- A fault of a subcommand that reads a capture.
 abbrev pub Fault : Type 0
@@ -39,10 +36,9 @@ abbrev pub Once : {A : Type 0} → (Result A Fault → Type 0) → (A → Type 0
 Once Finds Holds = finding.Once Finds Holds
 
 -- The status at a reason of such a subcommand's own. At faults of a capture's header, of its messages, of a hart that
--- is not closed and of a capture that has no hart that is asked for, the capture is not good. A file of symbols is
--- refused, and so is another count of logs than of harts.
+-- is not closed and of a capture that has no hart that is asked for, the capture is not good. Another count of logs than
+-- of harts is refused.
 abbrev pub capture_reason_status : CaptureReason → Status
-capture_reason_status (Symbols path why) = Refused
 capture_reason_status (Logs logs harts) = Refused
 capture_reason_status _ = NotWhole
 
@@ -70,8 +66,3 @@ abbrev pub lossy_fault : LossyFault → Fault
 lossy_fault (lossy.Demux place why) = fault.Own (Message place (capture.Demux why))
 lossy_fault (lossy.Decode place why) = capture_fault place (capture.Decode why)
 lossy_fault lossy.Memory = fault.Memory
-
--- The fault of a file whose symbols are not read.
-abbrev pub symbols_fault : Path → SymbolsFault → Fault
-symbols_fault path symbols.Memory = fault.Memory
-symbols_fault path why = fault.Own (Symbols path why)

@@ -1,6 +1,5 @@
 pub mod Faults
 pub mod FaultText
-pub mod Symbols
 pub mod CaptureInput
 pub mod OnlyHarts
 pub mod Dumping

@@ -8,10 +8,10 @@ use Rattle.listing.specs.declared.form.Form.{Form}
 use Rattle.listing.specs.declared.form.Form.TheVariants.{Lines, Table}
 use Rattle.message.specs.declared.header.Header.{Header}
 use Rattle.rvclass.specs.Words.{Words}
-use Rattle.salvaging.specs.declared.treatment.Treated.{Treated}
 use Rattle.command_inputs.specs.declared.words.Format.{Format}
 use Rattle.command_inputs.specs.declared.words.Format.TheVariants.{Csv}
 use Rattle.salvage_reports.specs.TreatedText.{treated_text_of}
+use Rattle.salvage_reports.specs.declared.hart_rows.TreatedInRows.{TreatedInRows}
 
 -- How messages are written in a format, where lines say which rows a message settles or do not.
 abbrev pub form_of : Format → Bool → Form
@@ -30,6 +30,7 @@ IsPartListedIn format rows words only harts symbols bytes =
     IsPartOfListing words (form_of format rows) only harts symbols bytes
 
 -- What salvaging does with each message of these harts, as a table or in lines.
-abbrev pub treated_in : Format → Bool → HartRange → Option (List ℕ) → Option Header → List ℕ → List Treated → List ℕ
+abbrev pub treated_in : Format → Bool → HartRange → Option (List ℕ) → Option Header → List ℕ → List TreatedInRows
+    → List ℕ
 treated_in format rows only symbols header bytes treated =
     treated_text_of (form_of format rows) only symbols header bytes treated

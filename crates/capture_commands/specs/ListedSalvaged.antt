@@ -6,6 +6,7 @@ use Rattle.message.specs.Range.{selected}
 use Rattle.message.specs.declared.range.HartRange.{HartRange}
 use Rattle.message.specs.declared.fault.MessageFault.{MessageFault}
 use Rattle.message.specs.declared.header.Header.{Header}
+use Rattle.message.specs.declared.message.Message.{Message}
 use Rattle.rvclass.specs.Fetch.{words_of}
 use Rattle.rvclass.specs.Image.{Image}
 use Rattle.salvaging.specs.Treatments.{AreTreated}
@@ -16,6 +17,7 @@ use Rattle.frames.specs.Search.{mode_of}
 use Rattle.frames.specs.Start.{spans_of}
 use Rattle.salvage_reports.specs.Found.{IsSalvagedOf}
 use Rattle.salvage_reports.specs.Frames.{is_run, messages_in}
+use Rattle.salvage_reports.specs.HartRows.{in_rows}
 use Rattle.command_inputs.specs.declared.words.Format.{Format}
 use Rattle.command_inputs.specs.Printed.{First}
 use Rattle.capture_commands.specs.Faults.{Printed}
@@ -23,15 +25,19 @@ use Rattle.capture_commands.specs.HartsFound.{HasHartFound}
 use Rattle.capture_commands.specs.ListedFormats.{treated_in}
 use Rattle.capture_commands.specs.Salvaging.{end_of_salvage_of}
 
+-- The messages of these harts' frames of a capture.
+abbrev pub messages_of : HartRange → Option Header → List ℕ → List Message
+messages_of only header bytes = selected only (messages_in (spans_of header bytes))
+
 -- This is done with each message of these harts' frames of a capture, where this count of harts is asked for, if one
 -- is.
 abbrev pub AreTreatedIn : HartRange → Option ℕ → Image → Option Header → List ℕ → List Treated → Type 0
 AreTreatedIn only asked program header bytes treated =
-    AreTreated (words_of program) (mode_of header) (harts_counted asked header bytes)
-    (selected only (messages_in (spans_of header bytes))) treated
+    AreTreated (words_of program) (mode_of header) (harts_counted asked header bytes) (messages_of only header bytes)
+    treated
 
--- What salvaging does with each message of these harts of a capture is written in a format, and the run ends as one of
--- `salvage` does: by the capture's header and by what is salvaged of them.
+-- What salvaging does with each message of these harts of a capture, and which rows it settles, is written in a
+-- format, and the run ends as one of `salvage` does: by the capture's header and by what is salvaged of them.
 pub record WritesTreated (format : Format) (rows : Bool) (only : HartRange) (asked : Option ℕ) (program : Image)
     (symbols : Option (List ℕ)) (bytes : List ℕ) (printed : Printed) : Type 0 where
   pub header : Option Header
@@ -40,7 +46,8 @@ pub record WritesTreated (format : Format) (rows : Bool) (only : HartRange) (ask
   pub found : IsSalvagedOf only asked program bytes header why salvaged
   pub treated : List Treated
   pub done : AreTreatedIn only asked program header bytes treated
-  pub text : printed.text ≡ treated_in format rows only symbols header bytes treated
+  pub text : printed.text
+      ≡ treated_in format rows only symbols header bytes (in_rows (messages_of only header bytes) treated)
   pub ended : printed.ended ≡ end_of_salvage_of only why (list_any is_run (spans_of header bytes)) salvaged
 
 -- The same, where the capture has one of these harts.

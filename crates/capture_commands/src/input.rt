@@ -9,8 +9,9 @@ ghost use Rattle.capture_commands.specs.CaptureInput.{IsCaptureInput};
 ghost use Rattle.capture_commands.specs.steps.Inputs.{lent_in, owned_in};
 
 use crate::reason::Fault;
-use crate::symbols_input::symbols_of;
-use command_inputs::{Files, Format, ProgramArgs, asked_base, content_of, harts_asked, program_of};
+use command_inputs::{
+    Files, Format, ProgramArgs, asked_base, content_of, harts_asked, program_of, symbols_of,
+};
 use message::HartRange;
 use rvclass::Program;
 use std::alloc::Global;

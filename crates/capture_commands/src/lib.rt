@@ -30,7 +30,6 @@ mod salvaging_capture;
 mod stopping;
 mod survey_progress;
 mod surveyed;
-mod symbols_input;
 mod task;
 
 pub use against_logs::compare;

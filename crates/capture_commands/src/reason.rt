@@ -9,29 +9,26 @@ use command_inputs::{Reason, Status};
 use message::{HartRange, MessageFault};
 use std::fmt;
 use std::fmt::Display;
-use symbols::SymbolsFault;
 
 /// Why a subcommand that reads a capture stops.
-pub type Fault<'a> = command_inputs::Fault<'a, CaptureReason<'a>>;
+pub type Fault<'a> = command_inputs::Fault<'a, CaptureReason>;
 
 /// What only a subcommand that reads a capture stops at.
 #[derive(Clone, Copy)]
-pub enum CaptureReason<'a> {
+pub enum CaptureReason {
     /// The capture begins as one of version 2 does, and its header is not valid.
     Header,
     /// Reading or decoding the capture stopped at the message with this number, counted from 0 over all harts.
     Message(u64, CaptureFault),
     /// The closing packet of this hart did not come.
     Unclosed(usize),
-    /// The file at this path has no symbols that are read.
-    Symbols(&'a str, SymbolsFault),
     /// So many logs are given for a capture of so many harts.
     Logs(usize, usize),
     /// The capture has none of these harts.
     NoHart(HartRange),
 }
 
-impl fmt::Display for CaptureReason<'_> {
+impl fmt::Display for CaptureReason {
     ghost output = { λ why. Some (capture_reason_text why) };
 
     fn fmt<W: fmt::Write>(&self, f: &mut fmt::Formatter<W>) -> fmt::Result {
@@ -39,14 +36,13 @@ impl fmt::Display for CaptureReason<'_> {
             CaptureReason::Header => MessageFault::BadHeader.fmt(f),
             CaptureReason::Message(number, why) => write!(f, "message {number}: {why}"),
             CaptureReason::Unclosed(hart) => write!(f, "hart {hart}: no closing packet"),
-            CaptureReason::Symbols(path, why) => write!(f, "{path}: {why}"),
             CaptureReason::Logs(logs, harts) => write!(f, "{logs} logs for {harts} harts"),
             CaptureReason::NoHart(harts) => write!(f, "no hart of {harts}"),
         }
     }
 }
 
-impl Reason for CaptureReason<'_> {
+impl Reason for CaptureReason {
     ghost text = { capture_reason_text };
 
     ghost status = { capture_reason_status };
@@ -57,7 +53,7 @@ impl Reason for CaptureReason<'_> {
             | CaptureReason::Message(..)
             | CaptureReason::Unclosed(_)
             | CaptureReason::NoHart(_) => Status::NotWhole,
-            CaptureReason::Symbols(..) | CaptureReason::Logs(..) => Status::Refused,
+            CaptureReason::Logs(..) => Status::Refused,
         }
     }
 

@@ -10,7 +10,8 @@ ghost use Rattle.salvaging.specs.Treatments.{AreTreated};
 ghost use Rattle.capture_commands.specs.Faults.{final_status};
 ghost use Rattle.capture_commands.specs.ListedFormats.{form_of, treated_in};
 ghost use Rattle.capture_commands.specs.Listed.{CanTreat};
-ghost use Rattle.capture_commands.specs.ListedSalvaged.{AreTreatedIn, TreatsHarts};
+ghost use Rattle.capture_commands.specs.ListedSalvaged.{AreTreatedIn, TreatsHarts, messages_of};
+ghost use Rattle.salvage_reports.specs.HartRows.{in_rows};
 ghost use Rattle.capture_commands.specs.steps.Inputs.{names_in};
 ghost use Rattle.capture_commands.specs.steps.Reading.{IsFoundOf};
 ghost use Rattle.command_inputs.specs.declared.fault.Fault.TheVariants as Fault;
@@ -25,7 +26,7 @@ use message::{Header, Message};
 use payload::Mode;
 use retire::WriteFault;
 use rvclass::ProgramOver;
-use salvage_reports::{Found, TreatedCapture, write_treated};
+use salvage_reports::{Found, TreatedCapture, TreatedInRows, in_rows, write_treated};
 use salvaging::{Treated, treat_watched};
 use std::alloc::{AllocError, Global};
 use std::io::Write;
@@ -75,7 +76,8 @@ fn list_found<'a, F: Files, O: Write>(
         input.now.program.now (names_in input.now) input.now.bytes.now) (O.contents out.old) (O.contents out.new) }
 {
     let treated = treat_found(alloc, progress, asked.harts, input, found)?;
-    write_treated_in(asked, input, found.header, treated.as_slice(), out)?;
+    let rows = rows_found(alloc, asked.harts, input, found, treated.as_slice())?;
+    write_treated_in(asked, input, found.header, rows.as_slice(), out)?;
     out.flush()?;
     ended(found)
 }
@@ -85,7 +87,7 @@ fn write_treated_in<O: Write>(
     asked: &Listing<'_>,
     input: &Input,
     header: Option<Header>,
-    treated: &[Treated],
+    treated: &[TreatedInRows],
     sink: &mut O,
 ) -> Result<(), WriteFault>
     ensures text { OnOk result (Appends (O.contents sink.old) (O.contents sink.new)
@@ -139,6 +141,21 @@ fn treat_found<F: Files>(
         mode_of(found.header),
         found.frames.messages.as_slice(),
     )
+}
+
+/// Which rows of its hart each message settles that was found of an input, and with which this is done.
+fn rows_found(
+    alloc: Global,
+    harts: Option<u16>,
+    input: &Input,
+    found: &Found,
+    treated: &[Treated],
+) -> Result<Vec<TreatedInRows>, AllocError>
+    requires { IsFoundOf input.now.only harts input.now.program.now input.now.bytes.now found.now }
+    ensures { IfOk result (λ rows. rows.items
+        ≡ in_rows (messages_of input.now.only found.now.header input.now.bytes.now) treated.now) }
+{
+    in_rows(alloc, found.frames.messages.as_slice(), treated)
 }
 
 /// What is done with each of these messages. How far they are worked through is shown, where that is asked for, as the

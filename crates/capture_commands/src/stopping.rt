@@ -1,7 +1,7 @@
 //! The fault of a subcommand that reads a capture, for each fault of what it calls.
 
 ghost use Rattle.std.specs.Prelude.{◌≡◌, ◌≢◌};
-ghost use Rattle.capture_commands.specs.Faults.{capture_fault, lossy_fault, reading_fault, status_of, symbols_fault};
+ghost use Rattle.capture_commands.specs.Faults.{capture_fault, lossy_fault, reading_fault, status_of};
 
 use crate::reason::{CaptureReason, Fault};
 use captures::{CaptureFault, ReadFault};
@@ -9,7 +9,6 @@ use command_inputs::Status;
 use decoder::DecodeFault;
 use losses::LossyFault;
 use message::MessageFault;
-use symbols::SymbolsFault;
 
 /// Why reading or decoding a capture stopped at this message.
 pub(crate) fn capture_fault<'a>(number: u64, why: CaptureFault) -> Fault<'a>
@@ -46,17 +45,5 @@ pub(crate) fn lossy_fault<'a>(why: LossyFault) -> Fault<'a>
         )),
         LossyFault::Decode(place, why) => capture_fault(place as u64, CaptureFault::Decode(why)),
         LossyFault::Memory => Fault::Memory,
-    }
-}
-
-/// Why the symbols of the file at a path are not read.
-pub(crate) fn symbols_fault<'a>(path: &'a str, why: SymbolsFault) -> Fault<'a>
-    ensures { result ≡ symbols_fault path.entry why }
-{
-    match why {
-        SymbolsFault::Memory => Fault::Memory,
-        SymbolsFault::TooLarge | SymbolsFault::NoSymbol => {
-            Fault::Own(CaptureReason::Symbols(path, why))
-        }
     }
 }

@@ -19,7 +19,9 @@ use Rattle.decoder.specs.declared.fault.DecodeFault.{DecodeFault}
 use Rattle.decoder.specs.declared.fault.DecodeFault.TheVariants.{Memory}
 use Rattle.message.specs.Accepted.{AreAccepted, newcomers}
 use Rattle.message.specs.Capture.{capture}
+use Rattle.message.proofs.Selecting.{all_selected}
 use Rattle.message.proofs.StartsRead.{header_only, never_both}
+use Rattle.message.specs.Range.{every_hart, selected}
 use Rattle.message.specs.Cut.{IsMessage, IsCut, HasBadLength}
 use Rattle.message.specs.Header.{IsMarked, header_bytes, setting_bytes}
 use Rattle.message.specs.declared.fault.DemuxFault.{DemuxFault}
@@ -36,10 +38,11 @@ use Rattle.captures.proofs.CapturesSplit.{capture_split, capture_none, capture_n
 use Rattle.captures.proofs.Elements.{All-behind}
 use Rattle.captures.proofs.HeaderFaults.{has_header, marked_by}
 use Rattle.captures.proofs.NextMessages.{IsNext, all_ranges, program_image, log_described, log_ended, next_message}
-use Rattle.captures.specs.Decoded.{AreMessagesDecoded, BeginsRefused, IsDecoded, NoHeader, Stops, Version1, Version2}
+use Rattle.captures.specs.Decoded.{AreHartsDecoded, BeginsRefused, IsDecoded, NoHeader, StopsDecodingOf, StopsOf}
+use Rattle.captures.specs.Decoded.{Version1, Version2}
 use Rattle.captures.specs.Messages.{messages_of_harts}
 use Rattle.message.specs.OfHart.{packets_of}
-use Rattle.captures.specs.Returned.{AreAskedFor, AreReturned, IsCaptureOf, IsLongLegalLog}
+use Rattle.captures.specs.Returned.{AreAskedFor, AreReturned, IsCaptureOf, IsLongLegalLog, IsMemory}
 use Rattle.captures.specs.Versions.{header_of}
 use Rattle.captures.specs.declared.outcome.CaptureFault.{CaptureFault}
 use Rattle.captures.specs.declared.outcome.CaptureFault.TheVariants as fault
@@ -147,46 +150,53 @@ module _ (program : Image) (period : ℕ) (mode : Mode) (logs : List ProgramLog)
       let another = left.refused.another in
       cc
 
+  -- Why decoding stops behind the first ones.
+  stopped : (messages later : List Message) (rest : List ℕ) (why : CaptureFault) → all ≡ messages ++ later
+      → rest ≡ capture later → All IsMessage later → AreAccepted (newcomers (length logs)) messages
+      → StopsDecodingOf every_hart (words_of program) (length logs) announced messages rest why → IsMemory why
+  stopped messages later rest (fault.Message message.Short) whole same ranges accepted stops =
+      absurd (capture_not_cut later ranges (subst IsCut same stops))
+  stopped messages later rest (fault.Message message.BadLength) whole same ranges accepted stops =
+      absurd (capture_not_bad later ranges (subst HasBadLength same stops))
+  stopped messages later rest (fault.Message message.Read) whole same ranges accepted stops = absurd stops
+  stopped messages later rest (fault.Message message.Write) whole same ranges accepted stops = absurd stops
+  stopped messages later rest (fault.Message message.BadHeader) whole same ranges accepted stops = absurd stops
+  stopped messages later rest (fault.Demux why) whole same ranges accepted stops =
+      absurd (not_refused messages later rest why whole same ranges stops.begins accepted)
+  stopped messages later rest (fault.Decode why) whole same ranges accepted stops =
+      not_decoded messages later rest why whole same ranges stops.begins accepted
+  stopped messages later rest fault.Mode whole same ranges accepted stops =
+      absurd (not_another messages later rest whole same ranges stops.begins accepted)
+
   -- What decoding up to a stop gives.
   returned : (lists : List (List Event)) (closed : List Bool) (stop : Option (ℕ × CaptureFault))
       (messages later : List Message) (rest : List ℕ) → all ≡ messages ++ later → rest ≡ capture later
-      → All IsMessage later
+      → All IsMessage later → selected every_hart messages ≡ messages
       → AreDecoded (λ hart. words_of program) (length logs) messages lists closed
       → AreAccepted (newcomers (length logs)) messages
-      → Stops (words_of program) (length logs) announced messages rest stop
+      → StopsOf every_hart (words_of program) (length logs) announced messages rest stop
       → AreReturned logs lists closed stop
-  returned lists closed None messages later rest whole same ranges decoded accepted stops =
+  returned lists closed None messages later rest whole same ranges every decoded accepted stops =
       let none = capture_none later (sym same ∙ stops) in
-      let every : messages ≡ all = sym (whole ∙ ap (λ l. messages ++ l) none ∙ append-nil messages) in
-      let done = subst (λ ms. AreDecoded (λ hart. words_of program) (length logs) ms lists closed) every decoded in
+      let is : messages ≡ all = sym (whole ∙ ap (λ l. messages ++ l) none ∙ append-nil messages) in
+      let done = subst (λ ms. AreDecoded (λ hart. words_of program) (length logs) ms lists closed) is decoded in
       (lists_same lists closed done, closed_same lists closed done)
-  returned lists closed (Some (count, fault.Message message.Short)) messages later rest whole same ranges decoded
-      accepted stops = absurd (capture_not_cut later ranges (subst IsCut same stops.1))
-  returned lists closed (Some (count, fault.Message message.BadLength)) messages later rest whole same ranges decoded
-      accepted stops = absurd (capture_not_bad later ranges (subst HasBadLength same stops.1))
-  returned lists closed (Some (count, fault.Message message.Read)) messages later rest whole same ranges decoded
-      accepted stops = absurd stops.1
-  returned lists closed (Some (count, fault.Message message.Write)) messages later rest whole same ranges decoded
-      accepted stops = absurd stops.1
-  returned lists closed (Some (count, fault.Message message.BadHeader)) messages later rest whole same ranges decoded
-      accepted stops = absurd stops.1
-  returned lists closed (Some (count, fault.Demux why)) messages later rest whole same ranges decoded accepted stops =
-      absurd (not_refused messages later rest why whole same ranges stops.1 accepted)
-  returned lists closed (Some (count, fault.Decode why)) messages later rest whole same ranges decoded accepted stops =
-      not_decoded messages later rest why whole same ranges stops.1 accepted
-  returned lists closed (Some (count, fault.Mode)) messages later rest whole same ranges decoded accepted stops =
-      absurd (not_another messages later rest whole same ranges stops.1 accepted)
+  returned lists closed (Some stop) messages later rest whole same ranges every decoded accepted stops =
+      stopped messages later rest stop.1 whole same ranges accepted
+      (subst (λ ms. StopsDecodingOf every_hart (words_of program) (length logs) announced ms rest stop.1) every stops.1)
 
   -- What is decoded of the capture of all messages.
   pub all_returned : (lists : List (List Event)) (closed : List Bool) (stop : Option (ℕ × CaptureFault))
-      → AreMessagesDecoded (words_of program) (length logs) announced (capture all) lists closed stop
+      → AreHartsDecoded every_hart (words_of program) (length logs) announced (capture all) lists closed stop
       → AreReturned logs lists closed stop
   all_returned lists closed stop here =
       let ranges = all_ranges program period mode logs legal all_same few in
       let split = capture_split all here.messages here.rest ranges here.ranges here.whole in
       let later = All-behind IsMessage here.messages split.later (subst (All IsMessage) split.whole ranges) in
-      returned lists closed stop here.messages split.later here.rest split.whole split.bytes later here.decoded
-      here.accepted here.stops
+      let every = all_selected here.messages here.ranges in
+      returned lists closed stop here.messages split.later here.rest split.whole split.bytes later every
+      (subst (λ ms. AreDecoded (λ hart. words_of program) (length logs) ms lists closed) every here.decoded)
+      (subst (AreAccepted (newcomers (length logs))) every here.accepted) here.stops
 
 -- The bytes of messages do not begin with the mark of version 2.
 not_marked : (messages : List Message) → All IsMessage messages → IsMarked (capture messages) → ⊥
@@ -204,8 +214,8 @@ module _ (program : Image) (period : ℕ) (mode : Mode) (harts : ℕ) (logs : Li
       → IsDecoded (words_of program) harts bytes lists closed stop → AreReturned logs lists closed stop
   return_one sent count few (Version1 none here) =
       all_returned program period mode logs sent.legal sent.same few None tt lists closed stop
-      (subst (λ b. AreMessagesDecoded (words_of program) (length logs) None b lists closed stop) sent.whole
-      (subst (λ n. AreMessagesDecoded (words_of program) n None bytes lists closed stop) (sym count) here))
+      (subst (λ b. AreHartsDecoded every_hart (words_of program) (length logs) None b lists closed stop) sent.whole
+      (subst (λ n. AreHartsDecoded every_hart (words_of program) n None bytes lists closed stop) (sym count) here))
   return_one sent count few (Version2 header rest is begins here) =
       absurd (not_marked (messages_of_harts period mode 0 logs)
       (all_ranges program period mode logs sent.legal sent.same few)
@@ -230,8 +240,9 @@ module _ (program : Image) (period : ℕ) (mode : Mode) (harts : ℕ) (logs : Li
       let counted = sent.start.harts in
       all_returned program period mode logs sent.legal sent.same (omega (arith, counted)) (Some mode) refl lists closed
       stop
-      (subst (λ b. AreMessagesDecoded (words_of program) (length logs) (Some mode) b lists closed stop) left
-      (subst (λ (h : Header). AreMessagesDecoded (words_of program) h.harts (Some h.mode) rest lists closed stop)
+      (subst (λ b. AreHartsDecoded every_hart (words_of program) (length logs) (Some mode) b lists closed stop) left
+      (subst
+      (λ (h : Header). AreHartsDecoded every_hart (words_of program) h.harts (Some h.mode) rest lists closed stop)
       (sym same) here))
   return_two sent (NoHeader why none is_stop no_lists none_closed) =
       absurd (has_header (header_of period mode logs) sent_all bytes why sent.start sent.whole none)

@@ -1,7 +1,7 @@
 -- What is passed line by line is what the lines say together.
 use Rattle.std.proofs.Common.{◌≡◌, ◌<◌, ◌+◌, ◌∙◌, ℕ, List, [], ◌∷◌, ◌++◌, Option, Some, None, Result, Ok, Err}
 use Rattle.std.proofs.Common.{◌≤◌, arith, ap, refl, subst, sym, get_or, length, length-append, inl, inr, replicate}
-use Rattle.std.proofs.Common.{Bool, true, false, zero, suc, IfOk}
+use Rattle.std.proofs.Common.{Bool, true, false, zero, suc}
 use Rattle.std.specs.Prelude.{max}
 use Rattle.std.specs.List.{fold}
 use Rattle.std.proofs.lemmas.Bool.{cases_eq}
@@ -226,40 +226,42 @@ pub record IsAllRight (skip : Bool) (said : List Line) (number : ℕ) (found : L
   pub said_is : said_in (passed_of skip found) ≡ said
   pub none : faults_in number (passed_of skip found) ≡ []
 
+-- Lines say this; or this is the fault of the first that has one.
+abbrev pub IsSaid : Bool → Result (List Line) LinesFault → ℕ → List Found → Type 0
+IsSaid skip (Ok said) number found = IsAllRight skip said number found
+IsSaid skip (Err why) number found = stop_of false (faults_in number (passed_of skip found)) ≡ Some why
+
 module _ (skip : Bool) (number : ℕ) (line : List ℕ) (known : Option Form) (more : Option Form → List Found) where
   right_none : (rest : Result (List Line) LinesFault)
-      → IfOk rest (λ said. IsAllRight skip said (number + 1) (more known))
-      → IfOk rest (λ said. IsAllRight skip said number (and_found known line (Ok None) more))
-  right_none (Err why) follows = tt
+      → IsSaid skip rest (number + 1) (more known)
+      → IsSaid skip rest number (and_found known line (Ok None) more)
+  right_none (Err why) follows = follows
   right_none (Ok said) follows = record { said_is = follows.said_is; none = follows.none }
 
   right_some : (one : Line) (rest : Result (List Line) LinesFault)
-      → IfOk rest (λ said. IsAllRight skip said (number + 1) (more (Some (form_or known line))))
-      → IfOk (before one rest) (λ said. IsAllRight skip said number (and_found known line (Ok (Some one)) more))
-  right_some one (Err why) follows = tt
+      → IsSaid skip rest (number + 1) (more (Some (form_or known line)))
+      → IsSaid skip (before one rest) number (and_found known line (Ok (Some one)) more)
+  right_some one (Err why) follows = follows
   right_some one (Ok said) follows = record { said_is = ap (λ l. one ∷ l) follows.said_is; none = follows.none }
 
   right_said : (said : Result Line LineFault) (rest : Result (List Line) LinesFault)
-      → IfOk rest (λ said. IsAllRight skip said (number + 1) (more (Some (form_or known line))))
-      → IfOk (with_line number (some_line said) rest)
-      (λ all. IsAllRight skip all number (and_found known line (some_line said) more))
-  right_said (Err why) rest follows = tt
+      → IsSaid skip rest (number + 1) (more (Some (form_or known line)))
+      → IsSaid skip (with_line number (some_line said) rest) number (and_found known line (some_line said) more)
+  right_said (Err why) rest follows = refl
   right_said (Ok one) rest follows = right_some one rest follows
 
 module _ (skip : Bool) (settings : Settings) where
   right_one : (form : Form) (number : ℕ) (line : List ℕ) (found : Found) (rest : Result (List Line) LinesFault)
-      (more : Option Form → List Found) → IfOk rest (λ said. IsAllRight skip said (number + 1) (more (Some form)))
-      → IfOk (with_line number found rest)
-      (λ said. IsAllRight skip said number (and_found (Some form) line found more))
-  right_one form number line (Err why) rest more follows = tt
+      (more : Option Form → List Found) → IsSaid skip rest (number + 1) (more (Some form))
+      → IsSaid skip (with_line number found rest) number (and_found (Some form) line found more)
+  right_one form number line (Err why) rest more follows = refl
   right_one form number line (Ok None) rest more follows = right_none skip number line (Some form) more rest follows
   right_one form number line (Ok (Some said)) rest more follows =
       right_some skip number line (Some form) more said rest follows
 
   -- Lines whose form is known.
   pub all_right : (form : Form) (number : ℕ) (lines : List (List ℕ))
-      → IfOk (lines_from settings form number lines)
-      (λ said. IsAllRight skip said number (found_in settings (Some form) lines))
+      → IsSaid skip (lines_from settings form number lines) number (found_in settings (Some form) lines)
   all_right form number [] = record { said_is = refl; none = refl }
   all_right form number (line ∷ lines) =
       right_one form number line (line_of settings form line) (lines_from settings form (number + 1) lines)
@@ -267,14 +269,13 @@ module _ (skip : Bool) (settings : Settings) where
 
   first_right : (passed : Bool) (number : ℕ) (line : List ℕ) (lines : List (List ℕ))
       (says : Form → Result Line LineFault)
-      → IfOk (lines_from settings (first_form lines) (number + 1) lines)
-      (λ said. IsAllRight skip said (number + 1) (found_in settings None lines))
-      → IfOk (with_line number (if passed then Ok None else some_line
+      → IsSaid skip (lines_from settings (first_form lines) (number + 1) lines) (number + 1)
+      (found_in settings None lines)
+      → IsSaid skip (with_line number (if passed then Ok None else some_line
       (says (if passed then first_form lines else form_of_line line)))
-      (lines_from settings (if passed then first_form lines else form_of_line line) (number + 1) lines))
-      (λ said. IsAllRight skip said number
+      (lines_from settings (if passed then first_form lines else form_of_line line) (number + 1) lines)) number
       (and_found None line (if passed then Ok None else some_line (says (form_of_line line)))
-      (λ known. found_in settings known lines)))
+      (λ known. found_in settings known lines))
   first_right true number line lines says follows =
       right_none skip number line None (λ known. found_in settings known lines)
       (lines_from settings (first_form lines) (number + 1) lines) follows
@@ -283,20 +284,20 @@ module _ (skip : Bool) (settings : Settings) where
       (lines_from settings (form_of_line line) (number + 1) lines) (all_right (form_of_line line) (number + 1) lines)
 
   -- Lines whose form is that of the first.
-  unknown_right : (number : ℕ) (lines : List (List ℕ)) → IfOk (lines_from settings (first_form lines) number lines)
-      (λ said. IsAllRight skip said number (found_in settings None lines))
+  unknown_right : (number : ℕ) (lines : List (List ℕ))
+      → IsSaid skip (lines_from settings (first_form lines) number lines) number (found_in settings None lines)
   unknown_right number [] = record { said_is = refl; none = refl }
   unknown_right number (line ∷ lines) =
       first_right (is_passed_over line) number line lines (λ form. line_by settings form (fields_of line))
       (unknown_right (number + 1) lines)
 
   form_right : (numbers : Option ℕ) (number : ℕ) (lines : List (List ℕ))
-      → IfOk (lines_from settings (form_of numbers lines) number lines)
-      (λ said. IsAllRight skip said number (found_in settings (known_form numbers) lines))
+      → IsSaid skip (lines_from settings (form_of numbers lines) number lines) number
+      (found_in settings (known_form numbers) lines)
   form_right None number lines = unknown_right number lines
   form_right (Some numbers) number lines = all_right Numbered number lines
 
   -- The lines of a text that come one by one.
-  pub text_right : (text : List ℕ) → IfOk (lines_of settings text)
-      (λ said. IsAllRight skip said 1 (found_in settings (known_form settings.numbers) (lines text)))
+  pub text_right : (text : List ℕ) → IsSaid skip (lines_of settings text) 1
+      (found_in settings (known_form settings.numbers) (lines text))
   text_right text = form_right settings.numbers 1 (lines text)

@@ -21,24 +21,24 @@ use Rattle.captures.specs.Dump.{has_bad_payload, dump_line, dump_text}
 
 -- So many messages stand before the bytes that are left, the flag says whether a payload of those of these harts is bad,
 -- and the lines of these were appended.
-pub record HasDumped (harts : HartRange) (mode : Mode) (bytes left : List ℕ) (count : ℕ) (bad : Bool)
+pub record HasDumped (symbols : Option (List ℕ)) (harts : HartRange) (mode : Mode) (bytes left : List ℕ) (count : ℕ) (bad : Bool)
     (old new : Option (List ℕ)) : Type 0 where
   pub messages : List Message
   pub ranges : All IsMessage messages
   pub whole : bytes ≡ capture messages ++ left
   pub counted : count ≡ length messages
   pub flag : bad ≡ list_any has_bad_payload (selected harts messages)
-  pub text : Appends old new (dump_text mode (selected harts messages))
+  pub text : Appends old new (dump_text symbols mode (selected harts messages))
   pub room : count + length left ≤ length bytes
 
 -- One message more.
-pub dumped-next : (harts : HartRange) (mode : Mode) (bytes left next : List ℕ) (count : ℕ) (bad : Bool) (m : Message)
+pub dumped-next : (symbols : Option (List ℕ)) (harts : HartRange) (mode : Mode) (bytes left next : List ℕ) (count : ℕ) (bad : Bool) (m : Message)
     (old before after : Option (List ℕ))
-    → HasDumped harts mode bytes left count bad old before
-    → IsMessage m → Appends before after (dump_text mode (selected harts (m ∷ [])))
+    → HasDumped symbols harts mode bytes left count bad old before
+    → IsMessage m → Appends before after (dump_text symbols mode (selected harts (m ∷ [])))
     → left ≡ message_bytes m ++ next → length next < length left
-    → HasDumped harts mode bytes next (count + 1) (bad || list_any has_bad_payload (selected harts (m ∷ []))) old after
-dumped-next harts mode bytes left next count bad m old before after so_far is line begins fewer =
+    → HasDumped symbols harts mode bytes next (count + 1) (bad || list_any has_bad_payload (selected harts (m ∷ []))) old after
+dumped-next symbols harts mode bytes left next count bad m old before after so_far is line begins fewer =
     let messages = so_far.messages in
     let more = length-append messages (m ∷ []) in
     let counted = so_far.counted in
@@ -51,17 +51,17 @@ dumped-next harts mode bytes left next count bad m old before after so_far is li
       flag = ap (λ b. b || list_any has_bad_payload (selected harts (m ∷ []))) so_far.flag ∙ any-snoc messages;
       text =
           subst (Appends old after) (text-snoc messages)
-          (Appends-trans old before after (dump_text mode (selected harts messages))
-          (dump_text mode (selected harts (m ∷ []))) so_far.text line);
+          (Appends-trans old before after (dump_text symbols mode (selected harts messages))
+          (dump_text symbols mode (selected harts (m ∷ []))) so_far.text line);
       room = omega (arith, room, fewer);
     }
   where
     text-snoc : (messages : List Message)
-        → dump_text mode (selected harts messages) ++ dump_text mode (selected harts (m ∷ []))
-        ≡ dump_text mode (selected harts (messages ++ m ∷ []))
+        → dump_text symbols mode (selected harts messages) ++ dump_text symbols mode (selected harts (m ∷ []))
+        ≡ dump_text symbols mode (selected harts (messages ++ m ∷ []))
     text-snoc messages =
-        sym (ap (dump_text mode) (selected-append harts messages (m ∷ []))
-        ∙ flat_map-append (dump_line mode) (selected harts messages) (selected harts (m ∷ [])))
+        sym (ap (dump_text symbols mode) (selected-append harts messages (m ∷ []))
+        ∙ flat_map-append (dump_line symbols mode) (selected harts messages) (selected harts (m ∷ [])))
 
     any-snoc : (messages : List Message)
         → (list_any has_bad_payload (selected harts messages) || list_any has_bad_payload (selected harts (m ∷ [])))

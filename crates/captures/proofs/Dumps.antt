@@ -99,33 +99,33 @@ capture_joined (m ∷ front) back =
     ∙ sym (append_assoc (message_bytes m) (capture front) (capture back))
 
 -- The lines of two lists, one after the other.
-text_joined : (harts : HartRange) (mode : Mode) (front back : List Message)
-    → dump_text mode (selected harts (front ++ back))
-    ≡ dump_text mode (selected harts front) ++ dump_text mode (selected harts back)
-text_joined harts mode front back =
-    ap (dump_text mode) (selected-append harts front back)
-    ∙ flat_map-append (dump_line mode) (selected harts front) (selected harts back)
+text_joined : (symbols : Option (List ℕ)) (harts : HartRange) (mode : Mode) (front back : List Message)
+    → dump_text symbols mode (selected harts (front ++ back))
+    ≡ dump_text symbols mode (selected harts front) ++ dump_text symbols mode (selected harts back)
+text_joined symbols harts mode front back =
+    ap (dump_text symbols mode) (selected-append harts front back)
+    ∙ flat_map-append (dump_line symbols mode) (selected harts front) (selected harts back)
 
 -- Messages were dumped, and a beginning of the line of the next.
-pub dump_begun : (harts : HartRange) (mode : Mode) (bytes left next : List ℕ) (count : ℕ) (bad : Bool) (m : Message)
+pub dump_begun : (symbols : Option (List ℕ)) (harts : HartRange) (mode : Mode) (bytes left next : List ℕ) (count : ℕ) (bad : Bool) (m : Message)
     (old mid new : Option (List ℕ))
-    → AreBytes bytes → HasDumped harts mode bytes left count bad old mid → IsMessage m
-    → left ≡ message_bytes m ++ next → AppendsBeginning (dump_text mode (selected harts (m ∷ []))) mid new
-    → BeginsDump (AreMessagesDumped harts mode bytes) old new
-dump_begun harts mode bytes left next count bad m old mid new are so_far is begins begun =
+    → AreBytes bytes → HasDumped symbols harts mode bytes left count bad old mid → IsMessage m
+    → left ≡ message_bytes m ++ next → AppendsBeginning (dump_text symbols mode (selected harts (m ∷ []))) mid new
+    → BeginsDump (AreMessagesDumped symbols harts mode bytes) old new
+dump_begun symbols harts mode bytes left next count bad m old mid new are so_far is begins begun =
     let behind : AreBytes next =
     AreBytes-behind (message_bytes m) next (subst AreBytes begins
     (AreBytes-behind (capture so_far.messages) left (subst AreBytes so_far.whole are))) in
     let later = parted (length next) next (omega arith) behind in
     let all = so_far.messages ++ m ∷ later.messages in
-    let text : dump_text mode (selected harts all)
-    ≡ dump_text mode (selected harts so_far.messages)
-    ++ (dump_text mode (selected harts (m ∷ [])) ++ dump_text mode (selected harts later.messages)) =
-    text_joined harts mode so_far.messages (m ∷ later.messages)
-    ∙ ap (λ (l : List ℕ). dump_text mode (selected harts so_far.messages) ++ l)
-    (text_joined harts mode (m ∷ []) later.messages) in
+    let text : dump_text symbols mode (selected harts all)
+    ≡ dump_text symbols mode (selected harts so_far.messages)
+    ++ (dump_text symbols mode (selected harts (m ∷ [])) ++ dump_text symbols mode (selected harts later.messages)) =
+    text_joined symbols harts mode so_far.messages (m ∷ later.messages)
+    ∙ ap (λ (l : List ℕ). dump_text symbols mode (selected harts so_far.messages) ++ l)
+    (text_joined symbols harts mode (m ∷ []) later.messages) in
     record {
-      text = dump_text mode (selected harts all);
+      text = dump_text symbols mode (selected harts all);
       bad = list_any has_bad_payload (selected harts all);
       fault = stop_at (length all) later.why;
       dumped = record {
@@ -144,22 +144,22 @@ dump_begun harts mode bytes left next count bad m old mid new are so_far is begi
         ends = ends_at (length all) later.rest later.why later.ends;
       };
       begun = subst (λ (l : List ℕ). AppendsBeginning l old new) (sym text)
-          (begun_between (dump_text mode (selected harts so_far.messages)) (dump_text mode (selected harts (m ∷ [])))
-          (dump_text mode (selected harts later.messages)) old mid new so_far.text begun);
+          (begun_between (dump_text symbols mode (selected harts so_far.messages)) (dump_text symbols mode (selected harts (m ∷ [])))
+          (dump_text symbols mode (selected harts later.messages)) old mid new so_far.text begun);
     }
 
 -- Some text is the dump of any bytes.
-pub record HasDump (harts : HartRange) (mode : Mode) (bytes : List ℕ) : Type 0 where
+pub record HasDump (symbols : Option (List ℕ)) (harts : HartRange) (mode : Mode) (bytes : List ℕ) : Type 0 where
   pub text : List ℕ
   pub bad : Bool
   pub fault : Option (ℕ × MessageFault)
-  pub dumped : AreMessagesDumped harts mode bytes bad fault text
+  pub dumped : AreMessagesDumped symbols harts mode bytes bad fault text
 
-pub has_dump : (harts : HartRange) (mode : Mode) (bytes : List ℕ) → AreBytes bytes → HasDump harts mode bytes
-has_dump harts mode bytes are =
+pub has_dump : (symbols : Option (List ℕ)) (harts : HartRange) (mode : Mode) (bytes : List ℕ) → AreBytes bytes → HasDump symbols harts mode bytes
+has_dump symbols harts mode bytes are =
     let all = parted (length bytes) bytes (omega arith) are in
     record {
-      text = dump_text mode (selected harts all.messages);
+      text = dump_text symbols mode (selected harts all.messages);
       bad = list_any has_bad_payload (selected harts all.messages);
       fault = stop_at (length all.messages) all.why;
       dumped = record {

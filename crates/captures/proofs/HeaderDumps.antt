@@ -15,24 +15,24 @@ use Rattle.captures.specs.Dump.{AppendsDump, AreMessagesDumped, BeginsDump, IsDu
 use Rattle.captures.specs.NoMessage.{BeginsNoHeader}
 
 -- There is no header, for this reason.
-pub none_dumped : (harts : HartRange) (bytes : List ℕ) (why : MessageFault) (old : Option (List ℕ)) → BeginsNoHeader bytes why
-    → AppendsDump (IsDumpOf harts bytes) false (Some (0, why)) old old
-none_dumped harts bytes why old begins = record {
+pub none_dumped : (symbols : Option (List ℕ)) (harts : HartRange) (bytes : List ℕ) (why : MessageFault) (old : Option (List ℕ)) → BeginsNoHeader bytes why
+    → AppendsDump (IsDumpOf symbols harts bytes) false (Some (0, why)) old old
+none_dumped symbols harts bytes why old begins = record {
   text = [];
   dumped = IsDumpOf.NoHeader why begins refl refl refl;
   appended = Appends-nil old;
 }
 
-module _ (harts : HartRange) (bytes : List ℕ) (unmarked : ¬ IsMarked bytes) (old new : Option (List ℕ)) where
+module _ (symbols : Option (List ℕ)) (harts : HartRange) (bytes : List ℕ) (unmarked : ¬ IsMarked bytes) (old new : Option (List ℕ)) where
   -- Messages alone were dumped.
   pub messages_dumped : (bad : Bool) (stop : Option (ℕ × MessageFault))
-      → AppendsDump (AreMessagesDumped harts Differential bytes) bad stop old new
-      → AppendsDump (IsDumpOf harts bytes) bad stop old new
+      → AppendsDump (AreMessagesDumped symbols harts Differential bytes) bad stop old new
+      → AppendsDump (IsDumpOf symbols harts bytes) bad stop old new
   messages_dumped bad stop all =
       record { text = all.text; dumped = IsDumpOf.Version1 unmarked all.dumped; appended = all.appended }
 
   -- A beginning of them was.
-  pub messages_begun : BeginsDump (AreMessagesDumped harts Differential bytes) old new → BeginsDump (IsDumpOf harts bytes) old new
+  pub messages_begun : BeginsDump (AreMessagesDumped symbols harts Differential bytes) old new → BeginsDump (IsDumpOf symbols harts bytes) old new
   messages_begun some = record {
     text = some.text;
     bad = some.bad;
@@ -41,13 +41,13 @@ module _ (harts : HartRange) (bytes : List ℕ) (unmarked : ¬ IsMarked bytes) (
     begun = some.begun;
   }
 
-module _ (harts : HartRange) (bytes : List ℕ) (header : Header) (rest : List ℕ) (is : IsHeader header)
+module _ (symbols : Option (List ℕ)) (harts : HartRange) (bytes : List ℕ) (header : Header) (rest : List ℕ) (is : IsHeader header)
     (whole : bytes ≡ header_bytes header ++ rest) where
   -- A beginning of the line of a header was written.
   pub line_begun : (old new : Option (List ℕ)) → AreBytes rest → AppendsBeginning (header_line header) old new
-      → BeginsDump (IsDumpOf harts bytes) old new
+      → BeginsDump (IsDumpOf symbols harts bytes) old new
   line_begun old new are begun =
-      let all = has_dump harts header.mode rest are in
+      let all = has_dump symbols harts header.mode rest are in
       record {
         text = header_line header ++ all.text;
         bad = all.bad;
@@ -59,8 +59,8 @@ module _ (harts : HartRange) (bytes : List ℕ) (header : Header) (rest : List �
   module _ (old mid new : Option (List ℕ)) (line : Appends old mid (header_line header)) where
     -- The line of a header and then messages were dumped.
     pub headed_dumped : (bad : Bool) (stop : Option (ℕ × MessageFault))
-        → AppendsDump (AreMessagesDumped harts header.mode rest) bad stop mid new
-        → AppendsDump (IsDumpOf harts bytes) bad stop old new
+        → AppendsDump (AreMessagesDumped symbols harts header.mode rest) bad stop mid new
+        → AppendsDump (IsDumpOf symbols harts bytes) bad stop old new
     headed_dumped bad stop all = record {
       text = header_line header ++ all.text;
       dumped = IsDumpOf.Version2 header rest all.text is whole all.dumped refl;
@@ -68,7 +68,7 @@ module _ (harts : HartRange) (bytes : List ℕ) (header : Header) (rest : List �
     }
 
     -- A beginning of them was, behind the line.
-    pub headed_begun : BeginsDump (AreMessagesDumped harts header.mode rest) mid new → BeginsDump (IsDumpOf harts bytes) old new
+    pub headed_begun : BeginsDump (AreMessagesDumped symbols harts header.mode rest) mid new → BeginsDump (IsDumpOf symbols harts bytes) old new
     headed_begun some = record {
       text = header_line header ++ some.text;
       bad = some.bad;

@@ -10,7 +10,6 @@ pub mod NextMessages
 pub mod CapturesReturn
 pub mod Reaching
 pub mod ReachingHarts
-pub mod EveryHart
 pub mod DumpedMessages
 pub mod Dumps
 pub mod NothingDecoded

@@ -167,9 +167,10 @@ module _ (start : List ℕ) (whole : Pass) (old mid : Option (List ℕ)) where
     }
 
     -- It ended at a fault.
-    pub ended_at : (why : LinesFault) (passed last : PassedLines)
-        → IsPassed {U = Unit {0}} [] first (Err why) passed mid new → IsPassed {U = Unit {0}} start whole (Err why) last old new
-    ended_at why passed last (inl (is, begun)) =
+    pub ended_at : (why : LinesFault) (passed : PassedLines)
+        → IsPassed {U = Unit {0}} [] first (Err why) passed mid new
+        → IsPassed {U = Unit {0}} start whole (Err why) passed old new
+    ended_at why passed (inl (is, begun)) =
         let tail = front_of first.stop first (next first.passed) in
         let front = start ++ capture under.messages in
         let bytes = all_bytes (and_then first next) under
@@ -180,10 +181,12 @@ module _ (start : List ℕ) (whole : Pass) (old mid : Option (List ℕ)) where
           subst (λ l. AppendsBeginning l old new) (sym bytes)
               (begun_between front (capture first.messages) (capture tail.0) old mid new under.written begun),
         )
-    ended_at why passed last (inr (stop, more)) =
+    ended_at why passed (inr (stop, kept, more)) =
         let same = ends first.stop why first (next first.passed) stop in
+        let is : whole ≡ then_pass under.messages first = under.parted ∙ ap (then_pass under.messages) same in
         inr (
-          ap (λ (its : Pass). its.stop) (under.parted ∙ ap (then_pass under.messages) same) ∙ stop,
+          ap (λ (its : Pass). its.stop) is ∙ stop,
+          kept ∙ sym (ap (λ (its : Pass). its.passed) is),
           subst (Appends old new)
               (sym (all_bytes (and_then first next) under
               ∙ ap (λ (its : Pass). (start ++ capture under.messages) ++ capture its.messages) same))
@@ -208,8 +211,7 @@ passed_whole start whole old mid first passed new (Ok done) under is =
     (subst (λ its. IsUnderWay start whole its old mid) (sym (and_none_by first.stop first refl)) under) done passed is)
 passed_whole start whole old mid first passed new (Err why) under is =
     ended_at start whole old mid first no_pass new
-    (subst (λ its. IsUnderWay start whole its old mid) (sym (and_none_by first.stop first refl)) under) why passed passed
-    is
+    (subst (λ its. IsUnderWay start whole its old mid) (sym (and_none_by first.stop first refl)) under) why passed is
 
 -- The lines of a text are passed one by one.
 pub line_by_line : (settings : Settings) (skip : Bool) (whole : Pass) (passed : PassedLines) (line : List ℕ)
@@ -248,5 +250,5 @@ all_written start its passed old mid new (Err why) right first (inl (is, begun))
   begun = begun_behind start (capture its.messages) old mid new first begun;
   fault = is;
 }
-all_written start its passed old mid new (Err why) right first (inr (stop, more)) =
+all_written start its passed old mid new (Err why) right first (inr (stop, kept, more)) =
     absurd (never_stops its.stop why right stop)

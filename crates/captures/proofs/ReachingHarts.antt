@@ -19,8 +19,7 @@ use Rattle.receiver.specs.NotReceived.{IsNotReceived}
 use Rattle.receiver.specs.declared.fault.ReceiveFault.{ReceiveFault}
 use Rattle.receiver.specs.declared.fault.ReceiveFault.TheVariants as receiving
 use Rattle.captures.proofs.Reaching.{capture_next}
-use Rattle.captures.specs.Decoded.{as_capture_fault}
-use Rattle.captures.specs.OfHarts.{AreHartsDecoded, BeginsRefusedOf, StopsDecodingOf, StopsOf}
+use Rattle.captures.specs.Decoded.{AreHartsDecoded, BeginsRefusedOf, StopsDecodingOf, StopsOf, as_capture_fault}
 use Rattle.captures.specs.steps.Collecting.{HasReceivedUpTo}
 use Rattle.captures.specs.declared.outcome.CaptureFault.{CaptureFault}
 
@@ -34,6 +33,32 @@ pub record ReachesOf (range : HartRange) (words : Words) (harts : ℕ) (announce
   pub whole : bytes ≡ capture messages ++ left
   pub agree : All (Agrees announced) (selected range messages)
   pub takes : HasReceived (λ hart. words) harts (selected range messages) received
+
+-- Decoding stops before a message that is refused.
+pub refused_stops : (range : HartRange) (words : Words) (harts : ℕ) (announced : Option Mode) (messages : List Message)
+    (left : List ℕ) (why : ReceiveFault) → BeginsRefusedOf range words harts announced messages left why
+    → StopsDecodingOf range words harts announced messages left (as_capture_fault why)
+refused_stops range words harts announced messages left (receiving.Demux why) begins = begins
+refused_stops range words harts announced messages left receiving.Mode begins = begins
+refused_stops range words harts announced messages left (receiving.Decode why) begins = begins
+
+-- It stops behind these messages, before a message of one of the harts that is not received.
+pub stops_before : (range : HartRange) (words : Words) (harts : ℕ) (announced : Option Mode) (messages : List Message)
+    (left next : List ℕ) (number : ℕ) (message : Message) (why : ReceiveFault) (fault : CaptureFault)
+    → number ≡ length messages → IsMessage message → left ≡ message_bytes message ++ next
+    → selects range message.hart ≡ true
+    → IsNotReceived words harts announced (selected range messages) message why → fault ≡ as_capture_fault why
+    → StopsOf range words harts announced messages left (Some (number, fault))
+stops_before range words harts announced messages left next number message why fault counted is here own refused same =
+    let begins : BeginsRefusedOf range words harts announced (selected range messages) left why =
+    record {
+      begins = record { message = message; rest = next; ranges = is; begins = here; refused = refused };
+      of_range = own;
+    } in (
+      counted,
+      subst (StopsDecodingOf range words harts announced (selected range messages) left) (sym same)
+          (refused_stops range words harts announced (selected range messages) left why begins),
+    )
 
 module _ (range : HartRange) (words : Words) (harts : ℕ) (announced : Option Mode) (bytes : List ℕ) where
   -- At first none was.
@@ -68,7 +93,7 @@ module _ (range : HartRange) (words : Words) (harts : ℕ) (announced : Option M
       }
 
   -- Receiving stops there.
-  reached : (left : List ℕ) (number : ℕ) (old new : Received) (stop : Option (ℕ × CaptureFault))
+  pub reached : (left : List ℕ) (number : ℕ) (old new : Received) (stop : Option (ℕ × CaptureFault))
       → (r : ReachesOf range words harts announced bytes left number old)
       → Holds (λ hart. words) harts (selected range r.messages) new
       → StopsOf range words harts announced r.messages left stop
@@ -85,29 +110,6 @@ module _ (range : HartRange) (words : Words) (harts : ℕ) (announced : Option M
   }
 
   -- Receiving stops at the message behind them, which is of one of the harts and is not received.
-  pub stops_at : (left next : List ℕ) (number : ℕ) (old : Received) (message : Message) (why : ReceiveFault)
-      (fault : CaptureFault) → (r : ReachesOf range words harts announced bytes left number old)
-      → IsMessage message → left ≡ message_bytes message ++ next → selects range message.hart ≡ true
-      → IsNotReceived words harts announced (selected range r.messages) message why → fault ≡ as_capture_fault why
-      → StopsOf range words harts announced r.messages left (Some (number, fault))
-  stops_at left next number old message why fault r is here own refused is_fault = (
-    r.counted,
-    subst (StopsDecodingOf range words harts announced (selected range r.messages) left) (sym is_fault)
-        (stops why begins),
-  )
-    where
-      begins : BeginsRefusedOf range words harts announced (selected range r.messages) left why
-      begins = record {
-        begins = record { message = message; rest = next; ranges = is; begins = here; refused = refused };
-        of_range = own;
-      }
-
-      stops : (why : ReceiveFault) → BeginsRefusedOf range words harts announced (selected range r.messages) left why
-          → StopsDecodingOf range words harts announced (selected range r.messages) left (as_capture_fault why)
-      stops (receiving.Demux why) b = b
-      stops receiving.Mode b = b
-      stops (receiving.Decode why) b = b
-
   pub collected_at : (left next : List ℕ) (number : ℕ) (old new : Received) (message : Message) (why : ReceiveFault)
       (fault : CaptureFault) → ReachesOf range words harts announced bytes left number old
       → IsMessage message → left ≡ message_bytes message ++ next → selects range message.hart ≡ true
@@ -118,7 +120,7 @@ module _ (range : HartRange) (words : Words) (harts : ℕ) (announced : Option M
       → fault ≡ as_capture_fault why → HasReceivedUpTo range words harts announced bytes new (Some (number, fault))
   collected_at left next number old new message why fault r is here own holds refused is_fault =
       reached left number old new (Some (number, fault)) r (holds (selected range r.messages) r.takes)
-      (stops_at left next number old message why fault r is here own
+      (stops_before range words harts announced r.messages left next number message why fault r.counted is here own
       (refused (selected range r.messages) r.takes) is_fault)
 
   -- What a receiver holds is what is decoded.

@@ -1,12 +1,12 @@
--- Lines as they come become the capture of their text, where no line has a fault.
+-- Lines as they come become the capture of their text, where no line has a fault, and else end at the first one.
 use Rattle.std.proofs.Common.{◌≡◌, ◌++◌, ◌∙◌, ap, refl, ℕ, Bool, List, [], Option, Some, None, Result, Ok, Err}
-use Rattle.std.proofs.Common.{IfOk}
+use Rattle.std.proofs.Common.{false}
 use Rattle.std.specs.Prelude.{unwrap_or}
 use Rattle.std.specs.Str.Lines.{lines}
 use Rattle.captures.specs.Capture.{capture_of_text, capture_or_fault, header_with}
 use Rattle.captures.specs.Lines.{harts_up_to, lines_of, messages_of}
 use Rattle.captures.specs.Streamed.{Found, HasKnownStart, faults_in, found_in, known_form, passed_of, said_in}
-use Rattle.captures.specs.Streamed.{streamed_bytes, streamed_faults}
+use Rattle.captures.specs.Streamed.{stop_of, streamed_bytes, streamed_faults}
 use Rattle.captures.specs.Versions.{start_bytes}
 use Rattle.captures.specs.declared.line_fault.LinesFault.{LinesFault}
 use Rattle.captures.specs.declared.capture_line.Line.{Line}
@@ -15,7 +15,7 @@ use Rattle.message.specs.Capture.{capture}
 use Rattle.message.specs.declared.header.Version.{Version}
 use Rattle.message.specs.declared.header.Version.TheVariants.{One, Two}
 use Rattle.payload.specs.declared.mode.Mode.{Mode}
-use Rattle.captures.proofs.Counts.{IsAllRight, text_right}
+use Rattle.captures.proofs.Counts.{IsSaid, text_right}
 
 same_start : (version : Version) (harts : Option ℕ) (mode : Mode) (period some other : ℕ) → HasKnownStart version harts
     → start_bytes version (record { mode = mode; period = period; harts = unwrap_or harts some })
@@ -32,7 +32,7 @@ no_bytes why bytes is = cc
 
 streams : (settings : Settings) (skip : Bool) (r : Result (List Line) LinesFault) (found : List Found) (bytes : List ℕ)
     → HasKnownStart settings.version settings.harts → capture_or_fault settings r ≡ Ok bytes
-    → IfOk r (λ said. IsAllRight skip said 1 found)
+    → IsSaid skip r 1 found
     → (start_bytes settings.version (header_with settings 1)
     ++ capture (messages_of settings.numbers (said_in (passed_of skip found))) ≡ bytes)
     × (faults_in 1 (passed_of skip found) ≡ [])
@@ -53,3 +53,21 @@ pub lines_stream : (settings : Settings) (skip : Bool) (text bytes : List ℕ)
 lines_stream settings skip text bytes known is =
     streams settings skip (lines_of settings text)
     (found_in settings (known_form settings.numbers) (lines text)) bytes known is (text_right skip settings text)
+
+same_fault : (one other : LinesFault) → ◌≡◌ {A = Result (List ℕ) LinesFault} (Err one) (Err other) → one ≡ other
+same_fault one other is = cc
+
+never_whole : (bytes : List ℕ) (why : LinesFault) → ◌≡◌ {A = Result (List ℕ) LinesFault} (Ok bytes) (Err why) → ⊥
+never_whole bytes why is = cc
+
+first_fault : (settings : Settings) (skip : Bool) (r : Result (List Line) LinesFault) (found : List Found)
+    (why : LinesFault) → capture_or_fault settings r ≡ Err why → IsSaid skip r 1 found
+    → stop_of false (faults_in 1 (passed_of skip found)) ≡ Some why
+first_fault settings skip (Ok said) found why is right = absurd (never_whole _ why is)
+first_fault settings skip (Err own) found why is right = right ∙ ap (λ why. Some why) (same_fault own why is)
+
+pub first_fault_streamed : (settings : Settings) (skip : Bool) (text : List ℕ) (why : LinesFault)
+    → capture_of_text settings text ≡ Err why → stop_of false (streamed_faults settings skip text) ≡ Some why
+first_fault_streamed settings skip text why is =
+    first_fault settings skip (lines_of settings text)
+    (found_in settings (known_form settings.numbers) (lines text)) why is (text_right skip settings text)

@@ -1,5 +1,5 @@
 -- What is written of lines that were checked is their capture.
-use Rattle.std.proofs.Common.{◌≡◌, ◌≤◌, ◌<◌, ◌^◌, ◌++◌, ◌∙◌, ℕ, List, [], Option, Some, None, Result, Ok, Err, IfOk}
+use Rattle.std.proofs.Common.{◌≡◌, ◌≤◌, ◌<◌, ◌^◌, ◌++◌, ◌∙◌, ℕ, List, [], Option, Some, None, Result, Ok, Err}
 use Rattle.std.proofs.Common.{IfSome, false, ap, subst, sym}
 use Rattle.std.specs.Prelude.{unwrap_or}
 use Rattle.std.specs.Str.Lines.{lines}
@@ -18,7 +18,7 @@ use Rattle.captures.specs.declared.line_settings.Settings.{Settings}
 use Rattle.captures.specs.Pass.{Pass, no_lines, pass}
 use Rattle.captures.specs.Streamed.{Found, found_in, stop_of}
 use Rattle.captures.specs.steps.Passing.{checked_from}
-use Rattle.captures.proofs.Counts.{Fits, IsAllRight, agree_none, all_right, checked, pass_is, summary}
+use Rattle.captures.proofs.Counts.{Fits, IsSaid, agree_none, all_right, checked, pass_is, summary}
 
 refused_by : (settings : Settings) (r : Result (List Line) LinesFault) (why : LinesFault) → summary 1 r ≡ Err why
     → capture_or_fault settings r ≡ Err why
@@ -35,7 +35,7 @@ no_count_of : (why : LinesFault) (harts : ℕ) → ◌≡◌ {A = Result ℕ Lin
 no_count_of why harts is = cc
 
 accepted_by : (settings : Settings) (form : Form) (r : Result (List Line) LinesFault) (harts : ℕ) (found : List Found)
-    (its : Pass) → summary 1 r ≡ Ok harts → IfOk r (λ said. IsAllRight false said 1 found)
+    (its : Pass) → summary 1 r ≡ Ok harts → IsSaid false r 1 found
     → Fits settings.numbers false (no_lines (Some form)) [] found its
     → IsAccepted settings harts (capture_or_fault settings r) its
 accepted_by settings form (Err why) harts found its is right fits = absurd (no_count_of why harts is)

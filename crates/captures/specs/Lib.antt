@@ -4,7 +4,6 @@ pub mod Versions
 pub mod NoMessage
 pub mod Whole
 pub mod Decoded
-pub mod OfHarts
 pub mod Returned
 pub mod FaultText
 pub mod PacketText

@@ -1,7 +1,9 @@
 -- The texts of packets.
-use Rattle.std.specs.Prelude.{ℕ, ◌==◌, Bool, true, false, if◌then◌else◌, List, ◌++◌, Result, Ok, Err, codes, length}
+use Rattle.std.specs.Prelude.{ℕ, ◌==◌, Bool, true, false, if◌then◌else◌, List, [], ◌++◌, Option, Some, None, Result, Ok}
+use Rattle.std.specs.Prelude.{Err, codes, length}
 use Rattle.std.specs.List.{flat_map}
 use Rattle.retire.specs.LogText.{hex}
+use Rattle.symbols.specs.SymbolText.{name_text}
 use Rattle.payload.specs.FaultText.{pack_fault_text}
 use Rattle.payload.specs.declared.fault.PackFault.{PackFault}
 use Rattle.payload.specs.declared.mode.Mode.{Mode}
@@ -78,3 +80,23 @@ packet_text mode (packet.Map outcomes) = codes "map " ++ map_text outcomes
 abbrev pub reading_text : Mode → Result Packet PackFault → List ℕ
 reading_text mode (Ok packet) = packet_text mode packet
 reading_text mode (Err why) = codes "bad " ++ pack_fault_text why
+
+-- The address that an address field reports in this mode: a difference is none.
+abbrev pub field_address : Mode → ℕ → Option ℕ
+field_address Differential delta = None
+field_address Full delta = Some delta
+
+-- The address that a payload reports, in this mode: that of a sync or a trap packet, and in full mode that of an address
+-- packet.
+abbrev pub reading_address : Mode → Result Packet PackFault → Option ℕ
+reading_address mode (Ok (packet.Sync taken privilege address)) = Some address
+reading_address mode (Ok (packet.Trap taken privilege cause interrupt handler address tval)) = Some address
+reading_address mode (Ok (packet.Support kind)) = None
+reading_address mode (Ok (packet.Address outcomes delta why)) = field_address mode delta
+reading_address mode (Ok (packet.Map outcomes)) = None
+reading_address mode (Err why) = None
+
+-- What an address is named by the symbols of a file, if there are both.
+abbrev pub address_name : Option (List ℕ) → Option ℕ → List ℕ
+address_name symbols None = []
+address_name symbols (Some address) = name_text symbols address

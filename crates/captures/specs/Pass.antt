@@ -81,12 +81,13 @@ pass settings skip passed (line ∷ lines) =
     pass_found settings.numbers skip passed (form_or passed.form line)
     (line_of settings (form_or passed.form line) line) (λ passed. pass settings skip passed lines)
 
--- The lines of a pass were passed, and these bytes and its messages appended. Where it ended at a fault, either the writer
--- failed, and a prefix of these was appended, or it is the fault that ends the pass.
+-- The lines of a pass were passed, and these bytes and its messages appended; what is kept is that of the pass. Where
+-- it ended at a fault, either the writer failed, and a prefix of these was appended, or it is the fault that ends the
+-- pass.
 abbrev pub IsPassed : {U : Type 0} → List ℕ → Pass → Result U LinesFault → PassedLines → Option (List ℕ)
     → Option (List ℕ) → Type 0
 IsPassed start its (Ok done) passed old new =
     (its.stop ≡ None) × (passed ≡ its.passed) × Appends old new (start ++ capture its.messages)
 IsPassed start its (Err why) passed old new =
     ((why ≡ fault.Write) × AppendsBeginning (start ++ capture its.messages) old new)
-    ⊎ ((its.stop ≡ Some why) × Appends old new (start ++ capture its.messages))
+    ⊎ ((its.stop ≡ Some why) × (passed ≡ its.passed) × Appends old new (start ++ capture its.messages))

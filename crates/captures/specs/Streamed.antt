@@ -114,3 +114,10 @@ LinesStreamTheCapture =
     (settings : Settings) (skip : Bool) (text bytes : List ℕ) → HasKnownStart settings.version settings.harts
     → capture_of_text settings text ≡ Ok bytes
     → (streamed_bytes settings skip text ≡ bytes) × (streamed_faults settings skip text ≡ [])
+
+-- Where a line has a fault, so that there is no capture, lines as they come have that fault first, and end at it if
+-- lines with a fault are not skipped.
+abbrev pub LinesStreamTheirFirstFault : Type 0
+LinesStreamTheirFirstFault =
+    (settings : Settings) (skip : Bool) (text : List ℕ) (why : LinesFault) → capture_of_text settings text ≡ Err why
+    → stop_of false (streamed_faults settings skip text) ≡ Some why

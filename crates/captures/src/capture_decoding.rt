@@ -1,7 +1,7 @@
 //! From the bytes of a capture to the events of its harts.
 
 ghost use Rattle.std.specs.Prelude.{ℕ, ◌≡◌, ◌++◌, ◌∷◌, All, List, [], true, false, IfErr, IfOk, OnErr, OnOk, Some};
-ghost use Rattle.std.specs.Prelude.{length, replicate};
+ghost use Rattle.std.specs.Prelude.{replicate};
 ghost use Rattle.message.specs.Range.{selected, selects};
 ghost use Rattle.rvclass.specs.Fetch.{words_of};
 ghost use Rattle.legalpath.specs.ProgramLog.{ProgramLog};
@@ -12,8 +12,7 @@ ghost use Rattle.receiver.specs.Agreeing.{Agrees};
 ghost use Rattle.receiver.specs.Holds.{HasReceived, Holds};
 ghost use Rattle.receiver.specs.NotReceived.{IsNotReceived};
 ghost use Rattle.receiver.specs.Received.{events_in};
-ghost use Rattle.captures.specs.Decoded.{IsDecoded};
-ghost use Rattle.captures.specs.OfHarts.{AreHartsDecoded, IsDecodedOf};
+ghost use Rattle.captures.specs.Decoded.{AreHartsDecoded, IsDecoded, IsDecodedOf};
 ghost use Rattle.captures.specs.Returned.{AreAskedFor, AreReturned, IsCaptureOf};
 ghost use Rattle.captures.specs.steps.Collecting.{HasReceivedUpTo};
 

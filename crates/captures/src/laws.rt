@@ -2,7 +2,7 @@
 
 ghost use Rattle.captures.specs.ReadBack.{LinesBecomeTheCapture, LinesSayTheirMessages};
 ghost use Rattle.captures.specs.Recovered.{LowNumbersAreRecovered};
-ghost use Rattle.captures.specs.Streamed.{LinesStreamTheCapture};
+ghost use Rattle.captures.specs.Streamed.{LinesStreamTheCapture, LinesStreamTheirFirstFault};
 
 /// The lines of hexadecimal that are written for legal logs, long ones among them, become the capture that is written
 /// for them, in the same version and mode and at the same period.
@@ -24,7 +24,8 @@ pub fn low_numbers_are_recovered()
 {}
 
 /// Lines that are written as they come become the capture of their text, where no line has a fault and it is known before
-/// them what the capture begins with.
+/// them what the capture begins with. Where a line has a fault, the first fault of the text is the first that they have.
 pub fn lines_stream_the_capture()
-    ensures { LinesStreamTheCapture }
+    ensures capture { LinesStreamTheCapture }
+    ensures fault { LinesStreamTheirFirstFault }
 {}

@@ -1,8 +1,8 @@
 //! Packets as text.
 
 ghost use Rattle.std.specs.Prelude.{◌≡◌, Some, codes};
-ghost use Rattle.captures.specs.PacketText.{branch_text, cause_text, field_text, map_text, packet_text};
-ghost use Rattle.captures.specs.PacketText.{trap_address_text, reading_text, address_report_text, support_text};
+ghost use Rattle.captures.specs.PacketText.{branch_text, cause_text, field_address, field_text, map_text, packet_text};
+ghost use Rattle.captures.specs.PacketText.{reading_address, trap_address_text, reading_text, address_report_text, support_text};
 
 use payload::{Mode, Outcomes, PackFault, Packet, Report, Support};
 use std::fmt;
@@ -178,5 +178,30 @@ pub fn address_report_text(report: Report) -> &'static str
         Report::Plain => "plain",
         Report::Updiscon => "updiscon",
         Report::Notify => "notify",
+    }
+}
+
+/// The address that a payload reports, by what it unpacks to: that of a sync or a trap packet, and in full mode that of
+/// an address packet.
+pub(crate) fn address_of(mode: Mode, read: &Result<Packet, PackFault>) -> Option<u64>
+    ensures { result ≡ reading_address mode read.now }
+{
+    match read {
+        Ok(Packet::Sync { address, .. }) => Some(*address),
+        Ok(Packet::Trap { address, .. }) => Some(*address),
+        Ok(Packet::Address { delta, .. }) => field_address(mode, *delta),
+        Ok(Packet::Support(_)) => None,
+        Ok(Packet::Map(_)) => None,
+        Err(_) => None,
+    }
+}
+
+/// The address that an address field reports in this mode.
+fn field_address(mode: Mode, delta: u64) -> Option<u64>
+    ensures { result ≡ field_address mode delta }
+{
+    match mode {
+        Mode::Differential => None,
+        Mode::Full => Some(delta),
     }
 }

@@ -82,9 +82,10 @@ impl PassedLines {
     /// Passes the lines of a text, which come after those that were passed, and writes the message of each, as
     /// [`write_capture`](crate::write_capture) does. The form is that of the first line that says something.
     ///
-    /// A line that has a fault is counted and passed over where `skip` is set, and else it is returned. The messages of
-    /// the lines before it are then written. Where the writer fails, what was written is a prefix of them. No memory is
-    /// taken, and the writer is not flushed.
+    /// A line that has a fault is counted and passed over where `skip` is set. Else its fault is returned, with its
+    /// number among all lines that were passed: the messages of the lines before it are then written, and those lines
+    /// are passed. Where the writer fails, what was written is a prefix of the messages, and no clause says which lines
+    /// are passed. No memory is taken, and the writer is not flushed.
     pub fn add<W: Write>(
         &mut self,
         settings: &Settings,

@@ -16,6 +16,15 @@ read_as_spelt bits More Also most text (Some n) default fits reads numeral small
 read_as_spelt bits More Also most text None default fits reads numeral small =
     absurd (reads.1.0 (numeral, omega (arith, small, fits)))
 
+-- So there is one.
+pub spelt_some : {E : Type 0} (bits : ℕ) (More Also : Text → Result ℕ E → Type 0) (most : ℕ) (text : Text)
+    (read : Option ℕ)
+    → most < 2 ^ bits → ReadsOne (λ t r. ParsesUnsigned bits 10 t r × More t r × Also t r) text read
+    → IsNumeral 10 (without_leading_plus text) → decimal text ≤ most → read ≡ Some (decimal text)
+spelt_some bits More Also most text (Some n) fits reads numeral small = ap Some reads.0.1
+spelt_some bits More Also most text None fits reads numeral small =
+    absurd (reads.1.0 (numeral, omega (arith, small, fits)))
+
 never : (count : ℕ) → Some count ≡ None → ⊥
 never count is = cc
 

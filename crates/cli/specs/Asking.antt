@@ -110,6 +110,13 @@ abbrev pub IsSeed : Option Text → ℕ → Type 0
 IsSeed value seed = (text : Text) → value ≡ Some text → IsNumeral 10 (without_leading_plus text)
     → decimal text < 2 ^ 64 → seed ≡ decimal text
 
+-- A seed that may be left out is there only where the argument has a value. Where the argument's text spells a number of
+-- 64 bits in decimal, it is that one.
+abbrev pub IsGivenSeed : Option Text → Option ℕ → Type 0
+IsGivenSeed value given = (value ≡ None → given ≡ None)
+    × ((text : Text) → value ≡ Some text → IsNumeral 10 (without_leading_plus text) → decimal text < 2 ^ 64
+    → given ≡ Some (decimal text))
+
 -- What is made is what has this name, or something else where the name is that of none.
 pub record IsProduct (name : Text) (its : Product) : Type 0 where
   pub image : name ≡ codes "image" → its ≡ product.Image
@@ -135,18 +142,21 @@ AreGivenBits value given = (value ≡ None → given ≡ None)
 abbrev pub Asks : Text → List Row → Asked → Type 0
 Asks name rows (Check asked) = (name ≡ codes "check") × AsksProgram rows asked.program
     × IsFlag (one_of (codes "explain") rows) asked.explain
+    × (option_map (λ path. path.now) asked.symbols ≡ first_of (codes "symbols") rows)
     × IsFlag (one_of (codes "long") rows) asked.long
     × IsFlag (one_of (codes "progress") rows) asked.progress
     × (map (λ log. log.now) asked.logs.items ≡ texts_of (codes "LOG") rows)
 Asks name rows (Encode asked) = (name ≡ codes "encode") × AsksProgram rows asked.program
     × IsPeriod (one_of (codes "period") rows) asked.period
     × IsMode (one_of (codes "full") rows) asked.mode × IsVersion (one_of (codes "v1") rows) asked.version
-    × IsFlag (one_of (codes "hex") rows) asked.hex × IsGivenFirst (one_of (codes "first") rows) asked.first
+    × IsFlag (one_of (codes "hex") rows) asked.hex × IsGivenSeed (one_of (codes "mixed") rows) asked.mixed
+    × IsGivenFirst (one_of (codes "first") rows) asked.first
     × IsGivenHarts (one_of (codes "of") rows) asked.of × IsFlag (one_of (codes "long") rows) asked.long
     × IsFlag (one_of (codes "progress") rows) asked.progress
     × (map (λ log. log.now) asked.logs.items ≡ texts_of (codes "LOG") rows)
 Asks name rows (Dump asked) = (name ≡ codes "dump") × IsFlag (one_of (codes "search") rows) asked.search
     × (option_map (λ text. text.now) asked.only ≡ first_of (codes "only") rows)
+    × (option_map (λ path. path.now) asked.symbols ≡ first_of (codes "symbols") rows)
     × IsFlag (one_of (codes "progress") rows) asked.progress
     × (asked.capture.now ≡ text_of (codes "CAPTURE") rows)
 Asks name rows (Decode asked) = (name ≡ codes "decode") × AsksProgram rows asked.program

@@ -9,13 +9,13 @@ use Rattle.clap.specs.declared.builder.command.Command.TheViews.{out-Command as 
 use Rattle.cli.specs.declared.rules.Argument.{Argument}
 use Rattle.cli.specs.declared.rules.Argument.TheVariants.{Also, Base, Burst, Capacity, Capture, CaptureProgress}
 use Rattle.cli.specs.declared.rules.Argument.TheVariants.{CountedHarts, Events, Explain, ExplainRow, First, Format, Full, Harts}
-use Rattle.cli.specs.declared.rules.Argument.TheVariants.{GivenBase, GivenPeriod, Hart, Messages, Mix, MixedHarts, Seed, What}
+use Rattle.cli.specs.declared.rules.Argument.TheVariants.{GivenBase, GivenPeriod, Hart, Messages, Mix, Mixed, MixedHarts, Seed}
 use Rattle.cli.specs.declared.rules.Argument.TheVariants.{HeadedFull, HeadedPeriod, Headless, Hex, Image, Lines}
 use Rattle.cli.specs.declared.rules.Argument.TheVariants.{ListedHarts, Logs, Long, Lossy, NumberBits, Of, Only, Packets}
 use Rattle.cli.specs.declared.rules.Argument.TheVariants.{Period}
 use Rattle.cli.specs.declared.rules.Argument.TheVariants.{Progress, Received, Rows, Salvaged, SalvagedHarts, Schedule}
 use Rattle.cli.specs.declared.rules.Argument.TheVariants.{Search, Sent, Skip, Summary, Symbols, Unnumbered, VersionOne}
-use Rattle.cli.specs.declared.rules.Argument.TheVariants.{WithoutLogs}
+use Rattle.cli.specs.declared.rules.Argument.TheVariants.{What, WithoutLogs}
 use Rattle.cli.specs.Rules.{argument_rule}
 
 -- One more argument of a subcommand.
@@ -29,10 +29,10 @@ with_arguments name arguments = fold with_argument (new_app name) arguments
 -- The program's subcommands, in the order in which help lists them, each with its arguments.
 abbrev pub all_apps : List App
 all_apps =
-    with_arguments (codes "check") (Base ∷ Also ∷ Explain ∷ Long ∷ Progress ∷ Image ∷ Logs ∷ []) ∷
-    with_arguments (codes "encode") (Base ∷ Also ∷ Period ∷ Full ∷ VersionOne ∷ Hex ∷ First ∷ Of ∷ Long ∷ Progress ∷
-    Image ∷ Logs ∷ []) ∷
-    with_arguments (codes "dump") (Search ∷ Only ∷ CaptureProgress ∷ Capture ∷ []) ∷
+    with_arguments (codes "check") (Base ∷ Also ∷ Explain ∷ Symbols ∷ Long ∷ Progress ∷ Image ∷ Logs ∷ []) ∷
+    with_arguments (codes "encode") (Base ∷ Also ∷ Period ∷ Full ∷ VersionOne ∷ Hex ∷ Mixed ∷ First ∷ Of ∷ Long ∷
+    Progress ∷ Image ∷ Logs ∷ []) ∷
+    with_arguments (codes "dump") (Search ∷ Only ∷ Symbols ∷ CaptureProgress ∷ Capture ∷ []) ∷
     with_arguments (codes "decode") (Base ∷ Also ∷ Harts ∷ Only ∷ Lossy ∷ CaptureProgress ∷ Image ∷ Capture ∷ []) ∷
     with_arguments (codes "replay") (Base ∷ Also ∷ Period ∷ Full ∷ Capacity ∷ Progress ∷ Image ∷ Schedule ∷ Logs ∷ [])
     ∷

@@ -107,6 +107,7 @@ argument_rule argument.Long = flag_rule (codes "long")
 argument_rule argument.Lossy = flag_rule (codes "lossy")
 argument_rule argument.Messages = number_rule (codes "messages") (long_parser most_messages)
 argument_rule argument.Mix = record (option_rule (codes "mix")) { defaults = codes "mixed" ∷ [] }
+argument_rule argument.Mixed = number_rule (codes "mixed") seed_parser
 argument_rule argument.MixedHarts = count_rule (codes "harts")
 argument_rule argument.NumberBits = number_rule (codes "number-bits") bits_parser
 argument_rule argument.Of = count_rule (codes "of")

@@ -4,8 +4,8 @@ ghost use Rattle.std.specs.Prelude.{◌≡◌, ◌≤◌, ◌⊎◌, IfErr, IfOk
 ghost use Rattle.clap.specs.Words.{FailsBy, fault_of, first_of, first_value, found_of, kind_of, one_of, rows_of};
 ghost use Rattle.clap.specs.declared.error.kind.ErrorKind.TheVariants as kind;
 ghost use Rattle.cli.specs.Asking.{AreGivenBits, AreRefused, Asks, AsksProgram, IsCapacity, IsFlag, IsFormat};
-ghost use Rattle.cli.specs.Asking.{IsGivenFirst, IsGivenUpTo, IsHarts, IsMode, IsPeriod, IsProduct, IsSeed, IsVersion};
-ghost use Rattle.cli.specs.Asking.{WordsAsk, text_of, texts_of};
+ghost use Rattle.cli.specs.Asking.{IsGivenFirst, IsGivenSeed, IsGivenUpTo, IsHarts, IsMode, IsPeriod, IsProduct, IsSeed};
+ghost use Rattle.cli.specs.Asking.{IsVersion, WordsAsk, text_of, texts_of};
 ghost use Rattle.cli.specs.Grammar.{IsSubcommand, program_app};
 ghost use Rattle.command_inputs.specs.Limits.{IsWithinLimits};
 
@@ -102,6 +102,7 @@ fn check_asked<'a>(alloc: Global, given: &ArgMatches<'a>) -> Result<Asked<'a>, A
     Ok(Asked::Check(Check {
         program: program_args(alloc, given)?,
         explain: flag(given, "explain"),
+        symbols: given_text(given, "symbols"),
         long: flag(given, "long"),
         progress: flag(given, "progress"),
         logs: texts(alloc, given, "LOG")?,
@@ -140,6 +141,7 @@ fn encode_asked<'a>(alloc: Global, given: &ArgMatches<'a>) -> Result<Asked<'a>, 
         mode: mode(given),
         version: version(given),
         hex: flag(given, "hex"),
+        mixed: given_seed(given, "mixed"),
         first: given_first(given, "first"),
         of: given_up_to(given, "of", MOST_HARTS),
         long: flag(given, "long"),
@@ -155,6 +157,7 @@ fn dump_asked<'a>(given: &ArgMatches<'a>) -> Asked<'a>
     Asked::Dump(Dump {
         search: flag(given, "search"),
         only: given_text(given, "only"),
+        symbols: given_text(given, "symbols"),
         progress: flag(given, "progress"),
         capture: text(given, "CAPTURE"),
     })
@@ -388,6 +391,13 @@ fn seed<'a>(given: &ArgMatches<'a>) -> u64
     ensures { IsSeed (one_of (codes "seed") (rows_of (found_of given.now))) result }
 {
     given.get_one::<u64>("seed").unwrap_or(DEFAULT_SEED)
+}
+
+/// A seed, any number of 64 bits, where this argument is given.
+fn given_seed<'a>(given: &ArgMatches<'a>, id: &str) -> Option<u64>
+    ensures { IsGivenSeed (one_of id.now (rows_of (found_of given.now))) result }
+{
+    given.get_one::<u64>(id)
 }
 
 /// What was asked of `generate`.

@@ -13,7 +13,7 @@ use crate::help::{
 use crate::rules::Argument::{
     Also, Base, Burst, Capacity, Capture, CaptureProgress, CountedHarts, Events, Explain,
     ExplainRow, First, Format, Full, GivenBase, GivenPeriod, Hart, Harts, HeadedFull, HeadedPeriod,
-    Headless, Hex, Image, Lines, ListedHarts, Logs, Long, Lossy, Messages, Mix, MixedHarts,
+    Headless, Hex, Image, Lines, ListedHarts, Logs, Long, Lossy, Messages, Mix, Mixed, MixedHarts,
     NumberBits, Of, Only, Packets, Period, Progress, Received, Rows, Salvaged, SalvagedHarts,
     Schedule, Search, Seed, Sent, Skip, Summary, Symbols, Unnumbered, VersionOne, What,
     WithoutLogs,
@@ -37,21 +37,22 @@ const SUBCOMMANDS: [Subcommand; 13] = [
         name: "check",
         about: "Check whether logs are legal",
         example: CHECK_EXAMPLE,
-        arguments: &[Base, Also, Explain, Long, Progress, Image, Logs],
+        arguments: &[Base, Also, Explain, Symbols, Long, Progress, Image, Logs],
     },
     Subcommand {
         name: "encode",
         about: "Write the trace messages of logs",
         example: ENCODE_EXAMPLE,
         arguments: &[
-            Base, Also, Period, Full, VersionOne, Hex, First, Of, Long, Progress, Image, Logs,
+            Base, Also, Period, Full, VersionOne, Hex, Mixed, First, Of, Long, Progress, Image,
+            Logs,
         ],
     },
     Subcommand {
         name: "dump",
         about: "Write the messages of a capture as text",
         example: DUMP_EXAMPLE,
-        arguments: &[Search, Only, CaptureProgress, Capture],
+        arguments: &[Search, Only, Symbols, CaptureProgress, Capture],
     },
     Subcommand {
         name: "decode",

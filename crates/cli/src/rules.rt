@@ -44,6 +44,7 @@ pub(crate) enum Argument {
     Lossy,
     Messages,
     Mix,
+    Mixed,
     MixedHarts,
     NumberBits,
     Of,
@@ -120,6 +121,7 @@ fn read_as<'a>(alloc: Global, argument: Argument) -> Arg<'a>
             1..=MOST_MESSAGES as i64,
         )),
         Argument::Mix => option(alloc, "mix", "MIX").default_value("mixed"),
+        Argument::Mixed => option(alloc, "mixed", "S").value_parser(value_parser!(u64)),
         Argument::NumberBits => option(alloc, "number-bits", "W").value_parser(value_parser!(
             u16
         ).range(i64::from(FEWEST_NUMBER_BITS)..=i64::from(MOST_NUMBER_BITS))),
@@ -190,6 +192,8 @@ fn help_of(argument: Argument) -> &'static str {
             "How many messages the capture has before those that close the traces, 1 to 1099511627776; without it, 1000000",
         Argument::Mix =>
             "What the program does: mixed, branches, jumps, traps, longest or straight",
+        Argument::Mixed =>
+            "Mix the messages of the logs, by a number from 0 to 18446744073709551615; without it, one log after another",
         Argument::MixedHarts =>
             "How many harts the capture has, 1 to 1024, with --v1 to 64; without it, 1",
         Argument::NumberBits =>
@@ -202,7 +206,7 @@ fn help_of(argument: Argument) -> &'static str {
         Argument::Period => "Retirements from one periodic synchronisation to the next, 1 to 65535",
         Argument::Progress => "Show how far the logs are read, where standard error is a terminal",
         Argument::Received => "File of the trace messages that came",
-        Argument::Rows => "Without --salvage, print which rows of its hart each message settles",
+        Argument::Rows => "Print which rows of its hart each message settles",
         Argument::Salvaged => "List every message that is found, and what `salvage` does with it",
         Argument::SalvagedHarts =>
             "How many harts a capture with no valid header has, 1 to 1024; without it, those of its messages",

@@ -26,14 +26,25 @@ program_lacked content most asked paths base one based few why (inr none) =
     inr (Ok base, based, (Ok one, few, none))
 
 -- What is found before any file is read, and ends the search for the program, ends the run.
-pub early_ends : {W A : Type 0} (seen : Option (Fault W)) (result : Result A (Fault W)) (why : Fault W)
-    (ended : Result Status (Fault W))
+pub early_ends : {W A B : Type 0} (seen : Option (Fault W)) (result : Result A (Fault W)) (why : Fault W)
+    (ended : Result B (Fault W))
     → result ≡ Err why → ended ≡ Err why → IfSome seen (λ fault. result ≡ Err fault)
     → IfSome seen (λ fault. ended ≡ Err fault)
 early_ends None result why ended failed is early = tt
 early_ends (Some fault) result why ended failed is early =
     is ∙ ap Err (IfErr-at_err (λ fault. why ≡ fault) early (subst (λ r. IfErr r (λ fault. why ≡ fault)) (sym failed)
     refl))
+
+-- Where this fault leads to what is lacked, a step that ends at it lacks that, or an allocation failed.
+pub lacks : {W A : Type 0} (why : Fault W) (ended : Result A (Fault W)) (Finds : Type 0) (Lacks : Fault W → Type 0)
+    → ended ≡ Err why → (why ≡ fault.Memory) ⊎ Finds → (Finds → Lacks why)
+    → IfErr ended (λ why. (why ≡ fault.Memory) ⊎ Lacks why)
+lacks why ended Finds Lacks is found leads =
+    subst (λ r. IfErr r (λ why. (why ≡ fault.Memory) ⊎ Lacks why)) (sym is) (go found)
+  where
+    go : (why ≡ fault.Memory) ⊎ Finds → (why ≡ fault.Memory) ⊎ Lacks why
+    go (inl memory) = inl memory
+    go (inr finds) = inr (leads finds)
 
 -- Where the program was found, nothing is seen before any file is read.
 pub passes : {W A B : Type 0} (seen : Option (Fault W)) (result : Result A (Fault W)) (value : A)
@@ -42,16 +53,6 @@ pub passes : {W A B : Type 0} (seen : Option (Fault W)) (result : Result A (Faul
 passes None result value ended found early = tt
 passes (Some fault) result value ended found early =
     let never : Ok value ≡ Err fault = sym found ∙ early in cc
-
-module _ {W : Type 0} (content : Content) (most : ℕ) (asked : ProgramArgs) (items : List Path) where
-  -- There is no program.
-  pub program_ends : (CanWrite : Type 0) (out : Option (List ℕ)) (why : Fault W) (ended : Result Status (Fault W))
-      → ended ≡ Err why → (Next : Image → Printed W → Type 0)
-      → (why ≡ fault.Memory) ⊎ IsAskedProgram content most asked items (Err why)
-      → PrintsUnlessDenied (First (IsAskedProgram content most asked items) Next) CanWrite ended out out
-  program_ends CanWrite out why ended is Next none =
-      ends_silently (First (IsAskedProgram content most asked items) Next) CanWrite
-      (IsAskedProgram content most asked items (Err why)) why ended out is none (λ none. (Err why, none, refl))
 
 module _ {W : Type 0} (rows : ℕ) (content : Content) (most : ℕ) (asked : ProgramArgs) (items : List Path) where
   -- There is no program, so there are no logs.

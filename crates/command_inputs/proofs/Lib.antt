@@ -6,3 +6,4 @@ pub mod FromStart
 pub mod PiecesAdded
 pub mod Runs
 pub mod StreamLemmas
+mod SymbolsFound

@@ -7,6 +7,7 @@ use Rattle.rvclass.specs.declared.piece_fault.PieceFault.{PieceFault}
 use Rattle.rvclass.specs.declared.piece_fault.PieceFault.TheVariants.{TooMany}
 use Rattle.retire.specs.FaultText.{log_fault_text}
 use Rattle.rvclass.specs.FaultText.{program_fault_text}
+use Rattle.symbols.specs.FaultText.{symbols_fault_text}
 use Rattle.command_inputs.specs.Faults.{Path}
 use Rattle.command_inputs.specs.declared.fault.Fault.{Fault}
 use Rattle.command_inputs.specs.declared.fault.Fault.TheVariants as fault
@@ -33,6 +34,7 @@ fault_text own (fault.Image why) = program_fault_text why
 fault_text own (fault.Piece path why) = piece_text path why
 fault_text own (fault.Log path why) = at_path path (log_fault_text why)
 fault_text own (fault.Illegal path why) = at_path path (path_fault_text why)
+fault_text own (fault.Symbols path why) = at_path path (symbols_fault_text why)
 fault_text own fault.Output = codes "output cannot be written"
 fault_text own fault.Memory = codes "out of memory"
 

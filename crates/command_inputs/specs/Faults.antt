@@ -11,6 +11,8 @@ use Rattle.retire.specs.declared.fault.LogFault.{LogFault}
 use Rattle.retire.specs.declared.fault.LogFault.TheVariants as log
 use Rattle.retire.specs.declared.fault.WriteFault.{WriteFault}
 use Rattle.retire.specs.declared.fault.WriteFault.TheVariants as write
+use Rattle.symbols.specs.declared.fault.SymbolsFault.{SymbolsFault}
+use Rattle.symbols.specs.declared.fault.SymbolsFault.TheVariants as symbols
 use Rattle.command_inputs.specs.declared.fault.Fault.{Fault}
 use Rattle.command_inputs.specs.declared.fault.Fault.TheVariants as fault
 use Rattle.command_inputs.specs.declared.status.Status.{Status}
@@ -40,6 +42,11 @@ log_fault path why = fault.Log path why
 abbrev pub stop_fault : {W : Type 0} → Path → Stop → Fault W
 stop_fault path (stop.Unread why) = log_fault path why
 stop_fault path (stop.Illegal why) = fault.Illegal path why
+
+-- The fault of a file whose symbols are not read.
+abbrev pub symbols_fault : {W : Type 0} → Path → SymbolsFault → Fault W
+symbols_fault path symbols.Memory = fault.Memory
+symbols_fault path why = fault.Symbols path why
 
 -- The fault of output that was not written.
 abbrev pub write_fault : {W : Type 0} → WriteFault → Fault W
@@ -73,5 +80,6 @@ map_own to (fault.Image why) = fault.Image why
 map_own to (fault.Piece path why) = fault.Piece path why
 map_own to (fault.Log path why) = fault.Log path why
 map_own to (fault.Illegal path why) = fault.Illegal path why
+map_own to (fault.Symbols path why) = fault.Symbols path why
 map_own to fault.Output = fault.Output
 map_own to fault.Memory = fault.Memory

@@ -5,6 +5,7 @@ pub mod Order
 pub mod FurtherPieces
 pub mod Finding
 pub mod Found
+pub mod Symbols
 pub mod FoundLogs
 pub mod OnlyHarts
 pub mod Judged

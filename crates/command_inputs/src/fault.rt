@@ -2,7 +2,8 @@
 
 ghost use Rattle.std.specs.Prelude.{◌≡◌, List, ℕ, Some};
 ghost use Rattle.command_inputs.specs.FaultText.{fault_text};
-ghost use Rattle.command_inputs.specs.Faults.{file_fault, log_fault, map_own, piece_fault, status_of, stop_fault, write_fault};
+ghost use Rattle.command_inputs.specs.Faults.{file_fault, log_fault, map_own, piece_fault, status_of, stop_fault};
+ghost use Rattle.command_inputs.specs.Faults.{symbols_fault, write_fault};
 ghost use Rattle.command_inputs.specs.declared.fault.Fault.TheVariants as fault;
 
 use crate::reason::Reason;
@@ -14,6 +15,7 @@ use rvclass::{PieceFault, ProgramFault};
 use std::alloc::AllocError;
 use std::fmt::Display;
 use std::{fmt, io};
+use symbols::SymbolsFault;
 
 /// Why a subcommand stops. Its text is the error line without the program's name and the line's end.
 ///
@@ -40,6 +42,8 @@ pub enum Fault<'a, W> {
     Log(&'a str, LogFault),
     /// The log at this path is not legal for the program.
     Illegal(&'a str, PathFault),
+    /// The file at this path has no symbols that are read.
+    Symbols(&'a str, SymbolsFault),
     /// A reason of the subcommand's own.
     Own(W),
     /// The output failed.
@@ -80,6 +84,16 @@ impl<'a, W> Fault<'a, W> {
         }
     }
 
+    /// Why the symbols of the file at a path are not read.
+    pub(crate) fn of_symbols(path: &'a str, why: SymbolsFault) -> Fault<'a, W>
+        ensures { result ≡ symbols_fault path.entry why }
+    {
+        match why {
+            SymbolsFault::Memory => Fault::Memory,
+            SymbolsFault::TooLarge | SymbolsFault::NoSymbol => Fault::Symbols(path, why),
+        }
+    }
+
     /// Why nothing is made of the log at a path.
     pub fn of_stop(path: &'a str, why: Stop) -> Fault<'a, W>
         ensures { result ≡ stop_fault path.entry why }
@@ -105,7 +119,8 @@ impl<W: Reason> Fault<'_, W> {
             | Fault::Image(_)
             | Fault::Piece(..)
             | Fault::Log(..)
-            | Fault::Illegal(..) => Status::Refused,
+            | Fault::Illegal(..)
+            | Fault::Symbols(..) => Status::Refused,
             Fault::Own(why) => why.status(),
             Fault::Unreadable(_) | Fault::Output | Fault::Memory => Status::Machine,
         }
@@ -131,6 +146,7 @@ impl<W: Reason> fmt::Display for Fault<'_, W> {
             },
             Fault::Log(path, why) => write!(f, "{path}: {why}"),
             Fault::Illegal(path, why) => write!(f, "{path}: {why}"),
+            Fault::Symbols(path, why) => write!(f, "{path}: {why}"),
             Fault::Own(why) => why.fmt(f),
             Fault::Output => f.write_str("output cannot be written"),
             Fault::Memory => f.write_str("out of memory"),

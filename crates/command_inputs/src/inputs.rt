@@ -148,8 +148,7 @@ pub fn asked_program<'a, W, F: Files>(
         (λ program. IsAskedProgram {W = W} (F.content files.old) most asked.now logs.now.items (Ok program)) }
     ensures fault { IfErr result (λ why. (why ≡ Fault.Memory)
         ⊎ IsAskedProgram (F.content files.old) most asked.now logs.now.items (Err why)) }
-    ensures some { IfOk result (λ _. 1 ≤ length logs.now.items) }
-    ensures few { IfOk result (λ _. length logs.now.items ≤ most) }
+    ensures count { IfOk result (λ _. (1 ≤ length logs.now.items) × (length logs.now.items ≤ most)) }
     ensures kept { F.content files.new ≡ F.content files.old }
 {
     let base = base_of(asked)?;

@@ -20,6 +20,7 @@ mod pieces;
 mod progress;
 mod reason;
 mod status;
+mod symbols_input;
 mod words;
 
 pub use error_reporting::report_error;
@@ -37,6 +38,7 @@ pub use only_harts::harts_asked;
 pub use progress::{MessageProgress, begin_progress};
 pub use reason::Reason;
 pub use status::Status;
+pub use symbols_input::symbols_of;
 pub use words::{
     Asked, Audit, Bench, Capture, Check, Compare, Decode, Dump, Encode, Format, Generate, Listing,
     Measure, Product, ProgramArgs, Replay, Salvage,

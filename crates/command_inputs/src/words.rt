@@ -15,14 +15,16 @@ pub struct ProgramArgs<'a> {
     pub image: &'a str,
 }
 
-/// `check --base B [--also B2=FILE]... [--explain] [--long] [--progress] IMAGE LOG...`: whether the log of each hart is
-/// legal.
+/// `check --base B [--also B2=FILE]... [--explain] [--symbols FILE] [--long] [--progress] IMAGE LOG...`: whether the log
+/// of each hart is legal.
 #[derive(Drop)]
 pub struct Check<'a> {
     /// The program.
     pub program: ProgramArgs<'a>,
     /// Whether a line is wanted that explains an illegal row.
     pub explain: bool,
+    /// The path of the program's symbols, where they are given.
+    pub symbols: Option<&'a str>,
     /// Whether a log may have up to 4,294,967,295 rows. Where this is false, it may have up to 16,777,216.
     pub long: bool,
     /// Whether a terminal is shown how far the logs are read.
@@ -31,8 +33,8 @@ pub struct Check<'a> {
     pub logs: Vec<&'a str>,
 }
 
-/// `encode --base B [--also B2=FILE]... [--period N] [--full] [--v1] [--hex] [--first H] [--of N] [--long] [--progress]
-/// IMAGE LOG...`: the messages of the log of each hart.
+/// `encode --base B [--also B2=FILE]... [--period N] [--full] [--v1] [--hex] [--mixed S] [--first H] [--of N] [--long]
+/// [--progress] IMAGE LOG...`: the messages of the log of each hart.
 #[derive(Drop)]
 pub struct Encode<'a> {
     /// The program.
@@ -45,6 +47,8 @@ pub struct Encode<'a> {
     pub version: Version,
     /// Whether the messages are wanted as lines of hexadecimal.
     pub hex: bool,
+    /// The number that decides how the messages of the logs are mixed, where they are not wanted one log after another.
+    pub mixed: Option<u64>,
     /// The hart of the first log, 0 to 1023, where it is given.
     pub first: Option<u16>,
     /// Of how many harts the logs are a part, 1 to 1024, where that is given.
@@ -57,13 +61,15 @@ pub struct Encode<'a> {
     pub logs: Vec<&'a str>,
 }
 
-/// `dump [--search] [--only A-B] [--progress] CAPTURE`: the messages of a capture, as text.
+/// `dump [--search] [--only A-B] [--symbols FILE] [--progress] CAPTURE`: the messages of a capture, as text.
 #[derive(Drop)]
 pub struct Dump<'a> {
     /// Whether messages are looked for where bytes are none.
     pub search: bool,
     /// The harts whose messages are wanted, not yet read as `A-B` or `A`, where not all are.
     pub only: Option<&'a str>,
+    /// The path of the program's symbols, where they are given.
+    pub symbols: Option<&'a str>,
     /// Whether a terminal is shown how far the capture is worked through.
     pub progress: bool,
     /// The path of the capture.

@@ -5,6 +5,6 @@ pub mod Meanings
 pub mod CarriedOut
 pub mod Begun
 pub mod Order
-pub mod steps
+pub mod Running
 pub mod Progress
 pub mod Words

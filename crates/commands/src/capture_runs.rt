@@ -1,6 +1,6 @@
 //! Runs of the subcommands that read captures, with their reasons to stop among those of all.
 
-ghost use Rattle.commands.specs.steps.Running.{IsRun};
+ghost use Rattle.commands.specs.Running.{IsRun};
 ghost use Rattle.command_inputs.specs.declared.words.Asked.TheVariants as Asked;
 
 use crate::joining::joined_end;
@@ -14,13 +14,14 @@ use std::thread::Threads;
 
 /// A run of `dump`.
 pub(crate) fn run_dump<'a, F: Files, O: Write>(
+    alloc: Global,
     files: &mut F,
     asked: &Dump<'a>,
     out: &mut O,
 ) -> Result<Status, Fault<'a>>
     ensures { IsRun (F.content files.old) (Asked.Dump asked.now) O.contents result out.old out.new }
 {
-    joined_end(dump(files, asked, out))
+    joined_end(dump(alloc, files, asked, out))
 }
 
 /// A run of `decode`.

@@ -1,14 +1,7 @@
 //! Whichever subcommand is asked for.
 
-ghost use Rattle.std.specs.Prelude.{◌≡◌, Err, IfSome};
-ghost use Rattle.command_inputs.specs.Kind.{WritesAsItReads};
 ghost use Rattle.command_inputs.specs.Limits.{IsWithinLimits};
-ghost use Rattle.command_inputs.specs.declared.fault.Fault.TheVariants as Fault;
-ghost use Rattle.commands.specs.Begun.{IsBegun, IsCutOutput, WritesInParts};
-ghost use Rattle.commands.specs.CarriedOut.{IsCarriedOut};
-ghost use Rattle.commands.specs.Faults.{final_status};
-ghost use Rattle.commands.specs.Order.{early_fault};
-ghost use Rattle.commands.specs.steps.Running.{IsRun};
+ghost use Rattle.commands.specs.Running.{IsRun};
 
 use crate::capture_runs::{run_audit, run_compare, run_decode, run_dump, run_list, run_salvage};
 use crate::line_runs::run_capture;
@@ -37,39 +30,12 @@ pub fn carry_out<'a, F: Files + Sync, O: Write, R: Threads + Wait + Sync>(
 where
     F::Reader: Send,
     requires { IsWithinLimits asked.now }
-    // However it ends, also where the output fails, nothing or a prefix of the text was written.
-    ensures cut { IsCutOutput (F.content files.old) asked.now (O.contents out.old) (O.contents out.new) }
-    ensures early { IfSome (early_fault asked.now) (λ fault. result ≡ Err fault) }
-    ensures printed { IsCarriedOut (F.content files.old) asked.now result (O.contents out.old) (O.contents out.new) }
-    // Where allocation fails, nothing or a prefix of the text was written.
-    ensures begun { result ≡ Err Fault.Memory
-        → IsBegun (F.content files.old) asked.now (O.contents out.old) (O.contents out.new) }
-    // Where allocation fails, only `check`, `decode --lossy`, `list` without `--salvage` and `capture` of lines as they come
-    // may have written anything.
-    ensures untouched { ¬ WritesInParts asked.now → result ≡ Err Fault.Memory → out.new ≡ out.old }
-    // Where the input is refused, nothing is written, but by `check` and by `capture` of lines as they come.
-    ensures refused { ¬ WritesAsItReads asked.now → final_status result ≡ Status.Refused → out.new ≡ out.old }
-{
-    run(alloc, rt, files, asked, out)
-}
-
-/// A run of whichever subcommand is asked for.
-fn run<'a, F: Files + Sync, O: Write, R: Threads + Wait + Sync>(
-    alloc: Global,
-    rt: &R,
-    files: &mut F,
-    asked: &Asked<'a>,
-    out: &mut O,
-) -> Result<Status, Fault<'a>>
-where
-    F::Reader: Send,
-    requires { IsWithinLimits asked.now }
     ensures { IsRun (F.content files.old) asked.now O.contents result out.old out.new }
 {
     match asked {
         Asked::Check(asked) => run_check(alloc, rt, files, asked, out),
         Asked::Encode(asked) => run_encode(alloc, rt, files, asked, out),
-        Asked::Dump(asked) => run_dump(files, asked, out),
+        Asked::Dump(asked) => run_dump(alloc, files, asked, out),
         Asked::Decode(asked) => run_decode(alloc, rt, files, asked, out),
         Asked::Replay(asked) => run_replay(alloc, rt, files, asked, out),
         Asked::Bench(asked) => run_bench(alloc, rt, files, asked, out),

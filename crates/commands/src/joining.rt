@@ -36,7 +36,7 @@ impl<'a> Family<'a> for LogReason {
     ghost same = { λ why. refl };
 }
 
-impl<'a> Family<'a> for CaptureReason<'a> {
+impl<'a> Family<'a> for CaptureReason {
     ghost joined = { λ why. reason.Capture why };
 
     fn joined(self) -> CommandReason<'a> {
@@ -95,6 +95,7 @@ fn joined_fault<'a, W: Family<'a>>(why: AnyFault<'a, W>) -> Fault<'a>
         AnyFault::Piece(path, why) => AnyFault::Piece(path, why),
         AnyFault::Log(path, why) => AnyFault::Log(path, why),
         AnyFault::Illegal(path, why) => AnyFault::Illegal(path, why),
+        AnyFault::Symbols(path, why) => AnyFault::Symbols(path, why),
         AnyFault::Own(why) => AnyFault::Own(why.joined()),
         AnyFault::Output => AnyFault::Output,
         AnyFault::Memory => AnyFault::Memory,

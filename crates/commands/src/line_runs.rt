@@ -1,7 +1,7 @@
 //! The run of the subcommand that reads lines, with its reasons to stop among those of all.
 
 ghost use Rattle.std.specs.Prelude.{◌≤◌};
-ghost use Rattle.commands.specs.steps.Running.{IsRun};
+ghost use Rattle.commands.specs.Running.{IsRun};
 ghost use Rattle.command_inputs.specs.Limits.{AreBitsIfGiven, IsCountIfGiven};
 ghost use Rattle.command_inputs.specs.declared.words.Asked.TheVariants as Asked;
 

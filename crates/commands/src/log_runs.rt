@@ -1,7 +1,7 @@
 //! Runs of the subcommands that read or make logs, with their reasons to stop among those of all.
 
 ghost use Rattle.std.specs.Prelude.{◌≤◌};
-ghost use Rattle.commands.specs.steps.Running.{IsRun};
+ghost use Rattle.commands.specs.Running.{IsRun};
 ghost use Rattle.command_inputs.specs.Limits.{IsGenerateWithin};
 ghost use Rattle.command_inputs.specs.declared.words.Asked.TheVariants as Asked;
 

@@ -22,7 +22,7 @@ pub enum CommandReason<'a> {
     /// A reason of a subcommand that reads logs.
     Log(LogReason),
     /// A reason of a subcommand that reads a capture.
-    Capture(CaptureReason<'a>),
+    Capture(CaptureReason),
     /// A reason of `audit`.
     Path(PathReason<'a>),
     /// A reason of `capture`.

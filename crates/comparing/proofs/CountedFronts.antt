@@ -1,5 +1,5 @@
 -- The messages that some bytes begin with, counted one by one.
-use Rattle.std.proofs.Common.{◌≡◌, ◌∙◌, ◌≤◌, ◌<◌, ◌+◌, ◌++◌, ℕ, Bool, true, false, List, [], ◌∷◌, Option, None, Some, ap, append-nil}
+use Rattle.std.proofs.Common.{◌≡◌, ◌∙◌, ◌≤◌, ◌+◌, ◌++◌, ℕ, Bool, true, false, List, [], ◌∷◌, Option, None, Some, ap, append-nil}
 use Rattle.std.proofs.Common.{◌⊎◌, All, arith, inl, inr, length, refl, subst, suc, sym, zero}
 use Rattle.std.proofs.lemmas.List.{length-append}
 use Rattle.std.proofs.lemmas.List.Elements.{All-nil}
@@ -7,7 +7,6 @@ use Rattle.captures.proofs.WholeCaptures.{HasRead, read_next}
 use Rattle.captures.specs.NoMessage.{BeginsNone}
 use Rattle.captures.specs.Whole.{BeginsWith}
 use Rattle.captures.specs.declared.outcome.CaptureFault.{CaptureFault}
-use Rattle.captures.specs.steps.Reading.{AreReadUpTo}
 use Rattle.message.specs.Capture.{capture, message_bytes}
 use Rattle.message.specs.Cut.{HasBadLength, IsCut, IsMessage}
 use Rattle.message.specs.Header.{header_bytes}

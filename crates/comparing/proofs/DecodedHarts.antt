@@ -1,8 +1,11 @@
 -- How many harts a capture decodes to.
-use Rattle.std.proofs.Common.{◌≡◌, ◌∙◌, ◌+◌, ℕ, zero, suc, Bool, true, false, List, [], ◌∷◌, Option, ap, arith, length, refl}
+use Rattle.std.proofs.Common.{◌≡◌, ◌∙◌, ◌+◌, ℕ, suc, Bool, true, false, List, [], ◌∷◌, Option, ap, arith, length, refl}
 use Rattle.std.proofs.Common.{replicate, subst, sym}
-use Rattle.captures.specs.Decoded.{IsDecoded}
+use Rattle.std.proofs.lemmas.List.{length-replicate}
+use Rattle.captures.specs.Decoded.{IsDecoded, IsDecodedOf}
 use Rattle.captures.specs.declared.outcome.CaptureFault.{CaptureFault}
+use Rattle.message.specs.Range.{every_hart}
+use Rattle.message.specs.declared.range.HartRange.{HartRange}
 use Rattle.retire.specs.declared.event.Event.{Event}
 use Rattle.rvclass.specs.Words.{Words}
 use Rattle.comparing.specs.Compared.{gots_by, is_compared_whole}
@@ -11,20 +14,16 @@ use Rattle.comparing.specs.Whole.{WholeIsDecoded, events_of_logs}
 use Rattle.comparing.specs.declared.hart_count.HartCount.{HartCount}
 use Rattle.comparing.proofs.EqualLogs.{whole_equal}
 
--- So many of a thing are so many.
-long : {A : Type 0} (n : ℕ) (x : A) → length (replicate n x) ≡ n
-long zero x = refl
-long (suc n) x = ap (λ n. suc n) (long n x)
-
 -- There is a flag for each list.
-pub flags_many : (words : Words) (harts : ℕ) (bytes : List ℕ) (lists : List (List Event)) (closed : List Bool)
-    (stop : Option (ℕ × CaptureFault)) → IsDecoded words harts bytes lists closed stop → length closed ≡ length lists
-flags_many words harts bytes lists closed stop (IsDecoded.Version1 unmarked are) =
+pub flags_many : (range : HartRange) (words : Words) (harts : ℕ) (bytes : List ℕ) (lists : List (List Event))
+    (closed : List Bool) (stop : Option (ℕ × CaptureFault)) → IsDecodedOf range words harts bytes lists closed stop
+    → length closed ≡ length lists
+flags_many range words harts bytes lists closed stop (IsDecodedOf.Version1 unmarked are) =
     are.decoded.closed_count ∙ sym are.decoded.lists_count
-flags_many words harts bytes lists closed stop (IsDecoded.Version2 header rest is begins are) =
+flags_many range words harts bytes lists closed stop (IsDecodedOf.Version2 header rest is begins are) =
     are.decoded.closed_count ∙ sym are.decoded.lists_count
-flags_many words harts bytes lists closed stop (IsDecoded.NoHeader why none is no_lists no_flags) =
-    ap length no_flags ∙ long harts false ∙ sym (ap length no_lists ∙ long harts [])
+flags_many range words harts bytes lists closed stop (IsDecodedOf.NoHeader why none is no_lists no_flags) =
+    ap length no_flags ∙ length-replicate harts false ∙ sym (ap length no_lists ∙ length-replicate harts [])
 
 -- There is something for each list.
 pub gots_many : (count : ℕ → HartCount) (hart : ℕ) (lists : List (List Event)) (closed : List Bool)
@@ -38,7 +37,7 @@ gots_many count hart (list ∷ lists) (flag ∷ closed) same =
 pub whole_decoded : WholeIsDecoded
 whole_decoded words harts bytes gots stop logs got many whole =
     let count = count_of (before_stop stop got.messages) in
-    let flags = flags_many words harts bytes got.lists got.closed stop got.decoded in
+    let flags = flags_many every_hart words harts bytes got.lists got.closed stop got.decoded in
     let lists_many : length gots ≡ length got.lists =
     ap length got.each ∙ gots_many count 0 got.lists got.closed flags in
     let is = (whole_equal count got.lists got.closed stop logs flags (many ∙ lists_many)).0

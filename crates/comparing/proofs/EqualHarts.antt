@@ -1,8 +1,7 @@
 -- A comparison of some harts is whole where what was decoded of them is just the logs.
-use Rattle.std.proofs.Common.{◌≡◌, ◌∙◌, ◌+◌, ◌<◌, ◌≤◌, ◌^◌, ℕ, Bool, true, false, List, [], Option, ap, arith, length, replicate, subst, sym}
+use Rattle.std.proofs.Common.{◌≡◌, ◌∙◌, ◌+◌, ◌<◌, ◌≤◌, ◌^◌, ℕ, Bool, true, List, [], Option, ap, arith, length, replicate, subst, sym}
 use Rattle.std.proofs.lemmas.List.{length-replicate}
-use Rattle.captures.proofs.EveryHart.{all_decoded}
-use Rattle.captures.specs.OfHarts.{IsDecodedOf}
+use Rattle.captures.specs.Decoded.{IsDecodedOf}
 use Rattle.captures.specs.declared.outcome.CaptureFault.{CaptureFault}
 use Rattle.message.specs.Range.{every_hart}
 use Rattle.message.specs.declared.range.HartRange.{HartRange}
@@ -11,22 +10,11 @@ use Rattle.rvclass.specs.Words.{Words}
 use Rattle.comparing.specs.Compared.{gots_by, is_compared_whole, of_harts}
 use Rattle.comparing.specs.Counts.{before_stop, count_of}
 use Rattle.comparing.specs.Whole.{AllHartsAreGot, WholeOfHartsIsDecoded, WholeOfHartsIsEqual}
-use Rattle.comparing.proofs.DecodedHarts.{gots_many}
+use Rattle.comparing.proofs.DecodedHarts.{flags_many, gots_many}
 use Rattle.comparing.proofs.EqualLogs.{whole_from}
 use Rattle.comparing.proofs.SomeHarts.{of_all, of_gots, of_same}
 
--- There is a list and a flag for each hart.
-pub lists_of : (range : HartRange) (words : Words) (harts : ℕ) (bytes : List ℕ) (lists : List (List Event))
-    (closed : List Bool) (stop : Option (ℕ × CaptureFault)) → IsDecodedOf range words harts bytes lists closed stop
-    → length closed ≡ length lists
-lists_of range words harts bytes lists closed stop (IsDecodedOf.Version1 unmarked are) =
-    are.decoded.closed_count ∙ sym are.decoded.lists_count
-lists_of range words harts bytes lists closed stop (IsDecodedOf.Version2 header rest is begins are) =
-    are.decoded.closed_count ∙ sym are.decoded.lists_count
-lists_of range words harts bytes lists closed stop (IsDecodedOf.NoHeader why none is no_lists no_flags) =
-    ap length no_flags ∙ length-replicate harts false ∙ sym (ap length no_lists ∙ length-replicate harts [])
-
--- And there are few harts.
+-- There are few harts.
 lists_few : (range : HartRange) (words : Words) (harts : ℕ) (bytes : List ℕ) (lists : List (List Event))
     (closed : List Bool) (stop : Option (ℕ × CaptureFault)) → harts < 2 ^ 16
     → IsDecodedOf range words harts bytes lists closed stop → length lists ≤ 2 ^ 16
@@ -57,7 +45,7 @@ whole_of_harts range count lists closed stop logs same many =
 pub whole_of_harts_decoded : WholeOfHartsIsDecoded
 whole_of_harts_decoded range words harts bytes gots stop logs got many whole =
     let count = count_of (before_stop stop got.messages) in
-    let flags = lists_of range words harts bytes got.lists got.closed stop got.decoded in
+    let flags = flags_many range words harts bytes got.lists got.closed stop got.decoded in
     let as_many = of_same range (gots_by count 0 got.lists got.closed) got.lists
     (gots_many count 0 got.lists got.closed flags) in
     let is = (whole_of_harts range count got.lists got.closed stop logs flags (many ∙ ap length got.each ∙ as_many)).0
@@ -74,13 +62,13 @@ whole_of_harts_decoded range words harts bytes gots stop logs got many whole =
 pub all_got : AllHartsAreGot
 all_got words harts bytes gots stop few got =
     let count = count_of (before_stop stop got.messages) in
-    let flags = lists_of every_hart words harts bytes got.lists got.closed stop got.decoded in
+    let flags = flags_many every_hart words harts bytes got.lists got.closed stop got.decoded in
     let many = gots_many count 0 got.lists got.closed flags in
     let fewer = lists_few every_hart words harts bytes got.lists got.closed stop few got.decoded in
     record {
       lists = got.lists;
       closed = got.closed;
-      decoded = all_decoded words harts bytes got.lists got.closed stop got.decoded;
+      decoded = got.decoded;
       header = got.header;
       messages = got.messages;
       end = got.end;

@@ -2,8 +2,7 @@
 use Rattle.std.proofs.Common.{◌≡◌, ◌∙◌, ◌≤◌, ◌<◌, ◌+◌, ℕ, zero, suc, Bool, false, List, [], ◌∷◌, Option, Some, ap, arith, get_or}
 use Rattle.std.proofs.Common.{length, refl, slice_get}
 use Rattle.std.proofs.lemmas.Option.{slice_get-get_or}
-use Rattle.captures.specs.Decoded.{IsDecoded}
-use Rattle.captures.specs.OfHarts.{IsDecodedOf}
+use Rattle.captures.specs.Decoded.{IsDecoded, IsDecodedOf}
 use Rattle.captures.specs.declared.outcome.CaptureFault.{CaptureFault}
 use Rattle.comparing.specs.Compared.{AreGot, AreGotOf, got_by, gots_by, of_harts}
 use Rattle.comparing.specs.Counts.{AreCounted, AreCounts, count_of}

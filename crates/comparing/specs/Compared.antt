@@ -4,8 +4,7 @@ use Rattle.std.specs.Prelude.{min, take}
 use Rattle.bench.specs.Got.{Got}
 use Rattle.bench.specs.Report.{are_whole, report_lines, result_line}
 use Rattle.bench.specs.Verdict.{count_alike}
-use Rattle.captures.specs.Decoded.{IsDecoded}
-use Rattle.captures.specs.OfHarts.{IsDecodedOf}
+use Rattle.captures.specs.Decoded.{IsDecoded, IsDecodedOf}
 use Rattle.captures.specs.Whole.{IsFront}
 use Rattle.captures.specs.declared.outcome.CaptureFault.{CaptureFault}
 use Rattle.message.specs.declared.range.HartRange.{HartRange}

@@ -9,10 +9,10 @@ use Rattle.bench.specs.Report.{result_line}
 use Rattle.bench.specs.Verdict.{count_alike}
 use Rattle.captures.specs.declared.outcome.CaptureFault.{CaptureFault}
 use Rattle.legalpath.specs.ProgramLog.{ProgramLog}
-use Rattle.listing.specs.EffectText.{name_text}
 use Rattle.retire.specs.Events.{place}
 use Rattle.retire.specs.LogText.{event_fields}
 use Rattle.retire.specs.declared.event.Event.{Event}
+use Rattle.symbols.specs.SymbolText.{name_text}
 use Rattle.comparing.specs.Lines.{is_whole_line, line_of, line_text}
 use Rattle.comparing.specs.RowsAbout.{near_rows}
 use Rattle.comparing.specs.SourceTexts.{source_text}

@@ -1,8 +1,7 @@
 -- When a comparison is whole.
 use Rattle.std.specs.Prelude.{ℕ, ◌≡◌, ◌<◌, ◌^◌, ◌↔◌, true, Bool, List, Option, None, length, map, replicate}
 use Rattle.bench.specs.Got.{Got}
-use Rattle.captures.specs.Decoded.{IsDecoded}
-use Rattle.captures.specs.OfHarts.{IsDecodedOf}
+use Rattle.captures.specs.Decoded.{IsDecoded, IsDecodedOf}
 use Rattle.captures.specs.declared.outcome.CaptureFault.{CaptureFault}
 use Rattle.message.specs.Range.{every_hart}
 use Rattle.message.specs.declared.range.HartRange.{HartRange}

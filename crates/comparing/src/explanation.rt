@@ -18,7 +18,7 @@ use output::{write_bytes, write_text};
 use retire::{Event, WriteFault};
 use std::alloc::{Allocator, Global};
 use std::io::Write;
-use symbols::{Symbols, write_symbol};
+use symbols::Symbols;
 
 /// How it is said where logs differ.
 #[derive(Drop)]
@@ -262,10 +262,7 @@ fn write_name<S: Allocator, W: Write>(
     ensures fault { IfErr result (λ fault. fault ≡ WriteFault.Write) }
 {
     match event {
-        Some(event) => match how.symbols {
-            Some(symbols) => write_symbol(symbols, event.place(), sink),
-            None => Ok(()),
-        },
+        Some(event) => symbols::write_name(how.symbols, event.place(), sink),
         None => Ok(()),
     }
 }

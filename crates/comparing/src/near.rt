@@ -1,6 +1,6 @@
 //! The rows about the place where a log and what is decoded of its hart first differ.
 
-ghost use Rattle.std.specs.Prelude.{◌≡◌, ◌≤◌, ◌+◌, ◌-◌, slice_get};
+ghost use Rattle.std.specs.Prelude.{◌≡◌, ◌-◌, slice_get};
 ghost use Rattle.comparing.specs.steps.Moved.{IsMoved};
 
 use retire::Event;

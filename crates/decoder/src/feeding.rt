@@ -13,7 +13,7 @@ ghost use Rattle.payload.specs.declared.packet.Packet.{Packet};
 ghost use Rattle.decoder.specs.Describes.{Describes};
 ghost use Rattle.decoder.specs.Order.{IsOpen, open_packet};
 ghost use Rattle.decoder.specs.Resuming.{IsSync, PassesOver, IsClosed, HasMode};
-ghost use Rattle.decoder.specs.steps.Stretches.{stretch_count, Suits, SuitsNone, AddsSoFar, AddsBoth};
+ghost use Rattle.decoder.specs.steps.Stretches.{stretch_count, IsGrown, Suits, SuitsNone, AddsSoFar, AddsBoth};
 ghost use Rattle.decoder.specs.steps.Planning.{MayCome, FitsWaiting, Plans, PlansNone, admitted, decoder_after};
 ghost use Rattle.decoder.specs.steps.Planning.{passed_over};
 ghost use Rattle.decoder.specs.DecoderStands.{DecoderStands};
@@ -168,8 +168,7 @@ impl Decoder {
             ≤ 2 * (32 * (byte_count paths.entry.program.now / 2)) + 2) }
         ensures written { OnOk result
             (AddsBoth (words_of paths.entry.program.now) first.new second.new log.old.items log.new.items) }
-        ensures behind { (rest : List Event) × (log.new.items ≡ log.old.items ++ rest) }
-        ensures room { vec_capacity log.new ≡ vec_capacity log.old }
+        ensures grown { IsGrown log.old log.new }
         ensures words { IsProgram (words_of paths.entry.program.now) }
         ensures small { byte_count paths.entry.program.now ≤ 2 ^ 26 }
     {
@@ -243,8 +242,7 @@ impl Decoder {
         ensures short { OnOk result (stretch_count stretch.new ≤ 32 * (byte_count paths.entry.program.now / 2)) }
         ensures written { OnOk result (AddsSoFar (words_of paths.entry.program.now) Progress.Written stretch.new
             log.old.items log.new.items) }
-        ensures behind { (rest : List Event) × (log.new.items ≡ log.old.items ++ rest) }
-        ensures room { vec_capacity log.new ≡ vec_capacity log.old }
+        ensures grown { IsGrown log.old log.new }
     {
         match &self.waiting {
             Some(waiting) => {

@@ -1,11 +1,10 @@
 //! The events that each packet adds, after the event before and the last reported address.
 
-ghost use Rattle.std.specs.Prelude.{◌≡◌, ◌+◌, ◌*◌, ◌/◌, ◌≤◌, List, ◌++◌, None, Some, vec_capacity, IfErr, OnOk};
+ghost use Rattle.std.specs.Prelude.{◌≡◌, ◌+◌, ◌*◌, ◌/◌, ◌≤◌, None, Some, IfErr, OnOk};
 ghost use Rattle.rvclass.specs.Memory.{byte_count};
-ghost use Rattle.retire.specs.declared.event.Event.{Event as AnyEvent};
 ghost use Rattle.rvclass.specs.Fetch.{words_of};
 ghost use Rattle.decoder.specs.Fits.{Fits, FitsAddress, FitsSync};
-ghost use Rattle.decoder.specs.steps.Stretches.{AddsSoFar, Suits, SuitsNone, stretch_count, stretch_progress};
+ghost use Rattle.decoder.specs.steps.Stretches.{AddsSoFar, IsGrown, Suits, SuitsNone, stretch_count, stretch_progress};
 ghost use Rattle.decoder.specs.Settling.{makes_explicit, settled, settled_by};
 ghost use Rattle.decoder.specs.Walk.{IsWalkFrom};
 ghost use Rattle.decoder.specs.steps.Walks.{goal_end};
@@ -48,8 +47,7 @@ fn walk<A: Allocator>(
     ensures short { OnOk result (stretch_count stretch.new ≤ 32 * (byte_count paths.entry.program.now / 2)) }
     ensures written { OnOk result (AddsSoFar (words_of paths.entry.program.now) ahead stretch.new log.old.items
         log.new.items) }
-    ensures behind { (rest : List AnyEvent) × (log.new.items ≡ log.old.items ++ rest) }
-    ensures room { vec_capacity log.new ≡ vec_capacity log.old }
+    ensures grown { IsGrown log.old log.new }
 {
     let from = start(paths.program, before)?;
     match ahead {
@@ -96,8 +94,7 @@ pub fn settle<A: Allocator>(
     ensures short { OnOk result (stretch_count stretch.new ≤ 32 * (byte_count paths.entry.program.now / 2)) }
     ensures written { OnOk result (AddsSoFar (words_of paths.entry.program.now) Progress.Written stretch.new
         log.old.items log.new.items) }
-    ensures behind { (rest : List AnyEvent) × (log.new.items ≡ log.old.items ++ rest) }
-    ensures room { vec_capacity log.new ≡ vec_capacity log.old }
+    ensures grown { IsGrown log.old log.new }
 {
     let goal = if makes_explicit(packet) {
         Goal::Address(addr)
@@ -135,8 +132,7 @@ fn address<A: Allocator>(
     ensures short { OnOk result (stretch_count stretch.new ≤ 32 * (byte_count paths.entry.program.now / 2)) }
     ensures written { OnOk result (AddsSoFar (words_of paths.entry.program.now) ahead stretch.new log.old.items
         log.new.items) }
-    ensures behind { (rest : List AnyEvent) × (log.new.items ≡ log.old.items ++ rest) }
-    ensures room { vec_capacity log.new ≡ vec_capacity log.old }
+    ensures grown { IsGrown log.old log.new }
 {
     match report {
         Report::Plain => match before {
@@ -204,8 +200,7 @@ pub fn events_of_packet<A: Allocator>(
     ensures short { OnOk result (stretch_count stretch.new ≤ 32 * (byte_count paths.entry.program.now / 2) + 2) }
     ensures written { OnOk result (AddsSoFar (words_of paths.entry.program.now) ahead stretch.new log.old.items
         log.new.items) }
-    ensures behind { (rest : List AnyEvent) × (log.new.items ≡ log.old.items ++ rest) }
-    ensures room { vec_capacity log.new ≡ vec_capacity log.old }
+    ensures grown { IsGrown log.old log.new }
 {
     match packet {
         Packet::Sync {

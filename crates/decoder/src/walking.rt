@@ -1,14 +1,14 @@
 //! Walks. A walk is written as it is found, where the list's capacity is enough, and else in two passes: the first
 //! measures, the second writes.
 
-ghost use Rattle.std.specs.Prelude.{◌≡◌, ◌+◌, ◌*◌, ◌/◌, ◌≤◌, List, ◌++◌, vec_len, vec_capacity, IsOk};
+ghost use Rattle.std.specs.Prelude.{◌≡◌, ◌+◌, ◌*◌, ◌/◌, ◌≤◌, vec_len, vec_capacity};
 ghost use Rattle.std.specs.Prelude.{IfOk, IfErr};
 ghost use Rattle.rvclass.specs.Memory.{byte_count};
-ghost use Rattle.retire.specs.declared.event.Event.{Event as AnyEvent};
 ghost use Rattle.rvclass.specs.Fetch.{words_of};
 ghost use Rattle.rvclass.specs.Words.{IsProgram};
 ghost use Rattle.decoder.specs.steps.Faults.{IsOnTheWay};
 ghost use Rattle.decoder.specs.steps.Retracing.{HasRoomWithin, AddsWithin};
+ghost use Rattle.decoder.specs.steps.Stretches.{IsGrown};
 ghost use Rattle.decoder.specs.steps.WalkSteps as steps;
 ghost use Rattle.decoder.specs.steps.WritingAsFound.{AddsReturned, FindsReturned, KeptWithoutRoom, NoneAtFault};
 ghost use Rattle.decoder.specs.steps.WritingAsFound.{ReturnsSummary, ShortReturned};
@@ -64,8 +64,7 @@ pub fn write_found<A: Allocator>(
     ensures short { ShortReturned (32 * (byte_count paths.entry.program.now / 2)) result }
     ensures none { NoneAtFault (words_of paths.entry.program.now) from outcomes.now (goal_end goal) result }
     ensures named { IfErr result IsOnTheWay }
-    ensures behind { (rest : List AnyEvent) × (log.new.items ≡ log.old.items ++ rest) }
-    ensures room { vec_capacity log.new ≡ vec_capacity log.old }
+    ensures grown { IsGrown log.old log.new }
 {
     if !paths.skips.is_empty() {
         return Ok(None);
@@ -181,8 +180,7 @@ fn write_found_within<A: Allocator>(
         (goal_end course.now.goal) log.old.items log.new.items) result }
     ensures kept { KeptWithoutRoom log.old.items log.new.items result }
     ensures named { IfErr result IsOnTheWay }
-    ensures behind { (rest : List AnyEvent) × (log.new.items ≡ log.old.items ++ rest) }
-    ensures room { vec_capacity log.new ≡ vec_capacity log.old }
+    ensures grown { IsGrown log.old log.new }
 {
     let count = log.len();
     let room = log.capacity() - count;

@@ -24,7 +24,6 @@ pub use Rattle.captures.specs.Versions
 pub use Rattle.captures.specs.NoMessage
 pub use Rattle.captures.specs.Whole
 pub use Rattle.captures.specs.Decoded
-pub use Rattle.captures.specs.OfHarts as DecodedOfHarts
 pub use Rattle.captures.specs.Returned
 pub use Rattle.captures.specs.FaultText as CaptureFaultText
 pub use Rattle.captures.specs.PacketText

@@ -16,6 +16,7 @@ pub use Rattle.bench.specs.Got
 pub use Rattle.bench.specs.Report
 pub use Rattle.bench.specs.Replayed
 pub use Rattle.bench.specs.Collected
+pub use Rattle.bench.specs.TakesMessage
 pub use Rattle.bench.specs.Beginnings
 pub use Rattle.bench.specs.Setting
 pub use Rattle.bench.specs.Working

@@ -12,6 +12,7 @@ pub use Rattle.salvaging.specs.EndsByParts
 pub use Rattle.salvaging.specs.Late
 pub use Rattle.salvaging.specs.Tallies as SalvagedTallies
 pub use Rattle.salvaging.specs.Shares
+pub use Rattle.salvaging.specs.Far
 pub use Rattle.salvaging.specs.Treatments
 pub use Rattle.salvaging.specs.TreatedParts
 pub use Rattle.salvaging.specs.TreatedCounts
@@ -39,6 +40,7 @@ pub use Rattle.salvage_reports.specs.EffectFields as TreatedEffects
 pub use Rattle.salvage_reports.specs.TreatedReadBack as TreatedReadBack
 pub use Rattle.salvage_reports.specs.Frames as CaptureFrames
 pub use Rattle.salvage_reports.specs.HartItems
+pub use Rattle.salvage_reports.specs.HartRows
 pub use Rattle.salvage_reports.specs.Found
 pub use Rattle.salvage_reports.specs.Damage
 pub use Rattle.salvage_reports.specs.MessagesLine

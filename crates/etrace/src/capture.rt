@@ -3,10 +3,10 @@
 
 pub use captures::{
     CaptureBytes, CaptureFault, CaptureFront, CaptureOutcome, Dumped, Form, HartMessages, HexLines,
-    LineFault, LinesFault, Offset, ReadFault, ReadingText, Settings, WholeCapture, decode_capture,
-    decode_harts, decode_watched, dump_capture, dump_harts, dump_watched, encode_capture,
-    encode_hart, encode_hex, hex_lines, read_front, read_messages, write_bytes_line, write_capture,
-    write_header_line, write_message_line, write_start,
+    LineFault, LinesFault, Offset, PassedLines, ReadFault, ReadingText, Settings, WholeCapture,
+    decode_capture, decode_harts, decode_watched, dump_capture, dump_harts, dump_watched,
+    encode_capture, encode_hart, encode_hex, hex_lines, read_front, read_messages,
+    write_bytes_line, write_capture, write_header_line, write_message_line, write_start,
 };
 pub use listing::{Form as ListingForm, ListInput, Listed, list_capture};
 pub use message::{
@@ -20,4 +20,4 @@ pub use parallel_decode::{
     write_harts_side_by_side,
 };
 pub use receiver::{ReceiveFault, Receiver};
-pub use symbols::{Named, Symbols, SymbolsFault, write_symbol};
+pub use symbols::{Named, Symbols, SymbolsFault, write_name, write_symbol};

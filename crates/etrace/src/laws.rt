@@ -2,12 +2,13 @@
 //! contracts cite.
 
 pub use auditing::{
-    counts_add_up, harts_are_received_alone, rows_add_up, skips_add_up, whole_decodes_again,
-    whole_is_equal, whole_is_untouched,
+    counts_add_up, framed_messages_are_taken, harts_are_received_alone, rows_add_up, skips_add_up,
+    whole_decodes_again, whole_is_equal, whole_is_untouched,
 };
 pub use bench::turns_let_beginnings_through;
 pub use captures::{
-    hex_lines_become_the_capture, hex_lines_say_their_messages, low_numbers_are_recovered,
+    hex_lines_become_the_capture, hex_lines_say_their_messages, lines_stream_the_capture,
+    low_numbers_are_recovered,
 };
 pub use comparing::{
     all_harts_are_compared, lists_agree_before_the_row, whole_is_decoded, whole_is_these_logs,
@@ -47,7 +48,7 @@ pub use salvage_reports::{
     undamaged_captures_are_listed_alike,
 };
 pub use salvaging::{
-    harts_are_salvaged_in_one_way, harts_end_at_their_lowest_number,
+    far_numbers_are_known, harts_are_salvaged_in_one_way, harts_end_at_their_lowest_number,
     harts_end_where_no_stretch_comes_after, logs_are_salvaged, messages_are_counted_once,
     parts_are_what_is_done, treatments_are_counted, what_is_collected_is_salvaged,
 };

@@ -6,10 +6,10 @@ pub use frames::{
     message_size, search_capture, search_harts, spans_of, start_of,
 };
 pub use salvage_reports::{
-    Found, Frames, Layout, TreatedCapture, WatchSalvage, find_salvaged, frames_of, items_of,
-    write_found, write_messages, write_salvaged, write_treated,
+    Found, Frames, Layout, TreatedCapture, TreatedInRows, WatchSalvage, find_salvaged, frames_of,
+    in_rows, items_of, write_found, write_messages, write_salvaged, write_treated,
 };
 pub use salvaging::{
-    Added, Part, Reason, Salvaged, SalvagedHart, Treated, Treatment, salvage, salvage_watched,
-    treat_watched,
+    Added, Part, Reason, Salvaged, SalvagedHart, Treated, Treatment, far_numbers, salvage,
+    salvage_watched, treat_watched,
 };

@@ -33,10 +33,11 @@ at_row-last (first ∷ front) rest =
     ∙ slice_get-last first front rest
 
 -- The line of a fault of a log is that of the event at its row and of the one before.
-pub explanation-of_row : (image : Image) (log : List Event) (before : Option Event) (event : Event) (fault : PathFault)
+pub explanation-of_row : (symbols : Option (List ℕ)) (image : Image) (log : List Event) (before : Option Event)
+    (event : Event) (fault : PathFault)
     → StandsAt log fault.row before event
-    → explained image before (Some event) fault.why ≡ explanation image log fault
-explanation-of_row image log before event fault at =
+    → explained symbols image before (Some event) fault.why ≡ explanation symbols image log fault
+explanation-of_row symbols image log before event fault at =
     let number : fault.row - 1 ≡ length at.front = omega (arith, at.counted) in
     let here : at_row log fault.row ≡ Some event =
     at_row-place log fault.row (length at.front) at.counted
@@ -47,5 +48,5 @@ explanation-of_row image log before event fault at =
     ∙ ap (λ l. at_row l (length at.front)) at.whole
     ∙ at_row-last at.front (event ∷ at.rest)
     ∙ sym at.last in
-    ap (λ b. explained image b (Some event) fault.why) (sym last)
-    ∙ ap (λ e. explained image (at_row log (fault.row - 1)) e fault.why) (sym here)
+    ap (λ b. explained symbols image b (Some event) fault.why) (sym last)
+    ∙ ap (λ e. explained symbols image (at_row log (fault.row - 1)) e fault.why) (sym here)

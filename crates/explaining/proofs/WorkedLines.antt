@@ -1,5 +1,5 @@
 -- Lines that were worked by hand, as the definition gives them.
-use Rattle.std.proofs.Common.{◌≡◌, ℕ, ◌+◌, true, false, List, [], ◌∷◌, ◌++◌, refl}
+use Rattle.std.proofs.Common.{None, ◌≡◌, ℕ, ◌+◌, true, false, List, [], ◌∷◌, ◌++◌, refl}
 use Rattle.std.specs.Prelude.{codes}
 use Rattle.rvclass.specs.Piece.{Piece, piece_at}
 use Rattle.retire.specs.declared.event.Event.{Event}
@@ -43,14 +43,14 @@ interrupt offset priv value = Trap priv true 7 (base + offset) value
 
 -- The line of a log's row with this reason.
 abbrev line : List Event → ℕ → Why → List ℕ
-line log row why = explanation image log (record { row = row; why = why })
+line log row why = explanation None image log (record { row = row; why = why })
 
 off_program : line (at 0x20 0 3 ∷ []) 1 OffProgram
     ≡ codes "  80000020: no whole word: the image is 80000000 to 8000001f\n"
 unfolding words_of class16 class32 digits
 off_program = refl
 
-no_image : explanation (image_at base []) (at 0 0 3 ∷ []) (record { row = 1; why = OffProgram })
+no_image : explanation None (image_at base []) (at 0 0 3 ∷ []) (record { row = 1; why = OffProgram })
     ≡ codes "  80000000: no whole word: the image is empty\n"
 unfolding words_of class16 class32 digits
 no_image = refl
@@ -176,7 +176,7 @@ trap_behind_a_plain_word = refl
 
 -- The lines of the first row of a log, which is off this image.
 abbrev off : List ℕ → List ℕ
-off bytes = explanation (image_at base bytes) (at 0x20 0 3 ∷ []) (record { row = 1; why = OffProgram })
+off bytes = explanation None (image_at base bytes) (at 0x20 0 3 ∷ []) (record { row = 1; why = OffProgram })
 
 elf_file : off (0x7f ∷ 0x45 ∷ 0x4c ∷ 0x46 ∷ 0x02 ∷ [])
     ≡ codes "  80000020: no whole word: the image is 80000000 to 80000004\n"
@@ -196,7 +196,7 @@ no_elf_file = refl
 
 -- The line of the first row of a log, which is off this image.
 abbrev off_pieces : Image → List ℕ
-off_pieces pieces = explanation pieces (at 0x20 0 3 ∷ []) (record { row = 1; why = OffProgram })
+off_pieces pieces = explanation None pieces (at 0x20 0 3 ∷ []) (record { row = 1; why = OffProgram })
 
 -- Two bytes from an address on.
 abbrev two_at : ℕ → Piece

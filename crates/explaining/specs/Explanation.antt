@@ -2,6 +2,7 @@
 use Rattle.std.specs.Prelude.{ℕ, ◌-◌, ◌%◌, ◌++◌, ◌&&◌, ◌==◌, nat_lt, if◌then◌else◌, Bool, List, [], codes}
 use Rattle.std.specs.Prelude.{Option, Some, None, length, slice_get}
 use Rattle.isa.specs.Privilege.{is_privilege}
+use Rattle.retire.specs.Events.{place}
 use Rattle.retire.specs.LogText.{hex}
 use Rattle.retire.specs.declared.event.Event.{Event}
 use Rattle.retire.specs.declared.event.Event.TheVariants.{Retire, Trap}
@@ -17,6 +18,7 @@ use Rattle.legalpath.specs.declared.fault.PathFault.{PathFault}
 use Rattle.legalpath.specs.declared.fault.Why.{Why}
 use Rattle.legalpath.specs.declared.fault.Why.TheVariants.{OffProgram, NotRetirable, WrongType, WrongNext}
 use Rattle.legalpath.specs.declared.fault.Why.TheVariants.{WrongPrivilege, WrongEpc}
+use Rattle.symbols.specs.SymbolText.{name_text}
 use Rattle.explaining.specs.ElfImage.{elf_line}
 use Rattle.explaining.specs.Following.{place_text, privileges_text}
 use Rattle.explaining.specs.Ranges.{image_text}
@@ -102,15 +104,17 @@ event_line image before (Trap priv interrupt cause epc tval) why =
 abbrev pub at_row : List Event → ℕ → Option Event
 at_row log row = if row == 0 then None else slice_get log (row - 1)
 
--- The line of an event, if there is one, after two blanks; and the line below it, if the image begins as an ELF file
--- does.
-abbrev pub explained : Image → Option Event → Option Event → Why → List ℕ
-explained image before None why = []
-explained image before (Some event) why =
-    codes "  " ++ (event_line image before event why ++ (codes "\n" ++ elf_line image))
+-- The line of an event, if there is one: after two blanks why it is illegal, and then what its address or exception
+-- program counter is named by the symbols of a file, if one is given. There is a line below it, if the image begins as an
+-- ELF file does.
+abbrev pub explained : Option (List ℕ) → Image → Option Event → Option Event → Why → List ℕ
+explained symbols image before None why = []
+explained symbols image before (Some event) why =
+    codes "  " ++
+    (event_line image before event why ++ (name_text symbols (place event) ++ (codes "\n" ++ elf_line image)))
 
 -- The lines that explain a fault of a log: what is at the row, or at the row before where that leads elsewhere, and
 -- what may be there. A row that the log does not have has no line.
-abbrev pub explanation : Image → List Event → PathFault → List ℕ
-explanation image log fault =
-    explained image (at_row log (fault.row - 1)) (at_row log fault.row) fault.why
+abbrev pub explanation : Option (List ℕ) → Image → List Event → PathFault → List ℕ
+explanation symbols image log fault =
+    explained symbols image (at_row log (fault.row - 1)) (at_row log fault.row) fault.why

@@ -1,6 +1,6 @@
 //! Writing the lines that explain a fault.
 
-ghost use Rattle.std.specs.Prelude.{◌≡◌, IfErr, List, OnOk, Some};
+ghost use Rattle.std.specs.Prelude.{◌≡◌, IfErr, List, OnOk, Some, option_map};
 ghost use Rattle.std.specs.Io.KnownBytes.{Appends};
 ghost use Rattle.output.specs.Begun.{AppendsBeginning};
 ghost use Rattle.retire.specs.declared.event.Event.{Event as AnyEvent};
@@ -14,9 +14,11 @@ use legalpath::{PathFault, Why};
 use output::write_text;
 use retire::{Event, WriteFault};
 use rvclass::ProgramOver;
+use std::alloc::Allocator;
 use std::fmt;
 use std::fmt::Display;
 use std::io::Write;
+use symbols::{Symbols, write_name};
 
 /// Why an event is illegal: what is at its row, or at the row before, and what may be there.
 #[derive(Clone, Copy)]
@@ -84,21 +86,23 @@ fn at_row(log: &[Event], row: u32) -> Option<Event>
 }
 
 /// Writes the line that explains a fault of a log: what is at the row, or at the row before where that leads elsewhere,
-/// and what may be there. The line begins with two blanks and ends with a line feed. If the image begins with the bytes
-/// 7f 45 4c 46, a line below says that it looks like an ELF file.
+/// and what may be there. The line begins with two blanks, and ends with the name of the row's address or exception
+/// program counter, where symbols are given, and a line feed. If the image begins with the bytes 7f 45 4c 46, a line
+/// below says that it looks like an ELF file.
 ///
 /// The fault is one that [`check`](legalpath::check) returns for this program and this log. For a row that the log does
 /// not have, nothing is written. The only fault is [`WriteFault::Write`]: the writer failed, and what was written is a
 /// prefix of the text. The call allocates nothing, and does not flush the writer.
-pub fn explain<W: Write>(
+pub fn explain<S: Allocator, W: Write>(
     program: &ProgramOver,
     log: &[Event],
     fault: PathFault,
+    symbols: Option<&Symbols<S>>,
     sink: &mut W,
 ) -> Result<(), WriteFault>
     ensures text { OnOk result (Appends (W.contents sink.old) (W.contents sink.new)
-        (explanation program.now log.now fault)) }
-    ensures begun { AppendsBeginning (explanation program.now log.now fault)
+        (explanation (option_map (λ file. file.now) symbols.entry) program.now log.now fault)) }
+    ensures begun { AppendsBeginning (explanation (option_map (λ file. file.now) symbols.entry) program.now log.now fault)
         (W.contents sink.old) (W.contents sink.new) }
     ensures fault { IfErr result (λ fault. fault ≡ WriteFault.Write) }
 {
@@ -106,32 +110,35 @@ pub fn explain<W: Write>(
         return Ok(());
     };
     let before = at_row(log, fault.row.saturating_sub(1));
-    explain_row(program, before, &event, fault, sink)
+    explain_row(program, before, &event, fault, symbols, sink)
 }
 
 /// Writes what [`explain`] writes of a fault of a log, of which the caller has two events: the one at the fault's row,
 /// and the one at the row before, if there is one. So the fault of a log whose events come piece by piece is explained.
 ///
-/// The text depends on the program, the two events and the reason alone. The only fault is [`WriteFault::Write`]: the
+/// The text depends on the program, the two events, the reason and the symbols alone. The only fault is [`WriteFault::Write`]: the
 /// writer failed, and what was written is a prefix of the text. The call allocates nothing, and does not flush the
 /// writer.
-pub fn explain_row<W: Write>(
+pub fn explain_row<S: Allocator, W: Write>(
     program: &ProgramOver,
     before: Option<Event>,
     event: &Event,
     fault: PathFault,
+    symbols: Option<&Symbols<S>>,
     sink: &mut W,
 ) -> Result<(), WriteFault>
     ensures text { (log : List AnyEvent) → StandsAt log fault.row before event.now →
         OnOk result (Appends (W.contents sink.old) (W.contents sink.new)
-        (explanation program.now log fault)) }
+        (explanation (option_map (λ file. file.now) symbols.entry) program.now log fault)) }
     ensures begun { (log : List AnyEvent) → StandsAt log fault.row before event.now →
-        AppendsBeginning (explanation program.now log fault) (W.contents sink.old) (W.contents sink.new) }
+        AppendsBeginning (explanation (option_map (λ file. file.now) symbols.entry) program.now log fault)
+        (W.contents sink.old) (W.contents sink.new) }
     ensures fault { IfErr result (λ fault. fault ≡ WriteFault.Write) }
     // What is written of any two events.
     ensures line { OnOk result (Appends (W.contents sink.old) (W.contents sink.new)
-        (explained program.now before (Some event.now) fault.why)) }
-    ensures line_begun { AppendsBeginning (explained program.now before (Some event.now) fault.why)
+        (explained (option_map (λ file. file.now) symbols.entry) program.now before (Some event.now) fault.why)) }
+    ensures line_begun { AppendsBeginning
+        (explained (option_map (λ file. file.now) symbols.entry) program.now before (Some event.now) fault.why)
         (W.contents sink.old) (W.contents sink.new) }
 {
     let line = EventLine {
@@ -140,7 +147,25 @@ pub fn explain_row<W: Write>(
         event: *event,
         why: fault.why,
     };
-    let below = ElfLine(program);
-    write_text(sink, format_args!("  {line}\n{below}"))?;
+    write_event_line(&line, symbols, sink)
+}
+
+/// Writes the line of an event, and the one below it, if there is one.
+fn write_event_line<S: Allocator, W: Write>(
+    line: &EventLine<'_>,
+    symbols: Option<&Symbols<S>>,
+    sink: &mut W,
+) -> Result<(), WriteFault>
+    ensures text { OnOk result (Appends (W.contents sink.old) (W.contents sink.new)
+        (explained (option_map (λ file. file.now) symbols.entry) line.now.program.now line.now.before
+        (Some line.now.event) line.now.why)) }
+    ensures begun { AppendsBeginning (explained (option_map (λ file. file.now) symbols.entry) line.now.program.now
+        line.now.before (Some line.now.event) line.now.why) (W.contents sink.old) (W.contents sink.new) }
+    ensures fault { IfErr result (λ fault. fault ≡ WriteFault.Write) }
+{
+    write_text(sink, format_args!("  {line}"))?;
+    write_name(symbols, line.event.place(), sink)?;
+    let below = ElfLine(line.program);
+    write_text(sink, format_args!("\n{below}"))?;
     Ok(())
 }

@@ -14,6 +14,7 @@ use Rattle.comparing.specs.Lines.{are_whole_lines, lines_text}
 use Rattle.comparing.specs.declared.hart_count.HartCount.{HartCount}
 use Rattle.bench.specs.declared.hart_line.ComparedHart.{ComparedHart}
 use Rattle.comparing.specs.steps.Held.{count_in}
+use Rattle.message.specs.Range.{every_hart}
 use Rattle.receiver.specs.Received.{events_in}
 use Rattle.retire.specs.declared.event.Event.{Event}
 use Rattle.rvclass.specs.Fetch.{words_of}
@@ -45,7 +46,9 @@ module _ (image : Judged) (harts : ℕ) (capture : List ℕ) (program : Image) (
     (decoded : IsDecoded (words_of program) harts capture (events_in lists) closed stop) where
   -- There is a flag for each list.
   pub flags_for : length closed ≡ length lists
-  flags_for = flags_many (words_of program) harts capture (events_in lists) closed stop decoded ∙ lists_many [] lists closed
+  flags_for =
+      flags_many every_hart (words_of program) harts capture (events_in lists) closed stop decoded
+      ∙ lists_many [] lists closed
 
   -- What is held is what the capture decodes to.
   pub held_for : (many : ℕ) → many ≡ length lists → AreCounted capture many stop counts → (why : ℕ)

@@ -20,11 +20,9 @@ mod MadeOfCopies
 mod MeasuredInTurn
 mod NoneSet
 mod Offsets
-mod PassingBack
 mod PathWalk
 mod PiecesAdded
 mod PushedInTurn
-mod PushesReported
 mod StatesBack
 mod StatesRead
 mod StepsTaken

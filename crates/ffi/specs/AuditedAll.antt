@@ -31,7 +31,7 @@ use Rattle.frames.specs.Passages.{spans_from}
 use Rattle.frames.specs.Start.{IsStart, first_place}
 use Rattle.ffi.specs.Numbers.{flag}
 use Rattle.ffi.specs.Sending.{numbers_of_header}
-use Rattle.ffi.specs.Statuses.{demux_status, message_status}
+use Rattle.ffi.specs.Statuses.{demux_status, header_fault, message_status}
 use Rattle.ffi.specs.declared.headers.HeaderNumbers.{HeaderNumbers}
 use Rattle.ffi.specs.declared.path_numbers.Arrival.{Arrival}
 use Rattle.ffi.specs.declared.path_numbers.ByteRun.{ByteRun}
@@ -157,11 +157,6 @@ headers_differ (Some header) (Some other) = are_unlike (numbers_of_header header
 abbrev pub heads_differ : Option Header → Option Header → Option MessageFault → Bool
 heads_differ sent header None = headers_differ sent header
 heads_differ sent header (Some why) = is_some sent
-
--- Why RECEIVED, which begins as a capture of version 2 does, has no header, as a status; 0 else.
-abbrev pub header_fault : Option MessageFault → ℕ
-header_fault None = DONE
-header_fault (Some why) = message_status why
 
 -- All harts are whole.
 abbrev pub are_rows_whole : List HartRowNumbers → Bool

@@ -20,7 +20,8 @@ use Rattle.auditing.specs.Arrivals.{arrival_lines}
 use Rattle.auditing.specs.Counted.{counts_of, total_of}
 use Rattle.auditing.specs.declared.arrival_line.Line.{Line}
 use Rattle.auditing.specs.declared.arrival_line.Line.TheVariants as line
-use Rattle.ffi.specs.AuditedAll.{IsGiven, fitting_status, header_fault, header_reported, heads_differ}
+use Rattle.ffi.specs.AuditedAll.{IsGiven, fitting_status, header_reported, heads_differ}
+use Rattle.ffi.specs.Statuses.{header_fault}
 use Rattle.ffi.specs.AuditedAll.{lost_reported, sent_place, sent_status}
 use Rattle.ffi.specs.Numbers.{flag}
 use Rattle.ffi.specs.declared.aligned_numbers.AlignedEnd.{AlignedEnd}

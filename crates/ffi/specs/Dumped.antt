@@ -1,16 +1,12 @@
 -- What a call reports of a dump.
-use Rattle.std.specs.Prelude.{ℕ, ◌≡◌, Bool, true, false, List, Option, Some, None}
+use Rattle.std.specs.Prelude.{ℕ, ◌≡◌, Bool, List, Option, Some, None}
 use Rattle.message.specs.declared.fault.MessageFault.{MessageFault}
 use Rattle.captures.specs.Dump.{IsDump}
 use Rattle.ffi.specs.Handed.{IsHandedOut}
+use Rattle.ffi.specs.Numbers.{flag}
 use Rattle.ffi.specs.Statuses.{message_status}
 use Rattle.ffi.specs.declared.dumping.DumpEnd.{DumpEnd}
 use Rattle.ffi.specs.declared.status.TheConstants.{DONE}
-
--- A flag as a number.
-abbrev pub flag : Bool → ℕ
-flag true = 1
-flag false = 0
 
 -- How a dump ends, in numbers.
 abbrev pub dump_end : Bool → Option (ℕ × MessageFault) → DumpEnd

@@ -1,8 +1,9 @@
--- What a call reports of a capture of logs.
+-- What a call reports of a capture of logs, or of what logs cost.
 use Rattle.std.specs.Prelude.{ℕ, ◌≡◌, ◌⊎◌, ◌-◌, ◌<◌, ◌≤◌, ◌++◌, ◌==◌, ◌&&◌, nat_le, if◌then◌else◌, List, [], ◌∷◌, drop}
 use Rattle.std.specs.Prelude.{Option, Some, None, Result, Ok, Err, length, take}
 use Rattle.std.specs.declared.alloc.Global.{Global}
 use Rattle.std.specs.declared.vec.Vec.{Vec}
+use Rattle.captures.specs.Table.{measures_table}
 use Rattle.captures.specs.Versions.{capture_of}
 use Rattle.legalpath.specs.FirstFault.{IsFirstFault}
 use Rattle.legalpath.specs.ProgramLog.{IsLegalLog, ProgramLog}
@@ -82,14 +83,14 @@ pub record IsRefusedLog (program : Image) (bytes ends : List ℕ) (place : ℕ) 
   pub counted : place ≡ length front
   pub refused : IsNoLegalText program (text_between bytes (last_end 0 front) end) fault
 
--- The capture of the legal logs of texts, by the program of an image.
-pub record IsCaptureOfTexts (image : Judged) (bytes ends : List ℕ) (period : ℕ) (mode : Mode) (version : Version)
-    (capture : List ℕ) : Type 0 where
+-- The text that is laid out of the legal logs of texts, by the program of an image.
+pub record IsTextOfLogs (image : Judged) (bytes ends : List ℕ) (laid : List ProgramLog → List ℕ) (text : List ℕ)
+    : Type 0 where
   pub program : Image
   pub logs : List ProgramLog
   pub made : image ≡ Ok program
   pub are : AreLogs program bytes 0 ends logs
-  pub written : capture ≡ capture_of version period mode logs
+  pub written : text ≡ laid logs
 
 -- An image makes a program, and one of the texts is no legal log's.
 abbrev pub HasRefusedLog : Judged → List ℕ → List ℕ → ℕ → Fault → Type 0
@@ -127,22 +128,21 @@ IsOutOfRange ends period mode version =
     (mode_of mode ≡ None) ⊎ (version_of version ≡ None) ⊎ (period ≡ 0) ⊎ (length ends ≡ 0)
     ⊎ HasTooManyLogs ends version
 
--- The result for an image and the texts of logs, in a named mode and version: a capture, or why there is none.
-abbrev pub IsMade : Judged → List ℕ → List ℕ → ℕ → Mode → Version → Result (Vec ℕ Global) (ℕ × Fault) → Type 0
-IsMade image bytes ends period mode version (Ok capture) =
-    IsCaptureOfTexts image bytes ends period mode version capture.items
-IsMade image bytes ends period mode version (Err (place, fault)) = IsNoCapture image bytes ends place fault
+-- The result for an image and the texts of logs: what is laid out of them, or why it is not.
+abbrev pub IsMade : Judged → List ℕ → List ℕ → (List ProgramLog → List ℕ) → Result (Vec ℕ Global) (ℕ × Fault) → Type 0
+IsMade image bytes ends laid (Ok made) = IsTextOfLogs image bytes ends laid made.items
+IsMade image bytes ends laid (Err (place, fault)) = IsNoCapture image bytes ends place fault
 
 -- The same, where the mode and the version are numbers: these come first, and a number is out of its range, or all are
--- within theirs.
+-- within theirs, and it is laid out in this mode and version.
 pub data IsEncoded (image : Judged) (bytes ends : List ℕ) (period mode version : ℕ)
-    (made : Result (Vec ℕ Global) (ℕ × Fault)) : Type 0 where
+    (laid : Mode → Version → List ProgramLog → List ℕ) (made : Result (Vec ℕ Global) (ℕ × Fault)) : Type 0 where
   OutOfRange : IsOutOfRange ends period mode version → made ≡ Err (0, Range)
-      → IsEncoded image bytes ends period mode version made
+      → IsEncoded image bytes ends period mode version laid made
   InRange : (named_mode : Mode) (named_version : Version)
       → AreInRange ends period mode version named_mode named_version
-      → IsMade image bytes ends period named_mode named_version made
-      → IsEncoded image bytes ends period mode version made
+      → IsMade image bytes ends (laid named_mode named_version) made
+      → IsEncoded image bytes ends period mode version laid made
 
 -- What was made is reported: a capture was handed out; or the status says why there is none, and of which log and row.
 pub data ReportsMade (made : Result (Vec ℕ Global) (ℕ × Fault)) (status wanted_before wanted : ℕ)
@@ -156,5 +156,14 @@ pub data ReportsMade (made : Result (Vec ℕ Global) (ℕ × Fault)) (status wan
 -- The texts of logs were encoded, and the result was reported.
 abbrev pub ReportsEncode : Judged → List ℕ → List ℕ → ℕ → ℕ → ℕ → ℕ → ℕ → ℕ → LogPlace → LogPlace → List ℕ → List ℕ → Type 0
 ReportsEncode image bytes ends period mode version status wanted_before wanted place_before place old new =
-    (made : Result (Vec ℕ Global) (ℕ × Fault)) × IsEncoded image bytes ends period mode version made
+    (made : Result (Vec ℕ Global) (ℕ × Fault))
+    × IsEncoded image bytes ends period mode version (λ mode version. capture_of version period mode) made
+    × ReportsMade made status wanted_before wanted place_before place old new
+
+-- The texts of logs were measured, and the result was reported: a table, as many logs as a capture with a header has.
+abbrev pub ReportsMeasure : Judged → List ℕ → List ℕ → ℕ → ℕ → ℕ → ℕ → ℕ → LogPlace → LogPlace → List ℕ → List ℕ
+    → Type 0
+ReportsMeasure image bytes ends period mode status wanted_before wanted place_before place old new =
+    (made : Result (Vec ℕ Global) (ℕ × Fault))
+    × IsEncoded image bytes ends period mode VERSION_TWO (λ mode version. measures_table period mode) made
     × ReportsMade made status wanted_before wanted place_before place old new

@@ -1,5 +1,5 @@
 -- What a call reports of why a log is illegal.
-use Rattle.std.specs.Prelude.{ℕ, ◌≡◌, ◌⊎◌, List, [], Result, Ok, Err, length}
+use Rattle.std.specs.Prelude.{ℕ, ◌≡◌, ◌⊎◌, List, [], None, Result, Ok, Err, length}
 use Rattle.explaining.specs.Explanation.{explanation}
 use Rattle.legalpath.specs.FirstFault.{IsFirstFault}
 use Rattle.legalpath.specs.Legal.{Legal}
@@ -28,7 +28,7 @@ pub record IsLegal (program : Image) (events : List Event) (text : List ℕ) (en
 pub record IsIllegal (program : Image) (events : List Event) (text : List ℕ) (end : ExplainEnd) : Type 0 where
   pub fault : PathFault
   pub first : IsFirstFault (words_of program) events fault
-  pub written : text ≡ explanation program events fault
+  pub written : text ≡ explanation None program events fault
   pub ended : end ≡ record { row = fault.row; fault = why_status fault.why }
 
 -- The text is what explains the first illegal row of a log, if it has one, and this is how the log ends.

@@ -15,12 +15,10 @@ pub mod FedAll
 pub mod Received
 pub mod Dumped
 pub mod Texts
-pub mod Listed
 pub mod Salvaged
-pub mod Treated
+pub mod Listed
 pub mod Explained
 pub mod Encoded
-pub mod Measured
 pub mod Compared
 pub mod Pushed
 pub mod PushedAll

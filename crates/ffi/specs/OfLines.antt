@@ -1,5 +1,5 @@
 -- What a call reports of a capture of lines.
-use Rattle.std.specs.Prelude.{ℕ, ◌≡◌, ◌==◌, ◌&&◌, nat_le, if◌then◌else◌, List, Option, Some, None, Result, Ok, Err}
+use Rattle.std.specs.Prelude.{ℕ, ◌≡◌, ◌==◌, ◌&&◌, nat_le, not, if◌then◌else◌, List, Option, Some, None, Result, Ok, Err}
 use Rattle.std.specs.declared.alloc.Global.{Global}
 use Rattle.std.specs.declared.vec.Vec.{Vec}
 use Rattle.captures.specs.Capture.{capture_of_text}
@@ -16,23 +16,30 @@ use Rattle.ffi.specs.declared.lines.LinesRefusal.{LinesRefusal}
 use Rattle.ffi.specs.declared.lines.LinesRefusal.TheVariants.{Range, Line, Memory}
 use Rattle.ffi.specs.declared.status.TheConstants.{MEMORY, OUT_OF_RANGE}
 
--- The count of harts that is asked for: none with 0.
-abbrev pub harts_asked : ℕ → Option ℕ
-harts_asked harts = if harts == 0 then None else Some harts
+-- The count of harts, or of numbers, that is asked for: none with 0.
+abbrev pub count_asked : ℕ → Option ℕ
+count_asked count = if count == 0 then None else Some count
 
--- The settings in this version and mode, where the period is 1 or more, and no more harts are asked for than a capture
--- of the version has.
-abbrev pub settings_with : Option Version → Option Mode → ℕ → ℕ → Option Settings
-settings_with None mode period harts = None
-settings_with (Some version) None period harts = None
-settings_with (Some version) (Some mode) period harts =
-    if nat_le 1 period && nat_le harts (most_harts version)
-    then Some (record { version = version; mode = mode; period = period; harts = harts_asked harts; numbers = None })
+-- The settings in this version and mode, where the period is 1 or more, no more harts are asked for than a capture of the
+-- version has, and a field has not one number alone.
+abbrev pub settings_with : Option Version → Option Mode → ℕ → ℕ → ℕ → Option Settings
+settings_with None mode period harts numbers = None
+settings_with (Some version) None period harts numbers = None
+settings_with (Some version) (Some mode) period harts numbers =
+    if nat_le 1 period && nat_le harts (most_harts version) && not (numbers == 1)
+    then Some (record {
+      version = version;
+      mode = mode;
+      period = period;
+      harts = count_asked harts;
+      numbers = count_asked numbers;
+    })
     else None
 
 -- The settings that numbers name, where all are in their ranges.
-abbrev pub settings_named : ℕ → ℕ → ℕ → ℕ → Option Settings
-settings_named version mode period harts = settings_with (version_of version) (mode_of mode) period harts
+abbrev pub settings_named : ℕ → ℕ → ℕ → ℕ → ℕ → Option Settings
+settings_named version mode period harts numbers =
+    settings_with (version_of version) (mode_of mode) period harts numbers
 
 -- The result for lines: their capture; or a number is out of its range, a line has a fault, of which it is the first, or
 -- an allocation failed for the capture.

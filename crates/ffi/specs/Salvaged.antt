@@ -21,12 +21,11 @@ use Rattle.salvaging.specs.declared.salvaged.SalvagedHart.{SalvagedHart}
 use Rattle.frames.specs.Start.{spans_of}
 use Rattle.ffi.specs.Images.{Judged}
 use Rattle.ffi.specs.Numbers.{flag}
-use Rattle.ffi.specs.Statuses.{message_status}
+use Rattle.ffi.specs.Statuses.{header_fault}
 use Rattle.ffi.specs.Texts.{ReportsText}
 use Rattle.ffi.specs.declared.fault.Fault.TheVariants.{Memory, NoProgram, Range}
 use Rattle.ffi.specs.declared.listing_capture.TheConstants.{CSV, TEXT}
 use Rattle.ffi.specs.declared.salvaged.TheConstants.{HARTS_SHOWN, SUMMARY}
-use Rattle.ffi.specs.declared.status.TheConstants.{DONE}
 use Rattle.ffi.specs.declared.texts.TextEnd.{TextEnd}
 use Rattle.ffi.specs.declared.texts.TextFault.{TextFault}
 use Rattle.ffi.specs.declared.texts.TextFault.TheVariants as text
@@ -44,11 +43,6 @@ layout_of number =
     else if number == SUMMARY then Some layout.Summary
     else None
 
--- Why a capture that begins as one of version 2 does has no valid header, as a status.
-abbrev pub header_status : Option MessageFault → ℕ
-header_status None = DONE
-header_status (Some why) = message_status why
-
 -- How a text ends of what is salvaged of these harts, in numbers: how many they are; the first of them that is not
 -- closed, or where each is, how many they are; why there is no valid header; and whether nothing is damaged, and no
 -- byte belongs to no frame.
@@ -57,7 +51,7 @@ own_end only why runs harts strangers = record {
   harts = length harts;
   unclosed = unwrap_or (first_unclosed only.first (closed_harts harts)) (length harts);
   place = 0;
-  fault = header_status why;
+  fault = header_fault why;
   whole = flag (is_none why && (is_none (first_unclosed only.first (closed_harts harts))
       && (not (is_damaged harts strangers) && not runs)));
 }

@@ -1,5 +1,5 @@
 -- Faults as statuses.
-use Rattle.std.specs.Prelude.{ℕ}
+use Rattle.std.specs.Prelude.{ℕ, Option, Some, None}
 use Rattle.captures.specs.declared.line_fault.LineFault.{LineFault}
 use Rattle.captures.specs.declared.line_fault.LineFault.TheVariants as line
 use Rattle.captures.specs.declared.outcome.CaptureFault.{CaptureFault}
@@ -28,7 +28,7 @@ use Rattle.ffi.specs.declared.fault.Fault.{Fault}
 use Rattle.ffi.specs.declared.fault.Fault.TheVariants as fault
 use Rattle.ffi.specs.declared.fault.ImageFault.{ImageFault}
 use Rattle.ffi.specs.declared.fault.ImageFault.TheVariants as made
-use Rattle.ffi.specs.declared.status.TheConstants.{MEMORY, OUT_OF_RANGE, BAD_ENDS}
+use Rattle.ffi.specs.declared.status.TheConstants.{DONE, MEMORY, OUT_OF_RANGE, BAD_ENDS}
 use Rattle.ffi.specs.declared.status.TheConstants.{SHORT, BAD_LENGTH, UNREAD, UNWRITTEN, BAD_HEADER}
 use Rattle.ffi.specs.declared.status.TheConstants.{EMPTY, TOO_LONG, BAD_PAD, UNSUPPORTED, BAD_PRIVILEGE}
 use Rattle.ffi.specs.declared.status.TheConstants.{BAD_REPORT}
@@ -54,6 +54,11 @@ message_status message.BadLength = BAD_LENGTH
 message_status message.Read = UNREAD
 message_status message.Write = UNWRITTEN
 message_status message.BadHeader = BAD_HEADER
+
+-- Why a capture that begins as one of version 2 does has no valid header, as a status; 0 where it has.
+abbrev pub header_fault : Option MessageFault → ℕ
+header_fault None = DONE
+header_fault (Some why) = message_status why
 
 -- Why bytes are no payload of a packet.
 abbrev pub pack_status : PackFault → ℕ

@@ -12,8 +12,9 @@ ghost use Rattle.auditing.specs.Counted.{total_of};
 
 use crate::aligned_harts::{aligned_rows, first_place, singles_of, strangers_among, unmatched_of};
 use crate::aligned_numbers::{AlignedEnd, AlignedRow, Single};
+use crate::dumping::header_fault;
 use crate::path_all::{compared_by, fitting_status, give};
-use crate::path_ending::{header_fault, header_reported, heads_differ};
+use crate::path_ending::{header_reported, heads_differ};
 use crate::path_numbers::{LostRun, SentPlace, sent_place, sent_status};
 use crate::status::OUT_OF_RANGE;
 use auditing::{Alignment, Audit, SentFault, aligned_harts, arrival_lines, total_of};

@@ -2,7 +2,7 @@
 
 ghost use Rattle.std.specs.Prelude.{◌≡◌, ◌≢◌};
 ghost use Rattle.ffi.specs.Dumped.{IsDumpHandedOut, dump_end};
-ghost use Rattle.ffi.specs.Statuses.{message_status};
+ghost use Rattle.ffi.specs.Statuses.{header_fault, message_status};
 ghost use Rattle.ffi.specs.declared.status.TheConstants.{MEMORY};
 
 use crate::handing::hand_out;
@@ -76,5 +76,15 @@ pub(crate) fn message_status(why: MessageFault) -> u32
         MessageFault::Read => UNREAD,
         MessageFault::Write => UNWRITTEN,
         MessageFault::BadHeader => BAD_HEADER,
+    }
+}
+
+/// Why a capture that begins as one of version 2 does has no valid header, as a status; 0 where it has.
+pub(crate) fn header_fault(why: Option<MessageFault>) -> u32
+    ensures { result ≡ header_fault why }
+{
+    match why {
+        None => DONE,
+        Some(why) => message_status(why),
     }
 }

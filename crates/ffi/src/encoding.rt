@@ -1,6 +1,7 @@
 //! From the texts of logs to a capture.
 
 ghost use Rattle.std.specs.Prelude.{◌≡◌, ◌≤◌, Err, IfErr, IfOk, IfSome, None, length, option_map};
+ghost use Rattle.captures.specs.Versions.{capture_of};
 ghost use Rattle.message.specs.Version.{most_harts};
 ghost use Rattle.ffi.specs.Encoded.{AreInRange, AreLogs, IsLegalText, IsMade, IsNoLegalText};
 ghost use Rattle.ffi.specs.Encoded.{IsOutOfRange, IsRefusedLog, ReportsEncode, ReportsMade, mode_of};
@@ -136,7 +137,7 @@ fn encode_logs(
     requires period { 1 ≤ settings.period }
     requires some { 1 ≤ length ends.now }
     requires few { length ends.now ≤ most_harts settings.version }
-    ensures made { IsMade copied.now logs.now ends.now settings.period settings.mode settings.version result }
+    ensures made { IsMade copied.now logs.now ends.now (capture_of settings.version settings.period settings.mode) result }
     ensures memory { copied.now ≡ Err ImageFault.Memory → result ≡ Err (0, Memory) }
 {
     let Settings {

@@ -15,6 +15,7 @@ use legalpath::check;
 use retire::{Event, WriteFault, read_log_from_slice};
 use rvclass::ProgramOver;
 use std::alloc::Global;
+use symbols::Symbols;
 
 /// How a log ends.
 #[repr(C)]
@@ -121,7 +122,7 @@ fn explain_events(
             Ok(Explained { text, end })
         }
         Err(fault) => {
-            explain(program, events, fault, &mut text)?;
+            explain(program, events, fault, None::<&Symbols>, &mut text)?;
             let end = ExplainEnd {
                 row: u64::from(fault.row),
                 fault: why_status(fault.why),

@@ -76,6 +76,19 @@ struct FedPayloads {
     status: u32,
 }
 
+/// No payload was taken, for this reason.
+fn none_fed(status: u32) -> FedPayloads
+    ensures status { result.status ≡ status }
+    ensures taken { result.taken ≡ 0 }
+    ensures count { result.count ≡ 0 }
+{
+    FedPayloads {
+        taken: 0,
+        count: 0,
+        status,
+    }
+}
+
 /// Feeds payloads to the decoder with these numbers, as long as their events have room.
 fn feed_while_room(
     alloc: Global,
@@ -90,23 +103,11 @@ fn feed_while_room(
 {
     let first = match state_of(numbers) {
         Some(first) => first,
-        None => {
-            return FedPayloads {
-                taken: 0,
-                count: 0,
-                status: BAD_STATE,
-            };
-        }
+        None => return none_fed(BAD_STATE),
     };
     let program = match image {
         Ok(program) => program,
-        Err(fault) => {
-            return FedPayloads {
-                taken: 0,
-                count: 0,
-                status: fault.status(),
-            };
-        }
+        Err(fault) => return none_fed(fault.status()),
     };
     let mut list = Vec::new(alloc);
     let mut kept = first;

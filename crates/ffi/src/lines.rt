@@ -1,9 +1,9 @@
 //! From lines of text to a capture.
 
-ghost use Rattle.std.specs.Prelude.{◌≡◌, ◌≤◌, IfSome, None, Some};
+ghost use Rattle.std.specs.Prelude.{◌≡◌, ◌≤◌, IfSome, Some};
 ghost use Rattle.message.specs.Version.{most_harts};
 ghost use Rattle.ffi.specs.OfLines.{IsOfLines, ReportsOfLines, line_at_fault, lines_status, settings_named};
-ghost use Rattle.ffi.specs.OfLines.{harts_asked, settings_with};
+ghost use Rattle.ffi.specs.OfLines.{count_asked, settings_with};
 ghost use Rattle.ffi.specs.Statuses.{line_hart_status, line_status};
 
 use crate::encoding::{mode_of, version_of};
@@ -29,7 +29,8 @@ pub enum LinesRefusal {
 /// `tracebench capture` writes. The version is [`VERSION_ONE`](crate::VERSION_ONE) or
 /// [`VERSION_TWO`](crate::VERSION_TWO), the mode [`DIFFERENTIAL`](crate::DIFFERENTIAL) or [`FULL`](crate::FULL), and
 /// the period 1 or more. The header counts so many harts, at most 1,024 and in version 1 at most 64; with 0 those up to
-/// the highest of the lines.
+/// the highest of the lines. A line's field counts so many `numbers`, 2 or more, and then begins again at 0, as with
+/// `--number-bits`; with 0 it has the message's own number.
 ///
 /// The status is [`DONE`], [`TOO_SMALL`], [`OUT_OF_RANGE`] where one of these numbers is out of its range, [`MEMORY`], or
 /// says what is wrong with the first line that has a fault, which is tested in this order: [`LINE_FIELDS`],
@@ -42,14 +43,16 @@ pub fn tracebench_capture_of_lines(
     mode: u32,
     period: u16,
     harts: u16,
+    numbers: u64,
     buffer: &mut [u8],
     wanted: &mut u64,
     line: &mut u64,
 ) -> u32
-    ensures { ReportsOfLines (settings_named version mode period harts) text.now result line.new wanted.old wanted.new
-        buffer.old buffer.new }
+    ensures { ReportsOfLines (settings_named version mode period harts numbers) text.now result line.new wanted.old
+        wanted.new buffer.old buffer.new }
 {
-    match capture_of(alloc, text, settings_named(version, mode, period, harts)) {
+    let settings = settings_named(version, mode, period, harts, numbers);
+    match capture_of(alloc, text, settings) {
         Ok(capture) => {
             *line = 0;
             hand_out(capture.as_slice(), buffer, wanted)
@@ -62,11 +65,17 @@ pub fn tracebench_capture_of_lines(
 }
 
 /// The settings that numbers name, where all are in their ranges.
-fn settings_named(version: u32, mode: u32, period: u16, harts: u16) -> Option<Settings>
-    ensures value { result ≡ settings_named version mode period harts }
+fn settings_named(
+    version: u32,
+    mode: u32,
+    period: u16,
+    harts: u16,
+    numbers: u64,
+) -> Option<Settings>
+    ensures value { result ≡ settings_named version mode period harts numbers }
     ensures period { IfSome result (λ own. 1 ≤ own.period) }
     ensures harts { IfSome result (λ own. IfSome own.harts (λ harts. (1 ≤ harts) × (harts ≤ most_harts own.version))) }
-    ensures numbers { IfSome result (λ own. own.numbers ≡ None) }
+    ensures numbers { IfSome result (λ own. IfSome own.numbers (λ numbers. 2 ≤ numbers)) }
 {
     let Some(version) = version_of(version) else {
         return None;
@@ -74,23 +83,29 @@ fn settings_named(version: u32, mode: u32, period: u16, harts: u16) -> Option<Se
     let Some(mode) = mode_of(mode) else {
         return None;
     };
-    settings_with(version, mode, period, harts)
+    settings_with(version, mode, period, harts, numbers)
 }
 
 /// The settings in this version and mode, where the other numbers are in their ranges.
-fn settings_with(version: Version, mode: Mode, period: u16, harts: u16) -> Option<Settings>
-    ensures value { result ≡ settings_with (Some version) (Some mode) period harts }
+fn settings_with(
+    version: Version,
+    mode: Mode,
+    period: u16,
+    harts: u16,
+    numbers: u64,
+) -> Option<Settings>
+    ensures value { result ≡ settings_with (Some version) (Some mode) period harts numbers }
     ensures period { IfSome result (λ own. 1 ≤ own.period) }
     ensures harts { IfSome result (λ own. IfSome own.harts (λ harts. (1 ≤ harts) × (harts ≤ most_harts own.version))) }
-    ensures numbers { IfSome result (λ own. own.numbers ≡ None) }
+    ensures numbers { IfSome result (λ own. IfSome own.numbers (λ numbers. 2 ≤ numbers)) }
 {
-    if period >= 1 && harts <= version.most_harts() {
+    if period >= 1 && harts <= version.most_harts() && numbers != 1 {
         Some(Settings {
             version,
             mode,
             period,
             harts: harts_asked(harts),
-            numbers: None,
+            numbers: numbers_asked(numbers),
         })
     } else {
         None
@@ -99,10 +114,18 @@ fn settings_with(version: Version, mode: Mode, period: u16, harts: u16) -> Optio
 
 /// The count of harts that is asked for: none with 0.
 fn harts_asked(harts: u16) -> Option<u16>
-    ensures value { result ≡ harts_asked harts }
+    ensures value { result ≡ count_asked harts }
     ensures same { IfSome result (λ count. (1 ≤ count) × (count ≡ harts)) }
 {
     if harts == 0 { None } else { Some(harts) }
+}
+
+/// The count of numbers that a field has: none with 0.
+fn numbers_asked(numbers: u64) -> Option<u64>
+    ensures value { result ≡ count_asked numbers }
+    ensures same { IfSome result (λ count. (1 ≤ count) × (count ≡ numbers)) }
+{
+    if numbers == 0 { None } else { Some(numbers) }
 }
 
 /// The capture of the lines of a text, or why there is none.
@@ -114,7 +137,7 @@ fn capture_of(
     requires period { IfSome settings (λ own. 1 ≤ own.period) }
     requires harts { IfSome settings (λ own.
         IfSome own.harts (λ harts. (1 ≤ harts) × (harts ≤ most_harts own.version))) }
-    requires numbers { IfSome settings (λ own. own.numbers ≡ None) }
+    requires numbers { IfSome settings (λ own. IfSome own.numbers (λ numbers. 2 ≤ numbers)) }
     ensures { IsOfLines settings text.now result }
 {
     let Some(settings) = settings else {

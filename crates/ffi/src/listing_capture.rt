@@ -2,8 +2,8 @@
 
 ghost use Rattle.std.specs.Prelude.{◌≡◌, IfErr, IfOk, Ok, option_map};
 ghost use Rattle.ffi.specs.Images.{OfPieces};
-ghost use Rattle.ffi.specs.Listed.{HasListing, IsTextBy, IsTextIn, ReportsList, format_of, list_end, symbols_in};
-ghost use Rattle.ffi.specs.Treated.{HasTreated, ReportsTreated};
+ghost use Rattle.ffi.specs.Listed.{HasListing, HasTreated, IsTextBy, IsTextIn, ReportsList, ReportsTreated};
+ghost use Rattle.ffi.specs.Listed.{format_of, list_end, symbols_in};
 ghost use Rattle.ffi.specs.steps.Listing.{AreNotRead, HasAccount};
 
 use crate::copying::copy_bytes;
@@ -17,7 +17,7 @@ use listing::{Form, ListInput, Listed, list_capture};
 use message::{HartRange, NoProgress};
 use retire::WriteFault;
 use rvclass::ProgramOver;
-use salvage_reports::{TreatedCapture, find_salvaged, write_treated};
+use salvage_reports::{TreatedCapture, find_salvaged, in_rows, write_treated};
 use salvaging::treat_watched;
 use std::alloc::Global;
 use symbols::{Symbols, SymbolsFault};
@@ -254,11 +254,12 @@ fn treat_by(
     )?;
     let messages = found.frames.messages.as_slice();
     let treated = treat_watched(alloc, program, harts, mode, messages, &NoProgress)?;
+    let rows = in_rows(alloc, messages, treated.as_slice())?;
     let all = TreatedCapture {
         header: start.header,
         only: HartRange::ALL,
         bytes: capture,
-        treated: treated.as_slice(),
+        treated: rows.as_slice(),
     };
     let mut text = Vec::new(alloc);
     write_treated(format, symbols, all, &mut text)?;

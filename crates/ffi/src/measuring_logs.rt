@@ -5,13 +5,14 @@ ghost use Rattle.legalpath.specs.Legal.{Legal};
 ghost use Rattle.legalpath.specs.ProgramLog.{program_log};
 ghost use Rattle.captures.specs.Bounds.{AreWithin, most_counted};
 ghost use Rattle.captures.specs.Measures.{measures_of};
+ghost use Rattle.captures.specs.Table.{measures_table};
 ghost use Rattle.message.specs.Version.{most_harts};
 ghost use Rattle.message.specs.declared.header.Version.TheVariants.{Two};
 ghost use Rattle.retire.specs.Log.{most_rows};
 ghost use Rattle.rvclass.specs.Fetch.{words_of};
-ghost use Rattle.ffi.specs.Encoded.{IsNoLegalText, IsRefusedLog};
+ghost use Rattle.ffi.specs.Encoded.{IsEncoded, IsMade, IsNoLegalText, IsRefusedLog, ReportsMeasure};
 ghost use Rattle.ffi.specs.Images.{OfPieces};
-ghost use Rattle.ffi.specs.Measured.{IsMeasured, IsMeasuredIn, ReportsMeasure};
+ghost use Rattle.ffi.specs.declared.encoding.TheConstants.{VERSION_TWO};
 ghost use Rattle.ffi.specs.steps.Measuring.{AreMeasured, IsMeasuredText};
 
 use crate::encoding::{LogPlace, VERSION_TWO, report_made, settings_of, text_between};
@@ -59,7 +60,8 @@ fn measure_logs(
     period: u16,
     mode: u32,
 ) -> Result<Vec<u8>, (u64, Fault)>
-    ensures { IsMeasured image.now logs.now ends.now period mode result }
+    ensures { IsEncoded image.now logs.now ends.now period mode VERSION_TWO (λ mode version. measures_table period mode)
+        result }
 {
     match settings_of(ends, period, mode, VERSION_TWO) {
         Some(settings) => measure_in(alloc, image, logs, ends, period, settings.mode),
@@ -78,7 +80,7 @@ fn measure_in(
 ) -> Result<Vec<u8>, (u64, Fault)>
     requires period { 1 ≤ period }
     requires few { length ends.now ≤ most_harts Two }
-    ensures { IsMeasuredIn image.now logs.now ends.now period mode result }
+    ensures { IsMade image.now logs.now ends.now (measures_table period mode) result }
 {
     let program = match image {
         Ok(program) => program,

@@ -1,14 +1,13 @@
 //! What is found of a path, beside its harts and its messages.
 
 ghost use Rattle.std.specs.Prelude.{◌≡◌, length};
-ghost use Rattle.ffi.specs.AuditedAll.{are_rows_whole, are_unlike, header_fault, header_reported};
+ghost use Rattle.ffi.specs.AuditedAll.{are_rows_whole, are_unlike, header_reported};
 ghost use Rattle.ffi.specs.AuditedAll.{heads_differ, headers_differ, is_path_whole, path_end};
 
-use crate::dumping::message_status;
+use crate::dumping::header_fault;
 use crate::headers::{HeaderNumbers, numbers_of_header};
 use crate::path_all::CameIn;
 use crate::path_numbers::{HartRowNumbers, PathEnd};
-use crate::status::DONE;
 use message::{Header, MessageFault};
 
 /// What is found of a path whose SENT has this header, and of whose harts these rows are found.
@@ -90,16 +89,6 @@ fn are_unlike(header: &HeaderNumbers, other: &HeaderNumbers) -> bool
     ensures { result ≡ are_unlike header.now other.now }
 {
     header.mode != other.mode || header.period != other.period || header.harts != other.harts
-}
-
-/// Why RECEIVED has no header, as a status, where it begins as a capture of version 2 does; 0 else.
-pub(crate) fn header_fault(fault: Option<MessageFault>) -> u32
-    ensures { result ≡ header_fault fault }
-{
-    match fault {
-        None => DONE,
-        Some(why) => message_status(why),
-    }
 }
 
 /// Whether the path is whole.

@@ -2,13 +2,11 @@
 
 ghost use Rattle.std.specs.Prelude.{◌≡◌};
 ghost use Rattle.std.specs.Option.{unwrap_or};
-ghost use Rattle.ffi.specs.Salvaged.{harts_asked, header_status, layout_of, salvage_end};
+ghost use Rattle.ffi.specs.Salvaged.{harts_asked, layout_of, salvage_end};
 
-use crate::dumping::message_status;
+use crate::dumping::header_fault;
 use crate::listing_capture::{CSV, TEXT};
-use crate::status::DONE;
 use crate::texts::TextEnd;
-use message::MessageFault;
 use salvage_reports::{Found, Layout};
 
 /// Lines of text without the rows of logs.
@@ -40,16 +38,6 @@ pub(crate) fn layout_of(number: u32) -> Option<Layout>
     }
 }
 
-/// Why a capture has no valid header, as a status.
-fn header_status(why: Option<MessageFault>) -> u32
-    ensures { result ≡ header_status why }
-{
-    match why {
-        Some(why) => message_status(why),
-        None => DONE,
-    }
-}
-
 /// How a text ends of what was found, in numbers.
 pub(crate) fn end_of_found(found: &Found) -> TextEnd
     ensures { result ≡ salvage_end found.now.only found.now.fault found.now.frames.runs found.now.salvaged }
@@ -61,7 +49,7 @@ pub(crate) fn end_of_found(found: &Found) -> TextEnd
         harts,
         unclosed: hart_or(unclosed, harts),
         place: 0,
-        fault: header_status(found.fault),
+        fault: header_fault(found.fault),
         whole: u32::from(found.fault.is_none() && unclosed.is_none() && !is_damaged),
     }
 }

@@ -15,13 +15,6 @@ fn call(case: &mut Case<'_>, verb: &str, given: &Given<'_>) {
         "unpack" => looking::unpack(case, given),
         "read_header" => looking::read_header(case, given),
         "read_message" => looking::read_message(case, given),
-        _ => call_on(case, verb, given),
-    }
-}
-
-/// Makes the call that a verb names, if it is of a state or of a path.
-fn call_on(case: &mut Case<'_>, verb: &str, given: &Given<'_>) {
-    match verb {
         "encoder" => stepping::encoder(case, given),
         "decoder" => stepping::decoder(case),
         "resume" => stepping::resume(case, given),
@@ -49,7 +42,7 @@ fn store_state(case: &mut Case<'_>, store: &mut Store) {
 
 /// Makes a call so often, each time with the same state. Appends what it said where that is something else.
 fn call_times(case: &mut Case<'_>, store: &Store, verb: &str, times: u64) {
-    let mut given = Given::new(case.alloc, store);
+    let mut given = Given::new(case.alloc, store, case.text);
     given.read_all(case);
     let mut first = case.again();
     call(&mut first, verb, &given);

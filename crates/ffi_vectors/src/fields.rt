@@ -1,8 +1,9 @@
 //! The structs of the library as rows of numbers, with the names of their fields.
 
 use ffi::{
-    AlignedRow, Arrival, ByteRun, DecoderNumbers, EncoderNumbers, EventNumbers, HartEnd,
-    HartNumbers, HartRowNumbers, HartTally, LostRun, PacketNumbers, Single,
+    AlignedEnd, AlignedRow, Arrival, ByteRun, DecoderNumbers, DumpEnd, EncoderNumbers,
+    EventNumbers, ExplainEnd, HartEnd, HartNumbers, HartRowNumbers, HartTally, HeaderNumbers,
+    LogPlace, LostRun, PacketNumbers, PathEnd, SentPlace, Single, TextEnd,
 };
 
 /// The numbers of a struct, in the order of its names, and then 0.
@@ -11,32 +12,29 @@ pub(crate) type Record = [u64; 20];
 /// All numbers are 0.
 pub(crate) const NO_FIELDS: Record = [0; 20];
 
-/// What stands in each number before a call.
+/// What each number is before a call.
 pub(crate) const KEPT: u64 = 0x5a5a_5a5a_5a5a_5a5a;
 
-/// The same of 32, of 16 and of 8 bits.
+/// The same of 32 and of 16 bits.
 pub(crate) const KEPT_32: u32 = 0x5a5a_5a5a;
 
 pub(crate) const KEPT_16: u16 = 0x5a5a;
 
-const KEPT_8: u8 = 0x5a;
-
 /// A struct of numbers.
 pub(crate) trait Fields: Copy + Drop {
-    /// The names of its fields.
-    const NAMES: &'static [&'static str];
+    /// The names of its fields, with a blank between each two.
+    const NAMES: &'static str;
 
-    /// The struct that no call wrote.
-    const KEPT: Self;
+    /// The struct with these numbers, of which each has the low bits that its field has place for.
+    fn of(numbers: &Record) -> Self;
 
     /// Its numbers.
     fn record(&self) -> Record;
 }
 
-/// A struct of numbers that cases give.
-pub(crate) trait FromRecord: Fields {
-    /// The struct with these numbers, of which each has the low bits that its field has place for.
-    fn of(record: Record) -> Self;
+/// The struct that no call wrote.
+pub(crate) fn kept<T: Fields>() -> T {
+    T::of(&[KEPT; 20])
 }
 
 /// Numbers, and then 0.
@@ -63,47 +61,42 @@ fn low_8(number: u64) -> u8 {
     (number & 0xff) as u8
 }
 
-/// The event that no call wrote.
-const KEPT_EVENT: EventNumbers = EventNumbers {
-    kind: KEPT_32,
-    itype: KEPT_8,
-    privilege: KEPT_8,
-    cause: KEPT_8,
-    interrupt: KEPT_8,
-    address: KEPT,
-    tval: KEPT,
-};
+/// The numbers from a place on, and then 0.
+fn after(from: usize, numbers: &Record) -> Record {
+    let mut own = NO_FIELDS;
+    for (to, number) in own.iter_mut().zip(numbers.iter().skip(from)) {
+        *to = *number;
+    }
+    own
+}
+
+/// Sets the numbers from this place on to those of an event, and then to 0.
+fn set_event(record: &mut Record, from: usize, event: &EventNumbers) {
+    for (to, number) in record.iter_mut().skip(from).zip(&event.record()) {
+        *to = *number;
+    }
+}
 
 impl Fields for PacketNumbers {
-    const NAMES: &'static [&'static str] = &[
-        "kind",
-        "taken",
-        "privilege",
-        "cause",
-        "interrupt",
-        "handler",
-        "mode",
-        "report",
-        "outcomes",
-        "map",
-        "address",
-        "tval",
-    ];
+    const NAMES: &'static str =
+        "kind taken privilege cause interrupt handler mode report outcomes map address tval";
 
-    const KEPT: PacketNumbers = PacketNumbers {
-        kind: KEPT_32,
-        taken: KEPT_32,
-        privilege: KEPT_32,
-        cause: KEPT_32,
-        interrupt: KEPT_32,
-        handler: KEPT_32,
-        mode: KEPT_32,
-        report: KEPT_32,
-        outcomes: KEPT_32,
-        map: KEPT_32,
-        address: KEPT,
-        tval: KEPT,
-    };
+    fn of(numbers: &Record) -> PacketNumbers {
+        PacketNumbers {
+            kind: low_32(numbers[0]),
+            taken: low_32(numbers[1]),
+            privilege: low_32(numbers[2]),
+            cause: low_32(numbers[3]),
+            interrupt: low_32(numbers[4]),
+            handler: low_32(numbers[5]),
+            mode: low_32(numbers[6]),
+            report: low_32(numbers[7]),
+            outcomes: low_32(numbers[8]),
+            map: low_32(numbers[9]),
+            address: numbers[10],
+            tval: numbers[11],
+        }
+    }
 
     fn record(&self) -> Record {
         padded(&[
@@ -123,52 +116,20 @@ impl Fields for PacketNumbers {
     }
 }
 
-impl FromRecord for PacketNumbers {
-    fn of(record: Record) -> PacketNumbers {
-        let [
-            kind,
-            taken,
-            privilege,
-            cause,
-            interrupt,
-            handler,
-            mode,
-            report,
-            outcomes,
-            map,
-            address,
-            tval,
-            ..
-        ] = record;
-        PacketNumbers {
-            kind: low_32(kind),
-            taken: low_32(taken),
-            privilege: low_32(privilege),
-            cause: low_32(cause),
-            interrupt: low_32(interrupt),
-            handler: low_32(handler),
-            mode: low_32(mode),
-            report: low_32(report),
-            outcomes: low_32(outcomes),
-            map: low_32(map),
-            address,
-            tval,
+impl Fields for EventNumbers {
+    const NAMES: &'static str = "kind itype privilege cause interrupt address tval";
+
+    fn of(numbers: &Record) -> EventNumbers {
+        EventNumbers {
+            kind: low_32(numbers[0]),
+            itype: low_8(numbers[1]),
+            privilege: low_8(numbers[2]),
+            cause: low_8(numbers[3]),
+            interrupt: low_8(numbers[4]),
+            address: numbers[5],
+            tval: numbers[6],
         }
     }
-}
-
-impl Fields for EventNumbers {
-    const NAMES: &'static [&'static str] = &[
-        "kind",
-        "itype",
-        "privilege",
-        "cause",
-        "interrupt",
-        "address",
-        "tval",
-    ];
-
-    const KEPT: EventNumbers = KEPT_EVENT;
 
     fn record(&self) -> Record {
         padded(&[
@@ -183,60 +144,27 @@ impl Fields for EventNumbers {
     }
 }
 
-impl FromRecord for EventNumbers {
-    fn of(record: Record) -> EventNumbers {
-        let [kind, itype, privilege, cause, interrupt, address, tval, ..] = record;
-        event_in([kind, itype, privilege, cause, interrupt, address, tval])
-    }
-}
-
-/// The event with these numbers.
-fn event_in(numbers: [u64; 7]) -> EventNumbers {
-    let [kind, itype, privilege, cause, interrupt, address, tval] = numbers;
-    EventNumbers {
-        kind: low_32(kind),
-        itype: low_8(itype),
-        privilege: low_8(privilege),
-        cause: low_8(cause),
-        interrupt: low_8(interrupt),
-        address,
-        tval,
-    }
-}
-
 impl Fields for EncoderNumbers {
-    const NAMES: &'static [&'static str] = &[
-        "between",
-        "left",
-        "mode",
-        "holds",
-        "due",
-        "outcomes",
-        "map",
-        "reported",
-        "held_kind",
-        "held_itype",
-        "held_privilege",
-        "held_cause",
-        "held_interrupt",
-        "held_address",
-        "held_tval",
-    ];
+    const NAMES: &'static str =
+        "between left mode holds due outcomes map reported held_kind held_itype \
+        held_privilege held_cause held_interrupt held_address held_tval";
 
-    const KEPT: EncoderNumbers = EncoderNumbers {
-        between: KEPT_16,
-        left: KEPT_16,
-        mode: KEPT_32,
-        holds: KEPT_32,
-        due: KEPT_32,
-        outcomes: KEPT_32,
-        map: KEPT_32,
-        reported: KEPT,
-        held: KEPT_EVENT,
-    };
+    fn of(numbers: &Record) -> EncoderNumbers {
+        EncoderNumbers {
+            between: low_16(numbers[0]),
+            left: low_16(numbers[1]),
+            mode: low_32(numbers[2]),
+            holds: low_32(numbers[3]),
+            due: low_32(numbers[4]),
+            outcomes: low_32(numbers[5]),
+            map: low_32(numbers[6]),
+            reported: numbers[7],
+            held: EventNumbers::of(&after(8, numbers)),
+        }
+    }
 
     fn record(&self) -> Record {
-        padded(&[
+        let mut record = padded(&[
             u64::from(self.between),
             u64::from(self.left),
             u64::from(self.mode),
@@ -245,219 +173,176 @@ impl Fields for EncoderNumbers {
             u64::from(self.outcomes),
             u64::from(self.map),
             self.reported,
-            u64::from(self.held.kind),
-            u64::from(self.held.itype),
-            u64::from(self.held.privilege),
-            u64::from(self.held.cause),
-            u64::from(self.held.interrupt),
-            self.held.address,
-            self.held.tval,
-        ])
-    }
-}
-
-impl FromRecord for EncoderNumbers {
-    fn of(record: Record) -> EncoderNumbers {
-        let [
-            between,
-            left,
-            mode,
-            holds,
-            due,
-            outcomes,
-            map,
-            reported,
-            held_kind,
-            held_itype,
-            held_privilege,
-            held_cause,
-            held_interrupt,
-            held_address,
-            held_tval,
-            ..
-        ] = record;
-        EncoderNumbers {
-            between: low_16(between),
-            left: low_16(left),
-            mode: low_32(mode),
-            holds: low_32(holds),
-            due: low_32(due),
-            outcomes: low_32(outcomes),
-            map: low_32(map),
-            reported,
-            held: event_in([
-                held_kind,
-                held_itype,
-                held_privilege,
-                held_cause,
-                held_interrupt,
-                held_address,
-                held_tval,
-            ]),
-        }
+        ]);
+        set_event(&mut record, 8, &self.held);
+        record
     }
 }
 
 impl Fields for HartNumbers {
-    const NAMES: &'static [&'static str] = &[
-        "phase",
-        "mode",
-        "is_announced",
-        "announced",
-        "has_last",
-        "waits",
-        "outcomes",
-        "map",
-        "delta",
-        "reported",
-        "last_kind",
-        "last_itype",
-        "last_privilege",
-        "last_cause",
-        "last_interrupt",
-        "last_address",
-        "last_tval",
-        "expected",
-    ];
+    const NAMES: &'static str =
+        "phase mode is_announced announced has_last waits outcomes map delta reported \
+        last_kind last_itype last_privilege last_cause last_interrupt last_address last_tval expected";
 
-    const KEPT: HartNumbers = HartNumbers {
-        decoder: DecoderNumbers {
-            phase: KEPT_32,
-            mode: KEPT_32,
-            is_announced: KEPT_32,
-            announced: KEPT_32,
-            has_last: KEPT_32,
-            waits: KEPT_32,
-            outcomes: KEPT_32,
-            map: KEPT_32,
-            delta: KEPT,
-            reported: KEPT,
-            last: KEPT_EVENT,
-        },
-        expected: KEPT,
-    };
-
-    fn record(&self) -> Record {
-        padded(&[
-            u64::from(self.decoder.phase),
-            u64::from(self.decoder.mode),
-            u64::from(self.decoder.is_announced),
-            u64::from(self.decoder.announced),
-            u64::from(self.decoder.has_last),
-            u64::from(self.decoder.waits),
-            u64::from(self.decoder.outcomes),
-            u64::from(self.decoder.map),
-            self.decoder.delta,
-            self.decoder.reported,
-            u64::from(self.decoder.last.kind),
-            u64::from(self.decoder.last.itype),
-            u64::from(self.decoder.last.privilege),
-            u64::from(self.decoder.last.cause),
-            u64::from(self.decoder.last.interrupt),
-            self.decoder.last.address,
-            self.decoder.last.tval,
-            self.expected,
-        ])
-    }
-}
-
-impl FromRecord for HartNumbers {
-    fn of(record: Record) -> HartNumbers {
-        let [
-            phase,
-            mode,
-            is_announced,
-            announced,
-            has_last,
-            waits,
-            outcomes,
-            map,
-            delta,
-            reported,
-            last_kind,
-            last_itype,
-            last_privilege,
-            last_cause,
-            last_interrupt,
-            last_address,
-            last_tval,
-            expected,
-            ..
-        ] = record;
+    fn of(numbers: &Record) -> HartNumbers {
         HartNumbers {
             decoder: DecoderNumbers {
-                phase: low_32(phase),
-                mode: low_32(mode),
-                is_announced: low_32(is_announced),
-                announced: low_32(announced),
-                has_last: low_32(has_last),
-                waits: low_32(waits),
-                outcomes: low_32(outcomes),
-                map: low_32(map),
-                delta,
-                reported,
-                last: event_in([
-                    last_kind,
-                    last_itype,
-                    last_privilege,
-                    last_cause,
-                    last_interrupt,
-                    last_address,
-                    last_tval,
-                ]),
+                phase: low_32(numbers[0]),
+                mode: low_32(numbers[1]),
+                is_announced: low_32(numbers[2]),
+                announced: low_32(numbers[3]),
+                has_last: low_32(numbers[4]),
+                waits: low_32(numbers[5]),
+                outcomes: low_32(numbers[6]),
+                map: low_32(numbers[7]),
+                delta: numbers[8],
+                reported: numbers[9],
+                last: EventNumbers::of(&after(10, numbers)),
             },
-            expected,
+            expected: numbers[17],
         }
+    }
+
+    fn record(&self) -> Record {
+        let decoder = &self.decoder;
+        let mut record = padded(&[
+            u64::from(decoder.phase),
+            u64::from(decoder.mode),
+            u64::from(decoder.is_announced),
+            u64::from(decoder.announced),
+            u64::from(decoder.has_last),
+            u64::from(decoder.waits),
+            u64::from(decoder.outcomes),
+            u64::from(decoder.map),
+            decoder.delta,
+            decoder.reported,
+        ]);
+        set_event(&mut record, 10, &decoder.last);
+        record[17] = self.expected;
+        record
     }
 }
 
 impl Fields for HartEnd {
-    const NAMES: &'static [&'static str] = &["end", "closed"];
+    const NAMES: &'static str = "end closed";
 
-    const KEPT: HartEnd = HartEnd {
-        end: KEPT,
-        closed: KEPT_32,
-    };
+    fn of(numbers: &Record) -> HartEnd {
+        HartEnd {
+            end: numbers[0],
+            closed: low_32(numbers[1]),
+        }
+    }
 
     fn record(&self) -> Record {
         padded(&[self.end, u64::from(self.closed)])
     }
 }
 
-impl Fields for HartRowNumbers {
-    const NAMES: &'static [&'static str] = &[
-        "sent",
-        "came",
-        "lost",
-        "repeated",
-        "late",
-        "changed",
-        "whole",
-        "strange",
-        "runs",
-        "longest",
-        "latest",
-        "exchanged",
-        "exchanged_hart",
-    ];
+impl Fields for HeaderNumbers {
+    const NAMES: &'static str = "mode period harts";
 
-    const KEPT: HartRowNumbers = HartRowNumbers {
-        tally: HartTally {
-            sent: KEPT,
-            came: KEPT,
-            lost: KEPT,
-            repeated: KEPT,
-            late: KEPT,
-            changed: KEPT,
-            whole: KEPT_32,
-        },
-        strange: KEPT,
-        runs: KEPT,
-        longest: KEPT,
-        latest: KEPT,
-        exchanged: KEPT,
-        exchanged_hart: KEPT,
-    };
+    fn of(numbers: &Record) -> HeaderNumbers {
+        HeaderNumbers {
+            mode: low_32(numbers[0]),
+            period: low_16(numbers[1]),
+            harts: low_16(numbers[2]),
+        }
+    }
+
+    fn record(&self) -> Record {
+        padded(&[
+            u64::from(self.mode),
+            u64::from(self.period),
+            u64::from(self.harts),
+        ])
+    }
+}
+
+impl Fields for ExplainEnd {
+    const NAMES: &'static str = "row fault";
+
+    fn of(numbers: &Record) -> ExplainEnd {
+        ExplainEnd {
+            row: numbers[0],
+            fault: low_32(numbers[1]),
+        }
+    }
+
+    fn record(&self) -> Record {
+        padded(&[self.row, u64::from(self.fault)])
+    }
+}
+
+/// How a text about a capture ends, whether a payload is bad, and the log, or the line of a text, that is at fault.
+#[derive(Clone, Copy)]
+pub(crate) struct Ends {
+    pub(crate) text: TextEnd,
+    pub(crate) bad: u32,
+    pub(crate) place: LogPlace,
+    pub(crate) line: u64,
+}
+
+impl Fields for Ends {
+    const NAMES: &'static str = "harts unclosed place fault whole bad log row line";
+
+    fn of(numbers: &Record) -> Ends {
+        Ends {
+            text: TextEnd {
+                harts: numbers[0],
+                unclosed: numbers[1],
+                place: numbers[2],
+                fault: low_32(numbers[3]),
+                whole: low_32(numbers[4]),
+            },
+            bad: low_32(numbers[5]),
+            place: LogPlace {
+                log: numbers[6],
+                row: numbers[7],
+            },
+            line: numbers[8],
+        }
+    }
+
+    fn record(&self) -> Record {
+        let (text, place) = (&self.text, &self.place);
+        padded(&[
+            text.harts,
+            text.unclosed,
+            text.place,
+            u64::from(text.fault),
+            u64::from(text.whole),
+            u64::from(self.bad),
+            place.log,
+            place.row,
+            self.line,
+        ])
+    }
+}
+
+impl Fields for HartRowNumbers {
+    const NAMES: &'static str =
+        "sent came lost repeated late changed whole strange runs longest latest \
+        exchanged exchanged_hart";
+
+    fn of(numbers: &Record) -> HartRowNumbers {
+        HartRowNumbers {
+            tally: HartTally {
+                sent: numbers[0],
+                came: numbers[1],
+                lost: numbers[2],
+                repeated: numbers[3],
+                late: numbers[4],
+                changed: numbers[5],
+                whole: low_32(numbers[6]),
+            },
+            strange: numbers[7],
+            runs: numbers[8],
+            longest: numbers[9],
+            latest: numbers[10],
+            exchanged: numbers[11],
+            exchanged_hart: numbers[12],
+        }
+    }
 
     fn record(&self) -> Record {
         let tally = &self.tally;
@@ -480,35 +365,34 @@ impl Fields for HartRowNumbers {
 }
 
 impl Fields for Arrival {
-    const NAMES: &'static [&'static str] = &["hart", "number", "fate", "by", "offset"];
+    const NAMES: &'static str = "hart number fate by offset";
 
-    const KEPT: Arrival = Arrival {
-        hart: KEPT_16,
-        number: KEPT,
-        fate: KEPT_32,
-        by: KEPT,
-        offset: KEPT,
-    };
+    fn of(numbers: &Record) -> Arrival {
+        Arrival {
+            hart: low_16(numbers[0]),
+            number: numbers[1],
+            fate: low_32(numbers[2]),
+            by: numbers[3],
+            offset: numbers[4],
+        }
+    }
 
     fn record(&self) -> Record {
-        padded(&[
-            u64::from(self.hart),
-            self.number,
-            u64::from(self.fate),
-            self.by,
-            self.offset,
-        ])
+        let (hart, fate) = (u64::from(self.hart), u64::from(self.fate));
+        padded(&[hart, self.number, fate, self.by, self.offset])
     }
 }
 
 impl Fields for LostRun {
-    const NAMES: &'static [&'static str] = &["first", "last", "hart"];
+    const NAMES: &'static str = "first last hart";
 
-    const KEPT: LostRun = LostRun {
-        first: KEPT,
-        last: KEPT,
-        hart: KEPT,
-    };
+    fn of(numbers: &Record) -> LostRun {
+        LostRun {
+            first: numbers[0],
+            last: numbers[1],
+            hart: numbers[2],
+        }
+    }
 
     fn record(&self) -> Record {
         padded(&[self.first, self.last, self.hart])
@@ -516,32 +400,101 @@ impl Fields for LostRun {
 }
 
 impl Fields for ByteRun {
-    const NAMES: &'static [&'static str] = &["offset", "count"];
+    const NAMES: &'static str = "offset count";
 
-    const KEPT: ByteRun = ByteRun {
-        offset: KEPT,
-        count: KEPT,
-    };
+    fn of(numbers: &Record) -> ByteRun {
+        ByteRun {
+            offset: numbers[0],
+            count: numbers[1],
+        }
+    }
 
     fn record(&self) -> Record {
         padded(&[self.offset, self.count])
     }
 }
 
-impl Fields for AlignedRow {
-    const NAMES: &'static [&'static str] = &[
-        "sent", "came", "lost", "extra", "runs", "longest", "whole",
-    ];
+impl Fields for SentPlace {
+    const NAMES: &'static str = "message expected";
 
-    const KEPT: AlignedRow = AlignedRow {
-        sent: KEPT,
-        came: KEPT,
-        lost: KEPT,
-        extra: KEPT,
-        runs: KEPT,
-        longest: KEPT,
-        whole: KEPT_32,
-    };
+    fn of(numbers: &Record) -> SentPlace {
+        SentPlace {
+            message: numbers[0],
+            expected: numbers[1],
+        }
+    }
+
+    fn record(&self) -> Record {
+        padded(&[self.message, self.expected])
+    }
+}
+
+impl Fields for PathEnd {
+    const NAMES: &'static str =
+        "harts messages lost_runs byte_runs bytes strangers first has_sent_header \
+        has_received_header header_fault headers_differ has_first whole sent_mode sent_period sent_harts \
+        received_mode received_period received_harts";
+
+    fn of(numbers: &Record) -> PathEnd {
+        PathEnd {
+            harts: numbers[0],
+            messages: numbers[1],
+            lost_runs: numbers[2],
+            byte_runs: numbers[3],
+            bytes: numbers[4],
+            strangers: numbers[5],
+            first: numbers[6],
+            has_sent_header: low_32(numbers[7]),
+            has_received_header: low_32(numbers[8]),
+            header_fault: low_32(numbers[9]),
+            headers_differ: low_32(numbers[10]),
+            has_first: low_32(numbers[11]),
+            whole: low_32(numbers[12]),
+            sent_header: HeaderNumbers::of(&after(13, numbers)),
+            received_header: HeaderNumbers::of(&after(16, numbers)),
+        }
+    }
+
+    fn record(&self) -> Record {
+        let (sent, received) = (&self.sent_header, &self.received_header);
+        padded(&[
+            self.harts,
+            self.messages,
+            self.lost_runs,
+            self.byte_runs,
+            self.bytes,
+            self.strangers,
+            self.first,
+            u64::from(self.has_sent_header),
+            u64::from(self.has_received_header),
+            u64::from(self.header_fault),
+            u64::from(self.headers_differ),
+            u64::from(self.has_first),
+            u64::from(self.whole),
+            u64::from(sent.mode),
+            u64::from(sent.period),
+            u64::from(sent.harts),
+            u64::from(received.mode),
+            u64::from(received.period),
+            u64::from(received.harts),
+        ])
+    }
+}
+
+impl Fields for AlignedRow {
+    const NAMES: &'static str = "sent came lost extra runs longest whole";
+
+    fn of(numbers: &Record) -> AlignedRow {
+        AlignedRow {
+            sent: numbers[0],
+            came: numbers[1],
+            lost: numbers[2],
+            extra: numbers[3],
+            runs: numbers[4],
+            longest: numbers[5],
+            whole: low_32(numbers[6]),
+        }
+    }
 
     fn record(&self) -> Record {
         padded(&[
@@ -557,23 +510,71 @@ impl Fields for AlignedRow {
 }
 
 impl Fields for Single {
-    const NAMES: &'static [&'static str] = &["place", "hart", "fate", "number", "skips"];
+    const NAMES: &'static str = "place hart fate number skips";
 
-    const KEPT: Single = Single {
-        place: KEPT,
-        hart: KEPT_16,
-        fate: KEPT_32,
-        number: KEPT,
-        skips: KEPT,
-    };
+    fn of(numbers: &Record) -> Single {
+        Single {
+            place: numbers[0],
+            hart: low_16(numbers[1]),
+            fate: low_32(numbers[2]),
+            number: numbers[3],
+            skips: numbers[4],
+        }
+    }
 
     fn record(&self) -> Record {
+        let (hart, fate) = (u64::from(self.hart), u64::from(self.fate));
+        padded(&[self.place, hart, fate, self.number, self.skips])
+    }
+}
+
+impl Fields for AlignedEnd {
+    const NAMES: &'static str = "harts messages singles lost_runs strangers first has_sent_header \
+        has_received_header header_fault fault headers_differ has_first whole sent_mode sent_period sent_harts \
+        received_mode received_period received_harts";
+
+    fn of(numbers: &Record) -> AlignedEnd {
+        AlignedEnd {
+            harts: numbers[0],
+            messages: numbers[1],
+            singles: numbers[2],
+            lost_runs: numbers[3],
+            strangers: numbers[4],
+            first: numbers[5],
+            has_sent_header: low_32(numbers[6]),
+            has_received_header: low_32(numbers[7]),
+            header_fault: low_32(numbers[8]),
+            fault: low_32(numbers[9]),
+            headers_differ: low_32(numbers[10]),
+            has_first: low_32(numbers[11]),
+            whole: low_32(numbers[12]),
+            sent_header: HeaderNumbers::of(&after(13, numbers)),
+            received_header: HeaderNumbers::of(&after(16, numbers)),
+        }
+    }
+
+    fn record(&self) -> Record {
+        let (sent, received) = (&self.sent_header, &self.received_header);
         padded(&[
-            self.place,
-            u64::from(self.hart),
-            u64::from(self.fate),
-            self.number,
-            self.skips,
+            self.harts,
+            self.messages,
+            self.singles,
+            self.lost_runs,
+            self.strangers,
+            self.first,
+            u64::from(self.has_sent_header),
+            u64::from(self.has_received_header),
+            u64::from(self.header_fault),
+            u64::from(self.fault),
+            u64::from(self.headers_differ),
+            u64::from(self.has_first),
+            u64::from(self.whole),
+            u64::from(sent.mode),
+            u64::from(sent.period),
+            u64::from(sent.harts),
+            u64::from(received.mode),
+            u64::from(received.period),
+            u64::from(received.harts),
         ])
     }
 }

@@ -1,338 +1,161 @@
 //! Calls that hand out bytes.
 
 use crate::arguments::Given;
-use crate::fields::{Fields, KEPT, KEPT_32, NO_FIELDS, Record};
-use crate::writing::{Said, put_all, put_list};
+use crate::fields::{Ends, KEPT, KEPT_32, kept};
+use crate::writing::{Said, put_list};
 use cases::Case;
-use ffi::{DecodeAllEnd, DumpEnd, ExplainEnd, HartEnd, HeaderNumbers, LogPlace, TextEnd};
+use ffi::{DecodeAllEnd, DumpEnd, ExplainEnd, HartEnd, HeaderNumbers};
 
 /// What a buffer has before a call.
 const FILL: u8 = 0xaa;
 
-static WANTED: [&str; 2] = ["status", "wanted"];
-
-static PLACE: [&str; 4] = ["status", "wanted", "log", "row"];
-
-static TEXT: [&str; 9] = [
-    "status", "wanted", "harts", "unclosed", "place", "fault", "whole", "log", "row",
-];
-
-static DECODED: [&str; 5] = ["status", "wanted", "harts", "place", "fault"];
-
-static DUMPED: [&str; 5] = ["status", "wanted", "place", "fault", "bad"];
-
-static EXPLAINED: [&str; 4] = ["status", "wanted", "row", "fault"];
-
-static LINES: [&str; 3] = ["status", "wanted", "line"];
-
-/// A text's end that no call wrote.
-const TEXT_END: TextEnd = TextEnd {
-    harts: KEPT,
-    unclosed: KEPT,
-    place: KEPT,
-    fault: KEPT_32,
-    whole: KEPT_32,
-};
-
-/// A log's place that no call wrote.
-const LOG_PLACE: LogPlace = LogPlace {
-    log: KEPT,
-    row: KEPT,
-};
-
-/// What a call said that hands out bytes alone.
-fn said_bytes(status: u32, wanted: u64) -> Said {
-    Said::of(&WANTED, &[u64::from(status), wanted], NO_FIELDS)
-}
-
-/// What a call over logs said.
-fn said_place(status: u32, wanted: u64, place: &LogPlace) -> Said {
-    Said::of(
-        &PLACE,
-        &[u64::from(status), wanted, place.log, place.row],
-        NO_FIELDS,
-    )
-}
-
-/// What a call said that writes a text.
-fn said_text(status: u32, wanted: u64, end: &TextEnd, place: &LogPlace) -> Said {
-    Said::of(
-        &TEXT,
-        &[
-            u64::from(status),
-            wanted,
-            end.harts,
-            end.unclosed,
-            end.place,
-            u64::from(end.fault),
-            u64::from(end.whole),
-            place.log,
-            place.row,
-        ],
-        NO_FIELDS,
-    )
-}
-
-fn pack(given: &Given<'_>, buffer: &mut [u8]) -> Said {
-    let mut wanted = KEPT;
-    let status = ffi::tracebench_pack(&given.packet, buffer, &mut wanted);
-    said_bytes(status, wanted)
-}
-
-fn write_message(given: &Given<'_>, buffer: &mut [u8]) -> Said {
-    let mut wanted = KEPT;
-    let status = ffi::tracebench_write_message(
-        given.numbers.hart,
-        given.numbers.number,
-        given.bytes.payload,
-        buffer,
-        &mut wanted,
+/// Makes the call that a verb names, of those that need no program.
+fn call(verb: &str, given: &Given<'_>, buffer: &mut [u8]) -> Option<Said> {
+    let (mode, period, harts) = (
+        given.low_32("mode"),
+        given.low_16("period"),
+        given.low_16("harts"),
     );
-    said_bytes(status, wanted)
-}
-
-fn write_header(given: &Given<'_>, buffer: &mut [u8]) -> Said {
-    let mut wanted = KEPT;
-    let header = HeaderNumbers {
-        mode: given.numbers.mode,
-        period: given.numbers.period,
-        harts: given.numbers.harts,
+    let (mut wanted, mut at) = (KEPT, kept::<Ends>());
+    let (wants, line) = (&mut wanted, &mut at.line);
+    let status = match verb {
+        "pack" => ffi::tracebench_pack(&given.packet, buffer, wants),
+        "write_message" => {
+            let (hart, number) = (given.low_16("hart"), given.number("number"));
+            ffi::tracebench_write_message(hart, number, given.bytes("payload"), buffer, wants)
+        }
+        "write_header" => {
+            let header = HeaderNumbers {
+                mode,
+                period,
+                harts,
+            };
+            ffi::tracebench_write_header(&header, buffer, wants)
+        }
+        "version" => ffi::tracebench_version(buffer, wants),
+        "capture_of_lines" => {
+            let (alloc, text, version) = (
+                given.alloc,
+                given.bytes("text"),
+                given.low_32("version"),
+            );
+            let numbers = given.number("numbers");
+            ffi::tracebench_capture_of_lines(
+                alloc, text, version, mode, period, harts, numbers, buffer, wants, line,
+            )
+        }
+        _ => return None,
     };
-    let status = ffi::tracebench_write_header(&header, buffer, &mut wanted);
-    said_bytes(status, wanted)
+    Some(Said::bytes(status, wanted, &at))
 }
 
-fn version(buffer: &mut [u8]) -> Said {
-    let mut wanted = KEPT;
-    let status = ffi::tracebench_version(buffer, &mut wanted);
-    said_bytes(status, wanted)
-}
-
-fn capture_of_lines(given: &Given<'_>, buffer: &mut [u8]) -> Said {
-    let mut wanted = KEPT;
-    let mut line = KEPT;
-    let status = ffi::tracebench_capture_of_lines(
-        given.alloc,
-        given.bytes.text,
-        given.numbers.version,
-        given.numbers.mode,
-        given.numbers.period,
-        given.numbers.harts,
-        buffer,
-        &mut wanted,
-        &mut line,
-    );
-    Said::of(&LINES, &[u64::from(status), wanted, line], NO_FIELDS)
-}
-
-fn encode(given: &Given<'_>, buffer: &mut [u8]) -> Said {
-    let mut wanted = KEPT;
-    let mut place = LOG_PLACE;
-    let status = ffi::tracebench_encode(
-        given.alloc,
-        &given.pieces,
-        &given.joined,
-        &given.ends,
-        given.numbers.period,
-        given.numbers.mode,
-        given.numbers.version,
-        buffer,
-        &mut wanted,
-        &mut place,
-    );
-    said_place(status, wanted, &place)
-}
-
-fn measure(given: &Given<'_>, buffer: &mut [u8]) -> Said {
-    let mut wanted = KEPT;
-    let mut place = LOG_PLACE;
-    let status = ffi::tracebench_measure(
-        given.alloc,
-        &given.pieces,
-        &given.joined,
-        &given.ends,
-        given.numbers.period,
-        given.numbers.mode,
-        buffer,
-        &mut wanted,
-        &mut place,
-    );
-    said_place(status, wanted, &place)
-}
-
-fn decode_all(given: &Given<'_>, buffer: &mut [u8], ends: &mut [HartEnd]) -> Said {
-    let mut wanted = KEPT;
-    let mut end = DecodeAllEnd {
-        harts: KEPT,
-        place: KEPT,
-        fault: KEPT_32,
+/// Makes the call that a verb names, of those over logs.
+fn call_on_logs(verb: &str, given: &Given<'_>, buffer: &mut [u8]) -> Option<Said> {
+    let (alloc, pieces, logs, ends) = (given.alloc, &given.pieces, &given.joined, &given.ends);
+    let (period, mode) = (given.low_16("period"), given.low_32("mode"));
+    let (mut wanted, mut at) = (KEPT, kept::<Ends>());
+    let (wants, place) = (&mut wanted, &mut at.place);
+    let status = match verb {
+        "encode" => {
+            let version = given.low_32("version");
+            ffi::tracebench_encode(
+                alloc, pieces, logs, ends, period, mode, version, buffer, wants, place,
+            )
+        }
+        "measure" => ffi::tracebench_measure(
+            alloc, pieces, logs, ends, period, mode, buffer, wants, place,
+        ),
+        "explain" => {
+            let mut end = kept::<ExplainEnd>();
+            let log = given.bytes("log");
+            let status = ffi::tracebench_explain(alloc, pieces, log, buffer, wants, &mut end);
+            return Some(Said::bytes(status, wanted, &end));
+        }
+        _ => return None,
     };
-    let status = ffi::tracebench_decode_all(
-        given.alloc,
-        &given.pieces,
-        given.numbers.harts,
-        given.bytes.capture,
-        buffer,
-        &mut wanted,
-        ends,
-        &mut end,
-    );
-    let numbers = [
-        u64::from(status),
-        wanted,
-        end.harts,
-        end.place,
-        u64::from(end.fault),
-    ];
-    Said::of(&DECODED, &numbers, NO_FIELDS)
+    Some(Said::bytes(status, wanted, &at))
 }
 
-fn dump(given: &Given<'_>, buffer: &mut [u8]) -> Said {
-    let mut wanted = KEPT;
-    let mut end = DumpEnd {
-        place: KEPT,
-        fault: KEPT_32,
-        bad: KEPT_32,
-    };
-    let status = ffi::tracebench_dump(
-        given.alloc,
-        given.bytes.capture,
-        buffer,
-        &mut wanted,
-        &mut end,
-    );
-    let numbers = [
-        u64::from(status),
-        wanted,
-        end.place,
-        u64::from(end.fault),
-        u64::from(end.bad),
-    ];
-    Said::of(&DUMPED, &numbers, NO_FIELDS)
-}
-
-fn explain(given: &Given<'_>, buffer: &mut [u8]) -> Said {
-    let mut wanted = KEPT;
-    let mut end = ExplainEnd {
-        row: KEPT,
-        fault: KEPT_32,
-    };
-    let log = given.bytes.log;
-    let status = ffi::tracebench_explain(
-        given.alloc,
-        &given.pieces,
-        log,
-        buffer,
-        &mut wanted,
-        &mut end,
-    );
-    Said::of(
-        &EXPLAINED,
-        &[u64::from(status), wanted, end.row, u64::from(end.fault)],
-        NO_FIELDS,
-    )
-}
-
-fn list(given: &Given<'_>, buffer: &mut [u8]) -> Said {
-    let mut wanted = KEPT;
-    let mut end = TEXT_END;
-    let status = ffi::tracebench_list(
-        given.alloc,
-        &given.pieces,
-        given.numbers.harts,
-        given.bytes.capture,
-        given.bytes.symbols,
-        given.numbers.format,
-        buffer,
-        &mut wanted,
-        &mut end,
-    );
-    said_text(status, wanted, &end, &LOG_PLACE)
-}
-
-fn list_salvaged(given: &Given<'_>, buffer: &mut [u8]) -> Said {
-    let mut wanted = KEPT;
-    let mut end = TEXT_END;
-    let status = ffi::tracebench_list_salvaged(
-        given.alloc,
-        &given.pieces,
-        given.numbers.harts,
-        given.bytes.capture,
-        given.bytes.symbols,
-        given.numbers.format,
-        buffer,
-        &mut wanted,
-        &mut end,
-    );
-    said_text(status, wanted, &end, &LOG_PLACE)
-}
-
-fn salvage(given: &Given<'_>, buffer: &mut [u8]) -> Said {
-    let mut wanted = KEPT;
-    let mut end = TEXT_END;
-    let status = ffi::tracebench_salvage(
-        given.alloc,
-        &given.pieces,
-        given.numbers.harts,
-        given.bytes.capture,
-        given.numbers.format,
-        buffer,
-        &mut wanted,
-        &mut end,
-    );
-    said_text(status, wanted, &end, &LOG_PLACE)
-}
-
-fn compare(given: &Given<'_>, buffer: &mut [u8]) -> Said {
-    let mut wanted = KEPT;
-    let mut end = TEXT_END;
-    let mut place = LOG_PLACE;
-    let status = ffi::tracebench_compare(
-        given.alloc,
-        &given.pieces,
-        given.numbers.harts,
-        given.bytes.capture,
-        &given.joined,
-        &given.ends,
-        buffer,
-        &mut wanted,
-        &mut end,
-        &mut place,
-    );
-    said_text(status, wanted, &end, &place)
-}
-
-/// Makes the call that a verb names.
-fn call(verb: &str, given: &Given<'_>, buffer: &mut [u8], ends: &mut [HartEnd]) -> Option<Said> {
-    Some(match verb {
-        "pack" => pack(given, buffer),
-        "write_message" => write_message(given, buffer),
-        "write_header" => write_header(given, buffer),
-        "version" => version(buffer),
-        "capture_of_lines" => capture_of_lines(given, buffer),
-        "encode" => encode(given, buffer),
-        "measure" => measure(given, buffer),
-        _ => return call_on_capture(verb, given, buffer, ends),
-    })
-}
-
-/// Makes the call that a verb names, of those over captures.
+/// Makes the call that a verb names, of those over captures that write where each log ends, or how many messages there
+/// are.
 fn call_on_capture(
     verb: &str,
     given: &Given<'_>,
     buffer: &mut [u8],
     ends: &mut [HartEnd],
 ) -> Option<Said> {
-    Some(match verb {
-        "decode_all" => decode_all(given, buffer, ends),
-        "dump" => dump(given, buffer),
-        "explain" => explain(given, buffer),
-        "list" => list(given, buffer),
-        "list_salvaged" => list_salvaged(given, buffer),
-        "salvage" => salvage(given, buffer),
-        "compare" => compare(given, buffer),
+    let (alloc, capture) = (given.alloc, given.bytes("capture"));
+    let (mut wanted, mut last) = (KEPT, kept::<Ends>());
+    let (wants, text) = (&mut wanted, &mut last.text);
+    let status = match verb {
+        "decode_all" => {
+            let (pieces, harts) = (&given.pieces, given.low_16("harts"));
+            let mut own = DecodeAllEnd {
+                harts: KEPT,
+                place: KEPT,
+                fault: KEPT_32,
+            };
+            let end = &mut own;
+            let status = ffi::tracebench_decode_all(
+                alloc, pieces, harts, capture, buffer, wants, ends, end,
+            );
+            (text.harts, text.place, text.fault) = (own.harts, own.place, own.fault);
+            status
+        }
+        "dump" => {
+            let mut own = DumpEnd {
+                place: KEPT,
+                fault: KEPT_32,
+                bad: KEPT_32,
+            };
+            let status = ffi::tracebench_dump(alloc, capture, buffer, wants, &mut own);
+            (text.place, text.fault, last.bad) = (own.place, own.fault, own.bad);
+            status
+        }
+        _ => return call_for_text(verb, given, buffer),
+    };
+    Some(Said::bytes(status, wanted, &last))
+}
+
+/// Makes the call that a verb names, of those that write a text about a capture.
+fn call_for_text(verb: &str, given: &Given<'_>, buffer: &mut [u8]) -> Option<Said> {
+    let (alloc, pieces, harts) = (given.alloc, &given.pieces, given.low_16("harts"));
+    let (capture, symbols) = (given.bytes("capture"), given.bytes("symbols"));
+    let (format, logs, ends) = (given.low_32("format"), &given.joined, &given.ends);
+    let (mut wanted, mut last) = (KEPT, kept::<Ends>());
+    let (wants, end, place) = (&mut wanted, &mut last.text, &mut last.place);
+    let status = match verb {
+        "list" => ffi::tracebench_list(
+            alloc, pieces, harts, capture, symbols, format, buffer, wants, end,
+        ),
+        "list_salvaged" => ffi::tracebench_list_salvaged(
+            alloc, pieces, harts, capture, symbols, format, buffer, wants, end,
+        ),
+        "salvage" => ffi::tracebench_salvage(
+            alloc, pieces, harts, capture, format, buffer, wants, end,
+        ),
+        "compare" => ffi::tracebench_compare(
+            alloc, pieces, harts, capture, logs, ends, buffer, wants, end, place,
+        ),
         _ => return None,
-    })
+    };
+    Some(Said::bytes(status, wanted, &last))
+}
+
+/// Makes the call that a verb names.
+fn call_any(
+    verb: &str,
+    given: &Given<'_>,
+    buffer: &mut [u8],
+    ends: &mut [HartEnd],
+) -> Option<Said> {
+    match verb {
+        "encode" | "measure" | "explain" => call_on_logs(verb, given, buffer),
+        "decode_all" | "dump" | "list" | "list_salvaged" | "salvage" | "compare" => {
+            call_on_capture(verb, given, buffer, ends)
+        }
+        _ => call(verb, given, buffer),
+    }
 }
 
 /// Whether a verb hands out bytes that are no text.
@@ -358,7 +181,7 @@ fn last_lines(text: &str, count: usize) -> &str {
 /// Appends a text, or its last lines.
 fn put_lines(case: &mut Case<'_>, given: &Given<'_>, bytes: &[u8]) {
     let mut text = str::from_utf8(bytes).unwrap_or("no text");
-    if let Some(count) = given.numbers.tail.or(given.numbers.last) {
+    if let Some(count) = given.size("tail").or(given.size("last")) {
         text = last_lines(text, count);
     }
     if !text.is_empty() {
@@ -369,7 +192,7 @@ fn put_lines(case: &mut Case<'_>, given: &Given<'_>, bytes: &[u8]) {
 
 /// Appends what was handed out: that it is what was due, its last lines, all of it, or its digits.
 fn put_handed(case: &mut Case<'_>, verb: &str, given: &Given<'_>, bytes: &[u8]) {
-    if given.bytes.due == Some(bytes) {
+    if given.some_bytes("due") == Some(bytes) {
         case.put_word("due");
     } else if !is_binary(verb) {
         put_lines(case, given, bytes);
@@ -379,29 +202,15 @@ fn put_handed(case: &mut Case<'_>, verb: &str, given: &Given<'_>, bytes: &[u8]) 
     }
 }
 
-/// The numbers of what a call said that are shown: with `tail` not how much it has to hand out.
-pub(crate) fn shown_numbers(given: &Given<'_>, said: &Said) -> Record {
-    let mut numbers = said.numbers;
-    if given.numbers.tail.is_some() {
-        numbers[1] = KEPT;
-    }
-    numbers
-}
-
 /// Whether no call wrote these bytes.
 fn is_filled(bytes: &[u8]) -> bool {
-    for byte in bytes {
-        if *byte != FILL {
-            return false;
-        }
-    }
-    true
+    bytes.iter().all(|byte| *byte == FILL)
 }
 
 /// Appends what a call said, and what it handed out in a buffer.
 fn put_said(case: &mut Case<'_>, verb: &str, given: &Given<'_>, said: &Said, buffer: &[u8]) {
-    let count = if said.status() == 0 {
-        said.count().min(buffer.len())
+    let count = if said.status == 0 {
+        said.size().min(buffer.len())
     } else {
         0
     };
@@ -420,9 +229,9 @@ pub(crate) fn fill(
     room: usize,
 ) -> Option<Said> {
     let mut buffer = case.filled(FILL, room);
-    let mut ends = case.filled(HartEnd::KEPT, given.numbers.places);
-    let said = call(verb, given, &mut buffer, &mut ends)?;
-    put_all(case, said.names, &shown_numbers(given, &said));
+    let mut ends = case.filled(kept::<HartEnd>(), given.room("places"));
+    let said = call_any(verb, given, &mut buffer, &mut ends)?;
+    said.put(case, given.size("tail").is_some());
     put_list(case, "ends", &ends, false);
     put_said(case, verb, given, &said, &buffer);
     Some(said)

@@ -1,20 +1,20 @@
 //! Calls that hand out numbers alone.
 
 use crate::arguments::Given;
-use crate::fields::{Fields, KEPT, KEPT_16, KEPT_32};
+use crate::fields::{Fields, KEPT, KEPT_16, kept};
 use crate::writing::{put_all, put_list};
 use cases::Case;
 use ffi::{HeaderNumbers, MessageNumbers, PacketNumbers};
 
 /// Appends a status and a row.
 fn put_row(case: &mut Case<'_>, status: u32, row: u64) {
-    put_all(case, &["status", "row"], &[u64::from(status), row]);
+    put_all(case, "status row", &[u64::from(status), row]);
 }
 
 /// Which log is legal.
 pub(crate) fn check(case: &mut Case<'_>, given: &Given<'_>) {
     let mut row = KEPT;
-    let log = given.bytes.log;
+    let log = given.bytes("log");
     let status = ffi::tracebench_check(given.alloc, &given.pieces, log, &mut row);
     put_row(case, status, row);
 }
@@ -28,8 +28,8 @@ pub(crate) fn check_events(case: &mut Case<'_>, given: &Given<'_>) {
 
 /// The packet of a payload.
 pub(crate) fn unpack(case: &mut Case<'_>, given: &Given<'_>) {
-    let mut packet = PacketNumbers::KEPT;
-    let status = ffi::tracebench_unpack(given.bytes.payload, &mut packet);
+    let mut packet = kept::<PacketNumbers>();
+    let status = ffi::tracebench_unpack(given.bytes("payload"), &mut packet);
     put_row(case, status, KEPT);
     put_list(case, "packet", &[packet], false);
 }
@@ -37,23 +37,10 @@ pub(crate) fn unpack(case: &mut Case<'_>, given: &Given<'_>) {
 /// The header at the start of bytes.
 pub(crate) fn read_header(case: &mut Case<'_>, given: &Given<'_>) {
     let mut taken = KEPT;
-    let mut header = HeaderNumbers {
-        mode: KEPT_32,
-        period: KEPT_16,
-        harts: KEPT_16,
-    };
-    let status = ffi::tracebench_read_header(given.bytes.start, &mut header, &mut taken);
-    put_all(
-        case,
-        &["status", "taken", "mode", "period", "harts"],
-        &[
-            u64::from(status),
-            taken,
-            u64::from(header.mode),
-            u64::from(header.period),
-            u64::from(header.harts),
-        ],
-    );
+    let mut header = kept::<HeaderNumbers>();
+    let status = ffi::tracebench_read_header(given.bytes("bytes"), &mut header, &mut taken);
+    put_all(case, "status taken", &[u64::from(status), taken]);
+    put_all(case, HeaderNumbers::NAMES, &header.record());
 }
 
 /// The message at the start of bytes.
@@ -65,10 +52,10 @@ pub(crate) fn read_message(case: &mut Case<'_>, given: &Given<'_>) {
         hart: KEPT_16,
         payload: [0xaa; 18],
     };
-    let status = ffi::tracebench_read_message(given.bytes.start, &mut message, &mut taken);
+    let status = ffi::tracebench_read_message(given.bytes("bytes"), &mut message, &mut taken);
     put_all(
         case,
-        &["status", "taken", "hart", "number", "length"],
+        "status taken hart number length",
         &[
             u64::from(status),
             taken,

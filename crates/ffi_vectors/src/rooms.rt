@@ -1,9 +1,9 @@
 //! Calls with buffers of several sizes.
 
 use crate::arguments::Given;
-use crate::filling::{fill, shown_numbers};
+use crate::filling::fill;
 use crate::stepping::{fill_events, fill_packets};
-use crate::writing::{Said, put_all};
+use crate::writing::Said;
 use cases::Case;
 
 /// Up to so many elements, each smaller buffer is tried.
@@ -25,13 +25,6 @@ fn call_again(case: &mut Case<'_>, verb: &str, given: &Given<'_>, room: usize, d
     case.put_other("another room", &again, due);
 }
 
-/// What a call says with a buffer that is too small: the same numbers, and nothing else.
-fn put_small(case: &mut Case<'_>, given: &Given<'_>, said: &Said) {
-    let mut numbers = shown_numbers(given, said);
-    numbers[0] = u64::from(ffi::status::TOO_SMALL);
-    put_all(case, said.names, &numbers);
-}
-
 /// Makes the call with buffers that are smaller than so many elements, which all say the same. Appends what they said
 /// where that is something else.
 fn call_smaller(case: &mut Case<'_>, verb: &str, given: &Given<'_>, count: usize, said: &Said) {
@@ -41,7 +34,9 @@ fn call_smaller(case: &mut Case<'_>, verb: &str, given: &Given<'_>, count: usize
         count.saturating_sub(1)
     };
     let mut small = case.again();
-    put_small(&mut small, given, said);
+    let mut refused = *said;
+    refused.status = u64::from(ffi::status::TOO_SMALL);
+    refused.put(&mut small, given.size("tail").is_some());
     case.join(&small);
     call_again(case, verb, given, 0, small.came.as_str());
     for room in least..count {
@@ -69,7 +64,7 @@ fn call_in_all(case: &mut Case<'_>, verb: &str, given: &Given<'_>, count: usize)
 
 /// Makes the call that a verb names, with a buffer of the size that is given, or else with several.
 pub(crate) fn call_in_rooms(case: &mut Case<'_>, verb: &str, given: &Given<'_>) {
-    if let Some(room) = given.numbers.room {
+    if let Some(room) = given.size("room") {
         if call(case, verb, given, room).is_none() {
             case.unread();
         }
@@ -77,8 +72,8 @@ pub(crate) fn call_in_rooms(case: &mut Case<'_>, verb: &str, given: &Given<'_>) 
     }
     let mut least = case.again();
     match call(&mut least, verb, given, 0) {
-        Some(said) if said.status() == u64::from(ffi::status::TOO_SMALL) => {
-            call_in_all(case, verb, given, said.count());
+        Some(said) if said.status == u64::from(ffi::status::TOO_SMALL) => {
+            call_in_all(case, verb, given, said.size());
         }
         Some(_) => call_in_all(case, verb, given, 0),
         None => case.unread(),

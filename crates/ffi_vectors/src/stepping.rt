@@ -1,45 +1,25 @@
 //! Calls that go event by event or payload by payload, and so keep a state.
 
 use crate::arguments::Given;
-use crate::fields::{Fields, KEPT};
+use crate::fields::{Fields, KEPT, kept};
 use crate::writing::{Said, put_all, put_list, put_state};
 use cases::Case;
 use ffi::{EncoderNumbers, EventNumbers, HartNumbers, PacketNumbers};
 
-static COUNT: [&str; 3] = ["status", "count", "missing"];
-
-static TAKEN: [&str; 3] = ["status", "count", "taken"];
-
 fn push_all(given: &Given<'_>, packets: &mut [PacketNumbers]) -> Said {
-    let mut state = given.encoder;
-    let mut taken = KEPT;
-    let mut count = KEPT;
-    let status = ffi::tracebench_push_all(
-        given.alloc,
-        &given.pieces,
-        &mut state,
-        &given.events,
-        packets,
-        &mut taken,
-        &mut count,
-    );
-    Said::of(&TAKEN, &[u64::from(status), count, taken], state.record())
+    let mut after = given.encoder;
+    let (mut first, mut seen) = (KEPT, KEPT);
+    let (alloc, pieces, events) = (given.alloc, &given.pieces, &given.events);
+    let (state, taken, count) = (&mut after, &mut first, &mut seen);
+    let status = ffi::tracebench_push_all(alloc, pieces, state, events, packets, taken, count);
+    Said::elements((status, seen), "taken", first, &after)
 }
 
 fn finish(given: &Given<'_>, packets: &mut [PacketNumbers]) -> Said {
-    let mut count = KEPT;
-    let status = ffi::tracebench_finish(
-        given.alloc,
-        &given.pieces,
-        &given.encoder,
-        packets,
-        &mut count,
-    );
-    Said::of(
-        &COUNT,
-        &[u64::from(status), count, KEPT],
-        given.encoder.record(),
-    )
+    let mut seen = KEPT;
+    let (alloc, pieces, state, count) = (given.alloc, &given.pieces, &given.encoder, &mut seen);
+    let status = ffi::tracebench_finish(alloc, pieces, state, packets, count);
+    Said::elements((status, seen), "taken", KEPT, state)
 }
 
 /// Pushes the events by a call for each.
@@ -63,48 +43,31 @@ fn push_each(given: &Given<'_>, packets: &mut [PacketNumbers]) -> Said {
         seen = seen.saturating_add(count.min(2) as usize);
         taken = taken.saturating_add(one.min(1));
         if status != 0 {
-            return Said::of(
-                &TAKEN,
-                &[u64::from(status), seen as u64, taken],
-                state.record(),
-            );
+            return Said::elements((status, seen as u64), "taken", taken, &state);
         }
     }
-    Said::of(&TAKEN, &[0, seen as u64, taken], state.record())
+    Said::elements((0, seen as u64), "taken", taken, &state)
 }
 
 fn feed_all(given: &Given<'_>, events: &mut [EventNumbers]) -> Said {
     let mut hart = given.hart_state;
-    let mut taken = KEPT;
-    let mut count = KEPT;
-    let status = ffi::tracebench_feed_all(
-        given.alloc,
-        &given.pieces,
-        &mut hart.decoder,
-        &given.joined,
-        &given.ends,
-        events,
-        &mut taken,
-        &mut count,
-    );
-    Said::of(&TAKEN, &[u64::from(status), count, taken], hart.record())
+    let (mut first, mut seen) = (KEPT, KEPT);
+    let (alloc, pieces, bytes, ends) = (given.alloc, &given.pieces, &given.joined, &given.ends);
+    let (state, taken, count) = (&mut hart.decoder, &mut first, &mut seen);
+    let status = ffi::tracebench_feed_all(alloc, pieces, state, bytes, ends, events, taken, count);
+    Said::elements((status, seen), "taken", first, &hart)
 }
 
 fn receive(given: &Given<'_>, events: &mut [EventNumbers]) -> Said {
-    let mut hart = given.hart_state;
-    let mut count = KEPT;
-    let mut missing = KEPT;
+    let mut after = given.hart_state;
+    let (mut seen, mut lacks) = (KEPT, KEPT);
+    let (alloc, pieces, number) = (given.alloc, &given.pieces, given.number("number"));
+    let (hart, payload) = (&mut after, given.bytes("payload"));
+    let (count, missing) = (&mut seen, &mut lacks);
     let status = ffi::tracebench_receive(
-        given.alloc,
-        &given.pieces,
-        &mut hart,
-        given.numbers.number,
-        given.bytes.payload,
-        events,
-        &mut count,
-        &mut missing,
+        alloc, pieces, hart, number, payload, events, count, missing,
     );
-    Said::of(&COUNT, &[u64::from(status), count, missing], hart.record())
+    Said::elements((status, seen), "missing", lacks, &after)
 }
 
 /// Makes the call that a verb names, of those that hand out packets.
@@ -126,11 +89,11 @@ fn call_for_events(verb: &str, given: &Given<'_>, events: &mut [EventNumbers]) -
 
 /// The elements of a buffer that are shown: the first so many with `show`, the last so many with `last`, or all.
 fn shown<'b, T>(given: &Given<'_>, items: &'b [T]) -> &'b [T] {
-    if let Some(count) = given.numbers.last {
+    if let Some(count) = given.size("last") {
         let from = items.len().saturating_sub(count);
         return items.get(from..).unwrap_or(items);
     }
-    let count = given.numbers.show.unwrap_or(items.len());
+    let count = given.size("show").unwrap_or(items.len());
     items.get(..count).unwrap_or(items)
 }
 
@@ -143,9 +106,9 @@ fn put_said<S: Fields, T: Fields>(
     before: &S,
     items: &[T],
 ) {
-    put_all(case, said.names, &said.numbers);
+    said.put(case, false);
     put_list(case, name, shown(given, items), false);
-    let all = given.numbers.show.is_none() && given.numbers.last.is_none();
+    let all = given.size("show").is_none() && given.size("last").is_none();
     if all && said.state != before.record() {
         put_state::<S>(case, &said.state);
     }
@@ -158,7 +121,7 @@ pub(crate) fn fill_packets(
     given: &Given<'_>,
     room: usize,
 ) -> Option<Said> {
-    let mut packets = case.filled(PacketNumbers::KEPT, room);
+    let mut packets = case.filled(kept::<PacketNumbers>(), room);
     let said = call_for_packets(verb, given, &mut packets);
     put_said(case, (given, "packets"), &said, &given.encoder, &packets);
     Some(said)
@@ -171,7 +134,7 @@ pub(crate) fn fill_events(
     given: &Given<'_>,
     room: usize,
 ) -> Option<Said> {
-    let mut events = case.filled(EventNumbers::KEPT, room);
+    let mut events = case.filled(kept::<EventNumbers>(), room);
     let said = call_for_events(verb, given, &mut events);
     put_said(case, (given, "events"), &said, &given.hart_state, &events);
     Some(said)
@@ -179,15 +142,13 @@ pub(crate) fn fill_events(
 
 /// Pushes events at once, and by a call for each: `same`, the status and how many are taken where both say the same.
 pub(crate) fn push_both(case: &mut Case<'_>, given: &Given<'_>) {
-    let room = given.numbers.room.unwrap_or(0);
+    let room = given.room("room");
     let mut once = case.again();
     let said = fill_packets(&mut once, "push_all", given, room);
     let mut each = case.again();
     let _ = fill_packets(&mut each, "push_each", given, room);
     if let Some(said) = said {
-        let mut numbers = said.numbers;
-        numbers[1] = KEPT;
-        put_all(case, &TAKEN, &numbers);
+        said.put(case, true);
     }
     case.put_word("same");
     case.join(&once);
@@ -196,11 +157,11 @@ pub(crate) fn push_both(case: &mut Case<'_>, given: &Given<'_>) {
 
 /// A new encoder, and the packet that opens its trace.
 pub(crate) fn encoder(case: &mut Case<'_>, given: &Given<'_>) {
-    let mut state = EncoderNumbers::KEPT;
-    let mut opening = PacketNumbers::KEPT;
-    let (period, mode) = (given.numbers.period, given.numbers.mode);
+    let mut state = kept::<EncoderNumbers>();
+    let mut opening = kept::<PacketNumbers>();
+    let (period, mode) = (given.low_16("period"), given.low_32("mode"));
     let status = ffi::tracebench_encoder(period, mode, &mut state, &mut opening);
-    put_all(case, &COUNT, &[u64::from(status)]);
+    put_all(case, "status", &[u64::from(status)]);
     put_list(case, "opening", &[opening], false);
     put_list(case, "state", &[state], false);
 }
@@ -208,7 +169,7 @@ pub(crate) fn encoder(case: &mut Case<'_>, given: &Given<'_>) {
 /// A new decoder.
 pub(crate) fn decoder(case: &mut Case<'_>) {
     // Each field of the decoder holds another number before.
-    let mut hart = HartNumbers::KEPT;
+    let mut hart = kept::<HartNumbers>();
     hart.expected = 0;
     ffi::tracebench_decoder(&mut hart.decoder);
     put_state::<HartNumbers>(case, &hart.record());
@@ -217,8 +178,8 @@ pub(crate) fn decoder(case: &mut Case<'_>) {
 /// Lets a hart go on at a number.
 pub(crate) fn resume(case: &mut Case<'_>, given: &Given<'_>) {
     let mut hart = given.hart_state;
-    let status = ffi::tracebench_resume(&mut hart, given.numbers.number, given.numbers.mode);
-    put_all(case, &COUNT, &[u64::from(status)]);
+    let status = ffi::tracebench_resume(&mut hart, given.number("number"), given.low_32("mode"));
+    put_all(case, "status", &[u64::from(status)]);
     if hart.record() != given.hart_state.record() {
         put_state::<HartNumbers>(case, &hart.record());
     }

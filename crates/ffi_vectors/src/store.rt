@@ -20,10 +20,7 @@ impl Store {
 
     /// The bytes of this name.
     pub(crate) fn get(&self, name: &str) -> Option<&[u8]> {
-        match self.buffers.get(name) {
-            Some(bytes) => Some(bytes.as_slice()),
-            None => None,
-        }
+        Some(self.buffers.get(name)?.as_slice())
     }
 
     /// Takes the bytes of this name out. There is none where it was not there.

@@ -1,36 +1,64 @@
 //! What calls say, in numbers, and how it is written.
 
-use crate::fields::{Fields, KEPT, KEPT_16, KEPT_32, NO_FIELDS, Record, padded};
+use crate::fields::{Fields, KEPT, KEPT_16, KEPT_32, NO_FIELDS, Record, kept};
 use cases::Case;
 
-/// What a call said: its status, how much it has to hand out, and more, by names; and the state after it.
+/// What a call said: its status, how much it has to hand out and what that is called, more numbers by their names, and
+/// the state after it.
 #[derive(Clone, Copy)]
 pub(crate) struct Said {
-    pub(crate) names: &'static [&'static str],
-    pub(crate) numbers: Record,
+    pub(crate) status: u64,
+    counted: &'static str,
+    count: u64,
+    names: &'static str,
+    numbers: Record,
     pub(crate) state: Record,
 }
 
 impl Said {
-    /// Numbers by these names.
-    pub(crate) fn of(names: &'static [&'static str], numbers: &[u64], state: Record) -> Said {
+    /// A status, so many bytes, and a struct.
+    pub(crate) fn bytes<T: Fields>(status: u32, wanted: u64, end: &T) -> Said {
         Said {
-            names,
-            numbers: padded(numbers),
-            state,
+            status: u64::from(status),
+            counted: "wanted",
+            count: wanted,
+            names: T::NAMES,
+            numbers: end.record(),
+            state: NO_FIELDS,
         }
     }
 
-    /// The status.
-    pub(crate) fn status(&self) -> u64 {
-        let [status, ..] = self.numbers;
-        status
+    /// A status, so many elements, a number of this name, and a state.
+    pub(crate) fn elements<T: Fields>(
+        (status, count): (u32, u64),
+        names: &'static str,
+        number: u64,
+        state: &T,
+    ) -> Said {
+        let mut numbers = NO_FIELDS;
+        numbers[0] = number;
+        Said {
+            status: u64::from(status),
+            counted: "count",
+            count,
+            names,
+            numbers,
+            state: state.record(),
+        }
     }
 
     /// How much a call has to hand out.
-    pub(crate) fn count(&self) -> usize {
-        let [_, count, ..] = self.numbers;
-        count.min(1 << 32) as usize
+    pub(crate) fn size(&self) -> usize {
+        self.count.min(1 << 32) as usize
+    }
+
+    /// Appends what a call said, with `tail` without how much it has to hand out.
+    pub(crate) fn put(&self, case: &mut Case<'_>, tail: bool) {
+        put_all(case, "status", &[self.status]);
+        if !tail {
+            put_all(case, self.counted, &[self.count]);
+        }
+        put_all(case, self.names, &self.numbers);
     }
 }
 
@@ -49,8 +77,8 @@ fn put_number(case: &mut Case<'_>, name: &str, number: u64) {
 }
 
 /// Appends the numbers that a call wrote, by their names.
-pub(crate) fn put_all(case: &mut Case<'_>, names: &[&str], numbers: &[u64]) {
-    for (name, number) in names.iter().zip(numbers) {
+pub(crate) fn put_all(case: &mut Case<'_>, names: &str, numbers: &[u64]) {
+    for (name, number) in names.split(' ').zip(numbers) {
         let is_kept = *number == KEPT
             || *number == u64::from(KEPT_32)
             || *number == u64::from(KEPT_16);
@@ -62,10 +90,10 @@ pub(crate) fn put_all(case: &mut Case<'_>, names: &[&str], numbers: &[u64]) {
 }
 
 /// Appends a struct's numbers that are not 0, by their names.
-fn put_record(case: &mut Case<'_>, names: &[&str], record: &Record) {
+fn put_record(case: &mut Case<'_>, names: &str, record: &Record) {
     let mut is_first = true;
     case.put("{");
-    for (name, number) in names.iter().zip(record) {
+    for (name, number) in names.split(' ').zip(record) {
         if *number != 0 {
             if !is_first {
                 case.put(",");
@@ -115,7 +143,7 @@ fn equal_ones<T: Fields>(items: &[T], from: usize, steps: bool, first: &Record) 
 
 /// Appends elements, of which equal ones in a row are counted. Those that no call wrote are `-`.
 fn put_items<T: Fields>(case: &mut Case<'_>, items: &[T], steps: bool) {
-    let kept = T::KEPT.record();
+    let kept = kept::<T>().record();
     let mut begins: usize = 0;
     for place in 0..items.len() {
         if place == begins {
@@ -140,7 +168,7 @@ fn put_items<T: Fields>(case: &mut Case<'_>, items: &[T], steps: bool) {
 
 /// How many elements there are up to the last that a call wrote.
 fn written<T: Fields>(items: &[T]) -> usize {
-    let kept = T::KEPT.record();
+    let kept = kept::<T>().record();
     let mut count = 0;
     for (place, item) in items.iter().enumerate() {
         if item.record() != kept {

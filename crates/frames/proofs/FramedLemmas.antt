@@ -1,15 +1,17 @@
 -- Whether bytes are messages to their end, message by message.
-use Rattle.std.proofs.Common.{◌≡◌, ◌==◌, ◌-◌, ◌+◌, ◌<◌, ℕ, zero, suc, All, Bool, true, false, List, [], ◌∷◌, Some, None}
+use Rattle.std.proofs.Common.{◌≡◌, ◌==◌, ◌-◌, ◌+◌, ◌<◌, ◌≤◌, ℕ, zero, suc, All, true, false, List, [], ◌∷◌, Some, None}
 use Rattle.std.proofs.Common.{◌++◌, drop, length, refl, ap, sym, ◌∙◌, arith}
-use Rattle.std.proofs.lemmas.Bool.{and_left, ne_eqb}
+use Rattle.std.proofs.lemmas.Bool.{and_left, and_parts, ne_eqb}
 use Rattle.std.proofs.lemmas.List.{length-drop}
-use Rattle.std.proofs.lemmas.List.Elements.{All-head, All-tail}
+use Rattle.std.proofs.lemmas.List.Elements.{All-cons, All-head, All-tail}
+use Rattle.message.proofs.Heads.{AreBytes-drop}
 use Rattle.message.specs.Capture.{capture, message_bytes}
 use Rattle.message.specs.Cut.{IsMessage}
 use Rattle.message.specs.declared.message.Message.{Message}
-use Rattle.frames.specs.Frame.{frame_size, is_complete, message_size}
+use Rattle.message.specs.steps.Filling.{AreBytes}
+use Rattle.frames.specs.Frame.{frame_in, frame_size, is_complete, message_size}
 use Rattle.frames.specs.Framed.{framed_after, is_framed}
-use Rattle.frames.proofs.FrameLemmas.{complete, is_complete-message}
+use Rattle.frames.proofs.FrameLemmas.{begins_complete, complete, is_complete-message}
 use Rattle.frames.proofs.GuidedTakenLemmas as guided
 use Rattle.frames.proofs.GuidedTakenLemmas.{none_begins}
 use Rattle.frames.proofs.ScatteredLemmas.{after_message}
@@ -59,3 +61,26 @@ framed-capture (m ∷ ms) all =
     let xs = message_bytes m ++ capture ms in
     framed-next xs (is_complete-message m (capture ms) (All-head IsMessage m ms all))
     ∙ ap is_framed (after_message m (capture ms)) ∙ framed-capture ms (All-tail IsMessage m ms all)
+
+-- Bytes that are messages to the end are those of messages, one after the other.
+pub framed-made : (limit : ℕ) (xs : List ℕ) → AreBytes xs → length xs ≤ limit → is_framed xs ≡ true
+    → (ms : List Message) × All IsMessage ms × (xs ≡ capture ms)
+framed-made limit [] are few is = ([], λ k m within. absurd (omega (arith, within)), refl)
+framed-made zero (b ∷ bytes) are few is = absurd (omega (arith, few))
+framed-made (suc limit) (b ∷ bytes) are few is =
+    let xs = b ∷ bytes in
+    let whole : is_complete xs ≡ true = (and_parts (is_complete xs) _ is).0 in
+    let c = complete xs whole in
+    let fits = c.fits in
+    let first = frame_in xs in
+    let begins = begins_complete xs are whole in
+    let size = frame_size xs in
+    let left = length-drop size xs in
+    let rest : drop size xs ≡ begins.rest =
+    ap (λ (l : List ℕ). drop (frame_size l) l) begins.whole ∙ after_message first begins.rest in
+    let others = framed-made limit (drop size xs) (AreBytes-drop size xs are) (omega (arith, few, fits, left))
+    (sym (framed-next xs whole) ∙ is) in (
+      first ∷ others.0,
+      All-cons IsMessage first others.0 begins.ranges others.1,
+      begins.whole ∙ ap (λ (l : List ℕ). message_bytes first ++ l) (sym rest ∙ others.2),
+    )

@@ -14,10 +14,11 @@ use Rattle.captures.specs.Dump.{dump_line, has_bad_payload, header_line}
 use Rattle.captures.specs.Offsets.{bytes_line}
 use Rattle.frames.specs.Start.{IsStart, spans_of}
 
--- The line of a frame is that of its message, whose address field is named by this mode; bytes have a line of theirs.
-abbrev pub span_line : Mode → Span → List ℕ
-span_line mode (Frame place message) = dump_line mode message
-span_line mode (Bytes place count) = bytes_line place count
+-- The line of a frame is that of its message, whose address field is named by this mode, and its address by these
+-- symbols; bytes have a line of theirs.
+abbrev pub span_line : Option (List ℕ) → Mode → Span → List ℕ
+span_line symbols mode (Frame place message) = dump_line symbols mode message
+span_line symbols mode (Bytes place count) = bytes_line place count
 
 -- The span is of bytes, or the payload of its message is bad.
 abbrev pub is_damaged : Span → Bool
@@ -25,8 +26,8 @@ is_damaged (Frame place message) = has_bad_payload message
 is_damaged (Bytes place count) = true
 
 -- The lines of spans, in order.
-abbrev pub spans_text : Mode → List Span → List ℕ
-spans_text mode spans = flat_map (span_line mode) spans
+abbrev pub spans_text : Option (List ℕ) → Mode → List Span → List ℕ
+spans_text symbols mode spans = flat_map (span_line symbols mode) spans
 
 -- The span is of bytes, or its message is of one of these harts.
 abbrev pub is_chosen : HartRange → Span → Bool
@@ -48,29 +49,30 @@ mode_of None = Differential
 mode_of (Some header) = header.mode
 
 -- The line of the header, if there is one, and the lines of these harts' frames and of the bytes between frames.
-abbrev pub search_text : HartRange → Option Header → List ℕ → List ℕ
-search_text harts header bytes =
-    start_line header ++ spans_text (mode_of header) (chosen harts (spans_of header bytes))
+abbrev pub search_text : Option (List ℕ) → HartRange → Option Header → List ℕ → List ℕ
+search_text symbols harts header bytes =
+    start_line header ++ spans_text symbols (mode_of header) (chosen harts (spans_of header bytes))
 
 -- Where a search stops that goes on to the end: nowhere, or, with the fault of the header, before the first message.
 abbrev pub stop_of : Option MessageFault → Option (ℕ × MessageFault)
 stop_of None = None
 stop_of (Some why) = Some (0, why)
 
--- The text is what a search of a capture finds of these harts. The flag says whether there are bytes of no frame or a
--- bad payload of these harts, and the fault is that of a header that is cut short or bad.
-pub record IsSearchedOf (harts : HartRange) (bytes : List ℕ) (bad : Bool) (fault : Option (ℕ × MessageFault))
-    (text : List ℕ) : Type 0 where
+-- The text is what a search of a capture finds of these harts, with names by these symbols, if they are given. The flag
+-- says whether there are bytes of no frame or a bad payload of these harts, and the fault is that of a header that is cut
+-- short or bad.
+pub record IsSearchedOf (symbols : Option (List ℕ)) (harts : HartRange) (bytes : List ℕ) (bad : Bool)
+    (fault : Option (ℕ × MessageFault)) (text : List ℕ) : Type 0 where
   pub header : Option Header
   pub why : Option MessageFault
   pub start : IsStart bytes header why
   pub stop : fault ≡ stop_of why
   pub flag : bad ≡ list_any is_damaged (chosen harts (spans_of header bytes))
-  pub lines : text ≡ search_text harts header bytes
+  pub lines : text ≡ search_text symbols harts header bytes
 
--- The text is what a search of a capture finds, which is that of all harts.
+-- The text is what a search of a capture finds, which is that of all harts without symbols.
 abbrev pub IsSearched : List ℕ → Bool → Option (ℕ × MessageFault) → List ℕ → Type 0
-IsSearched bytes = IsSearchedOf every_hart bytes
+IsSearched bytes = IsSearchedOf None every_hart bytes
 
 -- All spans of a capture, behind a valid header or with none, are those of all harts.
 abbrev pub AllHartsChooseEverySpan : Type 0

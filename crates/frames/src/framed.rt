@@ -14,6 +14,7 @@ pub fn is_framed(bytes: &[u8]) -> bool
     ensures value { result ≡ is_framed bytes.now }
     ensures messages { (messages : List AnyMessage) → All IsMessage messages → bytes.now ≡ capture messages
         → IsTrue result }
+    ensures only { IsTrue result → (messages : List AnyMessage) × All IsMessage messages × (bytes.now ≡ capture messages) }
 {
     let mut left = bytes;
     while let Some(size) = message_size(left) {

@@ -33,8 +33,9 @@ use std::marker::Model;
 /// changed or never sent is kept among others. Bytes that were lost, added or overwritten cost the messages that they
 /// were in, and a message that begins inside one that is taken, as where a length was changed.
 ///
-/// Where numbers are not looked at, a message is [known](Sight::Known) by its payload. A known message is *firm* where
-/// after it the bytes end or another known one begins. A message is *clear* where no firm one begins inside it. A known
+/// Where numbers are not looked at, each message counts as sent if the bytes are messages to their end. Else one is
+/// [known](Sight::Known) by its hart and payload. A known message is *firm* where after it the bytes end or another known
+/// one begins. A message is *clear* where no firm one begins inside it. A known
 /// message counts as sent where it is firm or clear. Any other is taken only where it is clear. A known one after it counts
 /// as one whose hart and number were sent.
 ///

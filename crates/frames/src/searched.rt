@@ -1,6 +1,6 @@
 //! Captures that may be damaged as text.
 
-ghost use Rattle.std.specs.Prelude.{◌≡◌, ◌∷◌, IfErr, IfOk, OnErr, OnOk, []};
+ghost use Rattle.std.specs.Prelude.{◌≡◌, ◌∷◌, IfErr, IfOk, OnErr, OnOk, [], option_map};
 ghost use Rattle.std.specs.Io.KnownBytes.{Appends};
 ghost use Rattle.std.specs.List.{list_any};
 ghost use Rattle.output.specs.Begun.{AppendsBeginning};
@@ -15,7 +15,9 @@ use captures::{Dumped, write_bytes_line, write_header_line, write_message_line};
 use message::{HartRange, Header, MessageFault, ProgressSink};
 use payload::Mode;
 use retire::WriteFault;
+use std::alloc::Allocator;
 use std::io::Write;
+use symbols::Symbols;
 
 /// Writes what is found in a capture that may be damaged. With a valid header its line comes first, as
 /// [`dump_capture`](captures::dump_capture) writes it. Then comes a line for each frame that is taken and for each
@@ -40,26 +42,29 @@ pub fn search_capture<W: Write, V: ProgressSink>(
     ensures begun { OnErr result (BeginsDump (IsSearched capture.now) (W.contents sink.old) (W.contents sink.new)) }
     ensures fault { IfErr result (λ fault. fault ≡ WriteFault.Write) }
 {
-    search_harts(capture, HartRange::ALL, sink, watch)
+    search_harts(capture, HartRange::ALL, None::<&Symbols>, sink, watch)
 }
 
 /// Writes what is found of these harts in a capture that may be damaged, as [`search_capture`] writes what is found of
 /// all: the line of the header as it is, the lines of these harts' frames alone, and those of the bytes between frames.
-/// Frames of other harts are passed over, whatever their payloads are; `watch` is told of them all the same.
-pub fn search_harts<W: Write, V: ProgressSink>(
+/// Frames of other harts are passed over, whatever their payloads are; `watch` is told of them all the same. Where
+/// symbols are given, addresses are named as [`dump_harts`](captures::dump_harts) names them.
+pub fn search_harts<S: Allocator, W: Write, V: ProgressSink>(
     capture: &[u8],
     harts: HartRange,
+    symbols: Option<&Symbols<S>>,
     sink: &mut W,
     watch: &V,
 ) -> Result<Dumped, WriteFault>
-    ensures searched { IfOk result (λ dumped. AppendsDump (IsSearchedOf harts capture.now) dumped.bad dumped.fault
-        (W.contents sink.old) (W.contents sink.new)) }
+    ensures searched { IfOk result (λ dumped. AppendsDump (IsSearchedOf (option_map (λ file. file.now) symbols.entry) harts capture.now)
+        dumped.bad dumped.fault (W.contents sink.old) (W.contents sink.new)) }
     ensures begun { OnErr result
-        (BeginsDump (IsSearchedOf harts capture.now) (W.contents sink.old) (W.contents sink.new)) }
+        (BeginsDump (IsSearchedOf (option_map (λ file. file.now) symbols.entry) harts capture.now)
+        (W.contents sink.old) (W.contents sink.new)) }
     ensures fault { IfErr result (λ fault. fault ≡ WriteFault.Write) }
 {
     let start = start_of(capture);
-    let bad = write_found(capture, harts, start.header, sink, watch)?;
+    let bad = write_found(capture, harts, symbols, start.header, sink, watch)?;
     Ok(Dumped {
         bad,
         fault: stop_of(start.fault),
@@ -78,9 +83,10 @@ fn stop_of(fault: Option<MessageFault>) -> Option<(u64, MessageFault)>
 
 /// Writes the line of the header, if there is one, and those of bytes and of these harts' frames after it. Returns
 /// whether one of these is damaged.
-fn write_found<W: Write, V: ProgressSink>(
+fn write_found<S: Allocator, W: Write, V: ProgressSink>(
     capture: &[u8],
     harts: HartRange,
+    symbols: Option<&Symbols<S>>,
     header: Option<Header>,
     sink: &mut W,
     watch: &V,
@@ -88,8 +94,9 @@ fn write_found<W: Write, V: ProgressSink>(
     ensures damaged { IfOk result
         (λ damaged. damaged ≡ list_any is_damaged (chosen harts (spans_of header capture.now))) }
     ensures text { OnOk result
-        (Appends (W.contents sink.old) (W.contents sink.new) (search_text harts header capture.now)) }
-    ensures begun { AppendsBeginning (search_text harts header capture.now)
+        (Appends (W.contents sink.old) (W.contents sink.new)
+        (search_text (option_map (λ file. file.now) symbols.entry) harts header capture.now)) }
+    ensures begun { AppendsBeginning (search_text (option_map (λ file. file.now) symbols.entry) harts header capture.now)
         (W.contents sink.old) (W.contents sink.new) }
     ensures fault { IfErr result (λ fault. fault ≡ WriteFault.Write) }
 {
@@ -97,6 +104,7 @@ fn write_found<W: Write, V: ProgressSink>(
     write_spans(
         mode_of(header),
         harts,
+        symbols,
         spans_of(capture, header),
         sink,
         watch,
@@ -127,23 +135,25 @@ pub fn mode_of(header: Option<Header>) -> Mode
 }
 
 /// Writes the lines of bytes and of these harts' frames, and returns whether one of them is damaged.
-fn write_spans<W: Write, V: ProgressSink>(
+fn write_spans<S: Allocator, W: Write, V: ProgressSink>(
     mode: Mode,
     harts: HartRange,
+    symbols: Option<&Symbols<S>>,
     spans: Spans<'_>,
     sink: &mut W,
     watch: &V,
 ) -> Result<bool, WriteFault>
     ensures damaged { IfOk result (λ damaged. damaged ≡ list_any is_damaged (chosen harts spans.entry)) }
     ensures text { OnOk result
-        (Appends (W.contents sink.old) (W.contents sink.new) (spans_text mode (chosen harts spans.entry))) }
-    ensures begun { AppendsBeginning (spans_text mode (chosen harts spans.entry))
+        (Appends (W.contents sink.old) (W.contents sink.new)
+        (spans_text (option_map (λ file. file.now) symbols.entry) mode (chosen harts spans.entry))) }
+    ensures begun { AppendsBeginning (spans_text (option_map (λ file. file.now) symbols.entry) mode (chosen harts spans.entry))
         (W.contents sink.old) (W.contents sink.new) }
     ensures fault { IfErr result (λ fault. fault ≡ WriteFault.Write) }
 {
     let mut damaged = false;
     for span in spans {
-        damaged |= write_chosen(mode, harts, &span, sink)?;
+        damaged |= write_chosen(mode, harts, symbols, &span, sink)?;
         note(watch, &span);
     }
     Ok(damaged)
@@ -157,21 +167,23 @@ fn note<V: ProgressSink>(watch: &V, span: &Span) {
 }
 
 /// Writes the line of a span if it is of bytes or of one of these harts. Returns whether such a span is damaged.
-fn write_chosen<W: Write>(
+fn write_chosen<S: Allocator, W: Write>(
     mode: Mode,
     harts: HartRange,
+    symbols: Option<&Symbols<S>>,
     span: &Span,
     sink: &mut W,
 ) -> Result<bool, WriteFault>
     ensures damaged { IfOk result (λ damaged. damaged ≡ list_any is_damaged (chosen harts (span.now ∷ []))) }
     ensures text { OnOk result (Appends (W.contents sink.old) (W.contents sink.new)
-        (spans_text mode (chosen harts (span.now ∷ [])))) }
-    ensures begun { AppendsBeginning (spans_text mode (chosen harts (span.now ∷ [])))
+        (spans_text (option_map (λ file. file.now) symbols.entry) mode (chosen harts (span.now ∷ [])))) }
+    ensures begun { AppendsBeginning
+        (spans_text (option_map (λ file. file.now) symbols.entry) mode (chosen harts (span.now ∷ [])))
         (W.contents sink.old) (W.contents sink.new) }
     ensures fault { IfErr result (λ fault. fault ≡ WriteFault.Write) }
 {
     if is_chosen(harts, span) {
-        write_span(mode, span, sink)
+        write_span(mode, symbols, span, sink)
     } else {
         Ok(false)
     }
@@ -188,14 +200,21 @@ fn is_chosen(harts: HartRange, span: &Span) -> bool
 }
 
 /// Writes the line of a span, and returns whether it is damaged.
-fn write_span<W: Write>(mode: Mode, span: &Span, sink: &mut W) -> Result<bool, WriteFault>
+fn write_span<S: Allocator, W: Write>(
+    mode: Mode,
+    symbols: Option<&Symbols<S>>,
+    span: &Span,
+    sink: &mut W,
+) -> Result<bool, WriteFault>
     ensures damaged { IfOk result (λ damaged. damaged ≡ is_damaged span.now) }
-    ensures text { OnOk result (Appends (W.contents sink.old) (W.contents sink.new) (span_line mode span.now)) }
-    ensures begun { AppendsBeginning (span_line mode span.now) (W.contents sink.old) (W.contents sink.new) }
+    ensures text { OnOk result (Appends (W.contents sink.old) (W.contents sink.new)
+        (span_line (option_map (λ file. file.now) symbols.entry) mode span.now)) }
+    ensures begun { AppendsBeginning (span_line (option_map (λ file. file.now) symbols.entry) mode span.now)
+        (W.contents sink.old) (W.contents sink.new) }
     ensures fault { IfErr result (λ fault. fault ≡ WriteFault.Write) }
 {
     match span {
-        Span::Frame { message, .. } => write_message_line(sink, mode, message),
+        Span::Frame { message, .. } => write_message_line(sink, symbols, mode, message),
         Span::Bytes { offset, count } => {
             write_bytes_line(sink, *offset as u64, *count as u64)?;
             Ok(true)

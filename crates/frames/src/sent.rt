@@ -8,13 +8,15 @@ use message::Message;
 /// What the sender knows of a message.
 #[derive(Clone, Copy, PartialEq, Eq)]
 pub enum Sight {
-    /// It was sent: its hart and number, with this payload.
+    /// Its hart and number were sent, with this payload. Where numbers are not looked at, every message counts as this if
+    /// all that came is messages to its end.
     Same,
     /// Its hart and number were sent, with another payload.
     Numbered,
-    /// Its hart and number were not sent.
+    /// Its hart and number were not sent; or numbers are not looked at, and no message of its hart was sent with this
+    /// payload.
     Strange,
-    /// Its number is not looked at: its hart was sent this payload.
+    /// Numbers are not looked at, and a message of its hart was sent with this payload.
     Known,
 }
 

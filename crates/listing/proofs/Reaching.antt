@@ -26,7 +26,8 @@ use Rattle.receiver.specs.Received.{Received}
 use Rattle.receiver.specs.declared.fault.ReceiveFault.{ReceiveFault}
 use Rattle.receiver.specs.declared.fault.ReceiveFault.TheVariants as receiving
 use Rattle.captures.proofs.Reaching.{capture_next}
-use Rattle.captures.specs.Decoded.{BeginsRefused, as_capture_fault}
+use Rattle.captures.proofs.ReachingHarts.{stops_before}
+use Rattle.captures.specs.Decoded.{as_capture_fault}
 use Rattle.captures.specs.NoMessage.{BeginsNone}
 use Rattle.captures.specs.declared.outcome.CaptureFault.{CaptureFault}
 use Rattle.captures.specs.declared.outcome.CaptureFault.TheVariants as fault
@@ -36,7 +37,7 @@ use Rattle.listing.proofs.PlacedMessages.{selected-taken}
 use Rattle.listing.specs.Begun.{BeginsPart}
 use Rattle.listing.specs.Effect.{Effect, HaveEffects}
 use Rattle.listing.specs.Entries.{effect_entry, incomplete_entry, placed_entries, refused_entry}
-use Rattle.listing.specs.Listing.{AppendsListing, BeginsRefusedOf, IsFaultEntry, IsRefusedEntry, StopsDecodingOf}
+use Rattle.listing.specs.Listing.{AppendsListing, IsFaultEntry, IsRefusedEntry}
 use Rattle.listing.specs.Listing.{names_in, naming_mode}
 use Rattle.listing.specs.Placed.{placed_of}
 use Rattle.listing.specs.declared.capture_listing.Start.{Start}
@@ -338,7 +339,8 @@ module _ {S : Type 0} (input : ListInput S) (harts : ℕ) (start : Start) (bytes
           agree = so_far.agree;
           lists = after.lists;
           decoded = holds_decoded (λ hart. words) harts before after refused.holds;
-          stops = (so_far.counted, stops why (record { refused = begins; is_of_these = chosen }));
+          stops = stops_before only words harts announced so_far.messages left next number m why (as_capture_fault why)
+              so_far.counted is here chosen refused.refused refl;
           effects = so_far.effects;
           have = so_far.have;
           last = entry;
@@ -352,15 +354,6 @@ module _ {S : Type 0} (input : ListInput S) (harts : ℕ) (start : Start) (bytes
               (fault_entry_is input.form (naming_mode announced) at m next left why is here)));
           entries = refl;
         }
-          where
-            begins : BeginsRefused words harts announced before left why
-            begins = record { message = m; rest = next; ranges = is; begins = here; refused = refused.refused }
-
-            stops : (why : ReceiveFault) → BeginsRefusedOf words only harts announced so_far.messages left why
-                → StopsDecodingOf words only harts announced so_far.messages left (as_capture_fault why)
-            stops (receiving.Demux why) b = b
-            stops receiving.Mode b = b
-            stops (receiving.Decode why) b = b
 
         -- Its entry was written behind the others.
         refused_written : (why : ReceiveFault) (stop : CaptureFault) (entry : List ℕ) (new : Option (List ℕ))

@@ -1,19 +1,14 @@
 -- The text of what a message does.
-use Rattle.std.specs.Prelude.{ℕ, ◌++◌, Bool, true, false, List, [], ◌∷◌, Option, Some, None, codes, length}
+use Rattle.std.specs.Prelude.{ℕ, ◌++◌, Bool, true, false, List, [], ◌∷◌, Option, codes, length}
 use Rattle.std.specs.Fmt.{decimal}
 use Rattle.retire.specs.Events.{place}
 use Rattle.retire.specs.LogText.{hex}
 use Rattle.retire.specs.declared.event.Event.{Event}
 use Rattle.legalpath.specs.LastPlace.{last_place}
-use Rattle.symbols.specs.SymbolText.{symbol_text}
+use Rattle.symbols.specs.SymbolText.{name_text}
 use Rattle.listing.specs.Effect.{Effect}
 use Rattle.listing.specs.SettledRows.{shown_rows}
 use Prim.Native.Nat.{zero, suc}
-
--- What follows a place, by the symbols of a file, if there is one.
-abbrev pub name_text : Option (List ℕ) → ℕ → List ℕ
-name_text None at = []
-name_text (Some file) at = symbol_text file at
 
 -- A place in hexadecimal, and what the symbols name it.
 abbrev pub place_text : Option (List ℕ) → ℕ → List ℕ

@@ -1,6 +1,6 @@
 -- The text of the listing of some harts of a capture, in lines or as a table.
 use Rattle.std.specs.Borrow.{Bor}
-use Rattle.std.specs.Prelude.{ℕ, ◌≡◌, ◌+◌, ◌++◌, All, Bool, true, false, List, [], Option, Some, None, length}
+use Rattle.std.specs.Prelude.{ℕ, ◌≡◌, ◌+◌, ◌++◌, All, Bool, false, List, [], Option, Some, None, length}
 use Rattle.std.specs.Prelude.{option_map, replicate}
 use Rattle.std.specs.Io.KnownBytes.{Appends}
 use Rattle.std.specs.Option.{unwrap_or}
@@ -13,17 +13,15 @@ use Rattle.message.specs.Accepted.{AreAccepted, newcomers}
 use Rattle.message.specs.Capture.{capture, message_bytes}
 use Rattle.message.specs.Cut.{IsMessage}
 use Rattle.message.specs.Header.{IsHeader, IsMarked, header_bytes}
-use Rattle.message.specs.Range.{selected, selects}
+use Rattle.message.specs.Range.{selected}
 use Rattle.message.specs.declared.fault.MessageFault.{MessageFault}
 use Rattle.message.specs.declared.header.Header.{Header}
 use Rattle.message.specs.declared.message.Message.{Message}
 use Rattle.message.specs.declared.range.HartRange.{HartRange}
 use Rattle.receiver.specs.Agreeing.{Agrees}
 use Rattle.receiver.specs.Holds.{AreDecoded}
-use Rattle.receiver.specs.declared.fault.ReceiveFault.{ReceiveFault}
-use Rattle.receiver.specs.declared.fault.ReceiveFault.TheVariants as receiving
-use Rattle.captures.specs.Decoded.{BeginsRefused}
-use Rattle.captures.specs.NoMessage.{BeginsNone, BeginsNoHeader}
+use Rattle.captures.specs.Decoded.{StopsOf}
+use Rattle.captures.specs.NoMessage.{BeginsNoHeader}
 use Rattle.captures.specs.declared.outcome.CaptureFault.{CaptureFault}
 use Rattle.captures.specs.declared.outcome.CaptureFault.TheVariants as fault
 use Rattle.listing.specs.Effect.{Effect, HaveEffects}
@@ -60,31 +58,6 @@ abbrev pub IsLastEntry : Form → Mode → ℕ → ℕ → List ℕ → Option (
 IsLastEntry form mode at offset bytes None text = text ≡ []
 IsLastEntry form mode at offset bytes (Some stop) text = IsFaultEntry form mode at offset bytes stop.1 text
 
--- The bytes begin with a message of these harts, which is refused after those of these harts among these messages, for
--- this reason. There are so many harts, and the header announces this mode, if there is a header.
-pub record BeginsRefusedOf (words : Words) (only : HartRange) (harts : ℕ) (announced : Option Mode)
-    (messages : List Message) (bytes : List ℕ) (why : ReceiveFault) : Type 0 where
-  pub refused : BeginsRefused words harts announced (selected only messages) bytes why
-  pub is_of_these : selects only refused.message.hart ≡ true
-
--- Why the decoding of these harts stops after these messages, before these bytes: there is no complete message, or one of
--- these harts that is refused.
-abbrev pub StopsDecodingOf : Words → HartRange → ℕ → Option Mode → List Message → List ℕ → CaptureFault → Type 0
-StopsDecodingOf words only harts announced messages bytes (fault.Message why) = BeginsNone bytes why
-StopsDecodingOf words only harts announced messages bytes (fault.Demux why) =
-    BeginsRefusedOf words only harts announced messages bytes (receiving.Demux why)
-StopsDecodingOf words only harts announced messages bytes (fault.Decode why) =
-    BeginsRefusedOf words only harts announced messages bytes (receiving.Decode why)
-StopsDecodingOf words only harts announced messages bytes fault.Mode =
-    BeginsRefusedOf words only harts announced messages bytes receiving.Mode
-
--- Where the decoding of these harts stops, and why: at the end of the bytes, or before the message with this number,
--- counted from 0 over all harts.
-abbrev pub StopsOf : Words → HartRange → ℕ → Option Mode → List Message → List ℕ → Option (ℕ × CaptureFault) → Type 0
-StopsOf words only harts announced messages bytes None = bytes ≡ []
-StopsOf words only harts announced messages bytes (Some stop) =
-    (stop.0 ≡ length messages) × StopsDecodingOf words only harts announced messages bytes stop.1
-
 -- The bytes are those of messages and some rest, before which the decoding of these harts stops. Messages of other harts
 -- may be any. Those of these harts are accepted, one after the other, and none of them opens a trace in another mode than
 -- the announced one, if one is announced. The flags say which harts these messages close. The text has the entry of each
@@ -101,7 +74,7 @@ pub record AreMessagesListed (words : Words) (form : Form) (only : HartRange) (h
   pub agree : All (Agrees announced) (selected only messages)
   pub lists : List (List Event)
   pub decoded : AreDecoded (λ hart. words) harts (selected only messages) lists closed
-  pub stops : StopsOf words only harts announced messages rest stop
+  pub stops : StopsOf only words harts announced messages rest stop
   pub effects : List Effect
   pub have : HaveEffects words [] (selected only messages) effects
   pub last : List ℕ

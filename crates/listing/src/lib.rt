@@ -38,4 +38,4 @@ pub use message_text::{MessageText, PacketEnding};
 pub use names::write_names;
 pub use outcome::Listed;
 pub use places::write_places;
-pub use settled_rows::{RowCells, SettledRows};
+pub use settled_rows::{RowCells, SettledRows, ShownRows};

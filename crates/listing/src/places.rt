@@ -10,7 +10,7 @@ use output::{write_bytes, write_text};
 use retire::{Event, WriteFault};
 use std::alloc::Allocator;
 use std::io::Write;
-use symbols::{Symbols, write_symbol};
+use symbols::{Symbols, write_name};
 
 /// Writes a place in hexadecimal, and what the symbols name it.
 fn write_place<S: Allocator, W: Write>(
@@ -25,10 +25,7 @@ fn write_place<S: Allocator, W: Write>(
     ensures fault { IfErr result (λ fault. fault ≡ WriteFault.Write) }
 {
     write_text(sink, Place(Some(place)))?;
-    match symbols {
-        Some(symbols) => write_symbol(symbols, place, sink),
-        None => Ok(()),
-    }
+    write_name(symbols, place, sink)
 }
 
 /// Writes how many events there are, and the places of the first and of the last of them: `nothing`, or `1 event, A`, or

@@ -52,9 +52,11 @@ impl fmt::Display for RowCells {
 
 /// The text of these rows, where lines of this form say it.
 #[derive(Clone, Copy)]
-pub(crate) struct ShownRows {
-    pub(crate) form: Form,
-    pub(crate) settled: SettledRows,
+pub struct ShownRows {
+    /// The form of the lines.
+    pub form: Form,
+    /// The rows.
+    pub settled: SettledRows,
 }
 
 impl fmt::Display for ShownRows {

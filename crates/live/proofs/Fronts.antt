@@ -1,5 +1,5 @@
 -- A message that is not true leaves the front where it is.
-use Rattle.std.proofs.Common.{◌≡◌, ℕ, zero, suc, Bool, true, false, cond, not, List, [], Option, None}
+use Rattle.std.proofs.Common.{◌≡◌, ℕ, zero, suc, ◌-◌, Bool, true, false, cond, not, List, [], Option, None, Some}
 use Rattle.std.proofs.Common.{drop, refl, ap, ◌∙◌}
 use Rattle.message.specs.declared.message.Message.{Message}
 use Rattle.auditing.specs.Fates.{has_greater, has_number, is_true, true_ones}
@@ -8,8 +8,8 @@ use Rattle.auditing.specs.declared.fate.Fate.{Fate}
 use Rattle.auditing.specs.declared.fate.Fate.TheVariants as fate
 use Rattle.auditing.specs.declared.finding.Finding.{Finding}
 use Rattle.live.specs.Lines.{Arrived}
-use Rattle.live.specs.Live.{State, Step, decides, finds, is_new, judged, judged_at, moves_to, of_its_hart, passes_all, settled}
-use Rattle.live.specs.Live.{standing_now, strange, taken, waits}
+use Rattle.live.specs.Live.{State, Step, decides, finds, is_new, is_outage, judged, judged_at, moves_to, passes_all, read_to}
+use Rattle.live.specs.Live.{settled, settles, standing_now, stays, strange, taken, waits}
 use Rattle.live.specs.View.{up_to}
 use Rattle.live.specs.declared.standing.Standing.{Standing}
 use Rattle.live.specs.declared.standing.Standing.TheVariants as standing
@@ -67,8 +67,21 @@ untrue_strange window sent state one is =
 
 -- And where it is taken and none of its hart waits.
 pub untrue_taken : (window : ℕ) (sent : List Message) (state : State) (one : Arrived)
-    → of_its_hart one state.waiting ≡ None → is_true sent one.message ≡ false
+    → state.waiting one.message.hart ≡ None → is_true sent one.message ≡ false
     → (taken window sent state one).state.front ≡ state.front
 untrue_taken window sent state one none is =
     ap (λ o. (judged waits window sent (settled window sent state one o).state one).state.front) none
     ∙ untrue_waits window sent state one is
+
+-- And where one waits that is not true, and there was no outage.
+pub untrue_both : (window : ℕ) (sent : List Message) (state : State) (one first : Arrived)
+    → state.waiting one.message.hart ≡ Some first → is_outage window sent state first.message one.message ≡ false
+    → is_true sent first.message ≡ false → is_true sent one.message ≡ false
+    → (taken window sent state one).state.front ≡ state.front
+untrue_both window sent state one first at none before is =
+    ap (λ o. (judged waits window sent (settled window sent state one o).state one).state.front) at
+    ∙ ap (λ b. (judged waits window sent (judged strange window sent (cond b
+    (moves_to window sent (read_to sent first.message - window) (settles state one.message.hart))
+    (stays (settles state one.message.hart))).state first).state one).state.front) none
+    ∙ untrue_waits window sent (judged strange window sent (settles state one.message.hart) first).state one is
+    ∙ untrue_strange window sent (settles state one.message.hart) first before

@@ -24,7 +24,8 @@ use Rattle.auditing.specs.declared.fate.Fate.TheVariants as fate
 use Rattle.auditing.specs.declared.finding.Finding.{Finding}
 use Rattle.auditing.specs.steps.Taking.{finding_at}
 use Rattle.live.specs.Holding.{Holding}
-use Rattle.live.specs.Holds.{AreNumbers, AreRead, Holds, came_by, held, judged_as, judged_by}
+use Rattle.live.specs.Holds.{AreNumbers, AreRead, Holds, came_by, judged_as, judged_by}
+use Rattle.live.specs.Live.{held}
 use Rattle.live.specs.View.{given_up, is_below, standing_from, standing_of, up_to}
 use Rattle.live.specs.declared.numbers.Numbers.{Numbers}
 use Rattle.live.specs.declared.standing.Standing.TheVariants as standing

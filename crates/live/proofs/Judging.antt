@@ -15,7 +15,7 @@ use Rattle.auditing.specs.Audits.{number_after}
 use Rattle.auditing.specs.Fates.{has_greater, has_number, is_numbered, is_same}
 use Rattle.auditing.specs.Findings.{at_least, greatest_number}
 use Rattle.auditing.specs.Sent.{AreInTurn}
-use Rattle.live.specs.Holds.{held}
+use Rattle.live.specs.Live.{held}
 use Rattle.live.specs.View.{standing_from}
 use Rattle.live.specs.declared.held.SentMessage.{SentMessage}
 use Rattle.live.specs.declared.standing.Standing.TheVariants as standing

@@ -7,3 +7,4 @@ pub mod Judging
 pub mod InView
 pub mod Fronts
 pub mod Worked
+pub mod Following

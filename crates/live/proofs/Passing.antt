@@ -16,7 +16,8 @@ use Rattle.auditing.specs.Fates.{true_ones}
 use Rattle.auditing.specs.Findings.{greatest_number}
 use Rattle.auditing.specs.Sent.{AreInTurn}
 use Rattle.live.specs.Holding.{Holding}
-use Rattle.live.specs.Holds.{AreNumbers, Holds, held, last_held}
+use Rattle.live.specs.Holds.{AreNumbers, Holds}
+use Rattle.live.specs.Live.{held, last_held}
 use Rattle.live.specs.View.{given_up}
 use Rattle.live.specs.declared.numbers.Numbers.{Numbers}
 use Rattle.live.specs.steps.Passing.{harts_without, passed, passes_by, without_first}
@@ -24,13 +25,13 @@ use Rattle.live.proofs.Reading.{counts_more, held_count}
 use Rattle.live.proofs.Standings.{no_fewer}
 
 -- A list from a place on begins with what is at the place.
-drop_from : (xs : List Message) (i : ℕ) (x : Message) → slice_get xs i ≡ Some x → drop i xs ≡ x ∷ drop (suc i) xs
+pub drop_from : (xs : List Message) (i : ℕ) (x : Message) → slice_get xs i ≡ Some x → drop i xs ≡ x ∷ drop (suc i) xs
 drop_from [] i x is = cc
 drop_from (a ∷ xs) zero x is = let same : a ≡ x = cc in ap (λ y. y ∷ xs) same
 drop_from (a ∷ xs) (suc i) x is = drop_from xs i x is
 
 -- A list up to a place and what is there.
-take_to : (xs : List Message) (i : ℕ) (x : Message) → slice_get xs i ≡ Some x → take (suc i) xs ≡ take i xs ++ x ∷ []
+pub take_to : (xs : List Message) (i : ℕ) (x : Message) → slice_get xs i ≡ Some x → take (suc i) xs ≡ take i xs ++ x ∷ []
 take_to [] i x is = cc
 take_to (a ∷ xs) zero x is = let same : a ≡ x = cc in ap (λ y. y ∷ []) same
 take_to (a ∷ xs) (suc i) x is = ap (λ l. a ∷ l) (take_to xs i x is)

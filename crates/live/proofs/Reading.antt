@@ -24,7 +24,8 @@ use Rattle.auditing.specs.Fates.{has_number, is_numbered, is_same, is_true, true
 use Rattle.auditing.specs.Findings.{greatest_number}
 use Rattle.auditing.specs.Sent.{AreInTurn, misplaced, misplaced_at, next_number}
 use Rattle.live.specs.Holding.{Holding}
-use Rattle.live.specs.Holds.{AreNumbers, AreRead, Holds, IsReadFault, held}
+use Rattle.live.specs.Holds.{AreNumbers, AreRead, Holds, IsReadFault}
+use Rattle.live.specs.Live.{held}
 use Rattle.live.specs.View.{given_up}
 use Rattle.live.specs.declared.fault.ReadFault.{ReadFault}
 use Rattle.live.specs.declared.fault.ReadFault.TheVariants as fault
@@ -165,6 +166,15 @@ module _ (sent came : List Message) (front : ℕ) (own : Holding) (holds : Holds
     -- Why it is refused, by why it is misplaced.
     refusal_as : refusal_by its message.number ≡ also (misplaced_at next message.number) message.number
     refusal_as = as_misplaced its message.number
+
+    -- A message that is not refused is the next one of its hart.
+    pub placed_if : refusal_by (slice_get own.harts message.hart) message.number ≡ None
+        → misplaced (length own.harts) sent message ≡ None
+    placed_if is = placed_as ∙ go (misplaced_at next message.number) (sym refusal_as ∙ is)
+      where
+        go : (o : Option DemuxFault) → also o message.number ≡ None → o ≡ None
+        go None e = refl
+        go (Some why) e = cc
 
     -- A message that is refused.
     pub refused : (why : ReadFault) → read_by own message ≡ Err why

@@ -12,7 +12,8 @@ use Rattle.auditing.proofs.SentLemmas.{none_beyond}
 use Rattle.auditing.specs.Fates.{true_ones}
 use Rattle.auditing.specs.Sent.{AreInTurn}
 use Rattle.live.specs.Holding.{Holding}
-use Rattle.live.specs.Holds.{Holds, held, is_wanted}
+use Rattle.live.specs.Holds.{Holds, is_wanted}
+use Rattle.live.specs.Live.{held}
 use Rattle.live.specs.View.{given_up, in_view, is_below, standing_from, standing_of}
 use Rattle.live.specs.declared.numbers.Numbers.{Numbers}
 use Rattle.live.specs.declared.standing.Standing.TheVariants as standing

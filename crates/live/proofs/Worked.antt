@@ -90,3 +90,11 @@ an_unknown_hart = refl
 met_by_the_front : written 2 2 (alternating 6) (one 0 0 ∷ one 1 1 ∷ one 0 1 ∷ one 0 2 ∷ one 1 2 ∷ [])
     ≡ Decided (at 1 1 1) (finding.InOrder 1) ∷ lost 1 0 0 ∷ []
 met_by_the_front = refl
+
+-- A bit is stuck for two messages: their numbers are beyond and near each other, as after an outage. So SENT is read to its
+-- end, and the front is a window before that.
+a_bit_stuck : written 1 3 (sent 20) (numbered (0 ∷ 1 ∷ (2 + 2 ^ 40) ∷ (3 + 2 ^ 40) ∷ 4 ∷ []))
+    ≡ lost 0 2 2 ∷ lost 0 3 3 ∷ lost 0 4 5 ∷ lost 0 6 9
+    ∷ Decided (at 2 0 (2 + 2 ^ 40)) finding.Stranger ∷ Decided (at 3 0 (3 + 2 ^ 40)) finding.Stranger
+    ∷ TooLate (at 4 0 4) ∷ lost 0 10 17 ∷ lost 0 18 19 ∷ []
+a_bit_stuck = refl

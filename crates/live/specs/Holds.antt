@@ -1,29 +1,24 @@
 -- What is held of SENT, by the messages that were read.
 use Rattle.std.specs.Prelude.{ℕ, ◌≡◌, ◌⊎◌, ◌+◌, ◌-◌, ◌^◌, ◌<◌, ◌≤◌, ◌++◌, ◌&&◌, not, nat_lt, Bool, if◌then◌else◌, List, [], ◌∷◌}
-use Rattle.std.specs.Prelude.{zero, suc, Option, Some, None, drop, length, map, option_map, slice_get, take}
+use Rattle.std.specs.Prelude.{Some, None, drop, length, map, slice_get, take}
 use Rattle.std.specs.List.{AllByRecursion}
 use Rattle.message.specs.OfHart.{of_hart}
 use Rattle.message.specs.declared.message.Message.{Message}
 use Rattle.auditing.specs.Audits.{number_after}
-use Rattle.auditing.specs.Fates.{has_number, true_ones}
+use Rattle.auditing.specs.Fates.{true_ones}
 use Rattle.auditing.specs.Findings.{finding_of, greatest_number}
 use Rattle.auditing.specs.Sent.{AreInTurn, misplaced}
 use Rattle.auditing.specs.declared.finding.Finding.{Finding}
 use Rattle.live.specs.Holding.{Holding}
-use Rattle.live.specs.Live.{is_new}
+use Rattle.live.specs.Live.{held, is_new}
 use Rattle.live.specs.View.{given_up, up_to}
 use Rattle.live.specs.declared.fault.ReadFault.{ReadFault}
 use Rattle.live.specs.declared.fault.ReadFault.TheVariants as fault
 use Rattle.live.specs.declared.numbers.Numbers.{Numbers}
-use Rattle.live.specs.declared.held.SentMessage.{SentMessage}
 use Rattle.live.specs.declared.judged.Judged.{Judged}
 use Rattle.live.specs.declared.judged.Judged.TheVariants as judged
 use Rattle.live.specs.declared.standing.Standing.{Standing}
 use Rattle.live.specs.declared.standing.Standing.TheVariants as standing
-
--- A message of SENT, and whether a true message with its hart and number is among these.
-abbrev pub held : List Message → Message → SentMessage
-held trues message = record { message = message; came = has_number trues message.hart message.number }
 
 -- Of a hart this is how many of its messages are given up, how many were read, and the number after the greatest true one.
 pub record AreNumbers (given sent trues : List Message) (hart : ℕ) (numbers : Numbers) : Type 0 where
@@ -56,11 +51,6 @@ is_wanted harts window sent front hart number =
     nat_lt hart harts
     && (not (nat_lt number (length (of_hart hart sent)))
     && nat_lt (number - length (of_hart hart sent)) (front + window - length sent))
-
--- The last of so many messages of SENT, and whether it came, if there is one.
-abbrev pub last_held : List Message → List Message → ℕ → Option SentMessage
-last_held came sent zero = None
-last_held came sent (suc place) = option_map (held (true_ones sent came)) (slice_get sent place)
 
 -- Why the message after these of SENT is not read: there is no place for it; or there is one, and it is not the next one of
 -- its hart; or it is, and its number is 2^64 - 1.

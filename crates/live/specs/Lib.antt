@@ -1,7 +1,9 @@
 pub mod View
 pub mod Lines
+pub mod Runs
 pub mod Live
 pub mod Written
 pub mod Holding
 pub mod Holds
+pub mod Following
 pub mod steps

@@ -1,8 +1,9 @@
 -- What a live audit says, line by line.
-use Rattle.std.specs.Prelude.{ℕ, Bool}
+use Rattle.std.specs.Prelude.{ℕ}
 use Rattle.message.specs.declared.message.Message.{Message}
 use Rattle.auditing.specs.declared.finding.Finding.{Finding}
 use Rattle.auditing.specs.declared.lost.Lost.{Lost}
+use Rattle.live.specs.declared.held.SentMessage.{SentMessage}
 
 -- A message of RECEIVED, and its place there.
 pub record Arrived : Type 0 where
@@ -14,5 +15,5 @@ pub record Arrived : Type 0 where
 pub data Line : Type 0 where
   Decided : Arrived → Finding → Line
   TooLate : Arrived → Line
-  GivenUp : Message → Bool → Line
+  GivenUp : SentMessage → Line
   Missing : ℕ → Lost → Line

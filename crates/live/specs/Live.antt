@@ -1,27 +1,34 @@
 -- The live audit: what is found of each message of RECEIVED, and when, where only a window of SENT is looked at.
 use Rattle.std.specs.Prelude.{ℕ, ◌+◌, ◌-◌, ◌==◌, ◌&&◌, ◌++◌, min, not, nat_lt, nat_le, Bool, true, false, if◌then◌else◌}
-use Rattle.std.specs.Prelude.{zero, suc, List, [], ◌∷◌, Option, Some, None, drop, length, map, slice_get, take}
-use Rattle.std.specs.List.{filter, flat_map, position_or_len, range_with_len}
+use Rattle.std.specs.Prelude.{zero, suc, List, [], ◌∷◌, Option, Some, None, drop, length, map, option_map, slice_get, take}
+use Rattle.std.specs.List.{flat_map, position_or_len, range_with_len}
 use Rattle.message.specs.declared.message.Message.{Message}
 use Rattle.auditing.specs.Fates.{has_number, is_numbered, true_ones}
 use Rattle.auditing.specs.Findings.{finding_of}
 use Rattle.auditing.specs.declared.finding.Finding.{Finding}
 use Rattle.auditing.specs.declared.finding.Finding.TheVariants as finding
 use Rattle.live.specs.Lines.{Arrived, Line, Decided, TooLate, GivenUp}
+use Rattle.live.specs.Runs.{Run, is_written, no_run, run_left, run_lines, run_with}
 use Rattle.live.specs.View.{given_up, standing_of, up_to}
+use Rattle.live.specs.declared.held.SentMessage.{SentMessage}
 use Rattle.live.specs.declared.standing.Standing.{Standing}
 use Rattle.live.specs.declared.standing.Standing.TheVariants as standing
 
--- How many messages of SENT are up to the front; the messages that came and were found in view; and the messages that are
--- undecided, one of a hart at most.
+-- How many messages of SENT are up to the front; the messages that came and were found in view; of each hart the message
+-- that is undecided, if one is; and of each hart the run of lost numbers that goes on.
 pub record State : Type 0 where
   pub front : ℕ
   pub came : List Message
-  pub waiting : List Arrived
+  pub waiting : ℕ → Option Arrived
+  pub runs : ℕ → Run
 
 -- Before the first message of RECEIVED.
 abbrev pub start : State
-start = record { front = 0; came = []; waiting = [] }
+start = record { front = 0; came = []; waiting = λ hart. None; runs = λ hart. no_run }
+
+-- What harts have, where this one has this.
+abbrev pub with_own : {X : Type 0} → (ℕ → X) → ℕ → X → ℕ → X
+with_own owns hart own other = if other == hart then own else owns other
 
 -- What a step leaves, and the lines that it writes.
 pub record Step : Type 0 where
@@ -59,52 +66,55 @@ strange state one = record { state = state; lines = Decided one finding.Stranger
 
 -- A message is undecided.
 abbrev pub waits : State → Arrived → Step
-waits state one = stays (record state { waiting = state.waiting ++ one ∷ [] })
+waits state one = stays (record state { waiting = with_own state.waiting one.message.hart (Some one) })
 
--- The messages that wait, without those of this hart.
-abbrev pub without : ℕ → List Arrived → List Arrived
-without hart waiting = filter (λ (one : Arrived). not (one.message.hart == hart)) waiting
+-- None of this hart is undecided any more.
+abbrev pub settles : State → ℕ → State
+settles state hart = record state { waiting = with_own state.waiting hart None }
 
--- The first of the messages that wait for which this holds.
-abbrev pub first_that : (Arrived → Bool) → List Arrived → Option Arrived
-first_that holds [] = None
-first_that holds (one ∷ waiting) = if holds one then Some one else first_that holds waiting
+-- The front comes to this message of SENT. If the message of its hart that waits has its number, it is decided.
+abbrev pub met : List Message → State → Message → Option Arrived → Step
+met sent state message None = stays state
+met sent state message (Some one) =
+    if one.message.number == message.number then
+    finds (settles state message.hart) one (finding_of sent state.came one.message) else
+    stays state
 
--- The message that waits of the hart of this one, if there is one.
-abbrev pub of_its_hart : Arrived → List Arrived → Option Arrived
-of_its_hart one waiting = first_that (λ (other : Arrived). other.message.hart == one.message.hart) waiting
+-- A message of SENT, and whether a true message with its hart and number is among these.
+abbrev pub held : List Message → Message → SentMessage
+held trues message = record { message = message; came = has_number trues message.hart message.number }
 
--- A message that waited for the front to come to its place is decided there.
-abbrev pub met : List Message → State → Option Arrived → Step
-met sent state None = stays state
-met sent state (Some one) =
-    finds (record state { waiting = without one.message.hart state.waiting }) one (finding_of sent state.came one.message)
+-- The last of so many messages of SENT, and whether it came, if there is one.
+abbrev pub last_held : List Message → List Message → ℕ → Option SentMessage
+last_held came sent zero = None
+last_held came sent (suc place) = option_map (held (true_ones sent came)) (slice_get sent place)
 
--- The line of a message of SENT that is given up: whether a true message with its hart and number came.
-abbrev pub given_line : List Message → List Message → Message → Line
-given_line sent came message = GivenUp message (has_number (true_ones sent came) message.hart message.number)
+-- A number of this hart is given up, by the run with it.
+abbrev pub ends_run : State → ℕ → Bool → Run → Step
+ends_run state hart came run = record {
+  state = record state { runs = with_own state.runs hart (run_left run came) };
+  lines = if is_written run came then run_lines hart run else [];
+}
 
--- The line of this message of SENT, if there is one.
-abbrev pub given_lines : List Message → List Message → Option Message → List Line
-given_lines sent came None = []
-given_lines sent came (Some message) = given_line sent came message ∷ []
+-- A message of SENT is given up.
+abbrev pub gives : State → SentMessage → Step
+gives state slot =
+    after_lines (GivenUp slot ∷ [])
+    (ends_run state slot.message.hart slot.came (run_with (state.runs slot.message.hart) slot.message.number slot.came))
 
--- The line of the last of so many messages of SENT, if there is one.
-abbrev pub last_given : List Message → List Message → ℕ → List Line
-last_given came sent zero = []
-last_given came sent (suc place) = given_lines sent came (slice_get sent place)
+-- A message of SENT is given up, if there is one.
+abbrev pub gives_last : State → Option SentMessage → Step
+gives_last state None = stays state
+gives_last state (Some slot) = gives state slot
 
 -- The message that is now a window and one before the front is given up.
 abbrev pub gives_up : ℕ → List Message → State → Step
-gives_up window sent state =
-    record { state = state; lines = last_given state.came sent (given_up window state.front) }
+gives_up window sent state = gives_last state (last_held state.came sent (given_up window state.front))
 
 -- The front goes on to the next message of SENT. A message that waits for it is decided, and one more is given up.
 abbrev pub passes : ℕ → List Message → State → Message → Step
 passes window sent state message =
-    and_then
-    (met sent (record state { front = state.front + 1 })
-    (first_that (λ (one : Arrived). is_numbered message.hart message.number one.message) state.waiting))
+    and_then (met sent (record state { front = state.front + 1 }) message (state.waiting message.hart))
     (gives_up window sent)
 
 -- The front goes on over these messages of SENT, one after the other.
@@ -170,7 +180,7 @@ abbrev pub settled : ℕ → List Message → State → Arrived → Option Arriv
 settled window sent state one None = stays state
 settled window sent state one (Some first) =
     and_then
-    (goes_on window sent (record state { waiting = without one.message.hart state.waiting }) first.message one.message)
+    (goes_on window sent (settles state one.message.hart) first.message one.message)
     (λ next. judged strange window sent next first)
 
 -- A message of RECEIVED is taken, of a hart that is known: the one of its hart that waits is decided, then it is looked
@@ -178,7 +188,7 @@ settled window sent state one (Some first) =
 abbrev pub taken : ℕ → List Message → State → Arrived → Step
 taken window sent state one =
     and_then
-    (settled window sent state one (of_its_hart one state.waiting))
+    (settled window sent state one (state.waiting one.message.hart))
     (λ next. judged waits window sent next one)
 
 -- A message of RECEIVED is taken, where there are so many harts.
@@ -186,24 +196,32 @@ abbrev pub taken_of : ℕ → ℕ → List Message → State → Arrived → Ste
 taken_of harts window sent state one =
     if nat_lt one.message.hart harts then taken window sent state one else strange state one
 
+-- These messages of SENT are given up, one after the other.
+abbrev pub gives_all : State → List SentMessage → Step
+gives_all state [] = stays state
+gives_all state (slot ∷ slots) = and_then (gives state slot) (λ next. gives_all next slots)
+
 -- The messages of SENT that are not given up yet are given up.
 abbrev pub gives_all_up : ℕ → List Message → State → Step
 gives_all_up window sent state =
-    record { state = state; lines = map (given_line sent state.came) (drop (given_up window state.front) sent) }
+    gives_all state (map (held (true_ones sent state.came)) (drop (given_up window state.front) sent))
 
--- The messages that wait, by their harts.
-abbrev pub by_hart : ℕ → List Arrived → List Arrived
-by_hart harts waiting =
-    flat_map (λ hart. filter (λ (one : Arrived). one.message.hart == hart) waiting) (range_with_len 0 harts)
+-- The line of the message that waits, if one does: it is a stranger.
+abbrev pub strange_lines : Option Arrived → List Line
+strange_lines None = []
+strange_lines (Some one) = Decided one finding.Stranger ∷ []
 
--- RECEIVED ends: the front goes on to SENT's end, what is left of SENT is given up, and what waits is a stranger.
+-- The lines that are left: what waits is a stranger, and no run goes on.
+abbrev pub last_lines : ℕ → State → List Line
+last_lines harts state =
+    flat_map (λ hart. strange_lines (state.waiting hart)) (range_with_len 0 harts)
+    ++ flat_map (λ hart. run_lines hart (state.runs hart)) (range_with_len 0 harts)
+
+-- RECEIVED ends: the front goes on to SENT's end, and what is left of SENT is given up.
 abbrev pub finished : ℕ → ℕ → List Message → State → Step
 finished harts window sent state =
     and_then (and_then (moves_to window sent (length sent) state) (gives_all_up window sent))
-    (λ next. record {
-      state = next;
-      lines = map (λ one. Decided one finding.Stranger) (by_hart harts next.waiting);
-    })
+    (λ next. record { state = next; lines = last_lines harts next })
 
 -- The messages of RECEIVED are taken, one after the other. The first of them is at this place.
 abbrev pub taken_all : ℕ → ℕ → List Message → State → ℕ → List Message → Step

@@ -2,3 +2,4 @@ pub mod Searching
 pub mod Reading
 pub mod Passing
 pub mod Judging
+pub mod Looking

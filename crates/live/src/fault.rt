@@ -1,6 +1,6 @@
-//! Why a message of SENT is not read.
+//! Why SENT is not read.
 
-use message::DemuxFault;
+use message::{DemuxFault, MessageFault};
 
 /// Why the next message of SENT is not read.
 #[derive(Clone, Copy)]
@@ -9,4 +9,24 @@ pub enum ReadFault {
     Full,
     /// There is a place for the message, but it is not the next one of its hart.
     Misplaced(DemuxFault),
+}
+
+/// Why a source of SENT does not give the next message.
+#[derive(Clone, Copy)]
+pub enum SourceFault {
+    /// What the messages come from cannot be read.
+    Read,
+    /// Allocation failed.
+    Memory,
+    /// There is no complete message.
+    Unread(MessageFault),
+}
+
+/// Why SENT is not read on.
+#[derive(Clone, Copy)]
+pub enum LookFault {
+    /// Its source does not give its next message.
+    Source(SourceFault),
+    /// Its next message is not the next one of its hart.
+    Sent(ReadFault),
 }

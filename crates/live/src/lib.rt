@@ -8,7 +8,7 @@
 //!
 //! [`Window`] is what is held of SENT: at most 2N + 1 messages, in memory that [`Window::new`] takes once.
 //! [`Window::judge`] looks a message of RECEIVED up, and takes it. As long as [`Window::wants`] says so, the next message of
-//! SENT has to be read first, by [`Window::read`]. [`Window::pass`] moves the front by one message, and returns the one that
+//! SENT has to be read first, by [`Window::read`]; [`look`] does so from a [`SentSource`]. [`Window::pass`] moves the front by one message, and returns the one that
 //! is given up.
 #![tactic(auto)]
 
@@ -16,14 +16,19 @@ mod fault;
 mod held;
 mod judged;
 mod laws;
+mod looking;
 mod numbers;
+mod places;
 mod slots;
+mod source;
 mod standing;
 mod window;
 
-pub use fault::ReadFault;
+pub use fault::{LookFault, ReadFault, SourceFault};
 pub use held::SentMessage;
 pub use judged::Judged;
 pub use laws::{untrue_messages_leave_the_front, views_are_bounded};
+pub use looking::look;
+pub use source::SentSource;
 pub use standing::Standing;
 pub use window::{MOST_WINDOW, Window};

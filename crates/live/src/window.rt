@@ -6,10 +6,11 @@ ghost use Rattle.std.specs.VecDeque.{deque_capacity};
 ghost use Rattle.message.specs.declared.message.Message.{Message as AnyMessage};
 ghost use Rattle.auditing.specs.Sent.{AreInTurn};
 ghost use Rattle.live.specs.Holding.{Holding};
-ghost use Rattle.live.specs.Holds.{Holds, IsReadFault, IsWithin, came_by, is_wanted, judged_as, judged_by, last_held};
+ghost use Rattle.live.specs.Holds.{Holds, IsReadFault, IsWithin, came_by, is_wanted, judged_as, judged_by};
+ghost use Rattle.live.specs.Live.{last_held};
 ghost use Rattle.live.specs.View.{given_up, standing_of};
 ghost use Rattle.live.specs.steps.Judging.{found_by, mark_at, taken_by};
-ghost use Rattle.live.specs.steps.Reading.{read_by, read_in, wants_in};
+ghost use Rattle.live.specs.steps.Reading.{read_by, read_in, refusal_by, wants_in};
 ghost use Rattle.live.specs.steps.Passing.{passed, passes_by};
 ghost use Rattle.live.specs.steps.Searching.{is_at};
 
@@ -17,6 +18,7 @@ use crate::fault::ReadFault;
 use crate::held::SentMessage;
 use crate::judged::Judged;
 use crate::numbers::{Numbers, count_read, count_true, give_up, new_finding, refusal};
+use crate::places::Places;
 use crate::slots::{mark, position, set_came};
 use crate::standing::Standing;
 use auditing::{Fate, Finding};
@@ -40,6 +42,8 @@ pub struct Window<A: Allocator = Global> {
     slots: VecDeque<SentMessage, A>,
     /// The numbers of each hart.
     harts: Vec<Numbers, A>,
+    /// Where a message is looked for first.
+    places: Places<A>,
 }
 
 impl<A: Allocator> Model for Window<A> {
@@ -60,7 +64,7 @@ impl<A: Allocator + Copy> Window<A> {
     /// What is held before the first message of SENT is read, where this many messages may be in view before the front and
     /// after it, and where there are so many harts. More than [`MOST_WINDOW`] are as many as that.
     ///
-    /// Memory is taken once: at most 56 bytes for each message that may be in view, and 24 for each hart. No other call takes any.
+    /// Memory is taken once: at most 64 bytes for each message that may be in view, and 56 for each hart. No other call takes any.
     pub fn new(alloc: A, window: u32, harts: u16) -> Result<Window<A>, AllocError>
         ensures window { IfOk result (λ own. own.window ≡ min window MOST_WINDOW) }
         ensures harts { IfOk result (λ own. length own.harts ≡ harts) }
@@ -72,6 +76,7 @@ impl<A: Allocator + Copy> Window<A> {
             near: 0,
             slots: VecDeque::with_capacity(alloc, 2 * window + 1)?,
             harts: vec![in alloc; Numbers::NONE; usize::from(harts)]?,
+            places: Places::new(alloc, 2 * window + 1, harts)?,
         })
     }
 }
@@ -88,7 +93,7 @@ impl<A: Allocator> Window<A> {
 
     /// Where a number of a hart is, by what was read of SENT.
     ///
-    /// The places nearest to the front are looked at first. So it takes as many steps as the message is away from the front.
+    /// It takes as many steps as there are numbers of the hart between this one and the one that was judged before it.
     pub fn find(&self, hart: u16, number: u64) -> Standing
         ensures standing { (sent came : List AnyMessage) (front : ℕ) → Holds sent came front self.now
             → result ≡ standing_of self.now.window sent front hart number }
@@ -121,7 +126,8 @@ impl<A: Allocator> Window<A> {
         ensures found { IfSome result (λ place. is_at self.now.slots hart number place ≡ true) }
         ensures none { IfNone result ((place : ℕ) → is_at self.now.slots hart number place ≡ false) }
     {
-        position(&self.slots, self.near, hart, number)
+        let near = self.places.guess(hart, number).min(self.slots.len());
+        position(&self.slots, near, hart, number)
     }
 
     /// Whether more of SENT has to be read before a message with this hart and this number is looked up. While this is
@@ -147,6 +153,13 @@ impl<A: Allocator> Window<A> {
             Some(own) => number >= own.read && number - own.read < left as u64,
             None => false,
         }
+    }
+
+    /// Why the next message of SENT may not be this one, if there is a place for it.
+    pub(crate) fn refusal(&self, message: &Message) -> Option<ReadFault>
+        ensures { result ≡ refusal_by (slice_get self.now.harts message.now.hart) message.now.number }
+    {
+        refusal(self.harts.as_slice(), message.hart, message.number)
     }
 
     /// Reads the next message of SENT. Takes no memory.
@@ -178,6 +191,7 @@ impl<A: Allocator> Window<A> {
             return Err(why);
         }
         count_read(&mut self.harts, message.hart, message.number);
+        self.places.add(message.hart, message.number);
         self.slots.push_back_reserved(SentMessage {
             message,
             came: false,
@@ -216,6 +230,7 @@ impl<A: Allocator> Window<A> {
         ensures taken { self.new ≡ taken_by self.old place message.now.hart message.now.number
             (mark_at self.old place message.now.payload) }
     {
+        self.places.note(message.hart, message.number, place);
         match mark(&self.slots, place, message.payload.bytes()) {
             Fate::InOrder => {
                 let finding = new_finding(self.harts.as_slice(), message.hart, message.number);
@@ -269,6 +284,7 @@ impl<A: Allocator> Window<A> {
         let first = self.slots.pop_front();
         if let Some(slot) = &first {
             give_up(&mut self.harts, slot.message.hart, slot.message.number);
+            self.places.remove(slot.message.hart);
         }
         first
     }

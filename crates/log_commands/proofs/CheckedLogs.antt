@@ -18,7 +18,6 @@ use Rattle.log_streams.specs.declared.logs_fault.LogsFault.{LogsFault}
 use Rattle.log_streams.specs.declared.stop.Stop.{Stop}
 use Rattle.log_streams.specs.declared.stop.Stop.TheVariants as stop
 use Rattle.log_streams.specs.Known.{Content}
-use Rattle.rvclass.specs.Image.{Image}
 use Rattle.output.specs.Begun.{AppendsBeginning}
 use Rattle.output.proofs.Beginnings.{begun_between}
 use Rattle.command_inputs.proofs.Runs.{appends-keeps}
@@ -32,7 +31,7 @@ use Rattle.command_inputs.specs.declared.fault.Fault.TheVariants as fault
 use Rattle.command_inputs.specs.declared.status.Status.{Status}
 use Rattle.command_inputs.specs.declared.status.Status.TheVariants.{Refused}
 use Rattle.log_commands.specs.declared.reason.LogReason.{LogReason}
-use Rattle.log_commands.specs.Checking.{AppendsFirstLines, ChecksAll, WritesFirstLines, WritesLines, check_lines}
+use Rattle.log_commands.specs.Checking.{AppendsFirstLines, CheckInput, ChecksAll, WritesFirstLines, WritesLines, check_lines}
 use Rattle.log_commands.specs.Checking.{is_illegal, status_with, verdict_line}
 use Rattle.log_commands.specs.steps.Checked.{IsVerdictOnLegal, Verdict, all_lines, is_refused, lines_of, verdict_lines}
 
@@ -77,16 +76,16 @@ pairs_long [] (y ∷ ys) few = absurd (omega (arith, few))
 pairs_long (x ∷ xs) [] few = refl
 pairs_long (x ∷ xs) (y ∷ ys) few = omega (arith, pairs_long xs ys (omega (arith, few)))
 
-module _ (explain : Bool) (program : Image) where
+module _ (explain : Bool) (input : CheckInput) where
   -- The text of logs with the verdicts on them.
   abbrev text_of : List (Path × Verdict) → List ℕ
-  text_of logs = flat_map (lines_of explain program) logs
+  text_of logs = flat_map (lines_of explain input) logs
 
   -- The lines of all logs are written.
   pub all_written : (paths : List Path) (verdicts : List Verdict) (i : ℕ) (old new : Option (List ℕ))
       → length verdicts ≤ length paths → length verdicts ≤ i
-      → Appends old new (flat_map (lines_of explain program) (take i (zip paths verdicts)))
-      → Appends old new (all_lines explain program paths verdicts)
+      → Appends old new (flat_map (lines_of explain input) (take i (zip paths verdicts)))
+      → Appends old new (all_lines explain input paths verdicts)
   all_written paths verdicts i old new few past written =
       let long = pairs_long paths verdicts few in
       subst (λ logs. Appends old new (text_of logs)) (take_all i (zip paths verdicts) (omega (arith, long, past)))
@@ -100,49 +99,49 @@ module _ (explain : Bool) (program : Image) where
     inside : i < length logs
     inside = omega (arith, within, pairs_long paths verdicts few)
 
-    here : lines_of explain program (get_or logs i (path, verdict))
-        ≡ verdict_lines explain program (get_or paths i path).now (get_or verdicts i verdict)
-    here = ap (lines_of explain program)
+    here : lines_of explain input (get_or logs i (path, verdict))
+        ≡ verdict_lines explain input (get_or paths i path).now (get_or verdicts i verdict)
+    here = ap (lines_of explain input)
         (get_or-zip paths verdicts i (path, verdict) (omega (arith, within, few)) within)
 
     text_more : text_of (take (i + 1) logs)
-        ≡ text_of (take i logs) ++ verdict_lines explain program (get_or paths i path).now (get_or verdicts i verdict)
+        ≡ text_of (take i logs) ++ verdict_lines explain input (get_or paths i path).now (get_or verdicts i verdict)
     text_more =
         ap text_of (take_more logs i (path, verdict) inside)
-        ∙ flat_map-append (lines_of explain program) (take i logs) (get_or logs i (path, verdict) ∷ [])
+        ∙ flat_map-append (lines_of explain input) (take i logs) (get_or logs i (path, verdict) ∷ [])
         ∙ ap (λ one. text_of (take i logs) ++ one)
-        (append-nil (lines_of explain program (get_or logs i (path, verdict))) ∙ here)
+        (append-nil (lines_of explain input (get_or logs i (path, verdict))) ∙ here)
 
     text_parts : text_of logs ≡ text_of (take i logs)
-        ++ (verdict_lines explain program (get_or paths i path).now (get_or verdicts i verdict)
+        ++ (verdict_lines explain input (get_or paths i path).now (get_or verdicts i verdict)
         ++ text_of (drop (i + 1) logs))
     text_parts =
         ap text_of (sym (take-append-drop i logs)
         ∙ ap (λ rest. take i logs ++ rest) (drop_more logs i (path, verdict) inside))
-        ∙ flat_map-append (lines_of explain program) (take i logs)
+        ∙ flat_map-append (lines_of explain input) (take i logs)
         (get_or logs i (path, verdict) ∷ drop (i + 1) logs)
         ∙ ap (λ one. text_of (take i logs) ++ (one ++ text_of (drop (i + 1) logs))) here
 
     -- The lines of one log more are written.
     pub log_more : (old mid new : Option (List ℕ))
-        → Appends old mid (flat_map (lines_of explain program) (take i (zip paths verdicts)))
+        → Appends old mid (flat_map (lines_of explain input) (take i (zip paths verdicts)))
         → Appends mid new
-        (verdict_lines explain program (get_or paths i path).now (get_or verdicts i verdict))
-        → Appends old new (flat_map (lines_of explain program) (take (i + 1) (zip paths verdicts)))
+        (verdict_lines explain input (get_or paths i path).now (get_or verdicts i verdict))
+        → Appends old new (flat_map (lines_of explain input) (take (i + 1) (zip paths verdicts)))
     log_more old mid new before one =
         subst (Appends old new) (sym text_more)
         (Appends-trans old mid new (text_of (take i logs))
-        (verdict_lines explain program (get_or paths i path).now (get_or verdicts i verdict)) before one)
+        (verdict_lines explain input (get_or paths i path).now (get_or verdicts i verdict)) before one)
 
     -- A prefix of the lines of one log more is written.
     pub log_begun : (old mid new : Option (List ℕ))
-        → Appends old mid (flat_map (lines_of explain program) (take i (zip paths verdicts)))
-        → AppendsBeginning (verdict_lines explain program (get_or paths i path).now (get_or verdicts i verdict)) mid new
-        → AppendsBeginning (all_lines explain program paths verdicts) old new
+        → Appends old mid (flat_map (lines_of explain input) (take i (zip paths verdicts)))
+        → AppendsBeginning (verdict_lines explain input (get_or paths i path).now (get_or verdicts i verdict)) mid new
+        → AppendsBeginning (all_lines explain input paths verdicts) old new
     log_begun old mid new before begun =
         subst (λ text. AppendsBeginning text old new) (sym text_parts)
         (begun_between (text_of (take i logs))
-        (verdict_lines explain program (get_or paths i path).now (get_or verdicts i verdict))
+        (verdict_lines explain input (get_or paths i path).now (get_or verdicts i verdict))
         (text_of (drop (i + 1) logs)) old mid new before begun)
 
 -- Only the first things have others beside them.
@@ -152,16 +151,16 @@ zip_front [] (y ∷ ys) = refl
 zip_front (x ∷ xs) [] = refl
 zip_front (x ∷ xs) (y ∷ ys) = ap (λ pairs. (x, y) ∷ pairs) (zip_front xs ys)
 
-module _ (most : ℕ) (content : Content) (explain : Bool) (program : Image) where
+module _ (most : ℕ) (content : Content) (explain : Bool) (input : CheckInput) where
   -- The log at a path was read and checked by the program, and this is the verdict on it.
   pub record IsVerdictAt (path : Path) (verdict : Verdict) : Type 0 where
     pub log : Judged
-    pub judged : IsJudgedUpTo most content program path log
-    pub lines : verdict_lines explain program path.now verdict ≡ check_lines explain program log
+    pub judged : IsJudgedUpTo most content input.program path log
+    pub lines : verdict_lines explain input path.now verdict ≡ check_lines explain input log
     pub illegal : is_refused verdict ≡ is_illegal log
 
   legal_verdict : (path : Path) (hart : ℕ) (verdict : Verdict)
-      → IsMadeOfLegal (λ hart. IsVerdictOnLegal) (content path.now) program most hart verdict
+      → IsMadeOfLegal (λ hart. IsVerdictOnLegal) (content path.now) input.program most hart verdict
       → IsVerdictAt path verdict
   legal_verdict path hart verdict is =
       let counted : verdict ≡ Ok (length is.events) = is.makes in record {
@@ -171,13 +170,13 @@ module _ (most : ℕ) (content : Content) (explain : Bool) (program : Image) whe
           read = log_read_in most content path is.events is.read;
           verdict = is.legal.legal;
         };
-        lines = ap (verdict_lines explain program path.now) counted
+        lines = ap (verdict_lines explain input path.now) counted
             ∙ sym (append-nil (verdict_line path.now (length is.events) None));
         illegal = ap is_refused counted;
       }
 
   illegal_verdict : (path : Path) (verdict : Verdict)
-      → IsMadeOfIllegal (λ events row verdict. verdict ≡ Err row) (content path.now) program most verdict
+      → IsMadeOfIllegal (λ events row verdict. verdict ≡ Err row) (content path.now) input.program most verdict
       → IsVerdictAt path verdict
   illegal_verdict path verdict is =
       let row = is.row in
@@ -196,9 +195,9 @@ module _ (most : ℕ) (content : Content) (explain : Bool) (program : Image) whe
             reason = at.reason;
           };
         };
-        lines = ap (verdict_lines explain program path.now) is.makes
+        lines = ap (verdict_lines explain input path.now) is.makes
             ∙ ap (λ line. verdict_line path.now 0 (Some row.fault) ++ (if explain then line else []))
-            (explanation-of_row program is.events row.before row.event row.fault (record {
+            (explanation-of_row input.symbols input.program is.events row.before row.event row.fault (record {
               front = at.front;
               rest = at.rest;
               whole = at.whole;
@@ -209,7 +208,7 @@ module _ (most : ℕ) (content : Content) (explain : Bool) (program : Image) whe
       }
 
   verdict_at : (path : Path) (hart : ℕ) (verdict : Verdict)
-      → IsMadeOf (λ hart. IsVerdictOnLegal) (λ events row verdict. verdict ≡ Err row) (content path.now) program
+      → IsMadeOf (λ hart. IsVerdictOnLegal) (λ events row verdict. verdict ≡ Err row) (content path.now) input.program
       most hart (Ok verdict)
       → IsVerdictAt path verdict
   verdict_at path hart verdict (inl is) = legal_verdict path hart verdict is
@@ -218,8 +217,8 @@ module _ (most : ℕ) (content : Content) (explain : Bool) (program : Image) whe
   -- The logs on which these are the verdicts.
   record AllChecked (paths : List Path) (verdicts : List Verdict) : Type 0 where
     pub logs : List Judged
-    pub judged : AllZip (IsJudgedUpTo most content program) paths logs
-    pub lines : all_lines explain program paths verdicts ≡ flat_map (check_lines explain program) logs
+    pub judged : AllZip (IsJudgedUpTo most content input.program) paths logs
+    pub lines : all_lines explain input paths verdicts ≡ flat_map (check_lines explain input) logs
     pub illegal : list_any is_refused verdicts ≡ list_any is_illegal logs
 
   all_checked : (paths : List Path) (verdicts : List Verdict) → AllZip IsVerdictAt paths verdicts
@@ -232,21 +231,21 @@ module _ (most : ℕ) (content : Content) (explain : Bool) (program : Image) whe
       let rest = all_checked paths verdicts all.1 in record {
         logs = first.log ∷ rest.logs;
         judged = (first.judged, rest.judged);
-        lines = ap (λ text. text ++ all_lines explain program paths verdicts) first.lines
-            ∙ ap (λ text. check_lines explain program first.log ++ text) rest.lines;
+        lines = ap (λ text. text ++ all_lines explain input paths verdicts) first.lines
+            ∙ ap (λ text. check_lines explain input first.log ++ text) rest.lines;
         illegal = ap (λ b. b || list_any is_refused verdicts) first.illegal
             ∙ ap (λ b. is_illegal first.log || b) rest.illegal;
       }
 
   -- There is no log at the path of one that is not read, unless an allocation failed. An illegal log is read.
-  unread : (path : Path) (why : Stop) → MayStop ⊥ why → IsStopped (content path.now) program most why
+  unread : (path : Path) (why : Stop) → MayStop ⊥ why → IsStopped (content path.now) input.program most why
       → (stop_fault {W = LogReason} path why ≡ fault.Memory)
       ⊎ IsLogUpTo {W = LogReason} most content path (Err (stop_fault path why))
   unread path (stop.Unread why) may is = log_unread_in most content path why is
   unread path (stop.Illegal why) may is = absurd may
 
   module _ (paths : List Path) (verdicts : List Verdict) (end : Result (Unit {0}) LogsFault)
-      (are : AreMade (λ hart. IsVerdictOnLegal) (λ events row verdict. verdict ≡ Err row) content program most
+      (are : AreMade (λ hart. IsVerdictOnLegal) (λ events row verdict. verdict ≡ Err row) content input.program most
       paths verdicts end) (old new : Option (List ℕ)) where
     -- The paths of the logs that were read.
     abbrev front : List Path
@@ -257,11 +256,11 @@ module _ (most : ℕ) (content : Content) (explain : Bool) (program : Image) whe
         (front_by_place IsVerdictAt paths verdicts are.few
         (λ hart path verdict here there. verdict_at path hart verdict (are.each hart path verdict here there)))
 
-    lines : all_lines explain program paths verdicts ≡ flat_map (check_lines explain program) checked.logs
-    lines = ap (flat_map (lines_of explain program)) (zip_front paths verdicts) ∙ checked.lines
+    lines : all_lines explain input paths verdicts ≡ flat_map (check_lines explain input) checked.logs
+    lines = ap (flat_map (lines_of explain input)) (zip_front paths verdicts) ∙ checked.lines
 
     -- The lines of the logs that were read are what a run of these logs prints.
-    first_lines : ChecksAll most content explain program front (all_lines explain program paths verdicts)
+    first_lines : ChecksAll most content explain input front (all_lines explain input paths verdicts)
         (status_with (list_any is_refused verdicts))
     first_lines = record {
       logs = checked.logs;
@@ -272,28 +271,28 @@ module _ (most : ℕ) (content : Content) (explain : Bool) (program : Image) whe
 
     -- All logs were read, and their lines are written.
     pub lines_whole : (status : Status) → end ≡ Ok tt → status ≡ status_with (list_any is_refused verdicts)
-        → Appends old new (all_lines explain program paths verdicts)
-        → PrintsUnlessDenied (WritesLines most content explain program paths) ⊤ (Ok status) old new
+        → Appends old new (all_lines explain input paths verdicts)
+        → PrintsUnlessDenied (WritesLines most content explain input paths) ⊤ (Ok status) old new
     lines_whole status is same written =
-        let text = all_lines explain program paths verdicts in
+        let text = all_lines explain input paths verdicts in
         let long : length verdicts ≡ length paths = are.all is in
         let all : front ≡ paths = take_all (length verdicts) paths (omega (arith, long)) in record {
           text = text;
-          prints = subst (λ all. ChecksAll most content explain program all text status) all
-              (subst (ChecksAll most content explain program front text) (sym same) first_lines);
+          prints = subst (λ all. ChecksAll most content explain input all text status) all
+              (subst (ChecksAll most content explain input front text) (sym same) first_lines);
           appended = written;
         }
 
     unread_at : (last : LogsFault) → slice_get paths (length verdicts) ≡ Some last.path
-        → Appends old new (all_lines explain program paths verdicts)
+        → Appends old new (all_lines explain input paths verdicts)
         → (stop_fault {W = LogReason} last.path last.why ≡ fault.Memory)
         ⊎ IsLogUpTo {W = LogReason} most content last.path (Err (stop_fault last.path last.why))
-        → PrintsUnlessDenied (WritesLines most content explain program paths) ⊤
+        → PrintsUnlessDenied (WritesLines most content explain input paths) ⊤
         (Err (stop_fault last.path last.why)) old new
     unread_at last there written (inl denied) = inl (inl denied)
     unread_at last there written (inr none) =
         let parted = parted_at paths (length verdicts) last.path there in inr (record {
-          text = all_lines explain program paths verdicts;
+          text = all_lines explain input paths verdicts;
           prints = record {
             front = front;
             path = last.path;
@@ -309,36 +308,36 @@ module _ (most : ℕ) (content : Content) (explain : Bool) (program : Image) whe
 
     -- A log was not read. The lines of those before it are written.
     pub lines_unread : (last : LogsFault) → end ≡ Err last → MayStop ⊥ last.why
-        → Appends old new (all_lines explain program paths verdicts)
-        → PrintsUnlessDenied (WritesLines most content explain program paths) ⊤
+        → Appends old new (all_lines explain input paths verdicts)
+        → PrintsUnlessDenied (WritesLines most content explain input paths) ⊤
         (Err (stop_fault last.path last.why)) old new
     lines_unread last is may written =
         let stop = subst (λ end. IfErr end (λ last. (slice_get paths (length verdicts) ≡ Some last.path)
         × IsMadeOf (λ hart. IsVerdictOnLegal) (λ events row (verdict : Verdict). verdict ≡ Err row)
-        (content last.path.now) program most (length verdicts) (Err last.why))) is are.fault in
+        (content last.path.now) input.program most (length verdicts) (Err last.why))) is are.fault in
         unread_at last stop.0 written (unread last.path last.why may stop.1)
 
     -- The lines of the logs that were read are written.
-    pub lines_first : Appends old new (all_lines explain program paths verdicts)
-        → AppendsFirstLines most content explain program paths old new
+    pub lines_first : Appends old new (all_lines explain input paths verdicts)
+        → AppendsFirstLines most content explain input paths old new
     lines_first written = record {
       front = front;
       rest = drop (length verdicts) paths;
       status = status_with (list_any is_refused verdicts);
       whole = sym (take-append-drop (length verdicts) paths);
       lines = record {
-        text = all_lines explain program paths verdicts;
+        text = all_lines explain input paths verdicts;
         prints = first_lines;
         appended = written;
       };
     }
 
     -- A prefix of the lines of the logs that were read is written.
-    pub lines_cut : AppendsBeginning (all_lines explain program paths verdicts) old new
-        → BeginsPrinted (WritesFirstLines most content explain program paths) old new
+    pub lines_cut : AppendsBeginning (all_lines explain input paths verdicts) old new
+        → BeginsPrinted (WritesFirstLines most content explain input paths) old new
     lines_cut begun = record {
       printed = record {
-        text = all_lines explain program paths verdicts;
+        text = all_lines explain input paths verdicts;
         ended = Ok (status_with (list_any is_refused verdicts));
       };
       prints = record {
@@ -357,11 +356,11 @@ both_written line more old mid new (Ok done) first next = Appends-trans old mid 
 both_written line more old mid new (Err why) first next = tt
 
 -- First lines were appended, and then nothing more.
-pub lines_kept : (most : ℕ) (content : Content) (explain : Bool) (program : Image) (paths : List Path)
+pub lines_kept : (most : ℕ) (content : Content) (explain : Bool) (input : CheckInput) (paths : List Path)
     (old mid new : Option (List ℕ))
-    → AppendsFirstLines most content explain program paths old mid → Keeps mid new
-    → AppendsFirstLines most content explain program paths old new
-lines_kept most content explain program paths old mid new begun kept = record {
+    → AppendsFirstLines most content explain input paths old mid → Keeps mid new
+    → AppendsFirstLines most content explain input paths old new
+lines_kept most content explain input paths old mid new begun kept = record {
   front = begun.front;
   rest = begun.rest;
   status = begun.status;

@@ -1,5 +1,5 @@
 -- The numbers of the header of a capture that is asked for.
-use Rattle.std.proofs.Common.{◌≡◌, ◌≤◌, ◌<◌, ◌^◌, ◌-◌, ℕ, Bool, true, false, Option, Some, None, Result, Ok, Err}
+use Rattle.std.proofs.Common.{◌≡◌, ◌≤◌, ◌<◌, ◌^◌, ◌-◌, ◌+◌, ℕ, Bool, true, false, Option, Some, None, Result, Ok, Err}
 use Rattle.std.proofs.Common.{arith, if◌then◌else◌, nat_lt, refl}
 use Rattle.std.proofs.lemmas.Bool.{ltb-false, ltb-true}
 use Rattle.captures.specs.Versions.{MayStart}
@@ -57,3 +57,29 @@ harts_in_part asked logs most leads one few =
     let found = most_logs asked.version asked.first asked.of in
     in_part asked.version asked.first asked.of logs most (part_there part base found most leads)
     (limit_there part base found most leads) one few
+
+-- The logs of a part are those of harts that it counts.
+within_part : (version : Version) (first of : Option ℕ) (logs most : ℕ) → asked_part version first of ≡ Ok tt
+    → most_logs version first of ≡ Ok most → logs ≤ most → first_hart first + logs ≤ all_harts of logs
+within_part version None None logs most part is few = omega arith
+within_part version (Some first) None logs most part is few = cc
+within_part version first (Some harts) logs most part is few =
+    below (nat_lt (first_hart first) harts) refl is
+  where
+    below : (b : Bool) → nat_lt (first_hart first) harts ≡ b
+        → ◌≡◌ {A = Result ℕ Fault} (if b then Ok (harts - first_hart first) else Err (fault.Own (FirstHart harts))) (Ok most)
+        → first_hart first + logs ≤ harts
+    below true here same =
+        let less = ltb-true (first_hart first) harts here in
+        let limit : harts - first_hart first ≡ most = cc same in omega (arith, less, limit, few)
+    below false here same = cc
+
+-- And where there is a limit of the logs.
+pub logs_in_part : (asked : Encode) (logs most : ℕ) → limit_of asked ≡ Ok most → logs ≤ most
+    → first_hart asked.first + logs ≤ all_harts asked.of logs
+logs_in_part asked logs most leads few =
+    let part = asked_part asked.version asked.first asked.of in
+    let base = base_number asked.program in
+    let found = most_logs asked.version asked.first asked.of in
+    within_part asked.version asked.first asked.of logs most (part_there part base found most leads)
+    (limit_there part base found most leads) few

@@ -16,10 +16,10 @@ use Rattle.message.specs.declared.header.Version.{Version}
 use Rattle.message.specs.declared.message.Message.{Message}
 use Rattle.payload.specs.declared.mode.Mode.{Mode}
 use Rattle.command_inputs.specs.declared.words.Encode.{Encode}
-use Rattle.log_commands.specs.Encoding.{written}
+use Rattle.log_commands.specs.Encoding.{messages_in_order, written}
 use Rattle.log_commands.specs.Joining.{AllLogsAreOnePart, AreParts, AsksPart, PartRun, PartsAreJoined, complete_text}
 use Rattle.log_commands.specs.Joining.{logs_of_runs, text_of_runs}
-use Rattle.log_commands.specs.Parts.{all_harts, first_hart, part_start, part_text}
+use Rattle.log_commands.specs.Parts.{all_harts, first_hart, messages_text, part_start, part_text}
 
 -- Messages of harts, each written as `text` says, and then those of the harts after them.
 harts_joined : (text : Message → List ℕ) (period : ℕ) (mode : Mode) (hart : ℕ) (logs more : List ProgramLog)
@@ -43,7 +43,10 @@ module _ (hex : Bool) (version : Version) (period : ℕ) (mode : Mode) (harts : 
       → AsksPart hex version period mode harts hart asked
       → written asked logs ≡ part_text hex version period mode hart harts logs
   part_written hart asked logs asks =
-      ap (λ hex. part_text hex asked.version asked.period asked.mode (first_hart asked.first)
+      ap (λ mixed. messages_text asked.hex asked.version asked.period asked.mode (first_hart asked.first)
+      (all_harts asked.of (length logs))
+      (messages_in_order mixed asked.period asked.mode (first_hart asked.first) logs)) asks.in_order
+      ∙ ap (λ hex. part_text hex asked.version asked.period asked.mode (first_hart asked.first)
       (all_harts asked.of (length logs)) logs) asks.in_form
       ∙ ap (λ version. part_text hex version asked.period asked.mode (first_hart asked.first)
       (all_harts asked.of (length logs)) logs) asks.in_version
@@ -129,5 +132,8 @@ all_of_them hex version period mode first of logs none alone =
 
 -- Where no count of all harts is given, there is one part.
 pub one_part : AllLogsAreOnePart
-one_part asked logs none alone =
-    all_of_them asked.hex asked.version asked.period asked.mode asked.first asked.of logs none alone
+one_part asked logs none alone in_order =
+    ap (λ mixed. messages_text asked.hex asked.version asked.period asked.mode (first_hart asked.first)
+    (all_harts asked.of (length logs))
+    (messages_in_order mixed asked.period asked.mode (first_hart asked.first) logs)) in_order
+    ∙ all_of_them asked.hex asked.version asked.period asked.mode asked.first asked.of logs none alone

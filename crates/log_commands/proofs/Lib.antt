@@ -7,3 +7,4 @@ mod MadeLogs
 mod PartLogs
 mod Reports
 mod Schedules
+pub mod MixedLogs

@@ -1,6 +1,6 @@
 -- What is made of logs that all have to be legal, and what is written of it.
 use Rattle.std.proofs.Common.{◌≡◌, ◌⊎◌, inl, inr, refl, ℕ, suc, ◌+◌, ◌≤◌, List, [], ◌∷◌, ◌++◌, Result, Ok, Err}
-use Rattle.std.proofs.Common.{All, Bool, IfErr, IfOk, Some, false, if◌then◌else◌, true}
+use Rattle.std.proofs.Common.{All, Bool, IfErr, IfOk, None, Some, false, if◌then◌else◌, true}
 use Rattle.std.proofs.Common.{ap, arith, length, slice_get, subst, sym, take, zero-add, ◌∙◌}
 use Rattle.std.proofs.lemmas.Grind.{flat_map-append}
 use Rattle.std.proofs.lemmas.List.{take_all}
@@ -13,6 +13,7 @@ use Rattle.captures.specs.HexLines.{hex_line}
 use Rattle.captures.specs.Messages.{messages_of_harts}
 use Rattle.encoder.specs.Payloads.{payloads}
 use Rattle.log_streams.specs.Known.{Content}
+use Rattle.legalpath.specs.LegalUpTo.{IsLegalUpTo}
 use Rattle.legalpath.specs.ProgramLog.{ProgramLog, program_log}
 use Rattle.log_streams.specs.Made.{AreMade, IsMadeOf}
 use Rattle.log_streams.specs.declared.illegal_row.IllegalRow.{IllegalRow}
@@ -33,10 +34,10 @@ use Rattle.command_inputs.specs.FoundLogs.{AreLegalLogsUpTo, IsFirstRefusedUpTo,
 use Rattle.command_inputs.specs.declared.fault.Fault.TheVariants as fault
 use Rattle.log_commands.specs.Faults.{Fault}
 use Rattle.log_commands.specs.declared.reason.LogReason.{LogReason}
-use Rattle.log_commands.specs.Encoding.{written}
-use Rattle.log_commands.specs.Parts.{all_harts, first_hart, part_start, part_text}
-use Rattle.log_commands.specs.steps.Made.{AreMadeFrom, AreMadeOfLogs, AreMeasuresOf, AreMessagesOf, all_or_fault}
-use Rattle.log_commands.specs.steps.Made.{asked_header, form_text, joined, written_of}
+use Rattle.log_commands.specs.Encoding.{messages_in_order, written}
+use Rattle.log_commands.specs.Parts.{all_harts, first_hart, messages_text, part_start, part_text}
+use Rattle.log_commands.specs.steps.Made.{AreAskedMessages, AreMadeFrom, AreMadeOfLogs, AreMeasuresOf, AreMessagesOf}
+use Rattle.log_commands.specs.steps.Made.{all_or_fault, asked_header, form_text, joined, lines_made, written_of}
 
 module _ {X : Type 0} (Makes : ℕ → ProgramLog → X → Type 0) where
   -- What was made belongs to as many logs.
@@ -60,6 +61,7 @@ module _ {X : Type 0} (Makes : ℕ → ProgramLog → X → Type 0) where
     record MadeAt (hart : ℕ) (path : Path) (one : X) : Type 0 where
       pub log : ProgramLog
       pub legal : IsLegalLogUpTo {W = LogReason} most content program path (Ok log)
+      pub few : IsLegalUpTo most log.program log.events
       pub makes : Makes hart log one
 
     made_at : (hart : ℕ) (path : Path) (one : X)
@@ -71,6 +73,7 @@ module _ {X : Type 0} (Makes : ℕ → ProgramLog → X → Type 0) where
         read = log_read_in most content path there.events there.read;
         judged = (refl, there.legal.legal);
       };
+      few = there.legal;
       makes = there.makes;
     }
     made_at hart path one (inr there) = elim there.makes [ ]
@@ -80,13 +83,15 @@ module _ {X : Type 0} (Makes : ℕ → ProgramLog → X → Type 0) where
       pub logs : List ProgramLog
       pub legal : AllZip (λ path log. IsLegalLogUpTo {W = LogReason} most content program path (Ok log))
           (take (length made) paths) logs
+      pub few : All (λ (log : ProgramLog). IsLegalUpTo most log.program log.events) logs
       pub each : AreMadeFrom Makes hart logs made
 
     front_made : (hart : ℕ) (paths : List Path) (made : List X) → length made ≤ length paths
         → ((i : ℕ) (path : Path) (one : X) → slice_get paths i ≡ Some path → slice_get made i ≡ Some one
         → MadeAt (hart + i) path one)
         → FrontMade hart paths made
-    front_made hart paths [] few each = record { logs = []; legal = tt; each = tt }
+    front_made hart paths [] few each =
+        record { logs = []; legal = tt; few = All-nil (λ (log : ProgramLog). IsLegalUpTo most log.program log.events); each = tt }
     front_made hart [] (one ∷ made) few each = absurd (omega (arith, few))
     front_made hart (path ∷ paths) (one ∷ made) few each =
         let here = each 0 path one refl refl in
@@ -94,6 +99,8 @@ module _ {X : Type 0} (Makes : ℕ → ProgramLog → X → Type 0) where
         subst (λ hart. MadeAt hart path one) (omega arith) (each (suc i) path one at is)) in record {
           logs = here.log ∷ rest.logs;
           legal = (here.legal, rest.legal);
+          few = All-cons (λ (log : ProgramLog). IsLegalUpTo most log.program log.events) here.log rest.logs here.few
+              rest.few;
           each = (subst (λ hart. Makes hart here.log one) (omega arith) here.makes, rest.each);
         }
 
@@ -113,6 +120,7 @@ module _ {X : Type 0} (Makes : ℕ → ProgramLog → X → Type 0) where
             legal = subst (λ paths. AllZip (λ path log. IsLegalLogUpTo {W = LogReason} most content program path
                 (Ok log)) paths front.logs)
                 (take_all (length made) paths (omega (arith, are.all refl))) front.legal;
+            few = front.few;
             each = front.each;
           }
 
@@ -206,10 +214,15 @@ module _ (asked : Encode) (logs : List ProgramLog) (made : List (Vec ℕ Global)
       (all_joined message_bytes asked.period asked.mode first logs made are
       ∙ sym (capture_is (messages_of_harts asked.period asked.mode first logs)))
 
-  -- What is written of the messages of logs is what is asked for.
-  pub messages_written : AreMadeFrom (AreMessagesOf (form_text asked.hex) asked.period asked.mode first) 0 logs made
+  -- What is written of the messages of logs is what is asked for, one log after the other.
+  pub messages_written : asked.mixed ≡ None → AreAskedMessages asked logs made
       → written_of asked made ≡ written asked logs
-  messages_written are = by_form asked.hex are
+  messages_written none are =
+      by_form asked.hex
+      (subst (λ mixed. AreMadeFrom (AreMessagesOf (form_text (lines_made mixed asked.hex)) asked.period asked.mode first) 0
+      logs made) none are.1)
+      ∙ ap (λ mixed. messages_text asked.hex asked.version asked.period asked.mode first
+      (all_harts asked.of (length logs)) (messages_in_order mixed asked.period asked.mode first logs)) (sym none)
 
 -- The measures of logs are those of each.
 pub measures_each : (period : ℕ) (mode : Mode) (hart : ℕ) (logs : List ProgramLog) (made : List Measures)

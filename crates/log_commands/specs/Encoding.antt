@@ -1,6 +1,12 @@
 -- What `encode` prints, and how it ends.
-use Rattle.std.specs.Prelude.{⊤, ◌≡◌, ℕ, List, Option, Result, Ok, length}
+use Rattle.std.specs.Prelude.{⊤, ◌≡◌, ◌+◌, ℕ, List, [], ◌∷◌, Option, Some, None, Result, Ok, length}
+use Rattle.captures.specs.Messages.{messages_of_harts}
+use Rattle.encoder.specs.Payloads.{payloads}
 use Rattle.legalpath.specs.ProgramLog.{ProgramLog}
+use Rattle.message.specs.Numbered.{messages_from}
+use Rattle.message.specs.declared.message.Message.{Message}
+use Rattle.payload.specs.declared.mode.Mode.{Mode}
+use Rattle.stimulus.specs.Mixing.{mixed_by}
 use Rattle.command_inputs.specs.declared.words.Encode.{Encode}
 use Rattle.command_inputs.specs.FurtherPieces.{base_number}
 use Rattle.command_inputs.specs.Finding.{After}
@@ -12,14 +18,27 @@ use Rattle.command_inputs.specs.Printed.{First}
 use Rattle.command_inputs.specs.declared.status.Status.TheVariants.{Whole}
 use Rattle.log_commands.specs.Faults.{Fault, Meaning, Once, Printed}
 use Rattle.log_commands.specs.Most.{most_of}
-use Rattle.log_commands.specs.Parts.{all_harts, asked_part, first_hart, most_logs, part_fault, part_text}
+use Rattle.log_commands.specs.Parts.{all_harts, asked_part, first_hart, messages_text, most_logs, part_fault}
 
--- The text of the messages of legal logs, hart after hart: lines of hexadecimal, or a capture of the version that is
--- asked for, or a part of one. Where no count of all harts is given, it is the complete capture.
+-- The messages of each log. The first is that of this hart.
+abbrev pub messages_of_each : ℕ → Mode → ℕ → List ProgramLog → List (List Message)
+messages_of_each period mode hart [] = []
+messages_of_each period mode hart (log ∷ logs) =
+    messages_from hart 0 (payloads period mode log) ∷ messages_of_each period mode (hart + 1) logs
+
+-- The messages of legal logs: hart after hart, or mixed by a seed, where one is given. The first log is that of this
+-- hart.
+abbrev pub messages_in_order : Option ℕ → ℕ → Mode → ℕ → List ProgramLog → List Message
+messages_in_order None period mode hart logs = messages_of_harts period mode hart logs
+messages_in_order (Some seed) period mode hart logs = mixed_by seed (messages_of_each period mode hart logs)
+
+-- The text of the messages of legal logs, in the order that is asked for: lines of hexadecimal, or a capture of the
+-- version that is asked for, or a part of one. Where no count of all harts is given, it is the complete capture.
 abbrev pub written : Encode → List ProgramLog → List ℕ
 written asked logs =
-    part_text asked.hex asked.version asked.period asked.mode (first_hart asked.first)
-    (all_harts asked.of (length logs)) logs
+    messages_text asked.hex asked.version asked.period asked.mode (first_hart asked.first)
+    (all_harts asked.of (length logs))
+    (messages_in_order asked.mixed asked.period asked.mode (first_hart asked.first) logs)
 
 -- The messages of legal logs are written, and all is done.
 abbrev pub WritesMessages : Encode → List ProgramLog → Printed → Type 0

@@ -5,10 +5,11 @@ use Rattle.captures.specs.HexLines.{hex_text}
 use Rattle.captures.specs.Messages.{messages_of_harts}
 use Rattle.captures.specs.Versions.{capture_of}
 use Rattle.legalpath.specs.ProgramLog.{ProgramLog}
+use Rattle.message.specs.OfHart.{of_hart}
 use Rattle.message.specs.declared.header.Version.{Version}
 use Rattle.payload.specs.declared.mode.Mode.{Mode}
 use Rattle.command_inputs.specs.declared.words.Encode.{Encode}
-use Rattle.log_commands.specs.Encoding.{written}
+use Rattle.log_commands.specs.Encoding.{messages_in_order, written}
 use Rattle.log_commands.specs.Parts.{first_hart}
 
 -- The capture of all logs, or its messages as lines of hexadecimal.
@@ -29,7 +30,7 @@ abbrev pub text_of_runs : List PartRun → List ℕ
 text_of_runs runs = flat_map (λ run. written run.0 run.1) runs
 
 -- What is asked for is the part of a capture of this many harts whose first hart is this one, in this form, version and
--- mode and at this period.
+-- mode and at this period, one log after the other.
 pub record AsksPart (hex : Bool) (version : Version) (period : ℕ) (mode : Mode) (harts hart : ℕ) (asked : Encode)
     : Type 0 where
   pub in_form : asked.hex ≡ hex
@@ -38,6 +39,7 @@ pub record AsksPart (hex : Bool) (version : Version) (period : ℕ) (mode : Mode
   pub in_mode : asked.mode ≡ mode
   pub of_harts : asked.of ≡ Some harts
   pub from_hart : first_hart asked.first ≡ hart
+  pub in_order : asked.mixed ≡ None
 
 -- These runs are those of all parts from this hart on of a capture of this many harts. Each has a log at least, and the
 -- next part's first hart comes after that of its last log.
@@ -54,8 +56,16 @@ PartsAreJoined =
     → AreParts hex version period mode harts 0 runs
     → text_of_runs runs ≡ complete_text hex version period mode (logs_of_runs runs)
 
--- Where no count of all harts is given, the capture of all logs is written.
+-- Where no count of all harts is given, nor a seed, the capture of all logs is written.
 abbrev pub AllLogsAreOnePart : Type 0
 AllLogsAreOnePart =
-    (asked : Encode) (logs : List ProgramLog) → asked.first ≡ None → asked.of ≡ None
+    (asked : Encode) (logs : List ProgramLog) → asked.first ≡ None → asked.of ≡ None → asked.mixed ≡ None
     → written asked logs ≡ complete_text asked.hex asked.version asked.period asked.mode logs
+
+-- Mixed messages are a mixing of those that are written one log after another: each hart's are the same, in the same
+-- order.
+abbrev pub MixedMessagesAreTheSame : Type 0
+MixedMessagesAreTheSame =
+    (seed period : ℕ) (mode : Mode) (first : ℕ) (logs : List ProgramLog) (hart : ℕ)
+    → of_hart hart (messages_in_order (Some seed) period mode first logs)
+    ≡ of_hart hart (messages_in_order None period mode first logs)

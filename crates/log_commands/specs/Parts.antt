@@ -11,6 +11,7 @@ use Rattle.message.specs.Capture.{capture}
 use Rattle.message.specs.Version.{most_harts}
 use Rattle.message.specs.declared.header.Header.{Header}
 use Rattle.message.specs.declared.header.Version.{Version}
+use Rattle.message.specs.declared.message.Message.{Message}
 use Rattle.payload.specs.declared.mode.Mode.{Mode}
 use Rattle.log_commands.specs.Faults.{Fault}
 use Rattle.log_commands.specs.declared.reason.LogReason.TheVariants.{FirstAlone, FirstHart, ManyHarts}
@@ -29,17 +30,17 @@ all_harts (Some harts) logs = harts
 abbrev pub part_start : Version → ℕ → Header → List ℕ
 part_start version hart header = if hart == 0 then start_bytes version header else []
 
--- The part of a capture of this many harts whose logs are these. The first is that of this hart.
-abbrev pub part_of_capture : Version → ℕ → Mode → ℕ → ℕ → List ProgramLog → List ℕ
-part_of_capture version period mode hart harts logs =
-    part_start version hart (record { mode = mode; period = period; harts = harts })
-    ++ capture (messages_of_harts period mode hart logs)
+-- The text of messages: lines of hexadecimal, where these are asked for, or a part of a capture of this many harts. The
+-- first log is that of this hart.
+abbrev pub messages_text : Bool → Version → ℕ → Mode → ℕ → ℕ → List Message → List ℕ
+messages_text hex version period mode hart harts messages =
+    if hex then hex_text messages
+    else (part_start version hart (record { mode = mode; period = period; harts = harts }) ++ capture messages)
 
--- The same part as lines of hexadecimal, where these are asked for.
+-- The part of a capture whose logs are these, or the same as lines.
 abbrev pub part_text : Bool → Version → ℕ → Mode → ℕ → ℕ → List ProgramLog → List ℕ
 part_text hex version period mode hart harts logs =
-    if hex then hex_text (messages_of_harts period mode hart logs)
-    else part_of_capture version period mode hart harts logs
+    messages_text hex version period mode hart harts (messages_of_harts period mode hart logs)
 
 -- Why no such part is asked for: a first hart is given and no count of all harts, or the count is more than a capture
 -- of the version has.

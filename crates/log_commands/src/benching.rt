@@ -116,7 +116,6 @@ fn outcome_of<'a, G: Gate, R: Threads + Wait + Sync>(
 ) -> Result<(Outcome, Outlet), Fault<'a>>
     ensures setting { IfOk result (λ _.
         IsSetting most_ports (length logs.now) (config_at asked.now.period asked.now.mode asked.now.capacity) (Ok tt)) }
-    ensures count { IfOk result (λ ran. length logs.now ≡ length ran.0.harts.items) }
     ensures came { IfOk result (λ ran.
         AreBeginnings (config_at asked.now.period asked.now.mode asked.now.capacity) logs.now ran.0.harts.items) }
     ensures through { IfOk result (λ ran.

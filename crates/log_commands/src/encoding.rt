@@ -1,8 +1,10 @@
 //! The subcommand `encode`.
 
-ghost use Rattle.std.specs.Prelude.{◌≡◌, ◌⊎◌, ◌≤◌, ◌+◌, Err, IfErr, IfOk, IfSome, Ok, OnOk, length};
+ghost use Rattle.std.specs.Prelude.{◌≡◌, ◌⊎◌, ◌≤◌, ◌+◌, ◌++◌, ℕ, Err, IfErr, IfOk, IfSome, List, Ok, OnOk, length};
+ghost use Rattle.std.specs.List.{flat_map};
 ghost use Rattle.std.specs.Io.KnownBytes.{Appends};
-ghost use Rattle.legalpath.specs.ProgramLog.{program_log};
+ghost use Rattle.legalpath.specs.ProgramLog.{ProgramLog, program_log};
+ghost use Rattle.message.specs.declared.message.Message.{Message};
 ghost use Rattle.message.specs.Version.{most_harts};
 ghost use Rattle.output.specs.Begun.{AppendsBeginning};
 ghost use Rattle.rvclass.specs.Fetch.{words_of};
@@ -12,14 +14,15 @@ ghost use Rattle.command_inputs.specs.Begun.{IsCutOf};
 ghost use Rattle.command_inputs.specs.FoundLogs.{AreLegalLogsUpTo};
 ghost use Rattle.command_inputs.specs.Order.{logs_fault};
 ghost use Rattle.command_inputs.specs.Printed.{PrintsUnlessDenied};
-ghost use Rattle.log_commands.specs.Encoding.{CanEncode, Encodes, encode_fault};
+ghost use Rattle.log_commands.specs.Encoding.{CanEncode, Encodes, encode_fault, written};
 ghost use Rattle.log_commands.specs.Most.{most_of};
 ghost use Rattle.log_commands.specs.Faults.{final_status};
 ghost use Rattle.log_commands.specs.Parts.{all_harts, first_hart};
-ghost use Rattle.log_commands.specs.steps.Made.{AreMadeOfLogs, AreMessagesOf, form_text, joined};
-ghost use Rattle.log_commands.specs.steps.Made.{start_of, written_of};
+ghost use Rattle.log_commands.specs.steps.Made.{AreAskedMessages, AreMadeOfLogs, AreMessagesOf, form_text, joined};
+ghost use Rattle.log_commands.specs.steps.Made.{lines_made, output_or, start_of, written_of};
 ghost use Rattle.log_commands.specs.steps.Parts.{CanEncodeUpTo, EncodesUpTo, limit_of};
 ghost use Rattle.command_inputs.specs.declared.fault.Fault.TheVariants as Fault;
+ghost use Rattle.stimulus.specs.Mixing.{IsUnmixed, mixed_by};
 
 use crate::made::all_made;
 use crate::most::most_of;
@@ -29,6 +32,7 @@ use captures::{CaptureBytes, Form, HartMessages, HexLines, write_start};
 use command_inputs::{Encode, Status, asked_program, begin_progress};
 use legalpath::PathFault;
 use log_streams::{Files, IllegalRow, LogTask, made_of_logs};
+use message::MessageFault;
 use output::write_bytes;
 use payload::Mode;
 use retire::Event;
@@ -36,6 +40,7 @@ use rvclass::ProgramOver;
 use std::alloc::{AllocError, Global};
 use std::io::Write;
 use std::thread::Threads;
+use stimulus::Mixing;
 
 /// Writes the messages of each hart's log, once all logs are legal: as a capture of the version that is asked for, or
 /// as lines of hexadecimal. The version limits the count of logs in both cases. A log may have 4,294,967,295 rows where
@@ -45,12 +50,16 @@ use std::thread::Threads;
 /// header counts all harts, and only the part with the log of hart 0 has it. The parts of all harts, one after the
 /// other, are the capture of all logs: so [`parts_are_joined`] promises.
 ///
+/// Where a seed is given, the messages of the logs are mixed by it, as [`Mixing`] does, and each hart's stay in their
+/// order: [`mixed_messages_are_the_same`].
+///
 /// The logs are read side by side, each a piece at a time. The messages are made while the events come, and kept until
 /// it is known that all logs are legal. No list holds the events of a log. A complete capture decodes to the logs again,
 /// to long ones too, unless allocation fails, and in version 1 if the count of logs is given: so
 /// `captures::decode_capture` promises.
 ///
 /// [`parts_are_joined`]: crate::parts_are_joined
+/// [`mixed_messages_are_the_same`]: crate::mixed_messages_are_the_same
 pub fn encode<'a, F: Files + Sync, O: Write, R: Threads + Sync>(
     alloc: Global,
     rt: &R,
@@ -101,7 +110,7 @@ where
     let program = asked_program(alloc, files, most, &asked.program, &asked.logs)?;
     let paths = asked.logs.as_slice();
     let messages = messages_of_logs(alloc, rt, &*files, &program, asked, paths)?;
-    write_messages(asked, messages.as_slice(), out)
+    write_messages(alloc, asked, messages.as_slice(), out)
 }
 
 /// How the messages of logs are made, and in which form they are written.
@@ -157,7 +166,18 @@ impl<C: Form> LogTask<Vec<u8>> for Encoding<C> {
     }
 }
 
-/// The messages of the logs at these paths, in the form that is asked for.
+/// Whether the messages are made as lines of hexadecimal: if these are asked for, and the messages are not mixed after.
+fn lines_made(asked: &Encode) -> bool
+    ensures { result ≡ lines_made asked.now.mixed asked.now.hex }
+{
+    match asked.mixed {
+        None => asked.hex,
+        Some(_) => false,
+    }
+}
+
+/// The messages of the logs at these paths, in the form that is asked for, or as a capture has them, if they are mixed
+/// after.
 fn messages_of_logs<'a, F: Files + Sync, R: Threads + Sync>(
     alloc: Global,
     rt: &R,
@@ -171,8 +191,8 @@ where
     requires { 1 ≤ asked.now.period }
     ensures count { IfOk result (λ made. length made.items ≡ length paths.now) }
     ensures logs { IfOk result (λ made.
-        AreMadeOfLogs (AreMessagesOf (form_text asked.now.hex) asked.now.period asked.now.mode
-        (first_hart asked.now.first)) (most_of asked.now.long)
+        AreMadeOfLogs (AreMessagesOf (form_text (lines_made asked.now.mixed asked.now.hex)) asked.now.period
+        asked.now.mode (first_hart asked.now.first)) (most_of asked.now.long)
         (F.content files.now) program.now paths.now made.items) }
     ensures fault { IfErr result (λ why. (why ≡ Fault.Memory)
         ⊎ AreLegalLogsUpTo (most_of asked.now.long) (F.content files.now) program.now paths.now (Err why)) }
@@ -182,7 +202,7 @@ where
     let period = asked.period;
     let mode = asked.mode;
     begin_progress(files, asked.progress, paths);
-    if asked.hex {
+    if lines_made(asked) {
         let form = HexLines;
         let encoding = Encoding {
             alloc,
@@ -211,6 +231,7 @@ where
 
 /// Writes the messages that were made of logs, flushes the output, and returns that all is done.
 fn write_messages<'a, O: Write>(
+    alloc: Global,
     asked: &Encode<'a>,
     messages: &[Vec<u8>],
     out: &mut O,
@@ -218,14 +239,80 @@ fn write_messages<'a, O: Write>(
     requires period { 1 ≤ asked.now.period }
     requires some { 1 ≤ all_harts asked.now.of (length messages.now) }
     requires few { all_harts asked.now.of (length messages.now) ≤ most_harts asked.now.version }
-    ensures fault { IfErr result (λ fault. fault ≡ Fault.Output) }
+    requires room { first_hart asked.now.first + length messages.now ≤ all_harts asked.now.of (length messages.now) }
+    ensures fault { IfErr result (λ fault. (fault ≡ Fault.Memory) ⊎ (fault ≡ Fault.Output)) }
     ensures ended { IfOk result (λ status. status ≡ Status.Whole) }
-    ensures text { OnOk result (Appends (O.contents out.old) (O.contents out.new) (written_of asked.now messages.now)) }
-    ensures begun { AppendsBeginning (written_of asked.now messages.now) (O.contents out.old) (O.contents out.new) }
+    ensures untouched { result ≡ Err Fault.Memory → out.new ≡ out.old }
+    ensures text { (logs : List ProgramLog) → AreAskedMessages asked.now logs messages.now
+        → OnOk result (Appends (O.contents out.old) (O.contents out.new) (written asked.now logs)) }
+    ensures begun { (logs : List ProgramLog) → AreAskedMessages asked.now logs messages.now
+        → AppendsBeginning (written asked.now logs) (O.contents out.old) (O.contents out.new) }
 {
-    write_in_form(asked, messages, out)?;
+    write_in_order(alloc, asked, messages, out)?;
     out.flush()?;
     Ok(Status::Whole)
+}
+
+/// Writes the messages that were made of logs, in the order that is asked for.
+fn write_in_order<'a, O: Write>(
+    alloc: Global,
+    asked: &Encode<'a>,
+    messages: &[Vec<u8>],
+    out: &mut O,
+) -> Result<(), Fault<'a>>
+    requires period { 1 ≤ asked.now.period }
+    requires some { 1 ≤ all_harts asked.now.of (length messages.now) }
+    requires few { all_harts asked.now.of (length messages.now) ≤ most_harts asked.now.version }
+    requires room { first_hart asked.now.first + length messages.now ≤ all_harts asked.now.of (length messages.now) }
+    ensures fault { IfErr result (λ fault. (fault ≡ Fault.Memory) ⊎ (fault ≡ Fault.Output)) }
+    ensures untouched { result ≡ Err Fault.Memory → out.new ≡ out.old }
+    ensures text { (logs : List ProgramLog) → AreAskedMessages asked.now logs messages.now
+        → OnOk result (Appends (O.contents out.old) (O.contents out.new) (written asked.now logs)) }
+    ensures begun { (logs : List ProgramLog) → AreAskedMessages asked.now logs messages.now
+        → AppendsBeginning (written asked.now logs) (O.contents out.old) (O.contents out.new) }
+{
+    match asked.mixed {
+        None => write_in_form(asked, messages, out),
+        Some(seed) => {
+            let mixing = Mixing::new(alloc, seed, messages)?;
+            write_mixed(asked, messages.len(), mixing, out)
+        }
+    }
+}
+
+/// Writes mixed messages of this many logs: what a capture begins with, where one is asked for, and then the messages.
+fn write_mixed<'a, O: Write>(
+    asked: &Encode<'a>,
+    logs: usize,
+    mixing: Mixing<'_, Global>,
+    out: &mut O,
+) -> Result<(), Fault<'a>>
+    requires period { 1 ≤ asked.now.period }
+    requires some { 1 ≤ all_harts asked.now.of logs }
+    requires few { all_harts asked.now.of logs ≤ most_harts asked.now.version }
+    ensures fault { IfErr result (λ fault. fault ≡ Fault.Output) }
+    ensures text { (seed : ℕ) (left : List (List Message)) → IsUnmixed seed left mixing.entry
+        → OnOk result (Appends (O.contents out.old) (O.contents out.new)
+        (start_of asked.now logs ++ flat_map (form_text asked.now.hex) (mixed_by seed left))) }
+    ensures begun { (seed : ℕ) (left : List (List Message)) → IsUnmixed seed left mixing.entry
+        → AppendsBeginning (start_of asked.now logs ++ flat_map (form_text asked.now.hex) (mixed_by seed left))
+        (O.contents out.old) (O.contents out.new) }
+{
+    write_beginning(asked, logs, out)?;
+    if asked.hex {
+        return written_to_output(mixing.write::<HexLines, O>(out));
+    }
+    written_to_output(mixing.write::<CaptureBytes, O>(out))
+}
+
+/// What became of messages that were written: the output failed, or not.
+fn written_to_output<'a>(written: Result<(), MessageFault>) -> Result<(), Fault<'a>>
+    ensures { result ≡ output_or written }
+{
+    match written {
+        Ok(()) => Ok(()),
+        Err(_) => Err(Fault::Output),
+    }
 }
 
 /// Writes the messages that were made of logs: what a capture begins with, where one is asked for, and their bytes.

@@ -26,7 +26,7 @@ pub use benching::{bench, bench_logs};
 pub use checking::check;
 pub use encoding::encode;
 pub use generating::generate;
-pub use laws::{all_logs_are_one_part, parts_are_joined};
+pub use laws::{all_logs_are_one_part, mixed_messages_are_the_same, parts_are_joined};
 pub use measures::measure;
 pub use reason::{Fault, LogReason, Stray};
 pub use replaying::replay;

@@ -3,7 +3,6 @@
 ghost use Rattle.std.specs.Prelude.{ℕ, ◌≡◌, ◌⊎◌, All, List, IsOk, IfErr, IfOk, OnOk, length};
 ghost use Rattle.rvclass.specs.Fetch.{words_of};
 ghost use Rattle.legalpath.specs.ProgramLog.{ProgramLog};
-ghost use Rattle.payload.specs.Closing.{is_closing_packet};
 ghost use Rattle.payload.specs.declared.mode.Mode.{Mode as AnyMode};
 ghost use Rattle.message.specs.Accepted.{newcomers};
 ghost use Rattle.message.specs.Lossy.{accepting_lossy, harts_after_lossy};
@@ -13,14 +12,14 @@ ghost use Rattle.losses.specs.Stops.{AreAcceptedLossy, CollectingStopsBy};
 ghost use Rattle.losses.specs.DescribedParts.{AreDescribed};
 ghost use Rattle.losses.specs.steps.Collecting.{AreEnded, IsNewPieces, IsNewTrace, IsNotCollected, IsNotTaken};
 ghost use Rattle.losses.specs.steps.Taking.{Collects, HasEachHart, IsNewCollection};
-ghost use Rattle.losses.specs.steps.Taking.{CollectsMessage, TakesPacket};
+ghost use Rattle.losses.specs.steps.Taking.{CollectsMessage};
 
 use crate::fault::LossyFault;
 use crate::hart_trace::HartTrace;
 use crate::part::HartPieces;
 use decoder::DecodeFault;
 use message::{Demux, Message, NoProgress, ProgressSink};
-use payload::{Mode, Packet};
+use payload::Mode;
 use rvclass::ProgramOver;
 use std::alloc::{AllocError, Allocator};
 
@@ -68,25 +67,6 @@ fn fault_at(place: usize, fault: DecodeFault) -> LossyFault
     }
 }
 
-/// Takes a hart's next packet, before which this many numbers are missing.
-fn take_packet<A: Allocator + Copy>(
-    alloc: A,
-    program: &ProgramOver,
-    mode: Mode,
-    packet: &Packet,
-    missed: u64,
-    trace: &mut HartTrace<A>,
-    pieces: &mut HartPieces<A>,
-) -> Result<(), DecodeFault>
-    ensures takes { TakesPacket (words_of program.now) mode packet.now missed trace.old trace.new
-        pieces.old.parts.items pieces.new.parts.items result }
-    ensures closed { OnOk result (pieces.new.closed ≡ is_closing_packet packet.now) }
-{
-    trace.take(alloc, program, mode, packet, missed, &mut pieces.parts)?;
-    pieces.closed = packet.is_closing();
-    Ok(())
-}
-
 /// What is collected of several harts.
 #[derive(Drop)]
 struct Collection<A: Allocator> {
@@ -126,23 +106,18 @@ impl<A: Allocator + Copy> Collection<A> {
         ensures fault { IfErr result (λ fault. IsNotCollected self.old.demux message.now place fault) }
         ensures takes { CollectsMessage program.now mode message.now self.old self.new result }
     {
-        let (packet, missed) = match self.demux.accept_lossy(message) {
+        let taken = match self.demux.accept_lossy(message) {
             Ok(taken) => taken,
             Err(why) => return Err(LossyFault::Demux(place, why)),
         };
         let hart = usize::from(message.hart);
-        match take_packet(
-            alloc,
-            program,
-            mode,
-            &packet,
-            missed,
-            &mut self.traces[hart],
-            &mut self.pieces[hart],
-        ) {
-            Ok(()) => Ok(()),
-            Err(fault) => Err(fault_at(place, fault)),
+        let pieces = &mut self.pieces[hart];
+        match self.traces[hart].take(alloc, program, mode, &taken, &mut pieces.parts) {
+            Ok(()) => {}
+            Err(fault) => return Err(fault_at(place, fault)),
         }
+        pieces.closed = taken.0.is_closing();
+        Ok(())
     }
 }
 

@@ -10,7 +10,7 @@ ghost use Rattle.losses.specs.PartsIn.{parts_in};
 ghost use Rattle.losses.specs.steps.DecoderSteps.{Resumes};
 ghost use Rattle.losses.specs.steps.Taking.{TakesPacket};
 
-use crate::part::{HartPieces, Part};
+use crate::part::Part;
 use decoder::{DecodeFault, Decoder};
 use payload::{Mode, Packet};
 use retire::Event;
@@ -97,23 +97,22 @@ impl<A: Allocator + Copy> HartTrace<A> {
         self.lose(alloc, mode, missed, parts)
     }
 
-    /// Takes the hart's next packet, before which this many numbers are missing, 0 or more.
+    /// Takes the hart's next packet, which comes with how many numbers are missing before it, 0 or more.
     pub fn take(
         &mut self,
         alloc: A,
         program: &ProgramOver,
         mode: Mode,
-        packet: &Packet,
-        missed: u64,
+        taken: &(Packet, u64),
         parts: &mut Vec<Part<A>, A>,
     ) -> Result<(), DecodeFault>
-        ensures { TakesPacket (words_of program.now) mode packet.now missed self.old self.new parts.old.items
+        ensures { TakesPacket (words_of program.now) mode taken.now.0 taken.now.1 self.old self.new parts.old.items
             parts.new.items result }
     {
-        match self.go_on(alloc, mode, missed, parts) {
+        match self.go_on(alloc, mode, taken.1, parts) {
             Ok(()) => {}
             Err(_) => return Err(DecodeFault::Memory),
         }
-        self.decoder.feed(program, packet, &mut self.stretch)
+        self.decoder.feed(program, &taken.0, &mut self.stretch)
     }
 }

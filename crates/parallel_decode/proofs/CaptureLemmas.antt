@@ -15,7 +15,7 @@ use Rattle.receiver.specs.Holds.{AreDecoded}
 use Rattle.captures.proofs.CapturesSplit.{capture_none}
 use Rattle.captures.proofs.NothingDecoded.{no_lists, none_closed}
 use Rattle.captures.specs.declared.outcome.CaptureFault.{CaptureFault}
-use Rattle.captures.specs.OfHarts.{AreHartsDecoded}
+use Rattle.captures.specs.Decoded.{AreHartsDecoded}
 use Rattle.parallel_decode.specs.Body.{end_of}
 use Rattle.parallel_decode.specs.Placed.{ArePlacedLogs}
 use Rattle.parallel_decode.specs.Surveyed.{IsSurvey, NeverMemory}

@@ -1,5 +1,5 @@
 pub mod PlaceLemmas
-pub mod TrackLemmas
+pub mod Owns
 pub mod SurveyLemmas
 pub mod CaptureLemmas
 pub mod LeftLemmas

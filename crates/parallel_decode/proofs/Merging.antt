@@ -1,19 +1,18 @@
 -- What is received of each hart by itself, and what the capture decodes to.
-use Rattle.std.proofs.Common.{◌≡◌, ◌+◌, ◌<◌, ℕ, zero, suc, Bool, All, List, [], ◌∷◌, ◌++◌, Option, Some, None}
-use Rattle.std.proofs.Common.{Global, drop, length, map, slice_get, refl, sym, ap, subst, ◌∙◌, arith, zero-add}
+use Rattle.std.proofs.Common.{◌≡◌, ◌<◌, ◌++◌, ℕ, All, List, [], Option, Some, None, Global, drop, length, map}
+use Rattle.std.proofs.Common.{slice_get, sym, ap, subst, ◌∙◌, arith}
 use Rattle.std.specs.Option.{option_map}
 use Rattle.std.specs.declared.vec.Vec.{Vec}
-use Rattle.std.proofs.lemmas.List.{length-map, length-replicate}
+use Rattle.std.proofs.lemmas.List.{length-map}
 use Rattle.std.proofs.lemmas.List.Elements.{All-nil}
+use Rattle.std.proofs.lemmas.Simd.{map-map}
 use Rattle.std.proofs.lemmas.Option.{same_Some, slice_get-map, slice_get_within}
 use Rattle.message.specs.Range.{selected}
 use Rattle.message.specs.declared.range.HartRange.{HartRange}
 use Rattle.retire.specs.declared.event.Event.{Event}
 use Rattle.rvclass.specs.Words.{Words}
-use Rattle.payload.specs.ClosedTrace.{last_is_closing}
 use Rattle.payload.specs.declared.mode.Mode.{Mode}
 use Rattle.decoder.specs.Describes.{Describes}
-use Rattle.decoder.specs.declared.fault.DecodeFault.TheVariants.{Memory}
 use Rattle.message.proofs.Elements.{All-slice_get, slice_get-some}
 use Rattle.message.specs.Accepted.{AreAccepted, newcomers}
 use Rattle.message.specs.Capture.{message_bytes}
@@ -21,59 +20,28 @@ use Rattle.message.specs.Cut.{IsMessage}
 use Rattle.message.specs.Harts.{newcomer}
 use Rattle.message.specs.OfHart.{of_hart, packets_of}
 use Rattle.message.specs.declared.message.Message.{Message}
-use Rattle.receiver.proofs.AcceptLemmas.{going}
-use Rattle.receiver.specs.Agreeing.{Agrees}
 use Rattle.receiver.specs.Holds.{AreDecoded}
-use Rattle.receiver.specs.NotReceived.{IsNotReceived}
-use Rattle.receiver.specs.declared.fault.ReceiveFault.{ReceiveFault}
-use Rattle.receiver.specs.declared.fault.ReceiveFault.TheVariants as receiving
-use Rattle.captures.specs.Decoded.{as_capture_fault}
-use Rattle.captures.specs.OfHarts.{BeginsRefusedOf, StopsDecodingOf, StopsOf}
+use Rattle.captures.proofs.ReachingHarts.{refused_stops}
+use Rattle.captures.specs.Decoded.{StopsDecodingOf, StopsOf}
 use Rattle.captures.specs.Returned.{IsMemory}
 use Rattle.captures.specs.declared.outcome.CaptureFault.{CaptureFault}
 use Rattle.parallel_decode.specs.Marks.{AreMarkedLogs, AreRising, IsMark, IsMarkedLog}
 use Rattle.parallel_decode.specs.Surveyed.{IsSurvey, NeverMemory}
 use Rattle.parallel_decode.specs.declared.mark.Mark.{Mark}
 use Rattle.parallel_decode.specs.declared.indexing.Survey.{Survey}
-use Rattle.parallel_decode.proofs.ByHart.{accepting-own, all-accepted, all-of-harts, newcomer-at}
+use Rattle.parallel_decode.proofs.Owns.{all_accepted, all_agree, collect-all, logs_decoded}
 use Rattle.parallel_decode.proofs.StartLemmas.{starts-read}
+use Rattle.parallel_decode.proofs.SurveyLemmas.{never_memory_of}
 use Rattle.parallel_decode.specs.Marked.{IsMarkedSurvey}
 use Rattle.parallel_decode.specs.declared.ahead.Ahead.{Ahead}
 use Rattle.parallel_decode.specs.declared.ahead.Ahead.TheVariants as ahead
 use Rattle.parallel_decode.specs.declared.hart.HartEnd.{HartEnd}
+use Rattle.parallel_decode.specs.declared.own.Own.{Own}
 use Rattle.parallel_decode.specs.declared.surveying.MarkedSurvey.{MarkedSurvey}
 use Rattle.parallel_decode.specs.steps.Ends.{AreEnds, IsReceivedHart}
-use Rattle.parallel_decode.specs.steps.OwnMessages.{AreOwnAccepted, IsOwnRefused}
-use Rattle.parallel_decode.specs.steps.Walked.{AreWalked, IsAhead, IsOfHarts, IsRefusal}
-
--- A message that is refused after those of its hart is refused after all.
-pub refused-own : (words : Words) (harts : ℕ) (announced : Option Mode) (messages : List Message) (message : Message)
-    → AreAccepted (newcomers harts) messages → message.hart < harts → (why : ReceiveFault)
-    → IsOwnRefused words announced (of_hart message.hart messages) message why
-    → IsNotReceived words harts announced messages message why
-refused-own words harts announced messages message all within (receiving.Demux why) is =
-    accepting-own harts messages message within ∙ is
-refused-own words harts announced messages message all within receiving.Mode is = record {
-  packet = is.0;
-  accepted = accepting-own harts messages message within ∙ is.1;
-  another = is.2;
-}
-refused-own words harts announced messages message all within (receiving.Decode why) is =
-    let accepted = accepting-own harts messages message within ∙ is.1 in (
-      record {
-        packet = is.0;
-        accepted = accepted;
-        not_closed = going harts messages message is.0 all accepted;
-        not_decoded = is.2;
-      },
-      is.3,
-    )
-
--- A fault of a receiver is none of memory where it is not that of its decoder.
-never_memory_of : (why : ReceiveFault) → ¬ (why ≡ receiving.Decode Memory) → ¬ IsMemory (as_capture_fault why)
-never_memory_of (receiving.Demux why) other is = is
-never_memory_of receiving.Mode other is = is
-never_memory_of (receiving.Decode why) other is = other (ap receiving.Decode is)
+use Rattle.parallel_decode.specs.steps.OwnMessages.{IsOwn}
+use Rattle.parallel_decode.specs.steps.Surveying.{AreOwns}
+use Rattle.parallel_decode.specs.steps.Walked.{AreWalked, IsAhead, IsRefusal}
 
 -- The message in front of the bytes is said to be refused, or nothing is said.
 pub refusal-ahead : (range : HartRange) (words : Words) (harts : ℕ) (announced : Option Mode) (messages : List Message)
@@ -84,50 +52,12 @@ refusal-ahead range words harts announced messages rest next message is here ahe
 refusal-ahead range words harts announced messages rest next message is here ahead.Received refusal = tt
 refusal-ahead range words harts announced messages rest next message is here (ahead.Fault why) refusal = (
   subst (StopsDecodingOf range words harts announced (selected range messages) rest) (sym refusal.1)
-      (stops refusal.0 (record {
+      (refused_stops range words harts announced (selected range messages) rest refusal.0 (record {
         begins = record { message = message; rest = next; ranges = is; begins = here; refused = refusal.3 };
         of_range = refusal.2;
       })),
   subst (λ f. ¬ IsMemory f) (sym refusal.1) (never_memory_of refusal.0 refusal.4),
 )
-  where
-    stops : (why : ReceiveFault) → BeginsRefusedOf range words harts announced (selected range messages) rest why
-        → StopsDecodingOf range words harts announced (selected range messages) rest (as_capture_fault why)
-    stops (receiving.Demux why) b = b
-    stops receiving.Mode b = b
-    stops (receiving.Decode why) b = b
-
--- A list of what there is for each place.
-collect : {X : Type 0} (P : ℕ → X → Type 0) (count from : ℕ) → ((i : ℕ) → i < count → (x : X) × P (from + i) x)
-    → (xs : List X) × (length xs ≡ count) × ((i : ℕ) (x : X) → slice_get xs i ≡ Some x → P (from + i) x)
-collect {X} P zero from each = ([], refl, none)
-  where
-    none : (i : ℕ) (x : X) → slice_get [] i ≡ Some x → P (from + i) x
-    none i x is = cc
-collect {X} P (suc count) from each =
-    let first = each 0 (omega arith) in
-    let rest = collect P count (from + 1) (λ i within.
-    let one = each (suc i) (omega (arith, within)) in
-    (one.0, subst (λ n. P n one.0) (shift from i) one.1)) in
-    (first.0 ∷ rest.0, ap suc rest.1, members first.0 rest.0 first.1 rest.2)
-  where
-    shift : (from i : ℕ) → from + suc i ≡ from + 1 + i
-    shift from i = omega arith
-
-    members : (x : X) (xs : List X) → P (from + 0) x
-        → ((i : ℕ) (y : X) → slice_get xs i ≡ Some y → P (from + 1 + i) y)
-        → (i : ℕ) (y : X) → slice_get (x ∷ xs) i ≡ Some y → P (from + i) y
-    members x xs here rest zero y is = subst (P (from + 0)) (same_Some x y is) here
-    members x xs here rest (suc i) y is = subst (λ n. P n y) (sym (shift from i)) (rest i y is)
-
--- The same, with the places counted from 0.
-pub collect-all : {X : Type 0} (P : ℕ → X → Type 0) (count : ℕ) → ((i : ℕ) → i < count → (x : X) × P i x)
-    → (xs : List X) × (length xs ≡ count) × ((i : ℕ) (x : X) → slice_get xs i ≡ Some x → P i x)
-collect-all P count each =
-    let all = collect P count 0 (λ i within.
-    let one = each i within in
-    (one.0, subst (λ n. P n one.0) (sym (zero-add i)) one.1)) in
-    (all.0, all.1, λ i x is. subst (λ n. P n x) (zero-add i) (all.2 i x is))
 
 module _ (range : HartRange) (words : Words) (harts : ℕ) (announced : Option Mode) (bytes : List ℕ)
     (messages : List Message) (places : List (Vec ℕ Global)) (place passed : ℕ)
@@ -157,22 +87,27 @@ module _ (range : HartRange) (words : Words) (harts : ℕ) (announced : Option M
             (of_hart hart own_messages) (walked.starts hart own.0 own.1);
       }
 
-  -- All messages are accepted,
-  pub merged-accepted : AreAccepted (newcomers harts) own_messages
-  merged-accepted =
-      all-accepted (newcomers harts) own_messages
-      (subst (λ n. All (IsOfHarts n) own_messages) (sym (length-replicate harts newcomer)) walked.of_harts)
-      (λ hart h is.
-      let within = slice_get_within (newcomers harts) hart h is in
-      let below : hart < harts = omega (arith, within, length-replicate harts newcomer) in
-      subst (λ h. AreOwnAccepted h (of_hart hart own_messages))
-      (same_Some newcomer h (sym (newcomer-at harts hart below) ∙ is)) (received-at hart below).received.own.accepted)
+  -- So of each hart its messages were received.
+  abbrev owns : List Own
+  owns = map (λ (end : HartEnd). end.own) ends
 
-  -- and none opens a trace in another mode than the announced one.
-  pub merged-agree : All (Agrees announced) own_messages
-  merged-agree =
-      all-of-harts (Agrees announced) harts own_messages walked.of_harts
-      (λ hart below. (received-at hart below).received.own.agree)
+  owns-many : length owns ≡ harts
+  owns-many = length-map ends (λ (end : HartEnd). end.own) ∙ many ∙ walked.count
+
+  owns-are : AreOwns words announced own_messages owns
+  owns-are hart own is =
+      let within = slice_get_within owns hart own is in
+      let at = received-at hart (omega (arith, within, owns-many)) in (
+        at.received.log,
+        subst (IsOwn words announced (of_hart hart own_messages) at.received.log)
+            (same_Some at.end.own own
+            (sym (slice_get-map (λ (end : HartEnd). end.own) ends hart
+            ∙ ap (option_map (λ (end : HartEnd). end.own)) at.is) ∙ is)) at.received.own,
+      )
+
+  -- All messages are accepted.
+  pub merged-accepted : AreAccepted (newcomers harts) own_messages
+  merged-accepted = all_accepted words harts announced own_messages walked.of_harts owns owns-many owns-are
 
   -- What is said of the log of a hart.
   pub record IsLogOf (hart : ℕ) (log : List Event) : Type 0 where
@@ -202,19 +137,6 @@ module _ (range : HartRange) (words : Words) (harts : ℕ) (announced : Option M
         },
       )
 
-  -- The flag of a hart is that of its packets.
-  flag-of : (hart : ℕ) (flag : Bool) → slice_get (map (λ (end : HartEnd). end.own.closed) ends) hart ≡ Some flag
-      → flag ≡ last_is_closing (packets_of hart own_messages)
-  flag-of hart flag is =
-      let within = slice_get_within (map (λ (end : HartEnd). end.own.closed) ends) hart flag is in
-      let mapped = length-map ends (λ (end : HartEnd). end.own.closed) in
-      let count = walked.count in
-      let at = received-at hart (omega (arith, within, mapped, many, count)) in
-      same_Some flag at.end.own.closed
-      (sym is ∙ slice_get-map (λ (end : HartEnd). end.own.closed) ends hart
-      ∙ ap (option_map (λ (end : HartEnd). end.own.closed)) at.is)
-      ∙ at.received.own.closed
-
   -- The end of a hart whose marks are these.
   end-of : (hart : ℕ) (on_way : Vec Mark Global)
       → slice_get (map (λ (end : HartEnd). end.marks) ends) hart ≡ Some on_way
@@ -230,17 +152,7 @@ module _ (range : HartRange) (words : Words) (harts : ℕ) (announced : Option M
             ∙ sym (slice_get-map (λ (end : HartEnd). end.marks) ends hart) ∙ is),
       )
 
-  -- What is decoded.
-  merged-decoded : (logs : List (List Event)) → length logs ≡ harts
-      → ((hart : ℕ) (log : List Event) → slice_get logs hart ≡ Some log → IsLogOf hart log)
-      → AreDecoded (λ hart. words) harts own_messages logs (map (λ (end : HartEnd). end.own.closed) ends)
-  merged-decoded logs counted each = record {
-    lists_count = counted;
-    closed_count = length-map ends (λ (end : HartEnd). end.own.closed) ∙ many ∙ walked.count;
-    described = λ hart log is. (each hart log is).described;
-    are_closed = flag-of;
-  }
-
+  -- What is decoded, with the marks on the way.
   merged-marked : (logs : List (List Event)) → length logs ≡ harts
       → ((hart : ℕ) (log : List Event) → slice_get logs hart ≡ Some log → IsLogOf hart log)
       → AreMarkedLogs words bytes places (map (λ (end : HartEnd). end.marks) ends) logs
@@ -268,9 +180,11 @@ module _ (range : HartRange) (words : Words) (harts : ℕ) (announced : Option M
           ranges = walked.ranges;
           whole = walked.whole;
           accepted = merged-accepted;
-          agree = merged-agree;
-          decoded = subst (AreDecoded (λ hart. words) harts own_messages logs.0) (sym closed)
-              (merged-decoded logs.0 logs.1 logs.2);
+          agree = all_agree words harts announced own_messages walked.of_harts owns owns-many owns-are;
+          decoded = subst (AreDecoded (λ hart. words) harts own_messages logs.0)
+              (map-map (λ (own : Own). own.closed) (λ (end : HartEnd). end.own) ends ∙ sym closed)
+              (logs_decoded words harts announced own_messages walked.of_harts owns owns-many owns-are logs.0 logs.1
+              (λ hart log is. (logs.2 hart log is).described));
           stops = stops;
         };
         count = ap length same ∙ walked.count;

@@ -1,7 +1,7 @@
 -- What was received of a hart's messages, with one message more.
-use Rattle.std.proofs.Common.{◌≡◌, false, List, [], ◌∷◌, ◌++◌, Option, Some, Ok}
+use Rattle.std.proofs.Common.{◌≡◌, false, List, [], ◌∷◌, ◌++◌, Option, Some, Result, Ok, Err}
 use Rattle.std.proofs.Common.{refl, sym, ap, subst, ◌∙◌}
-use Rattle.std.specs.Prelude.{IsOk, is_ok}
+use Rattle.std.specs.Prelude.{◌↔◌, IsOk, is_ok}
 use Rattle.std.proofs.lemmas.List.Elements.{All-push}
 use Rattle.retire.specs.declared.event.Event.{Event}
 use Rattle.rvclass.specs.Words.{Words}
@@ -78,3 +78,11 @@ module _ (words : Words) (announced : Option Mode) (messages : List Message) (lo
         stands = subst (λ ps. DecoderStands words ps (log ++ added) new.decoder) packets stands;
         closed = closed ∙ ap last_is_closing packets;
       }
+
+-- What is said of one kind of answer is said of another that ends so.
+pub same_err : {A B E : Type 0} (got why : E) (P : Type 0) → ◌≡◌ {A = Result A E} (Err got) (Err why) ↔ P
+    → ◌≡◌ {A = Result B E} (Err got) (Err why) ↔ P
+same_err {A} {B} {E} got why P either = (λ is. either.0 (ap Err (one B is)), λ holds. ap Err (one A (either.1 holds)))
+  where
+    one : (C : Type 0) → ◌≡◌ {A = Result C E} (Err got) (Err why) → got ≡ why
+    one C is = cc

@@ -3,7 +3,7 @@ use Rattle.std.specs.Prelude.{ℕ, List}
 use Rattle.message.specs.declared.range.HartRange.{HartRange}
 use Rattle.retire.specs.declared.event.Event.{Event}
 use Rattle.rvclass.specs.Words.{Words}
-use Rattle.captures.specs.OfHarts.{IsDecodedOf}
+use Rattle.captures.specs.Decoded.{IsDecodedOf}
 use Rattle.parallel_decode.specs.Placed.{ArePlacedLogs}
 use Rattle.parallel_decode.specs.Surveyed.{NeverMemory}
 use Rattle.parallel_decode.specs.declared.index_capturing.CaptureSurvey.{CaptureSurvey}

@@ -5,7 +5,7 @@ use Rattle.message.specs.declared.range.HartRange.{HartRange}
 use Rattle.retire.specs.declared.event.Event.{Event}
 use Rattle.rvclass.specs.Words.{Words}
 use Rattle.payload.specs.declared.mode.Mode.{Mode}
-use Rattle.captures.specs.OfHarts.{AreHartsDecoded}
+use Rattle.captures.specs.Decoded.{AreHartsDecoded}
 use Rattle.captures.specs.Returned.{IsMemory}
 use Rattle.captures.specs.declared.outcome.CaptureFault.{CaptureFault}
 use Rattle.parallel_decode.specs.declared.indexing.Survey.{Survey}

@@ -1,4 +1,3 @@
-pub mod Tracking
 pub mod Surveying
 pub mod Handing
 pub mod Rows

@@ -1,6 +1,6 @@
 //! Why decoding stops after some messages.
 
-ghost use Rattle.std.specs.Prelude.{ℕ, ◌≡◌, List, IfOk, drop, length};
+ghost use Rattle.std.specs.Prelude.{List, IfOk, drop, length};
 ghost use Rattle.message.specs.Range.{selected};
 ghost use Rattle.rvclass.specs.Fetch.{words_of};
 ghost use Rattle.message.specs.Accepted.{AreAccepted, newcomers};

@@ -4,7 +4,7 @@ ghost use Rattle.std.specs.Prelude.{ℕ, ◌≡◌, Bool, List, Option};
 ghost use Rattle.message.specs.declared.range.HartRange.{HartRange as AnyRange};
 ghost use Rattle.retire.specs.declared.event.Event.{Event as AnyEvent};
 ghost use Rattle.rvclass.specs.Words.{Words};
-ghost use Rattle.captures.specs.OfHarts.{AreHartsDecoded, IsDecodedOf};
+ghost use Rattle.captures.specs.Decoded.{AreHartsDecoded, IsDecodedOf};
 ghost use Rattle.captures.specs.declared.outcome.CaptureFault.{CaptureFault as AnyFault};
 ghost use Rattle.parallel_decode.specs.Body.{end_of};
 

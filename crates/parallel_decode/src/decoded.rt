@@ -3,7 +3,7 @@
 ghost use Rattle.std.specs.Prelude.{◌≡◌, ◌⊎◌, Err, IfOk};
 ghost use Rattle.std.specs.Io.KnownBytes.{Keeps};
 ghost use Rattle.rvclass.specs.Fetch.{words_of};
-ghost use Rattle.captures.specs.OfHarts.{IsDecodedOf};
+ghost use Rattle.captures.specs.Decoded.{IsDecodedOf};
 ghost use Rattle.parallel_decode.specs.Surveyed.{NeverMemory};
 ghost use Rattle.parallel_decode.specs.Written.{BeginsHartsOf, WritesHartsOf};
 

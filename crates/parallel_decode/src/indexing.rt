@@ -1,20 +1,23 @@
 //! The first pass over a capture's messages.
 
-ghost use Rattle.std.specs.Prelude.{ℕ, ◌≡◌, List, [], IfOk, length};
-ghost use Rattle.retire.specs.declared.event.Event.{Event as AnyEvent};
+ghost use Rattle.std.specs.Prelude.{◌≡◌, ◌++◌, true, All, List, [], ◌∷◌, IfErr, IfOk, OnErr, OnOk, length};
 ghost use Rattle.rvclass.specs.Fetch.{words_of};
-ghost use Rattle.receiver.specs.Holds.{HasReceived};
+ghost use Rattle.message.specs.Accepted.{AreAccepted, newcomers};
+ghost use Rattle.message.specs.Range.{selected, selects};
+ghost use Rattle.message.specs.declared.message.Message.{Message as AnyMessage};
+ghost use Rattle.receiver.specs.NotReceived.{IsNotReceived};
+ghost use Rattle.decoder.specs.declared.fault.DecodeFault.TheVariants.{Memory};
 ghost use Rattle.parallel_decode.specs.Surveyed.{IsSurvey};
-ghost use Rattle.parallel_decode.specs.steps.Surveying.{IsSurveyedUpTo};
-ghost use Rattle.parallel_decode.specs.steps.Tracking.{IsTracker, received_of};
+ghost use Rattle.parallel_decode.specs.steps.Surveying.{AreOwns, IsSurveyedUpTo, closed_of};
+ghost use Rattle.parallel_decode.specs.steps.Walked.{IsOfHarts};
 
+use crate::own::Own;
 use crate::placing::places_of;
 use crate::selecting::Selection;
-use crate::tracking::Tracker;
 use captures::CaptureFault;
-use message::{Messages, ProgressSink};
+use message::{DemuxFault, Message, Messages, ProgressSink};
 use payload::Mode;
-use retire::Event;
+use receiver::ReceiveFault;
 use std::alloc::{AllocError, Allocator};
 
 /// What the first pass finds.
@@ -48,37 +51,34 @@ pub fn survey_messages<A: Allocator + Copy, V: ProgressSink>(
     ensures { IfOk result (IsSurvey messages.now.range (words_of messages.now.program.now) messages.now.harts announced
         messages.now.bytes.now) }
 {
-    let mut tracker = Tracker::new(alloc, messages.harts)?;
-    // It has no capacity, so no event is written.
-    let mut piece = Vec::new(alloc);
+    let harts = usize::from(messages.harts);
+    let mut owns = vec![in alloc; Own::new(); harts]?;
     let left = Messages::new(messages.bytes);
-    let end = receive_all(&mut tracker, messages, announced, left, &mut piece, watch);
-    let counts = tracker.counts.as_slice();
-    let places = places_of(alloc, messages.range, counts, end.received, messages.bytes)?;
+    let end = receive_all(alloc, &mut owns, messages, announced, left, watch);
+    let states = owns.as_slice();
+    let places = places_of(alloc, messages.range, states, end.received, messages.bytes)?;
+    let closed = flags_of(alloc, states)?;
     Ok(Survey {
         places,
-        closed: tracker.closed,
+        closed,
         fault: end.fault,
     })
 }
 
 /// Receives messages of the harts in a range, where the header announces this mode, if there is a header. Returns where
-/// that ends.
+/// that ends. No message was received before.
 fn receive_all<A: Allocator + Copy, V: ProgressSink>(
-    tracker: &mut Tracker<A>,
+    alloc: A,
+    owns: &mut Vec<Own, A>,
     selection: &Selection<'_, '_>,
     announced: Option<Mode>,
     mut messages: Messages<'_>,
-    piece: &mut Vec<Event, A>,
     watch: &V,
 ) -> End
-    requires tracker { IsTracker tracker.old }
-    ensures surveyed { (harts : ℕ) (lists : List (List AnyEvent))
-        → HasReceived (λ hart. words_of selection.now.program.now) harts [] (received_of tracker.old lists)
-        → (more : List (List AnyEvent)) × IsSurveyedUpTo selection.now.range (words_of selection.now.program.now) harts
-        announced messages.entry (received_of tracker.new more) result.received result.fault }
-    ensures tracker { IsTracker tracker.new }
-    ensures harts { length tracker.new.demux ≡ length tracker.old.demux }
+    requires { AreOwns (words_of selection.now.program.now) announced [] owns.old.items }
+    ensures surveyed { IsSurveyedUpTo selection.now.range (words_of selection.now.program.now) (length owns.old.items)
+        announced messages.entry (closed_of owns.new.items) result.received result.fault }
+    ensures harts { length owns.new.items ≡ length owns.old.items }
 {
     let mut received = 0;
     loop {
@@ -97,13 +97,7 @@ fn receive_all<A: Allocator + Copy, V: ProgressSink>(
                 };
             }
         };
-        match tracker.receive_selected(
-            selection.range,
-            selection.program,
-            announced,
-            &message,
-            piece,
-        ) {
+        match receive_selected(alloc, owns, selection, announced, &message) {
             Ok(()) => {
                 received += 1;
                 watch.note(1);
@@ -116,4 +110,50 @@ fn receive_all<A: Allocator + Copy, V: ProgressSink>(
             }
         }
     }
+}
+
+/// Receives the message if it is of one of the harts in a range, and passes it over else.
+fn receive_selected<A: Allocator + Copy>(
+    alloc: A,
+    owns: &mut Vec<Own, A>,
+    selection: &Selection<'_, '_>,
+    announced: Option<Mode>,
+    message: &Message,
+) -> Result<(), ReceiveFault>
+    ensures received { (messages : List AnyMessage)
+        → AreOwns (words_of selection.now.program.now) announced messages owns.old.items
+        → OnOk result (AreOwns (words_of selection.now.program.now) announced
+        (messages ++ selected selection.now.range (message.now ∷ [])) owns.new.items) }
+    ensures of_harts { OnOk result
+        (All (IsOfHarts (length owns.old.items)) (selected selection.now.range (message.now ∷ []))) }
+    ensures refused { (messages : List AnyMessage)
+        → AreOwns (words_of selection.now.program.now) announced messages owns.old.items
+        → AreAccepted (newcomers (length owns.old.items)) messages
+        → IfErr result (λ fault. (selects selection.now.range message.now.hart ≡ true)
+        × IsNotReceived (words_of selection.now.program.now) (length owns.old.items) announced messages message.now
+        fault × ¬ (fault ≡ ReceiveFault.Decode Memory)) }
+    ensures closed { OnErr result (closed_of owns.new.items ≡ closed_of owns.old.items) }
+    ensures harts { length owns.new.items ≡ length owns.old.items }
+{
+    if !selection.range.selects(message.hart) {
+        return Ok(());
+    }
+    match owns.get_mut(usize::from(message.hart)) {
+        Some(own) => match own.receive(alloc, selection.program, announced, message) {
+            Ok(_) => Ok(()),
+            Err(fault) => Err(fault),
+        },
+        None => Err(ReceiveFault::Demux(DemuxFault::Stranger)),
+    }
+}
+
+/// Whether the closing packet of each hart was decoded.
+fn flags_of<A: Allocator>(alloc: A, owns: &[Own]) -> Result<Vec<bool, A>, AllocError>
+    ensures { IfOk result (λ closed. closed.items ≡ closed_of owns.now) }
+{
+    let mut closed = Vec::new(alloc);
+    for own in owns {
+        closed.push(own.closed)?;
+    }
+    Ok(closed)
 }

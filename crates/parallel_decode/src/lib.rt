@@ -61,7 +61,6 @@ mod slot;
 mod stretch;
 mod surveying;
 mod text;
-mod tracking;
 mod trail;
 mod turns;
 mod walking;

@@ -1,6 +1,6 @@
 //! The receiving end of one hart: it keeps no events.
 
-ghost use Rattle.std.specs.Prelude.{◌≡◌, ◌++◌, ◌-◌, ◌^◌, List, [], ◌∷◌, Err, IfErr, IfOk, IsTrue, length, min};
+ghost use Rattle.std.specs.Prelude.{◌≡◌, ◌++◌, ◌-◌, ◌^◌, List, [], ◌∷◌, Err, IfErr, IfOk, IsTrue, OnErr, length, min};
 ghost use Rattle.retire.specs.declared.event.Event.{Event as AnyEvent};
 ghost use Rattle.rvclass.specs.Fetch.{words_of};
 ghost use Rattle.rvclass.specs.Words.{Words};
@@ -12,7 +12,7 @@ ghost use Rattle.decoder.specs.declared.fault.DecodeFault.TheVariants.{Memory};
 ghost use Rattle.message.specs.declared.message.Message.{Message as AnyMessage};
 ghost use Rattle.receiver.specs.NotReceived.{IsNotDecoded};
 ghost use Rattle.parallel_decode.specs.steps.OwnMessages.{IsOwn, IsOwnRefused};
-ghost use Rattle.std.specs.Prelude.{Option, ℕ};
+ghost use Rattle.std.specs.Prelude.{Option};
 
 use crate::feed_packet;
 use crate::same::is_state;
@@ -21,7 +21,7 @@ use message::{Hart, Message};
 use payload::{Mode, Packet};
 use receiver::{ReceiveFault, opens_another};
 use rvclass::ProgramOver;
-use std::alloc::Global;
+use std::alloc::Allocator;
 
 /// What is expected of a hart, and its decoder.
 #[derive(Clone, Copy)]
@@ -59,9 +59,9 @@ impl Own {
 
     /// Receives the hart's next message; the events are thrown away. Returns how many they are, or 2^64 - 1 if there
     /// are more. Where a mode was announced before, a packet that opens a trace in another mode is a fault.
-    pub(crate) fn receive(
+    pub(crate) fn receive<A: Allocator>(
         &mut self,
-        alloc: Global,
+        alloc: A,
         program: &ProgramOver,
         announced: Option<Mode>,
         message: &Message,
@@ -74,6 +74,7 @@ impl Own {
             → IsOwn (words_of program.now) announced messages log self.old
             → IfErr result (IsOwnRefused (words_of program.now) announced messages message.now) }
         ensures never_memory { ¬ (result ≡ Err (ReceiveFault.Decode Memory)) }
+        ensures flag { OnErr result (self.new.closed ≡ self.old.closed) }
     {
         let packet = match self.expected.accept(message) {
             Ok(packet) => packet,
@@ -89,9 +90,9 @@ impl Own {
     }
 
     /// Decodes the hart's next packet; the events are thrown away.
-    fn decode(
+    fn decode<A: Allocator>(
         &mut self,
-        alloc: Global,
+        alloc: A,
         program: &ProgramOver,
         packet: &Packet,
     ) -> Result<u64, DecodeFault>
@@ -105,7 +106,7 @@ impl Own {
         ensures closed { (packets : List AnyPacket)
             → IfOk result (λ events. self.new.closed ≡ last_is_closing (packets ++ packet.now ∷ [])) }
         ensures never_memory { ¬ (result ≡ Err Memory) }
-        ensures expected { self.new.expected ≡ self.old.expected }
+        ensures kept { (self.new.expected ≡ self.old.expected) × OnErr result (self.new.closed ≡ self.old.closed) }
     {
         let mut piece = Vec::new(alloc);
         match feed_packet(&mut self.decoder, program, packet, &mut piece) {

@@ -1,6 +1,6 @@
 //! The rows of a packet's events.
 
-ghost use Rattle.std.specs.Prelude.{ℕ, ◌≡◌, ◌≤◌, ◌++◌, List, IfErr, OnOk, vec_capacity};
+ghost use Rattle.std.specs.Prelude.{◌≡◌, ◌≤◌, ◌++◌, List, IfErr, OnOk, vec_capacity};
 ghost use Rattle.std.specs.List.{flat_map};
 ghost use Rattle.output.specs.Begun.{AppendsBeginning};
 ghost use Rattle.retire.specs.LogText.{event_line};

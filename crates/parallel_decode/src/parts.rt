@@ -1,10 +1,7 @@
 //! Harts whose messages are received side by side.
 
-ghost use Rattle.std.specs.Prelude.{ℕ, ◌≡◌, All, List, Option, IfOk, OnOk};
-ghost use Rattle.std.specs.declared.vec.Vec.{Vec as AnyVec};
+ghost use Rattle.std.specs.Prelude.{All, IfOk, OnOk};
 ghost use Rattle.rvclass.specs.Fetch.{words_of};
-ghost use Rattle.rvclass.specs.Words.{Words};
-ghost use Rattle.payload.specs.declared.mode.Mode.{Mode as AnyMode};
 ghost use Rattle.parallel_decode.specs.steps.Ends.{AreEnds, IsEntry};
 ghost use Rattle.parallel_decode.specs.steps.Sections.{IsOfHarts};
 

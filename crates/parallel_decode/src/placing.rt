@@ -1,30 +1,31 @@
 //! Where each hart's messages are.
 
-ghost use Rattle.std.specs.Prelude.{ℕ, ◌≡◌, ◌<◌, true, false, All, List, [], IfOk, IfSome, OnOk, Ok, Some, length};
+ghost use Rattle.std.specs.Prelude.{◌≡◌, ◌<◌, true, false, All, List, [], IfOk, IfSome, OnOk, Ok, Some, length};
 ghost use Rattle.message.specs.Range.{selected, selects};
 ghost use Rattle.payload.specs.Reading.{reading};
 ghost use Rattle.payload.specs.declared.packet.Packet.{Packet as AnyPacket};
 ghost use Rattle.message.specs.declared.message.Message.{Message as AnyMessage};
 ghost use Rattle.parallel_decode.specs.Places.{AreFirst, ArePlaced, HasPacketAt, IsAdded, IsAt};
 
+use crate::own::Own;
 use message::{HartRange, Message, Messages};
 use payload::{Packet, unpack};
 use std::alloc::{AllocError, Allocator};
 
-/// Where those of the first `count` messages of these bytes begin that are of the harts in a range, for each of so many
-/// harts as there are counts. A hart's count is how much memory is taken for it.
+/// Where those of the first `count` messages of these bytes begin that are of the harts in a range, for each of these
+/// harts. Memory is taken for as many messages of a hart as were accepted.
 pub(crate) fn places_of<A: Allocator + Copy>(
     alloc: A,
     range: HartRange,
-    counts: &[usize],
+    owns: &[Own],
     count: u64,
     bytes: &[u8],
 ) -> Result<Vec<Vec<usize, A>, A>, AllocError>
-    ensures harts { IfOk result (λ places. length places.items ≡ length counts.now) }
+    ensures harts { IfOk result (λ places. length places.items ≡ length owns.now) }
     ensures places { (messages : List AnyMessage) → AreFirst range bytes.now count messages
         → IfOk result (λ places. ArePlaced bytes.now places.items (selected range messages)) }
 {
-    let mut places = empty_lists(alloc, counts)?;
+    let mut places = empty_lists(alloc, owns)?;
     let mut messages = Messages::new(bytes);
     let mut place = 0;
     for _ in 0..count {
@@ -67,17 +68,17 @@ pub fn add_selected<A: Allocator>(
     }
 }
 
-/// A list without an element for each count, with capacity for so many.
+/// A list without an element for each of these harts, with capacity for as many as messages of it were accepted.
 fn empty_lists<A: Allocator + Copy>(
     alloc: A,
-    counts: &[usize],
+    owns: &[Own],
 ) -> Result<Vec<Vec<usize, A>, A>, AllocError>
-    ensures harts { IfOk result (λ lists. length lists.items ≡ length counts.now) }
+    ensures harts { IfOk result (λ lists. length lists.items ≡ length owns.now) }
     ensures empty { IfOk result (λ lists. All (λ list. list.items ≡ []) lists.items) }
 {
-    let mut lists = Vec::with_capacity(alloc, counts.len())?;
-    for count in counts {
-        lists.push_reserved(Vec::with_capacity(alloc, *count)?);
+    let mut lists = Vec::with_capacity(alloc, owns.len())?;
+    for own in owns {
+        lists.push_reserved(Vec::with_capacity(alloc, own.expected.expected as usize)?);
     }
     Ok(lists)
 }

@@ -1,13 +1,13 @@
 //! Which stretches harts' messages are cut into.
 
-ghost use Rattle.std.specs.Prelude.{ℕ, ◌≡◌, ◌++◌, List, IfOk, OnOk, Some, length, slice_get};
+ghost use Rattle.std.specs.Prelude.{ℕ, ◌++◌, List, IfOk, OnOk, Some};
 ghost use Rattle.std.specs.declared.vec.Vec.{Vec as AnyVec};
 ghost use Rattle.retire.specs.LogText.{log_text};
 ghost use Rattle.retire.specs.declared.event.Event.{Event as AnyEvent};
 ghost use Rattle.rvclass.specs.Words.{IsProgram, Words};
 ghost use Rattle.parallel_decode.specs.EachHart.{hart_line};
 ghost use Rattle.parallel_decode.specs.HartsText.{harts_text_of};
-ghost use Rattle.parallel_decode.specs.Marks.{AreMarkedLogs, IsMarkedLog};
+ghost use Rattle.parallel_decode.specs.Marks.{AreMarkedLogs};
 ghost use Rattle.parallel_decode.specs.steps.Planning.{IsMarkedHart};
 ghost use Rattle.parallel_decode.specs.steps.Stretches.{HaveText};
 

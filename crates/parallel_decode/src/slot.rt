@@ -1,6 +1,6 @@
 //! What a thread decodes stretches into.
 
-ghost use Rattle.std.specs.Prelude.{◌≡◌, ◌≤◌, ◌<◌, false, All, IfOk, length, vec_capacity};
+ghost use Rattle.std.specs.Prelude.{◌≡◌, ◌<◌, false, All, IfOk, length};
 ghost use Rattle.parallel_decode.specs.steps.Filled.{IsFilled};
 ghost use Rattle.parallel_decode.specs.steps.Stretches.{HaveTexts};
 

@@ -1,6 +1,6 @@
 //! The first pass over a capture's messages, with marks.
 
-ghost use Rattle.std.specs.Prelude.{◌≡◌, All, IfOk, None, Option, ℕ, length, map};
+ghost use Rattle.std.specs.Prelude.{◌≡◌, All, IfOk, None, Option, map};
 ghost use Rattle.rvclass.specs.Fetch.{words_of};
 ghost use Rattle.parallel_decode.specs.Marked.{IsMarkedSurvey};
 ghost use Rattle.parallel_decode.specs.steps.Walked.{IsAttempt};

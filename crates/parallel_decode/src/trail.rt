@@ -1,6 +1,6 @@
 //! States of decoders that are kept on the way through a hart's messages.
 
-ghost use Rattle.std.specs.Prelude.{ℕ, ◌≡◌, ◌++◌, ◌<◌, ◌-◌, ◌^◌, List, [], OnOk, length, min};
+ghost use Rattle.std.specs.Prelude.{◌≡◌, ◌++◌, ◌<◌, ◌-◌, ◌^◌, List, [], OnOk, length, min};
 ghost use Rattle.retire.specs.declared.event.Event.{Event as AnyEvent};
 ghost use Rattle.rvclass.specs.Words.{Words};
 ghost use Rattle.decoder.specs.DecoderStands.{DecoderStands};

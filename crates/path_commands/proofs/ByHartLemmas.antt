@@ -1,24 +1,20 @@
 -- Messages that are read by hart.
-use Rattle.std.proofs.Common.{◌≡◌, inl, inr, ◌∙◌, ◌+◌, ℕ, List, [], ◌∷◌, ◌++◌, Option, Some, None, false, true, length, map}
-use Rattle.std.proofs.Common.{refl, sym, ap, subst}
+use Rattle.std.proofs.Common.{◌≡◌, ◌∙◌, ◌+◌, ℕ, List, [], ◌∷◌, ◌++◌, Option, Some, None, false, true, length, map}
+use Rattle.std.proofs.Common.{Global, Vec, refl, sym, ap, subst}
 use Rattle.std.proofs.lemmas.List.{map-append}
 use Rattle.std.proofs.lemmas.List.Sums.{sum_by-cons}
 use Rattle.std.specs.Prelude.{◌&&◌, cond, is_some, nat_lt, not}
 use Rattle.payload.specs.declared.by.By.{By}
-use Rattle.captures.proofs.HeaderFaults.{has_header, marked_by}
 use Rattle.captures.proofs.WholeCaptures.{HasRead, front_stops, never_both, whole_only}
-use Rattle.captures.specs.NoMessage.{BeginsNoHeader}
-use Rattle.captures.specs.Whole.{BeginsWith, IsFront, IsWhole}
+use Rattle.captures.specs.Whole.{IsFront, IsWhole}
 use Rattle.captures.specs.declared.capture_reading.ReadFault.TheVariants as read
 use Rattle.message.specs.Range.{selected, selects}
 use Rattle.message.specs.declared.range.HartRange.{HartRange}
-use Rattle.message.specs.Capture.{capture}
 use Rattle.message.specs.declared.fault.MessageFault.{MessageFault}
 use Rattle.message.specs.declared.header.Header.{Header}
 use Rattle.message.specs.declared.message.Message.{Message}
-use Rattle.frames.specs.Start.{IsStart}
 use Rattle.auditing.specs.Split.{AreSplit}
-use Rattle.auditing.specs.Sent.{harts_of}
+use Rattle.auditing.specs.Sent.{IsSent, harts_of}
 use Rattle.path_commands.specs.Unnumbered.{strangers_among}
 use Rattle.path_commands.specs.declared.by_hart.ByHart.{ByHart}
 use Rattle.path_commands.specs.steps.Matching.{IsByHart, IsKept, strangers_of}
@@ -56,32 +52,22 @@ same_front bytes h k some others (Some why) is front =
     never : read.Message (length others) why ≡ read.Memory → ⊥
     never e = cc
 
--- A capture that begins with a header, or with none, does not begin with one that is cut or not valid.
-pub starts_well : (bytes rest : List ℕ) (header : Option Header) (why : MessageFault) → BeginsWith header bytes rest
-    → BeginsNoHeader bytes why → ⊥
-starts_well bytes rest None why begins none = begins.0 (marked_by bytes why none)
-starts_well bytes rest (Some header) why begins none = has_header header rest bytes why begins.0 begins.1 none
-
--- Behind a header that is cut or not valid no message is read.
-pub front_of_none : (bytes : List ℕ) (header own : Option Header) (why : Option MessageFault)
-    (messages : List Message) (stop : Option MessageFault) → IsStart bytes header why → is_some why ≡ true
-    → IsFront bytes own messages stop → messages ≡ []
-front_of_none bytes header own None messages stop start is front = absurd (never is)
+-- Where reading by lengths stops nowhere, the front is the whole.
+pub whole_front : (bytes : List ℕ) (header : Option Header) (messages : List Message) (stop : Option MessageFault)
+    → IsFront bytes header messages stop → is_some stop ≡ false → IsWhole bytes header messages
+whole_front bytes header messages None front is = front
+whole_front bytes header messages (Some why) front is = absurd (never is)
   where
-    never : false ≡ true → ⊥
+    never : true ≡ false → ⊥
     never e = cc
-front_of_none bytes header own (Some why) messages None start is front =
-    absurd (starts_well bytes (capture messages) own why front.whole start.1)
-front_of_none bytes header own (Some why) messages (Some stop) start is (inl cut) =
-    absurd (starts_well bytes (capture messages ++ cut.rest) own why cut.whole start.1)
-front_of_none bytes header own (Some why) messages (Some stop) start is (inr none) = none.no_messages
 
 -- The payloads of SENT are kept.
-pub kept_by : (how by : By) (range : HartRange) (header : Option Header) (harts : ℕ) (messages front : List Message)
-    (own : ByHart) → by ≡ how → own.payloads.by ≡ by → length own.payloads.lists ≡ harts
-    → harts ≡ harts_of header messages → front ≡ messages → IsByHart range front own
-    → IsKept how range messages (record { header = header; payloads = own.payloads })
-kept_by how by range header harts messages front own by_is own_is count harts_is same has = record {
+pub kept_by : (how by : By) (range : HartRange) (bytes : Vec ℕ Global) (header : Option Header) (harts : ℕ)
+    (messages front : List Message) (own : ByHart) → by ≡ how → own.payloads.by ≡ by → length own.payloads.lists ≡ harts
+    → harts ≡ harts_of header messages → front ≡ messages → IsByHart range front own → IsSent bytes.items header messages
+    → IsKept how range messages (record { bytes = bytes; header = header; payloads = own.payloads })
+kept_by how by range bytes header harts messages front own by_is own_is count harts_is same has sent = record {
+  sent = sent;
   by = own_is ∙ by_is;
   split =
       subst (λ n. AreSplit own.payloads.by n (selected range messages) own.payloads.lists) (count ∙ harts_is)

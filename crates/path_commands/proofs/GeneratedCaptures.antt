@@ -1,15 +1,20 @@
 -- What captures of harts whose messages are mixed are to an audit.
 use Rattle.std.proofs.Common.{◌≡◌, ◌∙◌, ◌+◌, ◌<◌, ◌≤◌, All, ap, arith, refl, subst, sym, ℕ, List, [], ◌∷◌, ◌++◌}
-use Rattle.std.proofs.Common.{Bool, true, false, ◌&&◌, ◌||◌, cond, eqb, ltb, not, Some, None, length, zero-add}
+use Rattle.std.proofs.Common.{Bool, true, false, ◌&&◌, ◌||◌, cond, get_or, ltb, not, Option, Some, None, length}
+use Rattle.std.proofs.Common.{slice_get, suc, zero, zero-add}
+use Rattle.std.proofs.lemmas.Option.{same_Some, slice_get-get_or}
 use Rattle.std.proofs.lemmas.Bool.{eq-eqb, le-ltb, lt-ltb, ltb-false, ltb-true, true≢false}
 use Rattle.std.proofs.lemmas.List.{append-nil, append_assoc}
 use Rattle.std.proofs.lemmas.List.Elements.{All-cons, All-nil, All-weaker}
 use Rattle.std.proofs.lemmas.List.Sums.{sum_by-cons}
 use Rattle.std.specs.List.{count_by, list_any}
+use Rattle.retire.specs.declared.event.Event.{Event}
+use Rattle.rvclass.proofs.WordsLemmas.{words_of-IsProgram}
+use Rattle.rvclass.specs.Fetch.{words_of}
 use Rattle.rvclass.specs.Image.{Image}
-use Rattle.legalpath.specs.ProgramLog.{program_log}
+use Rattle.legalpath.specs.ProgramLog.{ProgramLog, program_log}
 use Rattle.encoder.specs.Payloads.{payloads}
-use Rattle.message.proofs.OfHartLemmas.{of_hart-append, of_hart-own}
+use Rattle.message.proofs.OfHartLemmas.{of_hart-append, of_hart-others, of_hart-own}
 use Rattle.message.specs.Cut.{IsMessage}
 use Rattle.message.specs.Header.{IsHeader}
 use Rattle.message.specs.Numbered.{messages_from}
@@ -19,10 +24,15 @@ use Rattle.message.specs.declared.header.Header.{Header}
 use Rattle.message.specs.declared.header.Version.TheVariants.{Two}
 use Rattle.message.specs.declared.message.Message.{Message}
 use Rattle.captures.proofs.Elements.{All-middle}
-use Rattle.captures.proofs.LogMessages.{IsSent as IsSentByHart, all_sent, number-front}
+use Rattle.payload.specs.declared.mode.Mode.{Mode}
+use Rattle.captures.proofs.LogMessages.{IsSent as IsSentByHart, all_sent, number-front, of_hart-log}
 use Rattle.captures.proofs.SoundLogs.{sound_logs}
+use Rattle.captures.specs.Decoded.{IsDecoded}
 use Rattle.captures.specs.Messages.{messages_of_harts}
 use Rattle.captures.specs.Returned.{IsLongLegalLog}
+use Rattle.captures.specs.Versions.{header_of}
+use Rattle.captures.specs.Whole.{IsWhole}
+use Rattle.captures.specs.declared.outcome.CaptureFault.{CaptureFault}
 use Rattle.stimulus.specs.Mixed.{IsMixedCapture}
 use Rattle.auditing.proofs.AllWhole.{untouched_same, whole_untouched}
 use Rattle.auditing.specs.DecodedAgain.{AreAllWhole}
@@ -31,6 +41,8 @@ use Rattle.auditing.specs.Sent.{AreInTurn, IsSent, misplaced, misplaced_at}
 use Rattle.auditing.specs.Untouched.{is_touched}
 use Rattle.auditing.specs.declared.fate.Fate.{Fate}
 use Rattle.auditing.specs.declared.fate.Fate.TheVariants as fate
+use Rattle.path_commands.proofs.DecodedCaptures.{others_decode}
+use Rattle.path_commands.specs.DecodedLogs.{AreItsLogs}
 
 -- A list with an element in its middle has one.
 no_middle : {X : Type 0} (front : List X) (x : X) (rest : List X) → front ++ x ∷ rest ≡ [] → ⊥
@@ -143,15 +155,35 @@ no_strangers (one ∷ ones) untouched =
     ∙ ap (λ b. cond b 1 0 + count_by (λ (one : Judged). is_fate fate.Stranger one.fate) ones) none
     ∙ zero-add (count_by (λ (one : Judged). is_fate fate.Stranger one.fate) ones) ∙ later
 
-module _ (harts : ℕ) (messages : List Message) (turn : AreInTurn harts [] messages) where
-  -- Messages that are in turn are whole against themselves.
-  pub whole_itself : (header : Header) → AreAllWhole (Some header) messages messages
-  whole_itself header = record {
-    harts = λ hart is. (whole_untouched harts hart messages messages turn).1
-        ((untouched_same harts hart messages messages turn).1 refl);
-    strangers = no_strangers (judged messages messages)
-        (λ hart. ((untouched_same harts hart messages messages turn).1 refl).in_order);
+module _ (harts : ℕ) (messages others : List Message) (turn : AreInTurn harts [] messages)
+    (same : (hart : ℕ) → of_hart hart others ≡ of_hart hart messages) where
+  -- Messages that are in turn are whole where the same come of each hart.
+  whole_alike : (header : Header) → AreAllWhole (Some header) messages others
+  whole_alike header = record {
+    harts = λ hart is. (whole_untouched harts hart messages others turn).1
+        ((untouched_same harts hart messages others turn).1 (same hart));
+    strangers = no_strangers (judged messages others)
+        (λ hart. ((untouched_same harts hart messages others turn).1 (same hart)).in_order);
   }
+
+-- Of harts behind these logs there is no message.
+none_from : (hart other number : ℕ) (payloads : List (List ℕ)) → other < hart
+    → of_hart hart (messages_from other number payloads) ≡ []
+none_from hart other number [] below = refl
+none_from hart other number (payload ∷ payloads) below =
+    of_hart-others hart (record { hart = other; number = number; payload = payload })
+    (messages_from other (number + 1) payloads) (λ same. omega (arith, same, below))
+    ∙ none_from hart other (number + 1) payloads below
+
+none_behind : (period : ℕ) (mode : Mode) (hart first : ℕ) (logs : List ProgramLog) → first + length logs ≤ hart
+    → of_hart hart (messages_of_harts period mode first logs) ≡ []
+none_behind period mode hart first [] behind = refl
+none_behind period mode hart first (log ∷ logs) behind =
+    of_hart-append hart (messages_from first 0 (payloads period mode log))
+    (messages_of_harts period mode (first + 1) logs)
+    ∙ ap (λ none. none ++ of_hart hart (messages_of_harts period mode (first + 1) logs))
+    (none_from hart first 0 (payloads period mode log) (omega (arith, behind)))
+    ∙ none_behind period mode hart (first + 1) logs (omega (arith, behind))
 
 module _ (program : Image) (header : Header) (start : IsHeader header) (bytes : List ℕ)
     (made : IsMixedCapture program Two header bytes) where
@@ -183,6 +215,107 @@ module _ (program : Image) (header : Header) (start : IsHeader header) (bytes : 
     in_turn = all_in_turn header.harts [] made.messages numbered made.none;
   }
 
-  -- And it is whole against itself.
-  pub mixed_whole : AreAllWhole (Some header) made.messages made.messages
-  mixed_whole = whole_itself header.harts made.messages mixed_sent.in_turn header
+  -- And it is whole where the same messages come of each hart.
+  pub mixed_whole : (others : List Message) → ((hart : ℕ) → of_hart hart others ≡ of_hart hart made.messages)
+      → AreAllWhole (Some header) made.messages others
+  mixed_whole others same = whole_alike header.harts made.messages others mixed_sent.in_turn same header
+
+  -- The logs of the harts from this one on.
+  record LogsFrom (first count : ℕ) : Type 0 where
+    logs : List ProgramLog
+    counted : length logs ≡ count
+    legal : All IsLongLegalLog logs
+    same : All (λ (log : ProgramLog). log.program ≡ program) logs
+    each : (k : ℕ) (log : ProgramLog) → slice_get logs k ≡ Some log
+        → of_hart (first + k) made.messages ≡ messages_from (first + k) 0 (payloads header.period header.mode log)
+
+  logs_from : (first count : ℕ) → first + count ≡ header.harts → LogsFrom first count
+  logs_from first zero room = record {
+    logs = [];
+    counted = refl;
+    legal = All-nil IsLongLegalLog;
+    same = All-nil (λ (log : ProgramLog). log.program ≡ program);
+    each = λ k log at. cc;
+  }
+  logs_from first (suc count) room =
+      let sends = made.each first (omega (arith, room)) in
+      let log = program_log program sends.events in
+      let rest = logs_from (first + 1) count (omega (arith, room)) in record {
+        logs = log ∷ rest.logs;
+        counted = ap suc rest.counted;
+        legal = All-cons IsLongLegalLog log rest.logs sends.legal rest.legal;
+        same = All-cons (λ (log : ProgramLog). log.program ≡ program) log rest.logs refl rest.same;
+        each = each_of sends.events sends.own rest;
+      }
+    where
+      each_of : (events : List Event)
+          → of_hart first made.messages
+          ≡ messages_from first 0 (payloads header.period header.mode (program_log program events))
+          → (rest : LogsFrom (first + 1) count) → (k : ℕ) (log : ProgramLog)
+          → slice_get (program_log program events ∷ rest.logs) k ≡ Some log
+          → of_hart (first + k) made.messages
+          ≡ messages_from (first + k) 0 (payloads header.period header.mode log)
+      each_of events own rest zero log at =
+          let here : first ≡ first + 0 = omega arith in
+          let is : program_log program events ≡ log = same_Some (program_log program events) log at in
+          subst (λ (hart : ℕ). of_hart hart made.messages ≡ messages_from hart 0 (payloads header.period header.mode log))
+          here (own ∙ ap (λ (l : ProgramLog). messages_from first 0 (payloads header.period header.mode l)) is)
+      each_of events own rest (suc k) log at =
+          let there : first + 1 + k ≡ first + suc k = omega arith in
+          subst (λ (hart : ℕ). of_hart hart made.messages ≡ messages_from hart 0 (payloads header.period header.mode log))
+          there (rest.each k log at)
+
+  all_logs : LogsFrom 0 header.harts
+  all_logs = logs_from 0 header.harts (omega arith)
+
+  -- Each hart's messages are those of its log.
+  sent_logs : (hart : ℕ)
+      → of_hart hart made.messages ≡ of_hart hart (messages_of_harts header.period header.mode 0 all_logs.logs)
+  sent_logs hart = by (ltb hart header.harts) refl
+    where
+      count : length all_logs.logs ≡ header.harts
+      count = all_logs.counted
+
+      by : (b : Bool) → ltb hart header.harts ≡ b → of_hart hart made.messages
+          ≡ of_hart hart (messages_of_harts header.period header.mode 0 all_logs.logs)
+      by true is =
+          let log = get_or all_logs.logs hart (program_log program []) in
+          let at : slice_get all_logs.logs hart ≡ Some log =
+          slice_get-get_or all_logs.logs hart (program_log program [])
+          (omega (arith, count, ltb-true hart header.harts is)) in
+          let here : 0 + hart ≡ hart = omega arith in
+          subst (λ (h : ℕ). of_hart h made.messages ≡ messages_from h 0 (payloads header.period header.mode log)) here
+          (all_logs.each hart log at)
+          ∙ sym (of_hart-log header.period header.mode 0 hart hart all_logs.logs log (omega arith) at)
+      by false is =
+          let past = ltb-false hart header.harts is in
+          made.none hart (omega (arith, past))
+          ∙ sym (none_behind header.period header.mode hart 0 all_logs.logs (omega (arith, past, count)))
+
+  -- The header is that of these logs.
+  abbrev with_harts : ℕ → Header
+  with_harts harts = record { mode = header.mode; period = header.period; harts = harts }
+
+  header_is : header_of header.period header.mode all_logs.logs ≡ header
+  header_is = ap with_harts all_logs.counted
+
+  -- The capture decodes to them.
+  pub mixed_decodes : (asked : ℕ) (lists : List (List Event)) (closed : List Bool)
+      (stop : Option (ℕ × CaptureFault)) → IsDecoded (words_of program) asked bytes lists closed stop
+      → AreItsLogs program header made.messages lists closed stop
+  mixed_decodes asked lists closed stop decoded =
+      let some = start.some_harts in
+      let few = start.harts in
+      let image = (made.each 0 (omega (arith, some))).legal.image in record {
+        logs = all_logs.logs;
+        count = all_logs.counted;
+        legal = all_logs.legal;
+        same = all_logs.same;
+        sent = sent_logs;
+        returned =
+            others_decode program header.period header.mode all_logs.logs all_logs.legal all_logs.same
+            (omega (arith, few, all_logs.counted)) (words_of-IsProgram program image)
+            (subst IsHeader (sym header_is) start) asked bytes made.messages
+            (subst (λ (h : Header). IsWhole bytes (Some h) made.messages) (sym header_is) mixed_sent.whole)
+            sent_logs lists closed stop decoded;
+      }

@@ -8,10 +8,14 @@ pub mod MatchedLines
 pub mod MatchedRuns
 pub mod Notes
 pub mod PlainRows
+pub mod ReadSpans
+pub mod AddedPayloads
 pub mod Rests
+pub mod RunLines
 pub mod SpanRows
 pub mod Sums
 mod CaptureRuns
 mod CaptureSteps
 mod StreamedLines
 mod GeneratedCaptures
+mod DecodedCaptures

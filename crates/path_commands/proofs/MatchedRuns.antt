@@ -1,17 +1,13 @@
 -- What an audit prints of messages that carry no numbers, from what each of its steps found.
-use Rattle.std.proofs.Common.{◌≡◌, ◌⊎◌, inl, inr, ℕ, true, false, List, [], Option, Some, None, Result, Ok, Err}
+use Rattle.std.proofs.Common.{◌≡◌, ◌⊎◌, inl, inr, ℕ, List, [], Option, Result, Ok, Err}
 use Rattle.std.proofs.Common.{refl, sym, subst}
 use Rattle.std.proofs.KnownBytes.{Appends-nil}
-use Rattle.std.specs.Prelude.{⊤, IfErr, IfOk, is_some}
+use Rattle.std.specs.Prelude.{⊤, IfErr, IfOk}
 use Rattle.output.specs.Begun.{AppendsBeginning}
 use Rattle.auditing.specs.Matches.{Flags}
 use Rattle.message.specs.Range.{selected}
 use Rattle.message.specs.declared.range.HartRange.{HartRange}
-use Rattle.message.specs.declared.fault.MessageFault.{MessageFault}
-use Rattle.message.specs.declared.header.Header.{Header}
-use Rattle.message.specs.declared.message.Message.{Message}
-use Rattle.captures.specs.Whole.{IsFront}
-use Rattle.frames.specs.Start.{IsStart}
+use Rattle.frames.specs.Counted.{messages_in}
 use Rattle.command_inputs.specs.declared.words.Audit.{Audit}
 use Rattle.auditing.specs.Sent.{harts_of}
 use Rattle.auditing.specs.Aligned.{AreAligned}
@@ -24,39 +20,13 @@ use Rattle.command_inputs.specs.Found.{IsRead}
 use Rattle.command_inputs.specs.declared.fault.Fault.TheVariants as fault
 use Rattle.command_inputs.specs.declared.status.Status.{Status}
 use Rattle.log_streams.specs.Known.{Content}
-use Rattle.path_commands.proofs.ByHartLemmas.{starts_well}
 use Rattle.path_commands.specs.Faults.{Fault}
 use Rattle.path_commands.specs.Rows.{report_of}
 use Rattle.path_commands.specs.Sides.{IsFoundSent, Sent, by_packets}
-use Rattle.path_commands.specs.Unnumbered.{IsUnnumberedCame, UnnumberedCame, WritesAligned, end_of_unnumbered}
-use Rattle.path_commands.specs.Unnumbered.{unnumbered_audit}
+use Rattle.path_commands.specs.ReceivedCapture.{IsReadByPayloads, ReceivedCapture}
+use Rattle.path_commands.specs.Unnumbered.{WritesAligned, end_of_unnumbered, unnumbered_audit}
 use Rattle.path_commands.specs.declared.reason.PathReason.{PathReason}
 use Rattle.path_commands.specs.steps.Matching.{EndsUnnumbered}
-
-module _ (bytes : List ℕ) (header : Option Header) where
-  -- RECEIVED has no valid header.
-  pub is_headless : (fault : Option MessageFault) (messages : List Message) → IsStart bytes header fault
-      → is_some fault ≡ true → messages ≡ []
-      → IsUnnumberedCame bytes (record { header = None; fault = fault; messages = messages; stop = None })
-  is_headless (Some why) messages start is none =
-      record { none = start.1; no_header = refl; no_messages = none; no_stop = refl }
-  is_headless None messages start is none = absurd (never is)
-    where
-      never : false ≡ true → ⊥
-      never e = cc
-
-  -- RECEIVED is read by lengths.
-  pub is_read : (fault : Option MessageFault) (own : Option Header) (messages : List Message)
-      (stop : Option MessageFault) → IsStart bytes header fault → is_some fault ≡ false → IsFront bytes own messages stop
-      → IsUnnumberedCame bytes (record { header = own; fault = None; messages = messages; stop = stop })
-  is_read (Some why) own messages stop start is front = absurd (never is)
-    where
-      never : true ≡ false → ⊥
-      never e = cc
-  is_read None own messages None start is front = front
-  is_read None own messages (Some why) start is (inl cut) = cut
-  is_read None own messages (Some why) start is (inr none) =
-      absurd (starts_well bytes start.0 header why start.1 none.none)
 
 -- What holds of a value holds of it in other words.
 pub ok_in_words : {T E : Type 0} (P Q : T → Type 0) → ((x : T) → P x → Q x) → (r : Result T E) → IfOk r P → IfOk r Q
@@ -71,10 +41,10 @@ err_in_words P Q leads (Err e) holds = leads e holds
 pub none_begun : (text : List ℕ) (old : Option (List ℕ)) → AppendsBeginning text old old
 none_begun text old = record { text = []; rest = text; parted = refl; appended = Appends-nil old }
 
-module _ (asked : Audit) (harts : HartRange) (sent : Sent) (bytes : List ℕ) (came : UnnumberedCame)
-    (is_came : IsUnnumberedCame bytes came) (all : List Flags)
+module _ (asked : Audit) (harts : HartRange) (sent : Sent) (bytes : List ℕ) (came : ReceivedCapture)
+    (is_came : IsReadByPayloads (by_packets asked.packets) sent.messages bytes came) (all : List Flags)
     (aligned : AreAligned (by_packets asked.packets) (harts_of sent.header sent.messages) (selected harts sent.messages)
-    (selected harts came.messages) all)
+    (selected harts (messages_in came.spans)) all)
   where
     abbrev text : List ℕ
     text = unnumbered_audit (report_of asked.format asked harts) sent.header came all

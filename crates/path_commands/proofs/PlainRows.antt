@@ -115,9 +115,9 @@ are_read_back = record {
         decimal_plain messages,
         number_plain first,
         headers_plain unlike,
-        number_plain bytes,
+        decimal_plain bytes,
         decimal_plain strangers,
-        number_plain runs,
+        decimal_plain runs,
         verdict_plain whole,
       ) refl);
   arrival = arrival_read;

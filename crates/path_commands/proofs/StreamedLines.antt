@@ -1,5 +1,5 @@
 -- What comes of the lines of a file that are written as they come.
-use Rattle.std.proofs.Common.{◌≡◌, ◌∙◌, ◌⊎◌, ap, inl, inr, refl, subst, sym, ℕ, List, [], ◌∷◌, ◌++◌, Option}
+use Rattle.std.proofs.Common.{◌≡◌, ◌≢◌, ◌∙◌, ◌⊎◌, ap, inl, inr, refl, subst, sym, ℕ, List, [], ◌∷◌, ◌++◌, Option}
 use Rattle.std.proofs.Common.{Some, None, Result, Ok, Err, append-nil, append_assoc, take, drop, length, length-drop}
 use Rattle.std.proofs.Common.{◌+◌, ◌-◌, ◌≤◌, arith, get_or, take-append-drop}
 use Rattle.std.proofs.lemmas.Bool.{ne_eqb}
@@ -87,6 +87,10 @@ may_hold_end known given bytes old new is more none end =
     (subst (λ given. IsReadTo known given new) (ap (λ l. given ++ l) none ∙ append-nil given)
     (read_more known given bytes old new is more))
     end
+
+-- A file that is read is there.
+never_absent : (known : Known) (given : List ℕ) (left : Option (List ℕ)) → IsReadTo known given left → known ≢ Absent
+never_absent known given left is absent = subst (λ known. IsReadTo known given left) absent is
 
 -- A file of which it is not known what is left may be lacking.
 pub may_lack : (known : Known) (given : List ℕ) (left : Option (List ℕ)) → IsReadTo known given left → left ≡ None
@@ -289,7 +293,7 @@ module _ (asked : Capture) (settings : Settings) where
       → HasStopped asked settings text (line.lines_fault asked.lines why) old new
   stopped text why last old new (inl (is, begun)) =
       record { begun = begun; stop = inr (inl (ap (line.lines_fault asked.lines) is)) }
-  stopped text why last old new (inr (stop, written)) = record {
+  stopped text why last old new (inr (stop, kept, written)) = record {
     begun = whole_begun (pass_bytes settings asked text) old new written;
     stop = inr (inr (why, refl, stop, written));
   }
@@ -402,6 +406,7 @@ module _ (asked : Capture) (settings : Settings) where
       Err (fault.Unreadable asked.lines),
       (refl, may_lack (content asked.lines.now) given left is none),
       inr (record {
+        opened = never_absent (content asked.lines.now) given left is;
         text = has.front;
         lines = has.ends;
         right = sym (stop_is has.front) ∙ has.passed.0;

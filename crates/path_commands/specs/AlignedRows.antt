@@ -1,5 +1,5 @@
 -- The fields of the rows of an audit of messages that carry no numbers, as a table.
-use Rattle.std.specs.Prelude.{ℕ, ◌++◌, List, [], ◌∷◌, None, codes}
+use Rattle.std.specs.Prelude.{ℕ, ◌++◌, List, [], ◌∷◌, codes}
 use Rattle.std.specs.Fmt.{decimal}
 use Rattle.auditing.specs.declared.aligned_counts.AlignedTotal.{AlignedTotal}
 use Rattle.auditing.specs.declared.aligned_counts.HartCounts.{HartCounts}
@@ -35,4 +35,4 @@ aligned_all_fields total =
 abbrev pub aligned_last : MatchedTotal → List ℕ
 aligned_last its =
     fields_line (aligned_all_fields its.total)
-    ++ fields_line (result_fields its.messages its.first its.unlike None its.strangers None its.whole)
+    ++ fields_line (result_fields its.messages its.first its.unlike its.bytes its.strangers its.runs its.whole)

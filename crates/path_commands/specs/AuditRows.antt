@@ -1,5 +1,5 @@
 -- The fields of the rows of an audit as a table.
-use Rattle.std.specs.Prelude.{ℕ, ◌-◌, ◌++◌, Bool, true, false, List, [], ◌∷◌, Option, Some, codes}
+use Rattle.std.specs.Prelude.{ℕ, ◌-◌, ◌++◌, Bool, true, false, List, [], ◌∷◌, Option, codes}
 use Rattle.std.specs.Fmt.{decimal}
 use Rattle.auditing.specs.declared.exchange.Exchanged.{Exchanged}
 use Rattle.auditing.specs.declared.finding.Finding.{Finding}
@@ -112,14 +112,14 @@ headers_field false = []
 -- The fields of the result: how many messages RECEIVED has, the place of the first that has a row, whether headers
 -- differ, how many bytes are of no message, how many strangers came, in how many runs the bytes are, and whether the
 -- result is whole.
-abbrev pub result_fields : ℕ → Option ℕ → Bool → Option ℕ → ℕ → Option ℕ → Bool → List (List ℕ)
+abbrev pub result_fields : ℕ → Option ℕ → Bool → ℕ → ℕ → ℕ → Bool → List (List ℕ)
 result_fields messages first unlike bytes strangers runs whole =
-    codes "result" ∷ decimal messages ∷ [] ∷ [] ∷ number_field first ∷ [] ∷ headers_field unlike ∷ number_field bytes
-    ∷ [] ∷ [] ∷ [] ∷ [] ∷ [] ∷ [] ∷ [] ∷ [] ∷ decimal strangers ∷ number_field runs ∷ [] ∷ [] ∷ verdict_text whole ∷ [] ∷ []
+    codes "result" ∷ decimal messages ∷ [] ∷ [] ∷ number_field first ∷ [] ∷ headers_field unlike ∷ decimal bytes
+    ∷ [] ∷ [] ∷ [] ∷ [] ∷ [] ∷ [] ∷ [] ∷ [] ∷ decimal strangers ∷ decimal runs ∷ [] ∷ [] ∷ verdict_text whole ∷ [] ∷ []
 
 -- The last rows: all harts together, and the result.
 abbrev pub last_rows : Ending → List ℕ
 last_rows ending =
     fields_line (all_fields ending.total)
-    ++ fields_line (result_fields ending.messages ending.first ending.unlike (Some ending.bytes) ending.strangers
-    (Some ending.runs) ending.whole)
+    ++ fields_line (result_fields ending.messages ending.first ending.unlike ending.bytes ending.strangers ending.runs
+    ending.whole)

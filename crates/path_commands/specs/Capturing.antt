@@ -1,5 +1,5 @@
 -- What `capture` prints, and how it ends.
-use Rattle.std.specs.Prelude.{⊤, ◌≡◌, ◌⊎◌, ◌==◌, ◌&&◌, ℕ, ◌^◌, ◌++◌, nat_lt, not, if◌then◌else◌, Bool, true, false, List}
+use Rattle.std.specs.Prelude.{⊤, ◌≡◌, ◌≢◌, ◌⊎◌, ◌==◌, ◌&&◌, ℕ, ◌^◌, ◌++◌, nat_lt, not, if◌then◌else◌, Bool, true, false, List}
 use Rattle.std.specs.Prelude.{[], ◌∷◌, Option, Some, None, Result, Ok, Err}
 use Rattle.std.specs.Io.KnownBytes.{Keeps}
 use Rattle.captures.specs.Capture.{capture_of_text}
@@ -9,7 +9,7 @@ use Rattle.captures.specs.declared.line_settings.Settings.{Settings}
 use Rattle.message.specs.Version.{most_harts}
 use Rattle.command_inputs.specs.Begun.{BeginsPrinted}
 use Rattle.command_inputs.specs.declared.words.Capture.{Capture}
-use Rattle.log_streams.specs.Known.{Content}
+use Rattle.log_streams.specs.Known.{Absent, Content, Known}
 use Rattle.command_inputs.specs.Faults.{Path}
 use Rattle.command_inputs.specs.Found.{IsRead}
 use Rattle.command_inputs.specs.Kind.{is_streamed}
@@ -101,23 +101,26 @@ HasEnd text = (front : List ℕ) × (text ≡ front ++ (10 ∷ []))
 abbrev pub EndsLine : List ℕ → Type 0
 EndsLine text = (text ≡ []) ⊎ HasEnd text
 
--- The file was not read to its end. The lines that came before are written.
-pub record IsCutShort (settings : Settings) (skip : Bool) (why : Fault) (printed : Printed) : Type 0 where
+-- There may be such a file, and it was not read to its end. The lines that came before are written.
+pub record IsCutShort (file : Known) (settings : Settings) (skip : Bool) (why : Fault) (printed : Printed)
+    : Type 0 where
+  pub opened : file ≢ Absent
   pub text : List ℕ
   pub lines : EndsLine text
   pub right : stop_of skip (streamed_faults settings skip text) ≡ None
   pub is : printed ≡ record { text = streamed_bytes settings skip text; ended = Err why }
 
 -- The lines of a file are written as they come. Where it is not opened, nothing is.
-abbrev pub WritesStream : Path → Settings → Bool → Result (List ℕ) Fault → Printed → Type 0
-WritesStream path settings skip (Ok text) printed = printed ≡ printed_stream path settings skip text
-WritesStream path settings skip (Err why) printed = (printed ≡ silent why) ⊎ IsCutShort settings skip why printed
+abbrev pub WritesStream : Known → Path → Settings → Bool → Result (List ℕ) Fault → Printed → Type 0
+WritesStream file path settings skip (Ok text) printed = printed ≡ printed_stream path settings skip text
+WritesStream file path settings skip (Err why) printed =
+    (printed ≡ silent why) ⊎ IsCutShort file settings skip why printed
 
 -- The lines are read, and written as they come.
 abbrev pub Streams : Content → Capture → Settings → Printed → Type 0
 Streams content asked settings printed =
     (read : Result (List ℕ) Fault) × IsRead content asked.lines read
-    × WritesStream asked.lines settings asked.skip read printed
+    × WritesStream (content asked.lines.now) asked.lines settings asked.skip read printed
 
 -- The lines are written as they come, or else all are read, and where there is no fault, their capture is written.
 abbrev pub WritesLines : Bool → Content → Capture → Settings → Printed → Type 0

@@ -1,9 +1,8 @@
 -- The fault of `audit` for each fault of what it calls, and how it ends at that.
-use Rattle.std.specs.Prelude.{ℕ, Result}
+use Rattle.std.specs.Prelude.{Result}
 use Rattle.auditing.specs.declared.fault.SentFault.{SentFault}
 use Rattle.auditing.specs.declared.fault.SentFault.TheVariants as sent
 use Rattle.message.specs.declared.range.HartRange.{HartRange}
-use Rattle.message.specs.declared.fault.MessageFault.{MessageFault}
 use Rattle.command_inputs.specs.Faults as inputs
 use Rattle.command_inputs.specs.Faults.{Path}
 use Rattle.command_inputs.specs.Finding as finding
@@ -14,7 +13,7 @@ use Rattle.command_inputs.specs.declared.fault.Fault.TheVariants as fault
 use Rattle.command_inputs.specs.declared.status.Status.{Status}
 use Rattle.command_inputs.specs.declared.status.Status.TheVariants.{NotWhole, Refused}
 use Rattle.path_commands.specs.declared.reason.PathReason.{PathReason}
-use Rattle.path_commands.specs.declared.reason.PathReason.TheVariants.{Damaged, NoHart, Sent, Unread}
+use Rattle.path_commands.specs.declared.reason.PathReason.TheVariants.{Damaged, NoHart, Sent}
 
 -- A fault of `audit`.
 abbrev pub Fault : Type 0
@@ -33,12 +32,11 @@ abbrev pub Once : {A : Type 0} → (Result A Fault → Type 0) → (A → Type 0
 Once Finds Holds = finding.Once Finds Holds
 
 -- The status at a reason of `audit`'s own. SENT is refused, also where it has none of the harts that are asked for;
--- where RECEIVED's header is not valid or it is not read to its end, that capture is not good.
+-- where RECEIVED's header is not valid, that capture is not good.
 abbrev pub path_reason_status : PathReason → Status
 path_reason_status (Sent path why) = Refused
 path_reason_status (NoHart path harts) = Refused
 path_reason_status (Damaged path) = NotWhole
-path_reason_status (Unread path number why) = NotWhole
 
 -- The status at a fault.
 abbrev pub status_of : Fault → Status
@@ -60,7 +58,3 @@ no_hart_fault path harts = fault.Own (NoHart path harts)
 -- The fault of RECEIVED where its header is cut or not valid.
 abbrev pub damaged_fault : Path → Fault
 damaged_fault path = fault.Own (Damaged path)
-
--- The fault of RECEIVED where it is read by lengths and there is no message after so many.
-abbrev pub unread_fault : Path → ℕ → MessageFault → Fault
-unread_fault path number why = fault.Own (Unread path number why)

@@ -12,6 +12,7 @@ pub mod AlignedRows
 pub mod MatchedRows
 pub mod ReadBack
 pub mod Audited
+pub mod DecodedLogs
 pub mod steps
 pub mod LineFaults
 pub mod LineFaultText

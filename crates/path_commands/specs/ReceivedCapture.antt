@@ -10,6 +10,7 @@ use Rattle.frames.specs.Counted.{bytes_in, messages_in}
 use Rattle.frames.specs.Passages.{spans_from}
 use Rattle.frames.specs.Start.{IsStart, first_place}
 use Rattle.auditing.specs.Known.{known_all}
+use Rattle.auditing.specs.PayloadSights.{payload_spans}
 use Rattle.auditing.specs.Seen.{sight_of}
 use Rattle.auditing.specs.Sent.{harts_of}
 use Rattle.path_commands.specs.AuditText.{are_whole}
@@ -29,6 +30,11 @@ pub record IsReceivedCapture (how : By) (sent : List Message) (bytes : List ℕ)
   pub start : IsStart bytes came.header came.fault
   pub spans : came.spans ≡ spans_from (sight_of how sent) (first_place came.header) (drop
       (first_place came.header) bytes)
+
+-- As this, but its messages and the bytes between them are found by the payloads that were sent, whatever their numbers.
+pub record IsReadByPayloads (how : By) (sent : List Message) (bytes : List ℕ) (came : ReceivedCapture) : Type 0 where
+  pub start : IsStart bytes came.header came.fault
+  pub spans : came.spans ≡ payload_spans how sent (first_place came.header) (drop (first_place came.header) bytes)
 
 -- RECEIVED is read without damage: its header is valid, if it begins as a capture of version 2 does, and each byte is
 -- one of a message.

@@ -11,7 +11,7 @@ use Rattle.auditing.specs.declared.aligned_counts.AlignedTotal.{AlignedTotal}
 use Rattle.auditing.specs.declared.aligned_counts.HartCounts.{HartCounts}
 use Rattle.auditing.specs.declared.arrival_line.Line.{Line}
 use Rattle.auditing.specs.declared.arrival_line.Line.TheVariants as line
-use Rattle.path_commands.specs.AuditText.{first_line, headers_line, result_line, runs_line, strangers_line}
+use Rattle.path_commands.specs.AuditText.{damage_line, first_line, headers_line, result_line, runs_line, strangers_line}
 use Rattle.path_commands.specs.AuditText.{verdict_text}
 use Rattle.path_commands.specs.declared.matched_rows.MatchedTotal.{MatchedTotal}
 
@@ -78,9 +78,11 @@ abbrev pub first_place_of : List Line → Option ℕ
 first_place_of [] = None
 first_place_of (one ∷ more) = Some (place_of one)
 
--- What follows the lines of the harts: all of them together, how many strangers came, whether headers differ, the first
--- message that is a stranger, is extra or skips a number, and the result.
+-- What follows the lines of the harts: all of them together, how many strangers came, how many bytes of no message,
+-- whether headers differ, the first message that is a stranger, is extra or skips a number, and the result.
 abbrev pub aligned_ending : MatchedTotal → List ℕ
 aligned_ending its =
     aligned_all its.harts its.total
-    ++ (strangers_line its.strangers ++ (headers_line its.unlike ++ (first_line its.first ++ result_line its.whole)))
+    ++ (strangers_line its.strangers
+    ++ (damage_line its.bytes its.runs
+    ++ (headers_line its.unlike ++ (first_line its.first ++ result_line its.whole))))

@@ -111,8 +111,7 @@ pub(crate) fn read_by_hart(
 }
 
 /// Adds the messages that these bytes begin with, up to the first place where there is no complete message. Only the
-/// payloads of these harts are kept. Returns why
-/// there is none, or `None` at the end of the bytes.
+/// payloads of these harts are kept. Returns why there is none, or `None` at the end of the bytes.
 fn read_into(
     lists: &mut ByHart,
     harts: HartRange,
@@ -127,13 +126,27 @@ fn read_into(
     loop {
         match left.next() {
             Ok(Some(message)) => {
-                lists.harts.push(message.hart)?;
-                add_selected(&mut lists.payloads, harts, &message)?;
+                take_message(lists, harts, &message)?;
             }
             Ok(None) => return Ok(None),
             Err(fault) => return Ok(Some(fault)),
         }
     }
+}
+
+/// Adds a message. Its payload is kept if it is of one of these harts.
+pub(crate) fn take_message(
+    lists: &mut ByHart,
+    harts: HartRange,
+    message: &Message,
+) -> Result<(), AllocError>
+    ensures kept { (messages : List AnyMessage) → IsByHart harts messages lists.old
+        → OnOk result (IsByHart harts (messages ++ message.now ∷ []) lists.new
+        × (length lists.new.payloads.lists ≡ length lists.old.payloads.lists)) }
+    ensures by { lists.new.payloads.by ≡ lists.old.payloads.by }
+{
+    lists.harts.push(message.hart)?;
+    add_selected(&mut lists.payloads, harts, message)
 }
 
 /// Adds the payload of a message, if it is of one of these harts.

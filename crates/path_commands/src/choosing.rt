@@ -34,9 +34,7 @@ use std::io::Write;
 /// definitions.
 ///
 /// Where the numbers of RECEIVED are not to be looked at, its messages are compared with those of SENT by an alignment
-/// of the payloads of each hart ([`unnumbered`]). RECEIVED is read by the lengths of its messages then. Where no
-/// message follows before its last byte, or its header is cut or not valid, that fault is returned after all is
-/// written.
+/// of the payloads of each hart. After damage it is read on by the payloads that were sent.
 pub fn audit<'a, F: Files, O: Write>(
     alloc: Global,
     files: &mut F,

@@ -22,6 +22,7 @@ use crate::ending::Ending;
 use crate::hart_check::{count_among, past_among, received_of};
 use crate::lost_rows::write_lost;
 use crate::noting::Noted;
+use crate::reading::is_undamaged;
 use crate::reason::{Fault, sent_fault};
 use crate::received::{ReceivedSummary, begin_spans, write_spans};
 use crate::report::Report;
@@ -127,12 +128,8 @@ fn write_rest<'a, O: Write>(
     write_runs(path, report, out)?;
     let total = write_rows(path, report, out)?;
     let unlike = are_unlike(path.header(), arrived.header, arrived.fault);
-    let whole = is_whole(
-        total.whole,
-        arrived.noted.strangers,
-        unlike,
-        arrived.is_undamaged(),
-    );
+    let undamaged = is_undamaged(arrived.fault, arrived.read);
+    let whole = is_whole(total.whole, arrived.noted.strangers, unlike, undamaged);
     let ending = Ending {
         harts: count_among(report.harts, path.harts()),
         total,

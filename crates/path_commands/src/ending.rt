@@ -100,9 +100,9 @@ impl fmt::Display for StrangersLine {
 
 /// The line of the bytes that are of no message, where there are any.
 #[derive(Clone, Copy)]
-struct DamageLine {
-    bytes: u64,
-    runs: u64,
+pub(crate) struct DamageLine {
+    pub(crate) bytes: u64,
+    pub(crate) runs: u64,
 }
 
 impl fmt::Display for DamageLine {

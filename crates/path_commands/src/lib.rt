@@ -19,8 +19,10 @@ mod matched_report;
 mod matched_rows;
 mod matching;
 mod noting;
+mod reading;
 mod reason;
 mod received;
+mod recognising;
 mod report;
 mod rows;
 mod sides;
@@ -30,6 +32,6 @@ mod total;
 
 pub use capturing::capture;
 pub use choosing::audit;
-pub use laws::{generated_captures_are_whole, rows_are_read_back};
+pub use laws::{generated_captures_are_whole, generated_captures_decode, rows_are_read_back};
 pub use line_reason::LineReason;
 pub use reason::{Fault, PathReason};

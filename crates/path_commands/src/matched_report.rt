@@ -1,59 +1,64 @@
 //! The report on messages that carry no numbers, written row by row.
 
-ghost use Rattle.std.specs.Prelude.{◌≡◌, OnOk};
+ghost use Rattle.std.specs.Prelude.{◌≡◌, ◌≤◌, OnOk, length};
 ghost use Rattle.std.specs.Io.KnownBytes.{Appends};
 ghost use Rattle.std.specs.List.{flat_map};
 ghost use Rattle.output.specs.Begun.{AppendsBeginning};
 ghost use Rattle.path_commands.specs.AuditText.{unless_summary};
-ghost use Rattle.path_commands.specs.MatchedRows.{arrival_row, counts_row, matched_report, matched_rows, own_row};
-ghost use Rattle.path_commands.specs.MatchedRows.{single_rows, unmatched_rows};
+ghost use Rattle.path_commands.specs.MatchedRows.{arrival_row, arrival_rows, count_before, counts_row, matched_report};
+ghost use Rattle.path_commands.specs.MatchedRows.{matched_rows, own_row, single_rows, unmatched_rows};
+ghost use Rattle.path_commands.specs.Rows.{bytes_row};
 ghost use Rattle.path_commands.specs.UnnumberedText.{first_place_of, of_selected, texts_from};
 
 use crate::hart_check::is_among;
 use crate::lost_rows::write_lost;
 use crate::matched_lines::place_of;
 use crate::matched_rows::{ArrivalRow, MatchedRow, MatchedTotal, TotalRow};
+use crate::reading::ByteRun;
 use crate::report::Report;
 use crate::rows::FrontRow;
+use crate::table_rows::BytesRow;
 use auditing::{Alignment, Line, LostRuns, counts_of, run_lengths};
 use command_inputs::Format;
 use output::write_text;
 use std::io;
 use std::io::Write;
 
-/// Writes the report, by the alignments of the harts of SENT, by what is to be said of messages of RECEIVED, and by
-/// what is found of all together.
+/// Writes the report, by the alignments of the harts of SENT, by the runs of bytes of RECEIVED and what is to be said of
+/// its messages, and by what is found of all together.
 pub(crate) fn write_report<O: Write>(
     report: Report,
     all: &[Alignment],
+    runs: &[ByteRun],
     lines: &[Line],
     its: MatchedTotal,
     out: &mut O,
 ) -> io::Result<()>
     ensures text { OnOk result (Appends (O.contents out.old) (O.contents out.new)
-        (matched_report report all.now lines.now its)) }
-    ensures begun { AppendsBeginning (matched_report report all.now lines.now its)
+        (matched_report report all.now runs.now lines.now its)) }
+    ensures begun { AppendsBeginning (matched_report report all.now runs.now lines.now its)
         (O.contents out.old) (O.contents out.new) }
 {
     let front = FrontRow(report.format);
     write_text(out, front)?;
-    write_matched_rows(report, all, lines, its, out)
+    write_matched_rows(report, all, runs, lines, its, out)
 }
 
 /// Writes the rows of the report.
 fn write_matched_rows<O: Write>(
     report: Report,
     all: &[Alignment],
+    runs: &[ByteRun],
     lines: &[Line],
     its: MatchedTotal,
     out: &mut O,
 ) -> io::Result<()>
     ensures text { OnOk result (Appends (O.contents out.old) (O.contents out.new)
-        (matched_rows report all.now lines.now its)) }
-    ensures begun { AppendsBeginning (matched_rows report all.now lines.now its)
+        (matched_rows report all.now runs.now lines.now its)) }
+    ensures begun { AppendsBeginning (matched_rows report all.now runs.now lines.now its)
         (O.contents out.old) (O.contents out.new) }
 {
-    write_singles(report, all, lines, out)?;
+    write_singles(report, all, runs, lines, out)?;
     write_aligned(report, all, out)?;
     let row = TotalRow {
         format: report.format,
@@ -74,27 +79,80 @@ pub(crate) fn first_of(lines: &[Line]) -> Option<u64>
     }
 }
 
-/// Writes the rows of single messages and of the numbers that are lost, but none in a summary.
+/// Writes the rows of single messages, of runs of bytes and of the numbers that are lost, but none in a summary.
 fn write_singles<O: Write>(
     report: Report,
     all: &[Alignment],
+    runs: &[ByteRun],
     lines: &[Line],
     out: &mut O,
 ) -> io::Result<()>
     ensures text { OnOk result (Appends (O.contents out.old) (O.contents out.new)
-        (unless_summary report.summary (single_rows report.format all.now lines.now))) }
-    ensures begun { AppendsBeginning (unless_summary report.summary (single_rows report.format all.now lines.now))
+        (unless_summary report.summary (single_rows report.format all.now runs.now lines.now))) }
+    ensures begun { AppendsBeginning (unless_summary report.summary (single_rows report.format all.now runs.now lines.now))
         (O.contents out.old) (O.contents out.new) }
 {
     if report.summary {
         return Ok(());
     }
-    write_arrivals(report.format, lines, out)?;
+    write_arrivals(report.format, runs, lines, out)?;
     write_unmatched(report.format, all, out)
 }
 
+/// Writes the rows of single messages and of runs of bytes, each run after the messages before it.
+fn write_arrivals<O: Write>(
+    format: Format,
+    runs: &[ByteRun],
+    lines: &[Line],
+    out: &mut O,
+) -> io::Result<()>
+    ensures text { OnOk result (Appends (O.contents out.old) (O.contents out.new)
+        (arrival_rows format runs.now lines.now)) }
+    ensures begun { AppendsBeginning (arrival_rows format runs.now lines.now)
+        (O.contents out.old) (O.contents out.new) }
+{
+    let mut left = lines;
+    for run in runs {
+        let count = count_before(run.place, left);
+        write_lines(format, &left[..count], out)?;
+        write_run(format, run, out)?;
+        left = &left[count..];
+    }
+    write_lines(format, left, out)
+}
+
+/// How many of these lines are of messages before this place.
+fn count_before(place: u64, lines: &[Line]) -> usize
+    ensures value { result ≡ count_before place lines.now }
+    ensures within { result ≤ length lines.now }
+{
+    for (count, line) in lines.iter().enumerate() {
+        if place_of(*line) >= place {
+            return count;
+        }
+    }
+    lines.len()
+}
+
+/// Writes the row of a run of bytes.
+fn write_run<O: Write>(format: Format, run: &ByteRun, out: &mut O) -> io::Result<()>
+    ensures text { OnOk result (Appends (O.contents out.old) (O.contents out.new)
+        (bytes_row format run.now.offset run.now.count)) }
+    ensures begun { AppendsBeginning (bytes_row format run.now.offset run.now.count)
+        (O.contents out.old) (O.contents out.new) }
+{
+    write_text(
+        out,
+        BytesRow {
+            format,
+            offset: run.offset,
+            count: run.count,
+        },
+    )
+}
+
 /// Writes the rows of single messages.
-fn write_arrivals<O: Write>(format: Format, lines: &[Line], out: &mut O) -> io::Result<()>
+fn write_lines<O: Write>(format: Format, lines: &[Line], out: &mut O) -> io::Result<()>
     ensures text { OnOk result (Appends (O.contents out.old) (O.contents out.new)
         (flat_map (arrival_row format) lines.now)) }
     ensures begun { AppendsBeginning (flat_map (arrival_row format) lines.now)

@@ -4,7 +4,7 @@ ghost use Rattle.std.specs.Prelude.{Some};
 ghost use Rattle.path_commands.specs.MatchedRows.{arrival_row, counts_row, total_row};
 
 use crate::aligned_rows::{AlignedAllFields, ArrivalFields};
-use crate::ending::{Closing, StrangersLine, verdict_text};
+use crate::ending::{Closing, DamageLine, StrangersLine, verdict_text};
 use crate::lines::RunsLine;
 use crate::matched_lines::{AlignedAll, AlignedRow, ArrivalText};
 use crate::table_rows::ResultRow;
@@ -89,6 +89,10 @@ pub(crate) struct MatchedTotal {
     pub(crate) messages: u64,
     /// How many strangers came.
     pub(crate) strangers: u64,
+    /// How many bytes of RECEIVED are of no message.
+    pub(crate) bytes: u64,
+    /// How many runs they are in.
+    pub(crate) runs: u64,
     /// Whether headers differ.
     pub(crate) unlike: bool,
     /// The place of the first message that has a row, if there is one.
@@ -109,6 +113,8 @@ impl fmt::Display for TotalRow {
 
     fn fmt<W: fmt::Write>(&self, f: &mut fmt::Formatter<W>) -> fmt::Result {
         let strangers = self.its.strangers;
+        let bytes = self.its.bytes;
+        let runs = self.its.runs;
         let unlike = self.its.unlike;
         let first = self.its.first;
         let whole = self.its.whole;
@@ -119,9 +125,9 @@ impl fmt::Display for TotalRow {
                     messages: self.its.messages,
                     first,
                     unlike,
-                    bytes: None,
+                    bytes,
                     strangers,
-                    runs: None,
+                    runs,
                     whole,
                 };
                 write!(f, "{all}{last}")
@@ -132,12 +138,13 @@ impl fmt::Display for TotalRow {
                     total: self.its.total,
                 };
                 let others = StrangersLine { strangers };
+                let damage = DamageLine { bytes, runs };
                 let closing = Closing {
                     unlike,
                     first,
                     whole,
                 };
-                write!(f, "{all}{others}{closing}")
+                write!(f, "{all}{others}{damage}{closing}")
             }
         }
     }

@@ -1,6 +1,8 @@
 //! The subcommand `audit`, by the payloads of the messages alone.
 
 ghost use Rattle.std.specs.Prelude.{⊤, ◌≡◌, ◌≢◌, ℕ, Err, IfOk, List, length};
+ghost use Rattle.frames.specs.Counted.{messages_in};
+ghost use Rattle.frames.specs.declared.span.Span.{Span as AnySpan};
 ghost use Rattle.message.specs.declared.message.Message.{Message as AnyMessage};
 ghost use Rattle.output.specs.Begun.{AppendsBeginning};
 ghost use Rattle.std.specs.List.{filter};
@@ -14,23 +16,24 @@ ghost use Rattle.path_commands.specs.Audited.{AuditsBy, CanAuditHarts};
 ghost use Rattle.path_commands.specs.Faults.{final_status};
 ghost use Rattle.path_commands.specs.Sides.{by_packets};
 ghost use Rattle.path_commands.specs.Rows.{report_of};
-ghost use Rattle.path_commands.specs.Unnumbered.{WritesAligned, end_of_reading, unnumbered_audit};
+ghost use Rattle.path_commands.specs.Unnumbered.{WritesAligned, unnumbered_audit};
 ghost use Rattle.path_commands.specs.UnnumberedText.{hart_of};
-ghost use Rattle.path_commands.specs.steps.Matching.{EndsUnnumbered, IsByHart, IsKept, came_with, strangers_of};
+ghost use Rattle.path_commands.specs.steps.Matching.{EndsUnnumbered, IsKept, KeepsSpans, capture_with, strangers_of};
 ghost use Rattle.command_inputs.specs.declared.fault.Fault.TheVariants as Fault;
 
 use crate::by_hart::ByHart;
 use crate::hart_check::{count_among, received_of};
-use crate::keeping::{KeptSent, Received, read_received, read_sent};
+use crate::keeping::{KeptSent, read_sent};
 use crate::matched_lines::hart_of;
 use crate::matched_report::{first_of, write_report};
 use crate::matched_rows::MatchedTotal;
-use crate::reason::{Fault, unread_fault};
+use crate::reading::{Received, is_undamaged, read_received};
+use crate::reason::Fault;
 use crate::report::Report;
 use crate::sides::{are_unlike, by_packets, ended, is_whole};
 use auditing::{Alignment, Line, lines_by_hart, total_of};
 use command_inputs::{Audit as Asked, Files, MessageProgress, Status};
-use message::{HartRange, Header, MessageFault, ProgressSink};
+use message::{HartRange, Header, ProgressSink};
 use std::alloc::{AllocError, Global};
 use std::io::Write;
 
@@ -90,8 +93,7 @@ fn write_matched<'a, F: Files, O: Write>(
         (record { header = sent.now.header; messages = messages }) bytes.now)
         (O.contents out.old) (O.contents out.new) }
 {
-    let count = sent.payloads.harts();
-    let came = read_received(alloc, harts, count, by_packets(asked.packets), bytes)?;
+    let came = read_received(alloc, harts, sent, by_packets(asked.packets), bytes)?;
     let all = align_shown(alloc, progress, sent, harts, &came.lists)?;
     write_found(alloc, sent.header, asked, harts, &came, all.as_slice(), out)
 }
@@ -132,12 +134,12 @@ fn write_found<'a, O: Write>(
 ) -> Result<Status, Fault<'a>>
     ensures ended { final_status result ≢ Status.Refused }
     ensures untouched { result ≡ Err Fault.Memory → out.new ≡ out.old }
-    ensures written { (messages : List AnyMessage) → IsByHart harts messages came.now.lists
-        → EndsUnnumbered asked.now harts header (came_with came.now messages) all.now result
+    ensures written { (spans : List AnySpan) → KeepsSpans harts spans came.now
+        → EndsUnnumbered asked.now harts header (capture_with came.now spans) all.now result
         (O.contents out.old) (O.contents out.new) }
-    ensures begun { (messages : List AnyMessage) → IsByHart harts messages came.now.lists
+    ensures begun { (spans : List AnySpan) → KeepsSpans harts spans came.now
         → AppendsBeginning (unnumbered_audit (report_of asked.now.format asked.now harts) header
-        (came_with came.now messages) all.now)
+        (capture_with came.now spans) all.now)
         (O.contents out.old) (O.contents out.new) }
 {
     let own = came.lists.harts.as_slice();
@@ -146,13 +148,15 @@ fn write_found<'a, O: Write>(
     let strangers = strangers_among(harts, all.len(), own);
     let unlike = are_unlike(header, came.header, came.fault);
     let total = total_of(all);
-    let whole = is_whole(total.whole, strangers, unlike, came.is_read_whole());
-    let count = own.len() as u64;
+    let undamaged = is_undamaged(came.fault, came.read);
+    let whole = is_whole(total.whole, strangers, unlike, undamaged);
     let its = MatchedTotal {
         harts: count_among(harts, all.len()),
         total,
-        messages: count,
+        messages: own.len() as u64,
         strangers,
+        bytes: came.read.bytes,
+        runs: came.read.runs,
         unlike,
         first: first_of(lines),
         whole,
@@ -162,8 +166,9 @@ fn write_found<'a, O: Write>(
         harts,
         summary: asked.summary,
     };
-    write_report(report, all, lines, its, out)?;
-    ended_reading(asked.received, came.stop, count, came.fault, whole)
+    let runs = came.runs.as_slice();
+    write_report(report, all, runs, lines, its, out)?;
+    ended(asked.received, came.fault, whole)
 }
 
 /// What is to be said of messages of these harts, one after the other, where it is of the harts of the range.
@@ -200,23 +205,4 @@ fn strangers_among(harts: HartRange, count: usize, own: &[u16]) -> u64
     own.iter()
         .filter(|hart| harts.selects(**hart) && !(usize::from(**hart) < count))
         .count() as u64
-}
-
-/// How the run ends: at the place where there is no message, after so many, if reading ends there; else as any audit
-/// does.
-fn ended_reading<'a>(
-    received: &'a str,
-    stop: Option<MessageFault>,
-    count: u64,
-    fault: Option<MessageFault>,
-    whole: bool,
-) -> Result<Status, Fault<'a>>
-    ensures value { result ≡ end_of_reading received.entry stop count fault whole }
-    ensures never_refused { final_status result ≢ Status.Refused }
-    ensures no_memory { result ≢ Err Fault.Memory }
-{
-    match stop {
-        Some(why) => Err(unread_fault(received, count, why)),
-        None => ended(received, fault, whole),
-    }
 }

@@ -2,7 +2,7 @@
 
 ghost use Rattle.std.specs.Prelude.{◌≡◌, ◌≢◌, Some, refl};
 ghost use Rattle.path_commands.specs.FaultText.{path_reason_text};
-ghost use Rattle.path_commands.specs.Faults.{path_reason_status, damaged_fault, sent_fault, status_of, unread_fault};
+ghost use Rattle.path_commands.specs.Faults.{path_reason_status, damaged_fault, sent_fault, status_of};
 
 use auditing::SentFault;
 use command_inputs::{Reason, Status};
@@ -17,9 +17,6 @@ pub type Fault<'a> = command_inputs::Fault<'a, PathReason<'a>>;
 pub enum PathReason<'a> {
     /// RECEIVED, at this path, begins as a capture of version 2 does, and its header is cut or not valid.
     Damaged(&'a str),
-    /// RECEIVED, at this path, is read by the lengths of its messages, and after so many there is no complete message,
-    /// for this reason.
-    Unread(&'a str, u64, MessageFault),
     /// The capture at this path does not hold, complete and in order, what was sent.
     Sent(&'a str, SentFault),
     /// SENT, at this path, has none of these harts.
@@ -32,9 +29,6 @@ impl fmt::Display for PathReason<'_> {
     fn fmt<W: fmt::Write>(&self, f: &mut fmt::Formatter<W>) -> fmt::Result {
         match self {
             PathReason::Damaged(path) => write!(f, "{path}: {}", MessageFault::BadHeader),
-            PathReason::Unread(path, number, why) => {
-                write!(f, "{path}: message {number}: {why}")
-            }
             PathReason::Sent(path, why) => write!(f, "{path}: {why}"),
             PathReason::NoHart(path, harts) => write!(f, "{path}: no hart of {harts}"),
         }
@@ -48,7 +42,7 @@ impl Reason for PathReason<'_> {
 
     fn status(&self) -> Status {
         match self {
-            PathReason::Damaged(_) | PathReason::Unread(..) => Status::NotWhole,
+            PathReason::Damaged(_) => Status::NotWhole,
             PathReason::Sent(..) | PathReason::NoHart(..) => Status::Refused,
         }
     }
@@ -72,12 +66,4 @@ pub(crate) fn damaged_fault<'a>(path: &'a str) -> Fault<'a>
     ensures never_refused { status_of result ≢ Status.Refused }
 {
     Fault::Own(PathReason::Damaged(path))
-}
-
-/// Why RECEIVED, which is read by the lengths of its messages, is not read to its end.
-pub(crate) fn unread_fault<'a>(path: &'a str, number: u64, why: MessageFault) -> Fault<'a>
-    ensures value { result ≡ unread_fault path.entry number why }
-    ensures never_refused { status_of result ≢ Status.Refused }
-{
-    Fault::Own(PathReason::Unread(path, number, why))
 }

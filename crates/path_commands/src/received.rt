@@ -1,6 +1,6 @@
 //! The messages of RECEIVED and the bytes between them, written row by row.
 
-ghost use Rattle.std.specs.Prelude.{◌≡◌, ◌<◌, ◌≤◌, ◌^◌, ◌∷◌, ◌++◌, ◌==◌, ◌&&◌, IfErr, IfOk, List, [], OnOk, is_none};
+ghost use Rattle.std.specs.Prelude.{◌≡◌, ◌<◌, ◌≤◌, ◌^◌, ◌∷◌, ◌++◌, IfErr, IfOk, List, [], OnOk};
 ghost use Rattle.std.specs.Prelude.{length};
 ghost use Rattle.std.specs.Io.KnownBytes.{Appends};
 ghost use Rattle.output.specs.Begun.{AppendsBeginning};
@@ -14,14 +14,13 @@ ghost use Rattle.frames.specs.Passages.{spans_left};
 ghost use Rattle.path_commands.specs.AuditText.{unless_summary};
 ghost use Rattle.path_commands.specs.Rows.{bytes_row, found_row, front_rows, row_or_none, span_row};
 ghost use Rattle.path_commands.specs.steps.Noting.{none_noted, noted_more, noted_of};
-ghost use Rattle.path_commands.specs.steps.Reading.{progress_after};
+ghost use Rattle.path_commands.specs.steps.Reading.{progress_after, with_bytes, with_message};
 
 use crate::noting::Noted;
 use crate::report::Report;
 use crate::rows::{FrontRow, MessageRow};
 use crate::table_rows::BytesRow;
 use auditing::{Audit, Finding};
-use captures::write_bytes_line;
 use command_inputs::{Format, MessageProgress};
 use frames::{BorrowedMessage, BorrowedSpan, GuidedScan};
 use log_streams::Files;
@@ -49,22 +48,38 @@ impl Progress {
         runs: 0,
     };
 
+    /// After one message more.
+    #[inline(always)]
+    pub(crate) fn with_message(self) -> Progress
+        ensures { result ≡ with_message self }
+    {
+        Progress {
+            messages: self.messages.saturating_add(1),
+            bytes: self.bytes,
+            runs: self.runs,
+        }
+    }
+
+    /// After one run more of so many bytes.
+    #[inline(always)]
+    pub(crate) fn with_bytes(self, count: u64) -> Progress
+        ensures { result ≡ with_bytes self count }
+    {
+        Progress {
+            messages: self.messages,
+            bytes: self.bytes.saturating_add(count),
+            runs: self.runs.saturating_add(1),
+        }
+    }
+
     /// After one span more.
     #[inline(always)]
     pub(crate) fn after(self, passage: BorrowedSpan<'_>) -> Progress
         ensures { result ≡ progress_after self (span_of passage.entry) }
     {
         match passage {
-            BorrowedSpan::Message { .. } => Progress {
-                messages: self.messages.saturating_add(1),
-                bytes: self.bytes,
-                runs: self.runs,
-            },
-            BorrowedSpan::Bytes { count, .. } => Progress {
-                messages: self.messages,
-                bytes: self.bytes.saturating_add(count as u64),
-                runs: self.runs.saturating_add(1),
-            },
+            BorrowedSpan::Message { .. } => self.with_message(),
+            BorrowedSpan::Bytes { count, .. } => self.with_bytes(count as u64),
         }
     }
 }
@@ -80,15 +95,6 @@ pub(crate) struct ReceivedSummary {
     pub(crate) read: Progress,
     /// What is found of the messages of the harts that are asked for.
     pub(crate) noted: Noted,
-}
-
-impl ReceivedSummary {
-    /// Whether it is read without damage.
-    pub(crate) fn is_undamaged(self) -> bool
-        ensures { result ≡ (is_none self.fault && (self.read.bytes == 0)) }
-    {
-        self.fault.is_none() && self.read.bytes == 0
-    }
 }
 
 /// Begins to show how far the messages of RECEIVED are worked through, where that is asked for. These are its bytes,
@@ -291,14 +297,13 @@ fn write_run<O: Write>(
     if report.summary {
         return Ok(());
     }
-    match report.format {
-        Format::Csv => {
-            let row = BytesRow { offset, count };
-            write_text(out, row)?;
-            Ok(())
-        }
-        Format::Text | Format::Other => write_bytes_line(out, offset, count),
-    }
+    let row = BytesRow {
+        format: report.format,
+        offset,
+        count,
+    };
+    write_text(out, row)?;
+    Ok(())
 }
 
 /// Writes the row of a message at this place.

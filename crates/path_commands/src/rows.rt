@@ -170,9 +170,9 @@ impl fmt::Display for EndingRow {
                     messages: self.ending.messages,
                     first: self.ending.first,
                     unlike: self.ending.unlike,
-                    bytes: Some(self.ending.bytes),
+                    bytes: self.ending.bytes,
                     strangers: self.ending.strangers,
-                    runs: Some(self.ending.runs),
+                    runs: self.ending.runs,
                     whole: self.ending.whole,
                 };
                 write!(f, "{all}{last}")

@@ -1,14 +1,16 @@
 //! What is in the rows of the table of an audit.
 
 ghost use Rattle.std.specs.Prelude.{◌≡◌, Some, option_map};
-ghost use Rattle.path_commands.specs.AuditRows.{all_fields, by_field, bytes_fields, came_field, counts_fields};
+ghost use Rattle.path_commands.specs.AuditRows.{all_fields, by_field, came_field, counts_fields};
 ghost use Rattle.path_commands.specs.AuditRows.{fate_field, headers_field, result_fields, sent_field};
 ghost use Rattle.output.specs.Fields.{fields_line};
-ghost use Rattle.path_commands.specs.Rows.{exchanged_row};
+ghost use Rattle.path_commands.specs.Rows.{bytes_row, exchanged_row};
 
 use crate::ending::verdict_text;
 use crate::total::Total;
 use auditing::{Exchanged, Finding};
+use captures::Offset;
+use command_inputs::Format;
 use output::{Digits, Number};
 use std::fmt;
 use std::fmt::Display;
@@ -86,17 +88,24 @@ impl fmt::Display for CamePayload<'_> {
 /// The row of a run of bytes of no message.
 #[derive(Clone, Copy)]
 pub(crate) struct BytesRow {
+    pub(crate) format: Format,
     pub(crate) offset: u64,
     pub(crate) count: u64,
 }
 
 impl fmt::Display for BytesRow {
-    ghost output = { λ row. Some (fields_line (bytes_fields row.offset row.count)) };
+    ghost output = { λ row. Some (bytes_row row.format row.offset row.count) };
 
     fn fmt<W: fmt::Write>(&self, f: &mut fmt::Formatter<W>) -> fmt::Result {
         let offset = self.offset;
         let count = self.count;
-        write!(f, "bytes,,{offset},,,,,{count},,,,,,,,,,,,,,\n")
+        match self.format {
+            Format::Csv => write!(f, "bytes,,{offset},,,,,{count},,,,,,,,,,,,,,\n"),
+            Format::Text | Format::Other => {
+                let first = Offset(offset);
+                write!(f, "bytes: {count} at {first}\n")
+            }
+        }
     }
 }
 
@@ -169,12 +178,12 @@ pub(crate) struct ResultRow {
     pub(crate) first: Option<u64>,
     /// Whether headers differ.
     pub(crate) unlike: bool,
-    /// How many bytes of RECEIVED are of no message, where it is read for them.
-    pub(crate) bytes: Option<u64>,
+    /// How many bytes of RECEIVED are of no message.
+    pub(crate) bytes: u64,
     /// How many strangers came.
     pub(crate) strangers: u64,
-    /// How many runs the bytes are in.
-    pub(crate) runs: Option<u64>,
+    /// How many runs they are in.
+    pub(crate) runs: u64,
     /// Whether the result is whole.
     pub(crate) whole: bool,
 }
@@ -187,9 +196,9 @@ impl fmt::Display for ResultRow {
         let messages = self.messages;
         let first = Number(self.first);
         let headers = headers_field(self.unlike);
-        let bytes = Number(self.bytes);
+        let bytes = self.bytes;
         let strangers = self.strangers;
-        let runs = Number(self.runs);
+        let runs = self.runs;
         let verdict = verdict_text(self.whole);
         write!(f, "result,{messages},,,{first},,{headers},{bytes},,,")?;
         write!(f, ",,,,,,{strangers},{runs},,,{verdict},\n")

@@ -7,8 +7,11 @@ use listing::Form;
 use message::{HartRange, Message, NoProgress};
 use payload::Mode;
 use rvclass::Program;
-use salvage_reports::{Found, Layout, TreatedCapture, find_salvaged, write_found, write_treated};
-use salvaging::{Treated, treat_watched};
+use salvage_reports::{
+    Found, Layout, TreatedCapture, TreatedInRows, find_salvaged, in_rows, write_found,
+    write_treated,
+};
+use salvaging::treat_watched;
 use symbols::Symbols;
 
 /// The program that begins at `base`, if there is one.
@@ -30,11 +33,13 @@ fn messages_in(case: &mut Case<'_>, capture: &[u8]) -> Vec<Message> {
     messages
 }
 
-/// Appends what is done with each message: as a table with `form=table`, or else as lines.
-fn put_treated(case: &mut Case<'_>, capture: &[u8], treated: &[Treated]) {
+/// Appends what is done with each message: as a table with `form=table`, as lines with rows with `form=rows`, or else as
+/// lines.
+fn put_treated(case: &mut Case<'_>, capture: &[u8], treated: &[TreatedInRows]) {
     let mut text = Vec::new(case.alloc);
     let form = match case.named("form") {
         "table" => Form::Table,
+        "rows" => Form::Lines { rows: true },
         _ => Form::Lines { rows: false },
     };
     let capture = TreatedCapture {
@@ -58,8 +63,12 @@ pub(crate) fn treat(case: &mut Case<'_>) {
     };
     let (mode, messages) = (Mode::Differential, messages.as_slice());
     let treated = treat_watched(case.alloc, &program, harts, mode, messages, &NoProgress);
-    if let Some(treated) = case.granted(treated) {
-        put_treated(case, capture.as_slice(), treated.as_slice());
+    let Some(treated) = case.granted(treated) else {
+        return;
+    };
+    let rows = in_rows(case.alloc, messages, treated.as_slice());
+    if let Some(rows) = case.granted(rows) {
+        put_treated(case, capture.as_slice(), rows.as_slice());
     }
 }
 

@@ -1,4 +1,4 @@
-//! Messages that are known again among damaged bytes (`frames`), and the text of what is found (`searching`).
+//! Messages that are known again among damaged bytes, and the text of what is found.
 
 use cases::{Case, bytes_of};
 use frames::{Span, Spans, begins_frame, search_capture};

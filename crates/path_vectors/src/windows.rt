@@ -2,24 +2,23 @@
 
 use crate::audits::messages_in;
 use cases::Case;
-use live::{Judged, SentMessage, Window};
+use live::{Judged, SentMessage, SentSource, SourceFault, Window, look};
 use message::Message;
 use std::collections::VecDeque;
 
-/// Reads messages of SENT as long as they are wanted.
-fn read_for(
-    case: &mut Case<'_>,
-    window: &mut Window,
-    sent: &mut VecDeque<Message>,
-    message: &Message,
-) {
-    for _ in 0..sent.len() {
-        if !window.wants(message.hart, message.number) {
-            return;
-        }
-        if let Some(next) = sent.pop_front() {
-            let read = window.read(next);
-            case.read(read);
+/// The messages of SENT that are left.
+#[derive(Drop)]
+struct Listed {
+    left: VecDeque<Message>,
+}
+
+impl SentSource for Listed {
+    ghost left = { λ own. own.left.items };
+
+    fn next(&mut self) -> Result<Option<Message>, SourceFault> {
+        match self.left.pop_front() {
+            Some(message) => Ok(Some(message)),
+            None => Ok(None),
         }
     }
 }
@@ -71,9 +70,11 @@ pub(crate) fn window(case: &mut Case<'_>) {
     let Some(mut window) = case.granted(window) else {
         return;
     };
-    let mut sent = VecDeque::from_vec(messages_in(case, "sent"));
+    let left = VecDeque::from_vec(messages_in(case, "sent"));
+    let mut sent = Listed { left };
     for message in &messages_in(case, "came") {
-        read_for(case, &mut window, &mut sent, message);
+        let looked = look(&mut window, &mut sent, message.hart, message.number);
+        case.read(looked);
         take(case, &mut window, message);
     }
     case.put_filled("held #", &[window.held() as u64]);

@@ -1,4 +1,6 @@
 pub mod HartLists
+mod PairedLists
+mod RowsBelow
 mod OffsetLists
 pub mod OwnSpans
 pub mod CappedSums

@@ -1,7 +1,7 @@
 -- An undamaged capture is listed alike with what salvaging does and without it.
 use Rattle.std.proofs.Common.{◌≡◌, ◌++◌, ◌+◌, ℕ, All, Bool, true, false, List, [], ◌∷◌, Option, Some, None, codes, drop}
 use Rattle.std.proofs.Common.{drop_at, length, map, refl, sym, ap, subst, ◌∙◌}
-use Rattle.std.specs.List.{last_or}
+use Rattle.std.specs.List.{last_or, zip}
 use Rattle.std.proofs.lemmas.List.{append-nil}
 use Rattle.rvclass.specs.Words.{Words, IsProgram}
 use Rattle.payload.specs.ClosedTrace.{last_is_closing}
@@ -38,9 +38,11 @@ use Rattle.listing.specs.declared.form.Form.TheVariants.{Lines}
 use Rattle.listing.specs.PacketEnding.{read_closes, read_waits}
 use Rattle.salvaging.specs.Treatments.{AreTreated}
 use Rattle.salvaging.specs.declared.treatment.Treated.{Treated}
+use Rattle.salvage_reports.specs.HartRows.{in_row, in_rows}
 use Rattle.salvage_reports.specs.Lines.{treated_line}
 use Rattle.salvage_reports.specs.TreatedText.{spans_text, treated_text}
 use Rattle.salvage_reports.specs.ListedAlike.{CapturesAreListedAlike, taken_with}
+use Rattle.salvage_reports.specs.declared.hart_rows.TreatedInRows.{TreatedInRows}
 use Rattle.salvage_reports.proofs.AcceptedInTurn.{IsNext, accepted_next, accepted_rest, is_next}
 use Rattle.salvage_reports.proofs.AcceptedTaken.{accepted_taken}
 use Rattle.salvage_reports.proofs.TakenMessages.{taken_have_their_effect}
@@ -52,15 +54,16 @@ last_more before [] packet = refl
 last_more before (first ∷ packets) packet = last_more (Some first) packets packet
 
 -- The lines of all of these spans.
-abbrev lines_of : Option (List ℕ) → Mode → ℕ → List Span → List Treated → List ℕ
+abbrev lines_of : Option (List ℕ) → Mode → ℕ → List Span → List TreatedInRows → List ℕ
 lines_of symbols named at spans treated = spans_text (Lines false) (λ span. true) symbols named at spans treated
 
 module _ (symbols : Option (List ℕ)) (named : Mode) (words : Words) (harts : ℕ) where
-  -- The line of a message that is taken with its effect is the one that a listing has.
-  line_alike : (offset : ℕ) (front : List Message) (message : Message) (effect : Effect) → IsNext harts front message
-      → HasEffect words front message effect
-      → treated_line symbols named offset message (taken_with effect) ≡ effect_line false symbols named offset message effect
-  line_alike offset front message effect next has =
+  -- The line of a message that is taken with its effect is the one that a listing has, whichever rows it settles.
+  line_alike : (offset rows : ℕ) (front : List Message) (message : Message) (effect : Effect)
+      → IsNext harts front message → HasEffect words front message effect
+      → treated_line false symbols named offset message (record { treated = taken_with effect; rows = rows })
+      ≡ effect_line false symbols named offset message effect
+  line_alike offset rows front message effect next has =
       let packets = packets_of message.hart front in
       let more = packets_of-next front message next.packet next.read in
       let waits_too : read_waits (reading message.payload) ≡ effect.waits =
@@ -69,7 +72,7 @@ module _ (symbols : Option (List ℕ)) (named : Mode) (words : Words) (harts : �
       let closes_too : read_closes (reading message.payload) ≡ effect.closes =
       ap read_closes next.read ∙ sym (has.closing ∙ ap last_is_closing more ∙ last_is_closing-next packets next.packet)
       in
-      let text = taken_have_their_effect symbols (reading message.payload) effect.rows effect.added
+      let text = taken_have_their_effect false symbols (reading message.payload) effect.rows effect.added
       ∙ ap (λ w. effect_text false symbols (record {
         added = effect.added;
         rows = effect.rows;
@@ -84,19 +87,22 @@ module _ (symbols : Option (List ℕ)) (named : Mode) (words : Words) (harts : �
       })) closes_too in
       ap (λ l. message_text named offset message ++ (codes " => " ++ (l ++ codes "\n"))) text
 
-  lines_alike : (at offset : ℕ) (front messages : List Message) (effects : List Effect)
-      → AreAccepted (newcomers harts) front → AreAccepted (expected_after (newcomers harts) front) messages
+  lines_alike : (every : List (Message × Treated)) (at offset : ℕ) (front messages : List Message)
+      (effects : List Effect) → AreAccepted (newcomers harts) front → AreAccepted (expected_after (newcomers harts) front) messages
       → HaveEffects words front messages effects
-      → lines_of symbols named at (frames_from offset messages) (map taken_with effects)
+      → lines_of symbols named at (frames_from offset messages)
+      (map (in_row every) (zip messages (map taken_with effects)))
       ≡ placed_entries (Lines false) symbols named (placed at offset messages) effects
-  lines_alike at offset front [] effects before all have = refl
-  lines_alike at offset front (message ∷ messages) [] before all have = absurd have
-  lines_alike at offset front (message ∷ messages) (effect ∷ effects) before all have =
+  lines_alike every at offset front [] effects before all have = refl
+  lines_alike every at offset front (message ∷ messages) [] before all have = absurd have
+  lines_alike every at offset front (message ∷ messages) (effect ∷ effects) before all have =
       let here = offset + length (message_bytes message) in
-      let later = lines_alike (at + 1) here (front ++ message ∷ []) messages effects
+      let own = in_row every (message, taken_with effect) in
+      let rest = map (in_row every) (zip messages (map taken_with effects)) in
+      let later = lines_alike every (at + 1) here (front ++ message ∷ []) messages effects
       (accepted_next harts front before message all.0) (accepted_rest harts front message messages all) have.1 in
-      ap (λ l. l ++ lines_of symbols named (at + 1) (frames_from here messages) (map taken_with effects))
-      (line_alike offset front message effect (is_next harts front before message all.0) have.0)
+      ap (λ l. l ++ lines_of symbols named (at + 1) (frames_from here messages) rest)
+      (line_alike offset own.rows front message effect (is_next harts front before message all.0) have.0)
       ∙ ap (λ l. effect_line false symbols named offset message effect ++ l) later
 
 -- After its header a capture is the bytes of its messages.
@@ -126,7 +132,7 @@ module _ (words : Words) (mode : Mode) (symbols : Option (List ℕ)) (bytes : Li
   whole_lines : (harts : ℕ) (announced : Option Mode) (offset : ℕ) (rest text : List ℕ) (closed : List Bool)
       → (listed : Listed harts announced offset rest text closed)
       → listed.messages ≡ messages → AreTreated words mode harts messages treated
-      → lines_of symbols (naming_mode announced) 0 (frames_from offset messages) treated ≡ text
+      → lines_of symbols (naming_mode announced) 0 (frames_from offset messages) (in_rows messages treated) ≡ text
   whole_lines harts announced offset rest text closed listed same are =
       let effects = listed.effects in
       let all : selected every_hart listed.messages ≡ messages =
@@ -136,8 +142,8 @@ module _ (words : Words) (mode : Mode) (symbols : Option (List ℕ)) (bytes : Li
       let taken = accepted_taken words mode harts messages effects treated program accepted have are in
       let named = naming_mode announced in
       let lines = placed_entries (Lines false) symbols named (placed_of every_hart 0 offset listed.messages) effects in
-      ap (lines_of symbols named 0 (frames_from offset messages)) taken
-      ∙ lines_alike symbols named words harts 0 offset [] messages effects tt accepted have
+      ap (λ done. lines_of symbols named 0 (frames_from offset messages) (in_rows messages done)) taken
+      ∙ lines_alike symbols named words harts (zip messages (map taken_with effects)) 0 offset [] messages effects tt accepted have
       ∙ ap (λ ms. placed_entries (Lines false) symbols named (placed 0 offset ms) effects) (sym same)
       ∙ ap (λ shown. placed_entries (Lines false) symbols named shown effects)
       (sym (all_placed 0 offset listed.messages listed.ranges))
@@ -164,7 +170,7 @@ module _ (words : Words) (mode : Mode) (harts : ℕ) (symbols : Option (List ℕ
   AlikeWith header =
       IsWhole bytes header messages → All (IsFrame (known_harts header)) messages
       → AreTreated words mode (harts_counted (Some harts) header bytes) messages treated
-      → treated_text (Lines false) symbols header (spans_of header bytes) treated ≡ text
+      → treated_text (Lines false) symbols header (spans_of header bytes) (in_rows messages treated) ≡ text
 
   alike_with : (announced : Option Mode) (rest lines : List ℕ) (found header : Option Header)
       → (listed : AreMessagesListed words (Lines false) every_hart (harts_counted (Some harts) found bytes) announced symbols
@@ -175,8 +181,9 @@ module _ (words : Words) (mode : Mode) (harts : ℕ) (symbols : Option (List ℕ
       let both = all_listed words mode symbols bytes messages treated program (harts_counted (Some harts) found bytes)
       announced (first_place found) rest lines closed found header listed begins whole in
       subst AlikeWith both.0 (λ whole frames are.
-      ap (λ (m : Mode). start_line found ++ lines_of symbols m 0 (spans_of found bytes) treated) (sym named)
-      ∙ ap (λ spans. start_line found ++ lines_of symbols (naming_mode announced) 0 spans treated)
+      ap (λ (m : Mode). start_line found ++ lines_of symbols m 0 (spans_of found bytes) (in_rows messages treated))
+      (sym named)
+      ∙ ap (λ spans. start_line found ++ lines_of symbols (naming_mode announced) 0 spans (in_rows messages treated))
       (spans_are bytes found messages whole.whole frames)
       ∙ ap (λ l. start_line found ++ l) (whole_lines words mode symbols bytes messages treated program
       (harts_counted (Some harts) found bytes) announced (first_place found) rest lines closed listed both.1 are)

@@ -5,7 +5,7 @@ use Rattle.std.specs.Prelude.{if◌then◌else◌}
 use Rattle.frames.specs.declared.span.Span.{Span}
 use Rattle.listing.specs.declared.form.Form.{Form}
 use Rattle.payload.specs.declared.mode.Mode.{Mode}
-use Rattle.salvaging.specs.declared.treatment.Treated.{Treated}
+use Rattle.salvage_reports.specs.declared.hart_rows.TreatedInRows.{TreatedInRows}
 use Rattle.salvage_reports.specs.TreatedText.{after_span, place_after, span_text, spans_text}
 
 -- No filter makes more.
@@ -20,14 +20,14 @@ filter_short shows (span ∷ spans) = by (shows span) (filter_short shows spans)
 
 module _ (form : Form) (shows : Span → Bool) (symbols : Option (List ℕ)) (mode : Mode) where
   -- The texts of those that are shown, and those of all.
-  abbrev some_text : ℕ → List Span → List Treated → List ℕ
+  abbrev some_text : ℕ → List Span → List TreatedInRows → List ℕ
   some_text at spans treated = spans_text form shows symbols mode at spans treated
 
-  abbrev all_text : ℕ → List Span → List Treated → List ℕ
+  abbrev all_text : ℕ → List Span → List TreatedInRows → List ℕ
   all_text at spans treated = spans_text form (λ span. true) symbols mode at spans treated
 
   -- They are the same where a filter leaves all.
-  pub left_texts : (at : ℕ) (spans : List Span) (treated : List Treated) → filter shows spans ≡ spans
+  pub left_texts : (at : ℕ) (spans : List Span) (treated : List TreatedInRows) → filter shows spans ≡ spans
       → some_text at spans treated ≡ all_text at spans treated
   left_texts at [] treated all = refl
   left_texts at (span ∷ spans) treated all =

@@ -10,18 +10,18 @@ use Rattle.listing.specs.declared.form.Form.{Form}
 use Rattle.payload.specs.declared.mode.Mode.{Mode}
 use Rattle.frames.specs.declared.span.Span.{Span}
 use Rattle.frames.specs.declared.span.Span.TheVariants.{Frame, Bytes}
-use Rattle.salvaging.specs.declared.treatment.Treated.{Treated}
+use Rattle.salvage_reports.specs.declared.hart_rows.TreatedInRows.{TreatedInRows}
 use Rattle.salvage_reports.specs.TreatedText.{after_span, place_after, span_text, spans_text}
 
 -- The messages that were passed over stand before those that are shown.
-after_passed : (place passed : ℕ) (span : Span) (treated : List Treated)
+after_passed : (place passed : ℕ) (span : Span) (treated : List TreatedInRows)
     → place_after (place + passed) span treated ≡ place_after place span treated + passed
 after_passed place passed (Bytes offset count) treated = refl
 after_passed place passed (Frame offset message) [] = refl
 after_passed place passed (Frame offset message) (one ∷ treated) = omega arith
 
-module _ (form : Form) (shows : Span → Bool) (symbols : Option (List ℕ)) (mode : Mode) (treated : List Treated) where
-  abbrev texts_from : ℕ → List Span → List Treated → List ℕ
+module _ (form : Form) (shows : Span → Bool) (symbols : Option (List ℕ)) (mode : Mode) (treated : List TreatedInRows) where
+  abbrev texts_from : ℕ → List Span → List TreatedInRows → List ℕ
   texts_from at spans others = spans_text form shows symbols mode at spans others
 
   -- The texts of some first spans were written. The treatments of the others are those from this place on, and so many
@@ -43,7 +43,7 @@ module _ (form : Form) (shows : Span → Bool) (symbols : Option (List ℕ)) (mo
     abbrev after : ℕ
     after = place_after (place + passed) span (drop place treated)
 
-    abbrev others : List Treated
+    abbrev others : List TreatedInRows
     others = after_span span (drop place treated)
 
     module _ (is : shows span ≡ true) where

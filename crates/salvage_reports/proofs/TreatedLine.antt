@@ -1,5 +1,5 @@
 -- The line of a message, part by part.
-use Rattle.std.proofs.Common.{◌≡◌, ◌++◌, ℕ, List, Option, Result, codes, ap, subst, ◌∙◌, append_assoc}
+use Rattle.std.proofs.Common.{◌≡◌, ◌++◌, ℕ, Bool, List, Option, Result, codes, ap, subst, ◌∙◌, append_assoc}
 use Rattle.std.specs.Io.KnownBytes.{Appends}
 use Rattle.std.proofs.KnownBytes.{Appends-trans}
 use Rattle.output.specs.Begun.{AppendsBeginning}
@@ -10,29 +10,29 @@ use Rattle.payload.specs.declared.mode.Mode.{Mode}
 use Rattle.payload.specs.declared.packet.Packet.{Packet}
 use Rattle.message.specs.declared.message.Message.{Message}
 use Rattle.listing.specs.Lines.{text_with}
-use Rattle.salvaging.specs.declared.treatment.Treated.{Treated}
+use Rattle.salvage_reports.specs.declared.hart_rows.TreatedInRows.{TreatedInRows}
 use Rattle.salvage_reports.specs.Lines.{treated_line}
 use Rattle.salvage_reports.specs.Words.{late_text, word_text}
 
-module _ (symbols : Option (List ℕ)) (mode : Mode) (offset : ℕ) (message : Message) (treated : Treated)
+module _ (shows : Bool) (symbols : Option (List ℕ)) (mode : Mode) (offset : ℕ) (message : Message) (one : TreatedInRows)
     (read : Result Packet PackFault) (same : read ≡ reading message.payload) where
   abbrev head : List ℕ
   head = text_with mode offset message read ++ codes " => "
 
   abbrev word : List ℕ
-  word = word_text symbols read treated.treatment
+  word = word_text shows symbols read one.rows one.treated.treatment
 
   abbrev tail : List ℕ
-  tail = late_text treated.late ++ codes "\n"
+  tail = late_text one.treated.late ++ codes "\n"
 
   abbrev line : List ℕ
-  line = treated_line symbols mode offset message treated
+  line = treated_line shows symbols mode offset message one
 
   parted : head ++ (word ++ tail) ≡ line
   parted =
       append_assoc (text_with mode offset message read) (codes " => ") (word ++ tail)
       ∙ ap (λ read. text_with mode offset message read ++ (codes " => " ++
-      (word_text symbols read treated.treatment ++ tail))) same
+      (word_text shows symbols read one.rows one.treated.treatment ++ tail))) same
 
   -- A beginning of what is before the word was written.
   pub head_begun : (old new : Option (List ℕ)) → AppendsBeginning head old new → AppendsBeginning line old new

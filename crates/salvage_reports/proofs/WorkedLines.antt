@@ -10,11 +10,11 @@ use Rattle.payload.specs.Extension.{extended, magnitude}
 use Rattle.payload.specs.declared.fault.PackFault.TheVariants.{Unsupported}
 use Rattle.payload.specs.declared.mode.Mode.TheVariants.{Differential, Full}
 use Rattle.salvaging.specs.declared.reason.Reason.TheVariants.{Closing, Decode, Packet}
-use Rattle.salvaging.specs.declared.treatment.Treated.{Treated}
 use Rattle.salvaging.specs.declared.treatment.Treatment.{Treatment}
 use Rattle.salvaging.specs.declared.treatment.Treatment.TheVariants as treatment
 use Rattle.listing.specs.declared.form.Form.TheVariants.{Lines}
 use Rattle.salvage_reports.specs.TreatedText.{spans_text, treated_text}
+use Rattle.salvage_reports.specs.declared.hart_rows.TreatedInRows.{TreatedInRows}
 
 abbrev symbols : Option (List ℕ)
 symbols = Some (codes "80000004 t loop\n80000000 T _start\n")
@@ -23,11 +23,11 @@ abbrev message : ℕ → ℕ → List ℕ → Message
 message hart number payload = record { hart = hart; number = number; payload = payload }
 
 -- In time, or late.
-abbrev in_time : Treatment → Treated
-in_time one = record { treatment = one; late = false }
+abbrev in_time : Treatment → TreatedInRows
+in_time one = record { treated = record { treatment = one; late = false }; rows = 4 }
 
-abbrev late : Treatment → Treated
-late one = record { treatment = one; late = true }
+abbrev late : Treatment → TreatedInRows
+late one = record { treated = record { treatment = one; late = true }; rows = 4 }
 
 -- The payloads of a packet that opens a trace, one that synchronises it, one that waits, one that closes it, and none.
 abbrev opening : List ℕ
@@ -52,7 +52,7 @@ spans =
     ∷ Frame 88 (message 0 7 unsupported) ∷ Frame 101 (message 0 5 waiting) ∷ Frame 113 (message 1 8 closing)
     ∷ Frame 126 (message 1 9 opening) ∷ Frame 138 (message 1023 4 opening) ∷ Bytes 150 1 ∷ []
 
-abbrev treated : List Treated
+abbrev treated : List TreatedInRows
 treated =
     in_time (treatment.Taken (record { count = 0; first = 0; last = 0 }))
     ∷ in_time (treatment.Taken (record { count = 1; first = 0x8000_0000; last = 0x8000_0000 }))
@@ -76,13 +76,13 @@ each_word : spans_text (Lines false) (λ span. true) None Differential 0 spans t
 unfolding digits extended magnitude
 each_word = refl
 
--- With a header and symbols.
-with_a_header : treated_text (Lines false) symbols (Some (record { mode = Full; period = 64; harts = 2 }))
+-- With a header, symbols and rows.
+with_a_header : treated_text (Lines true) symbols (Some (record { mode = Full; period = 64; harts = 2 }))
     (Frame 16 (message 1 0 waiting) ∷ Frame 28 (message 1 1 closing) ∷ Frame 41 (message 1 2 closing) ∷ [])
     (in_time (treatment.Taken (record { count = 2; first = 0x8000_0000; last = 0x8000_0006 }))
     ∷ in_time (treatment.Bad (Closing 2)) ∷ late (treatment.Bad (Decode WrongPlace)) ∷ [])
     ≡ codes "capture 2 mode=full period=64 harts=2\n"
-    ++ (codes "00000010 1 0 address addr=8 map=- plain => 2 events, 80000000 <_start+0> to 80000006 <loop+2>, waits\n"
+    ++ (codes "00000010 1 0 address addr=8 map=- plain => 2 events, 80000000 <_start+0> to 80000006 <loop+2>, rows 3 to 4, waits\n"
     ++ (codes "0000001c 1 1 close ended_ntr => bad: closing, but number 2 came\n"
     ++ codes "00000029 1 2 close ended_ntr => bad: not decoded: WrongPlace, late\n"))
 unfolding digits extended magnitude

@@ -8,6 +8,7 @@ pub mod Layouts
 pub mod Damage
 pub mod Found
 pub mod Salvaged
+pub mod HartRows
 pub mod steps
 pub mod Words
 pub mod Lines

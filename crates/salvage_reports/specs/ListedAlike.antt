@@ -21,6 +21,7 @@ use Rattle.listing.specs.declared.form.Form.TheVariants.{Lines}
 use Rattle.salvaging.specs.Treatments.{AreTreated, added_of}
 use Rattle.salvaging.specs.declared.treatment.Treated.{Treated}
 use Rattle.salvaging.specs.declared.treatment.Treatment.TheVariants as treatment
+use Rattle.salvage_reports.specs.HartRows.{in_rows}
 use Rattle.salvage_reports.specs.TreatedText.{treated_text}
 
 -- A message that has this effect is taken, and is not late: it adds the events of the effect.
@@ -45,7 +46,7 @@ CapturesAreListedAlike =
     → IsWhole bytes header messages
     → All (IsFrame (known_harts header)) messages
     → AreTreated words mode (harts_counted (Some harts) header bytes) messages treated
-    → treated_text (Lines false) symbols header (spans_of header bytes) treated ≡ text
+    → treated_text (Lines false) symbols header (spans_of header bytes) (in_rows messages treated) ≡ text
 
 -- The messages of legal logs of one program, long ones among them, as an encoder writes them: those of each hart in
 -- order, one hart after the other. They have effects, and salvaging takes each of them with its effect, whatever mode is

@@ -2,14 +2,14 @@
 use Rattle.std.specs.Prelude.{ℕ, List, Option}
 use Rattle.payload.specs.declared.mode.Mode.{Mode}
 use Rattle.message.specs.declared.message.Message.{Message}
-use Rattle.salvaging.specs.declared.treatment.Treated.{Treated}
 use Rattle.output.specs.ReadBack.{IsReadAs, IsReadBack}
+use Rattle.salvage_reports.specs.declared.hart_rows.TreatedInRows.{TreatedInRows}
 use Rattle.salvage_reports.specs.TreatedRows.{run_fields, treated_fields, treated_row}
 
 -- Each row that the table may have is read back by `csv`: that of a message with the names of symbols as they are in their
 -- file, whatever bytes these have, and with why it is bad as its text.
 pub record AreRowsReadBack : Type 0 where
-  pub message : (symbols : Option (List ℕ)) (mode : Mode) (at offset : ℕ) (message : Message) (treated : Treated)
-      → IsReadAs (treated_row symbols mode at offset message treated)
-      (treated_fields (λ field. field) symbols mode at offset message treated)
+  pub message : (symbols : Option (List ℕ)) (mode : Mode) (at offset : ℕ) (message : Message) (one : TreatedInRows)
+      → IsReadAs (treated_row symbols mode at offset message one)
+      (treated_fields (λ field. field) symbols mode at offset message one)
   pub bytes : (offset count : ℕ) → IsReadBack (run_fields offset count)

@@ -7,26 +7,26 @@ use Rattle.message.specs.declared.message.Message.{Message}
 use Rattle.captures.specs.Offsets.{offset_text}
 use Rattle.listing.specs.Packets.{packet_fields}
 use Rattle.listing.specs.Rows.{begin_fields, naming_at, symbol_fields}
-use Rattle.salvaging.specs.declared.treatment.Treated.{Treated}
 use Rattle.output.specs.Fields.{fields_line}
 use Rattle.output.specs.Quoted.{quoted_field}
 use Rattle.salvage_reports.specs.Fields.{done_fields, first_place, last_place}
+use Rattle.salvage_reports.specs.declared.hart_rows.TreatedInRows.{TreatedInRows}
 
 -- The fields of a message with which this is done, at this place among the messages and at this offset: those of its packet
 -- as in a listing, what is done with it, and the names of the places of its events. Names and reasons are written in this
 -- way.
-abbrev pub treated_fields : (List ℕ → List ℕ) → Option (List ℕ) → Mode → ℕ → ℕ → Message → Treated → List (List ℕ)
-treated_fields written symbols mode at offset message treated =
+abbrev pub treated_fields : (List ℕ → List ℕ) → Option (List ℕ) → Mode → ℕ → ℕ → Message → TreatedInRows → List (List ℕ)
+treated_fields written symbols mode at offset message one =
     begin_fields (codes "message") at offset message ++
     (packet_fields mode (reading message.payload) ++
-    (done_fields written (reading message.payload) treated ++
-    symbol_fields written (naming_at symbols (first_place treated.treatment))
-    (naming_at symbols (last_place treated.treatment))))
+    (done_fields written (reading message.payload) one ++
+    symbol_fields written (naming_at symbols (first_place one.treated.treatment))
+    (naming_at symbols (last_place one.treated.treatment))))
 
 -- Its row.
-abbrev pub treated_row : Option (List ℕ) → Mode → ℕ → ℕ → Message → Treated → List ℕ
-treated_row symbols mode at offset message treated =
-    fields_line (treated_fields quoted_field symbols mode at offset message treated)
+abbrev pub treated_row : Option (List ℕ) → Mode → ℕ → ℕ → Message → TreatedInRows → List ℕ
+treated_row symbols mode at offset message one =
+    fields_line (treated_fields quoted_field symbols mode at offset message one)
 
 -- The fields of bytes that belong to no frame: the offset of the first, and how many there are.
 abbrev pub run_fields : ℕ → ℕ → List (List ℕ)

@@ -6,10 +6,11 @@ ghost use Rattle.output.specs.Quoted.{quoted_field};
 ghost use Rattle.salvage_reports.specs.Fields.{count_field, done_fields, first_place, last_place, place_if};
 ghost use Rattle.salvage_reports.specs.Fields.{taken_flag, treatment_field, why_field};
 
+use crate::hart_rows::{TreatedInRows, taken_by};
 use crate::salvaged_items::ReasonField;
-use listing::{Place, flag_field, read_closes, read_waits};
+use listing::{Place, RowCells, SettledRows, flag_field, read_closes, read_waits};
 use payload::{PackFault, Packet};
-use salvaging::{Treated, Treatment};
+use salvaging::Treatment;
 use std::fmt;
 
 /// The fields of a message after those of its packet and before the names of places, with a comma after each.
@@ -17,26 +18,30 @@ use std::fmt;
 pub(crate) struct DoneCells<'a> {
     /// What its payload unpacks to.
     pub(crate) read: &'a Result<Packet, PackFault>,
-    /// What is done with it.
-    pub(crate) treated: &'a Treated,
+    /// What is done with it, and which rows it settles.
+    pub(crate) one: &'a TreatedInRows,
 }
 
 impl fmt::Display for DoneCells<'_> {
-    ghost output = { λ done. Some (cells (done_fields quoted_field done.read.now done.treated.now)) };
+    ghost output = { λ done. Some (cells (done_fields quoted_field done.read.now done.one.now)) };
 
     fn fmt<W: fmt::Write>(&self, f: &mut fmt::Formatter<W>) -> fmt::Result {
-        let treatment = &self.treated.treatment;
+        let treatment = &self.one.treated.treatment;
         let waits = taken_flag(read_waits(self.read), treatment);
         let closes = taken_flag(read_closes(self.read), treatment);
         let word = treatment_field(treatment);
         let why = WhyField(treatment);
-        let late = flag_field(self.treated.late);
+        let late = flag_field(self.one.treated.late);
         let count = CountField(treatment);
+        let rows = RowCells(SettledRows {
+            rows: self.one.rows,
+            added: taken_by(treatment),
+        });
         let first = Place(first_place(treatment));
         let last = Place(last_place(treatment));
         write!(
             f,
-            "{waits},{closes},{word},{why},{late},,{count},,,{first},{last},"
+            "{waits},{closes},{word},{why},{late},,{count},{rows},{first},{last},"
         )
     }
 }

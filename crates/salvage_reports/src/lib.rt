@@ -8,8 +8,9 @@
 //! copies and its late messages, for each run of bytes that belong to no frame, and for the strangers.
 //! [`salvaged_rows_are_read_back`] says that `csv` reads each row as its fields.
 //!
-//! [`write_treated`] writes a line or a row for each frame of some harts of a [`TreatedCapture`] and for each run of
-//! bytes between: where it is, what the message says, and the word for what is done with it. The columns are those of
+//! [`in_rows`] finds which rows of its hart each message settles that salvaging takes. [`write_treated`] writes a line or
+//! a row for each frame of some harts of a [`TreatedCapture`] and for each run of bytes between: where it is, what the
+//! message says, and the word for what is done with it. The columns are those of
 //! [`Columns`](listing::Columns). [`treated_rows_are_read_back`] says that `csv` reads back
 //! each row, and [`taken_messages_have_their_fields`] that a message has the fields of its effect as in a listing.
 #![tactic(auto)]
@@ -21,6 +22,7 @@ mod found;
 mod found_writing;
 mod frame_reading;
 mod hart_items;
+mod hart_rows;
 mod laws;
 mod messages_line;
 mod offsets;
@@ -38,6 +40,7 @@ pub use found::Found;
 pub use found_writing::{Layout, write_found};
 pub use frame_reading::{Frames, frames_of};
 pub use hart_items::items_of;
+pub use hart_rows::{TreatedInRows, in_rows};
 pub use laws::{
     accepted_messages_are_taken, all_harts_are_treated, messages_of_logs_are_taken,
     salvaged_rows_are_read_back, taken_messages_have_their_effect,

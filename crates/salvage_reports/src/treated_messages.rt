@@ -3,11 +3,13 @@
 ghost use Rattle.std.specs.Prelude.{◌≡◌, IfErr, OnOk, Some, option_map};
 ghost use Rattle.std.specs.Io.KnownBytes.{Appends};
 ghost use Rattle.output.specs.Begun.{AppendsBeginning};
+ghost use Rattle.listing.specs.SettledRows.{shows_rows};
 ghost use Rattle.salvage_reports.specs.Lines.{run_line, treated_line};
 ghost use Rattle.salvage_reports.specs.TreatedRows.{run_row, treated_row};
 ghost use Rattle.salvage_reports.specs.TreatedText.{message_text, run_text};
 
 use crate::fields::{DoneCells, first_place, last_place};
+use crate::hart_rows::TreatedInRows;
 use crate::words::{late_text, write_word};
 use captures::Offset;
 use listing::{Form, MessageCells, MessageText, write_names};
@@ -15,7 +17,6 @@ use message::Message;
 use output::write_text;
 use payload::{Mode, unpack};
 use retire::WriteFault;
-use salvaging::Treated;
 use std::alloc::Allocator;
 use std::fmt;
 use std::io::Write;
@@ -32,8 +33,8 @@ pub(crate) struct TreatedMessage<'a> {
     pub(crate) offset: u64,
     /// The message.
     pub(crate) message: &'a Message,
-    /// What is done with it.
-    pub(crate) treated: &'a Treated,
+    /// What is done with it, and which rows it settles.
+    pub(crate) treated: &'a TreatedInRows,
 }
 
 /// Writes the line or the row of a message.
@@ -52,22 +53,23 @@ pub(crate) fn write_message<S: Allocator, W: Write>(
     ensures fault { IfErr result (λ fault. fault ≡ WriteFault.Write) }
 {
     match form {
-        Form::Lines { .. } => write_line(symbols, one, sink),
+        Form::Lines { .. } => write_line(form, symbols, one, sink),
         Form::Table => write_row(symbols, one, sink),
     }
 }
 
 /// Writes the line of a message.
 fn write_line<S: Allocator, W: Write>(
+    form: Form,
     symbols: Option<&Symbols<S>>,
     one: TreatedMessage<'_>,
     sink: &mut W,
 ) -> Result<(), WriteFault>
     ensures text { OnOk result (Appends (W.contents sink.old) (W.contents sink.new)
-        (treated_line (option_map (λ file. file.now) symbols.entry) one.entry.mode one.entry.offset one.entry.message.now
+        (treated_line (shows_rows form) (option_map (λ file. file.now) symbols.entry) one.entry.mode one.entry.offset one.entry.message.now
         one.entry.treated.now)) }
     ensures begun { AppendsBeginning
-        (treated_line (option_map (λ file. file.now) symbols.entry) one.entry.mode one.entry.offset one.entry.message.now
+        (treated_line (shows_rows form) (option_map (λ file. file.now) symbols.entry) one.entry.mode one.entry.offset one.entry.message.now
         one.entry.treated.now) (W.contents sink.old) (W.contents sink.new) }
     ensures fault { IfErr result (λ fault. fault ≡ WriteFault.Write) }
 {
@@ -79,8 +81,8 @@ fn write_line<S: Allocator, W: Write>(
         read: &unpacked,
     };
     write_text(sink, format_args!("{text} => "))?;
-    write_word(symbols, &unpacked, &one.treated.treatment, sink)?;
-    let late = late_text(one.treated.late);
+    write_word(form, symbols, &unpacked, one.treated, sink)?;
+    let late = late_text(one.treated.treated.late);
     write_text(sink, format_args!("{late}\n"))?;
     Ok(())
 }
@@ -100,8 +102,8 @@ fn write_row<S: Allocator, W: Write>(
     ensures fault { IfErr result (λ fault. fault ≡ WriteFault.Write) }
 {
     let unpacked = unpack(one.message.payload.bytes());
-    let first = first_place(&one.treated.treatment);
-    let last = last_place(&one.treated.treatment);
+    let first = first_place(&one.treated.treated.treatment);
+    let last = last_place(&one.treated.treated.treatment);
     let head = MessageCells {
         kind: "message",
         mode: one.mode,
@@ -112,7 +114,7 @@ fn write_row<S: Allocator, W: Write>(
     };
     let done = DoneCells {
         read: &unpacked,
-        treated: one.treated,
+        one: one.treated,
     };
     write_text(sink, format_args!("{head}{done}"))?;
     write_names(symbols, first, last, sink)?;

@@ -8,6 +8,7 @@ ghost use Rattle.frames.specs.Start.{spans_of};
 ghost use Rattle.salvage_reports.specs.TreatedText.{after_span, front_text, place_after, span_text, spans_text};
 ghost use Rattle.salvage_reports.specs.TreatedText.{treated_text_of};
 
+use crate::hart_rows::TreatedInRows;
 use crate::treated_messages::{TreatedMessage, write_message, write_run};
 use frames::{Span, Spans, mode_of, spans_of, write_start};
 use listing::{Columns, Form};
@@ -15,7 +16,6 @@ use message::{HartRange, Header};
 use output::write_text;
 use payload::Mode;
 use retire::WriteFault;
-use salvaging::Treated;
 use std::alloc::Allocator;
 use std::io::Write;
 use symbols::Symbols;
@@ -29,9 +29,9 @@ pub struct TreatedCapture<'a> {
     pub only: HartRange,
     /// Its bytes.
     pub bytes: &'a [u8],
-    /// What is done with each message of these harts, in their order, as
-    /// [`treat_watched`](salvaging::treat_watched) returns it.
-    pub treated: &'a [Treated],
+    /// What is done with each message of these harts, and which rows it settles, in their order, as
+    /// [`in_rows`](crate::in_rows) returns it.
+    pub treated: &'a [TreatedInRows],
 }
 
 /// How the spans of a capture are written, and what is done with their messages.
@@ -39,7 +39,7 @@ pub struct TreatedCapture<'a> {
 struct Treatments<'a> {
     form: Form,
     mode: Mode,
-    treated: &'a [Treated],
+    treated: &'a [TreatedInRows],
 }
 
 /// Writes what is done with each message of some harts of a capture that may be damaged: in order a line or a row for
@@ -51,7 +51,8 @@ struct Treatments<'a> {
 /// line of a frame is the offset of its message's first byte, in 8 hexadecimal digits at least; the hart, the number and
 /// the packet, as [`list_capture`](listing::list_capture) writes them; ` => `; and a word for what is done with the
 /// message: `stranger`, `copy`, `doubtful`, `bad: ` and why, `alone`, `passed`, or the effect of a message that is taken, as
-/// `list_capture` writes it. After the word of a message that is late comes `, late`. The line of a run of bytes is its
+/// `list_capture` writes it, with its rows, where the form says so. After the word of a message that is late comes
+/// `, late`. The line of a run of bytes is its
 /// offset and `bytes: N`.
 ///
 /// Before the rows come the names of the columns, which are those of

@@ -1,3 +1,4 @@
+mod WorkedFar
 mod WorkedSalvaged
 mod WorkedEntries
 pub mod Members
@@ -70,3 +71,11 @@ pub mod CountedOnce
 pub mod TreatedTallies
 pub mod CountedToo
 pub mod TakenWhole
+pub mod BlockCounts
+pub mod FarByBound
+pub mod AheadSteps
+pub mod Neighbours
+pub mod BoundSteps
+pub mod FarLaws
+pub mod FlaggedNumbers
+pub mod CountsFit

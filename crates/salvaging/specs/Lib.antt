@@ -9,6 +9,7 @@ pub mod Ends
 pub mod EndsByParts
 pub mod EndsByNumbers
 pub mod Late
+pub mod Far
 pub mod Tallies
 pub mod Shares
 pub mod Treatments

@@ -11,3 +11,5 @@ pub mod Looking
 pub mod SortedOut
 pub mod Lateness
 pub mod Distributing
+pub mod Ahead
+pub mod Farness

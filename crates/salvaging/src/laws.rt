@@ -1,6 +1,6 @@
 //! What the definitions of salvaging promise.
 
-ghost use Rattle.std.specs.Prelude.{ℕ, ◌≡◌, ◌≢◌, ◌↔◌, ◌++◌, ◌∷◌, true, Bool, List, None, length, map};
+ghost use Rattle.std.specs.Prelude.{ℕ, ◌≡◌, ◌≢◌, ◌↔◌, ◌++◌, [], ◌∷◌, true, Bool, List, None, length, map};
 ghost use Rattle.rvclass.specs.Fetch.{words_of};
 ghost use Rattle.rvclass.specs.Image.{Image};
 ghost use Rattle.rvclass.specs.Words.{Words, IsProgram};
@@ -20,6 +20,7 @@ ghost use Rattle.salvaging.specs.Ends.{AreCutAtEnd};
 ghost use Rattle.salvaging.specs.EndsByNumbers.{AreCutByNumber};
 ghost use Rattle.salvaging.specs.EndsByParts.{MayEndByParts};
 ghost use Rattle.salvaging.specs.Entries.{Entry as AnyEntry, Used, entry_number, next_used};
+ghost use Rattle.salvaging.specs.Far.{AreFarNumbers, ComeInOrder, HaveNeighbours};
 ghost use Rattle.salvaging.specs.FromLogs.{AreFromLogs};
 ghost use Rattle.salvaging.specs.Leaving.{EntriesLeave};
 ghost use Rattle.salvaging.specs.LeftParts.{LeftPart};
@@ -106,4 +107,15 @@ pub fn treatments_are_counted<A: Allocator>()
 pub fn messages_are_counted_once<A: Allocator>()
     ensures { (words : Words) (mode : Mode) (harts : ℕ) (messages : List Message) (salvaged : AnySalvaged A)
         → IsSalvaged words mode harts messages salvaged → AreCountedOnce messages salvaged }
+{}
+
+/// A hart's messages have one set of far numbers. It is empty where the messages came in the order of their numbers, and
+/// where a message came with a number beside that of each.
+pub fn far_numbers_are_known()
+    ensures once { (messages : List Message) (one other : List ℕ) → AreFarNumbers messages one
+        → AreFarNumbers messages other → one ≡ other }
+    ensures in_order { (messages : List Message) (numbers : List ℕ) → ComeInOrder messages
+        → AreFarNumbers messages numbers → numbers ≡ [] }
+    ensures beside { (messages : List Message) (numbers : List ℕ) → HaveNeighbours messages
+        → AreFarNumbers messages numbers → numbers ≡ [] }
 {}

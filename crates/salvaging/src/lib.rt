@@ -11,11 +11,13 @@
 //! messages are collected without a fault, the same is salvaged of them ([`what_is_collected_is_salvaged`]).
 #![tactic(auto)]
 
+mod ahead;
 mod beyond;
 mod copies;
 mod distributing;
 mod ending;
 mod entry;
+mod far;
 mod grouping;
 mod hart;
 mod late;
@@ -37,8 +39,9 @@ mod treatment;
 mod used;
 mod working;
 
+pub use far::far_numbers;
 pub use laws::{
-    harts_are_salvaged_in_one_way, harts_end_at_their_lowest_number,
+    far_numbers_are_known, harts_are_salvaged_in_one_way, harts_end_at_their_lowest_number,
     harts_end_where_no_stretch_comes_after, logs_are_salvaged, messages_are_counted_once,
     parts_are_what_is_done, treatments_are_counted, what_is_collected_is_salvaged,
 };

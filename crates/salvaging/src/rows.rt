@@ -22,7 +22,7 @@ pub(crate) struct NumberRow {
 }
 
 /// The number of an entry.
-fn number_of(entry: Entry<'_>) -> u64
+pub(crate) fn number_of(entry: Entry<'_>) -> u64
     ensures { result ≡ entry_number (entry_of entry.entry) }
 {
     match entry {

@@ -43,7 +43,10 @@ fn sort_each<'a, A: Allocator + Copy, V: ProgressSink>(
 }
 
 /// So many zeros.
-fn zeros<A: Allocator + Copy>(alloc: A, count: usize) -> Result<Vec<usize, A>, AllocError>
+pub(crate) fn zeros<A: Allocator + Copy>(
+    alloc: A,
+    count: usize,
+) -> Result<Vec<usize, A>, AllocError>
     ensures count { IfOk result (λ counts. length counts.items ≡ count) }
     ensures zero { IfOk result (λ counts. All (λ n. n ≡ 0) counts.items) }
 {

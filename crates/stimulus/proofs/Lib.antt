@@ -3,3 +3,7 @@ pub mod RowLemmas
 pub mod TraceLemmas
 pub mod SendLemmas
 pub mod BegunLemmas
+pub mod MixedMessages
+pub mod LeftMessages
+pub mod TurnLemmas
+pub mod OrderLemmas

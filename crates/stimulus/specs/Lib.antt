@@ -4,4 +4,6 @@ pub mod ImageBytes
 pub mod Walked
 pub mod Written
 pub mod Mixed
+pub mod Order
+pub mod Mixing
 pub mod steps

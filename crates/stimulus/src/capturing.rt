@@ -11,7 +11,7 @@ ghost use Rattle.stimulus.specs.Mixed.{AppendsMixed, BeginsMixed, header_of};
 ghost use Rattle.stimulus.specs.steps.Sending.{AllBegun, AllSendMore, AreSent, IsClosed};
 
 use crate::mix::Mix;
-use crate::order::Order;
+use crate::order::{Bursts, Order};
 use crate::sender::Sender;
 use crate::walk::Extent;
 use captures::write_start;
@@ -21,6 +21,9 @@ use retire::WriteFault;
 use rvclass::ProgramOver;
 use std::alloc::{AllocError, Allocator};
 use std::io::Write;
+
+/// In a short capture one of so many bursts ends a trace.
+const SHORTEST_ENDING: u64 = 256;
 
 /// What a capture is made of.
 #[derive(Clone, Copy)]
@@ -65,10 +68,19 @@ pub fn write_capture<A: Allocator + Copy, W: Write>(
     ensures untouched { result ≡ Err WriteFault.Memory → sink.new ≡ sink.old }
 {
     let mut senders = senders_of(alloc, program, asked)?;
-    let mut order = Order::new(alloc, asked)?;
+    let mut order = Order::new(alloc, asked.seed, asked.harts, bursts_of(asked))?;
     match write_messages(program, asked, &mut senders, &mut order, sink) {
         Ok(()) => Ok(()),
         Err(_) => Err(WriteFault::Write),
+    }
+}
+
+/// How the turns of a capture are drawn.
+fn bursts_of(asked: &Capture) -> Bursts {
+    let ending = (asked.messages / 16).clamp(SHORTEST_ENDING, u64::from(u32::MAX));
+    Bursts {
+        longest: asked.burst,
+        ending: Some(ending as u32),
     }
 }
 

@@ -1,12 +1,12 @@
 //! The order in which harts send, as a path sees it.
 
-use crate::capturing::Capture;
+ghost use Rattle.std.specs.Prelude.{◌≡◌, ◌==◌, ◌%◌, ◌++◌, IfOk, OnOk, get_or, length, max, not, replicate};
+ghost use Rattle.std.specs.List.{filter, list_any};
+ghost use Rattle.stimulus.specs.Order.{begins_burst, drawn_of, first_drawn, leaves, leaving, next_turn, weighed};
+
 use rand_core::utils::NextWord;
 use rand_pcg::Pcg32;
 use std::alloc::{AllocError, Allocator};
-
-/// In a short capture one of so many bursts ends a trace.
-const SHORTEST_ENDING: u64 = 256;
 
 /// The generator's stream of the order. Those of harts are above it, and those of the slots of the program below.
 const STREAM: u64 = 0x8000;
@@ -20,45 +20,62 @@ pub(crate) struct Turn {
     pub(crate) hart: u16,
 }
 
+/// How the turns of an order are drawn.
+#[derive(Clone, Copy)]
+pub(crate) struct Bursts {
+    /// How many turns of one hart come one after another at most.
+    pub(crate) longest: u32,
+    /// Of so many bursts one ends a trace. Where there is none, no burst does.
+    pub(crate) ending: Option<u32>,
+}
+
 /// Draws which hart sends next. Harts send in bursts. A hart of more weight comes more often, and a hart may end before
 /// the others.
 #[derive(Drop)]
 pub(crate) struct Order<A: Allocator> {
     random: Pcg32,
-    /// The harts that have not closed their traces, each as often as it weighs.
-    open: Vec<u16, A>,
-    /// How many messages a burst has at most.
-    burst: u32,
-    /// Of so many bursts one ends a trace.
-    ending: u32,
+    /// The harts that may send, each as often as it weighs.
+    listed: Vec<u16, A>,
+    bursts: Bursts,
     /// The hart that sends.
     hart: u16,
-    /// How many messages of its burst are left.
+    /// How many turns of its burst are left.
     left: u32,
 }
 
 impl<A: Allocator> Order<A> {
-    /// The order of the harts of a capture. A hart weighs 1 to 4.
-    pub(crate) fn new(alloc: A, asked: &Capture) -> Result<Order<A>, AllocError> {
-        let mut random = Pcg32::new(asked.seed, STREAM);
-        let mut open = Vec::new(alloc);
-        for hart in 0..asked.harts {
-            for _ in 0..random.next_word() % 4 + 1 {
-                open.push(hart)?;
-            }
-        }
+    /// The order of so many harts. A hart weighs 1 to 4.
+    pub(crate) fn new(
+        alloc: A,
+        seed: u64,
+        harts: u16,
+        bursts: Bursts,
+    ) -> Result<Order<A>, AllocError>
+        ensures { IfOk result (λ order. drawn_of order ≡ first_drawn seed harts bursts.longest bursts.ending) }
+    {
+        let mut random = Pcg32::new(seed, STREAM);
+        let listed = weighed(alloc, &mut random, harts)?;
         Ok(Order {
             random,
-            open,
-            burst: asked.burst,
-            ending: (asked.messages / 16).clamp(SHORTEST_ENDING, u64::from(u32::MAX)) as u32,
+            listed,
+            bursts,
             hart: 0,
             left: 0,
         })
     }
 
+    /// Whether no hart may send.
+    pub(crate) fn is_over(&self) -> bool
+        ensures { result ≡ (length (drawn_of self.now).listed == 0) }
+    {
+        self.listed.is_empty()
+    }
+
     /// What comes next. After a burst the hart may close its trace, unless it is the last.
-    pub(crate) fn next(&mut self) -> Turn {
+    #[tactic(auto, unfolding(crate::specs::Order::next_turn))]
+    pub(crate) fn next(&mut self) -> Turn
+        ensures { (result, drawn_of self.new) ≡ next_turn (drawn_of self.old) }
+    {
         if self.left > 0 {
             self.left -= 1;
             return Turn {
@@ -67,34 +84,105 @@ impl<A: Allocator> Order<A> {
             };
         }
         let closing = self.leaving();
-        self.hart = self.drawn();
-        self.left = self.random.next_word() % self.burst.max(1);
+        self.begin_burst();
         Turn {
             closing,
             hart: self.hart,
         }
     }
 
+    /// A hart sends no more, and the burst is over.
+    #[tactic(auto, unfolding(crate::specs::Order::leaves))]
+    pub(crate) fn leave(&mut self, hart: u16)
+        ensures { drawn_of self.new ≡ leaves hart (drawn_of self.old) }
+    {
+        remove_hart(&mut self.listed, hart);
+        self.left = 0;
+    }
+
     /// The hart whose burst has ended, if it is drawn that it closes its trace, and it is not the last.
-    fn leaving(&mut self) -> Option<u16> {
-        if self.random.next_word() % self.ending.max(1) != 0 {
+    fn leaving(&mut self) -> Option<u16>
+        ensures { (result, drawn_of self.new) ≡ leaving (drawn_of self.old) }
+    {
+        let Some(ending) = self.bursts.ending else {
             return None;
-        }
+        };
+        let draw = self.random.next_word();
         let hart = self.hart;
-        if self.open.iter().all(|other| *other == hart) {
+        if draw % ending.max(1) != 0 {
             return None;
         }
-        self.open.retain(|other| *other != hart);
+        if !has_others(self.listed.as_slice(), hart) {
+            return None;
+        }
+        self.leave(hart);
         Some(hart)
     }
 
-    /// One of the open harts.
-    fn drawn(&mut self) -> u16 {
-        let count = self.open.len().max(1) as u64;
-        let place = u64::from(self.random.next_word()) % count;
-        match self.open.get(place as usize) {
-            Some(hart) => *hart,
-            None => 0,
-        }
+    /// Draws which hart sends, and how many turns it has.
+    #[tactic(auto, unfolding(crate::specs::Order::begins_burst))]
+    fn begin_burst(&mut self)
+        ensures { drawn_of self.new ≡ begins_burst (drawn_of self.old) }
+    {
+        let which = self.random.next_word();
+        let count = self.random.next_word();
+        self.hart = hart_at(self.listed.as_slice(), which);
+        self.left = count % self.bursts.longest.max(1);
+    }
+}
+
+/// The harts below this count, each as often as it weighs, by draws of the generator.
+fn weighed<A: Allocator>(
+    alloc: A,
+    random: &mut Pcg32,
+    harts: u16,
+) -> Result<Vec<u16, A>, AllocError>
+    ensures { IfOk result (λ listed. (listed.items, random.new) ≡ weighed random.old harts) }
+{
+    let mut listed = Vec::new(alloc);
+    for hart in 0..harts {
+        let weight = random.next_word() % 4 + 1;
+        add_hart(&mut listed, hart, weight)?;
+    }
+    Ok(listed)
+}
+
+/// Adds a hart to a list, so many times.
+fn add_hart<A: Allocator>(
+    listed: &mut Vec<u16, A>,
+    hart: u16,
+    weight: u32,
+) -> Result<(), AllocError>
+    ensures { OnOk result (listed.new.items ≡ listed.old.items ++ replicate weight hart) }
+{
+    for _ in 0..weight {
+        listed.push(hart)?;
+    }
+    Ok(())
+}
+
+/// Takes a hart out of a list.
+fn remove_hart<A: Allocator>(listed: &mut Vec<u16, A>, hart: u16)
+    ensures { listed.new.items ≡ filter (λ other. not (other == hart)) listed.old.items }
+{
+    listed.retain(|other| *other != hart);
+}
+
+/// Whether a list has another hart than this.
+fn has_others(listed: &[u16], hart: u16) -> bool
+    ensures { result ≡ list_any (λ other. not (other == hart)) listed.now }
+{
+    listed.iter().any(|other| *other != hart)
+}
+
+/// The hart of a list that a draw says.
+fn hart_at(listed: &[u16], draw: u32) -> u16
+    ensures { result ≡ get_or listed.now (draw % max (length listed.now) 1) 0 }
+{
+    let count = listed.len().max(1) as u64;
+    let place = (u64::from(draw) % count) as usize;
+    match listed.get(place) {
+        Some(hart) => *hart,
+        None => 0,
     }
 }

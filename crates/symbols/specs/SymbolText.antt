@@ -15,3 +15,8 @@ named_text (Some symbol) = codes " <" ++ (symbol.name ++ distance_text symbol.di
 -- What follows a place, by the symbols of a file.
 abbrev pub symbol_text : List ℕ → ℕ → List ℕ
 symbol_text file place = named_text (symbol_at file place)
+
+-- The same, if a file is given.
+abbrev pub name_text : Option (List ℕ) → ℕ → List ℕ
+name_text None place = []
+name_text (Some file) place = symbol_text file place

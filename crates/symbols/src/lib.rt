@@ -13,4 +13,4 @@ mod writing;
 pub use fault::SymbolsFault;
 pub use named::Named;
 pub use symbols::{MOST_BYTES, Symbols};
-pub use writing::write_symbol;
+pub use writing::{write_name, write_symbol};

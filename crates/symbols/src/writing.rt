@@ -1,10 +1,10 @@
 //! Writing what a place is named.
 
-ghost use Rattle.std.specs.Prelude.{◌≡◌, IfErr, OnOk, Some};
+ghost use Rattle.std.specs.Prelude.{◌≡◌, IfErr, OnOk, Some, option_map};
 ghost use Rattle.std.specs.Io.KnownBytes.{Appends};
 ghost use Rattle.output.specs.Begun.{AppendsBeginning};
 ghost use Rattle.symbols.specs.Naming.{naming};
-ghost use Rattle.symbols.specs.SymbolText.{distance_text, named_text, symbol_text};
+ghost use Rattle.symbols.specs.SymbolText.{distance_text, name_text, named_text, symbol_text};
 
 use crate::named::Named;
 use crate::symbols::Symbols;
@@ -56,6 +56,24 @@ pub fn write_symbol<W: Write, A: Allocator>(
 {
     match symbols.at(place) {
         Some(named) => write_named(&named, sink),
+        None => Ok(()),
+    }
+}
+
+/// Writes what [`write_symbol`] does, where symbols are given, and else nothing.
+pub fn write_name<S: Allocator, W: Write>(
+    symbols: Option<&Symbols<S>>,
+    place: u64,
+    sink: &mut W,
+) -> Result<(), WriteFault>
+    ensures text { OnOk result (Appends (W.contents sink.old) (W.contents sink.new)
+        (name_text (option_map (λ file. file.now) symbols.entry) place)) }
+    ensures begun { AppendsBeginning (name_text (option_map (λ file. file.now) symbols.entry) place)
+        (W.contents sink.old) (W.contents sink.new) }
+    ensures fault { IfErr result (λ fault. fault ≡ WriteFault.Write) }
+{
+    match symbols {
+        Some(symbols) => write_symbol(symbols, place, sink),
         None => Ok(()),
     }
 }

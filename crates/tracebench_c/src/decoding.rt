@@ -11,8 +11,7 @@ ghost use Rattle.rvclass.specs.Words.{Words};
 use ffi::{DecodeAllEnd, DecoderNumbers, EventNumbers, HartEnd, HartNumbers, ImagePiece};
 use std::alloc::Global;
 
-/// Decodes a capture once, and writes the logs of all its harts as text to a buffer, one after the other, as far as the
-/// harts' messages settle them. See [`ffi::tracebench_decode_all`].
+/// Decodes a capture once, and writes the logs of all its harts as text. See [`ffi::tracebench_decode_all`].
 #[unsafe(no_mangle)]
 pub extern "C" fn tracebench_decode_all(
     alloc: Global,
@@ -39,8 +38,7 @@ pub extern "C" fn tracebench_decoder(state: &mut DecoderNumbers)
     ffi::tracebench_decoder(state)
 }
 
-/// Feeds payloads to the decoder with these numbers, one after the other, and writes the events that they settle, oldest
-/// first. See [`ffi::tracebench_feed_all`].
+/// Feeds payloads to the decoder with these numbers. See [`ffi::tracebench_feed_all`].
 #[unsafe(no_mangle)]
 pub extern "C" fn tracebench_feed_all(
     alloc: Global,
@@ -58,8 +56,7 @@ pub extern "C" fn tracebench_feed_all(
     ffi::tracebench_feed_all(alloc, pieces, state, payloads, ends, events, taken, count)
 }
 
-/// Takes the next message of a hart, where messages before it may be lost, and writes the events that it settles and
-/// how many they are. See [`ffi::tracebench_receive`].
+/// Takes the next message of a hart. See [`ffi::tracebench_receive`].
 #[unsafe(no_mangle)]
 pub extern "C" fn tracebench_receive(
     alloc: Global,

@@ -56,8 +56,7 @@ pub extern "C" fn tracebench_encoder(
     ffi::tracebench_encoder(period, mode, state, opening)
 }
 
-/// Takes the next events of a log, one after the other, and writes the packets that they make due. See
-/// [`ffi::tracebench_push_all`].
+/// Takes the next events of a log. See [`ffi::tracebench_push_all`].
 #[unsafe(no_mangle)]
 pub extern "C" fn tracebench_push_all(
     alloc: Global,
@@ -74,8 +73,7 @@ pub extern "C" fn tracebench_push_all(
     ffi::tracebench_push_all(alloc, pieces, state, events, packets, taken, count)
 }
 
-/// Takes the end of a log, and writes the packets that are left, 1 or 2, and how many they are. See
-/// [`ffi::tracebench_finish`].
+/// Takes the end of a log, and writes the packets that are left, 1 or 2. See [`ffi::tracebench_finish`].
 #[unsafe(no_mangle)]
 pub extern "C" fn tracebench_finish(
     alloc: Global,

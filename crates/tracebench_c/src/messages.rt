@@ -86,8 +86,7 @@ pub extern "C" fn tracebench_read_message(
     ffi::tracebench_read_message(bytes, message, taken)
 }
 
-/// Writes the shortest payload of the packet that has these numbers to a buffer; at most 18 bytes are wanted. See
-/// [`ffi::tracebench_pack`].
+/// Writes the shortest payload of the packet that has these numbers. See [`ffi::tracebench_pack`].
 #[unsafe(no_mangle)]
 pub extern "C" fn tracebench_pack(
     numbers: &PacketNumbers,
@@ -111,8 +110,7 @@ pub extern "C" fn tracebench_unpack(payload: &[u8], numbers: &mut PacketNumbers)
     ffi::tracebench_unpack(payload, numbers)
 }
 
-/// Writes the capture of the lines of a text to a buffer, one message a line, in the order of the lines: what
-/// `tracebench capture` writes. See [`ffi::tracebench_capture_of_lines`].
+/// Writes the capture of the lines of a text to a buffer. See [`ffi::tracebench_capture_of_lines`].
 #[unsafe(no_mangle)]
 pub extern "C" fn tracebench_capture_of_lines(
     alloc: Global,
@@ -121,15 +119,16 @@ pub extern "C" fn tracebench_capture_of_lines(
     mode: u32,
     period: u16,
     harts: u16,
+    numbers: u64,
     buffer: &mut [u8],
     wanted: &mut u64,
     line: &mut u64,
 ) -> u32
-    ensures { ReportsOfLines (settings_named version mode period harts) text.now result line.new wanted.old wanted.new
-        buffer.old buffer.new }
+    ensures { ReportsOfLines (settings_named version mode period harts numbers) text.now result line.new wanted.old
+        wanted.new buffer.old buffer.new }
 {
     ffi::tracebench_capture_of_lines(
-        alloc, text, version, mode, period, harts, buffer, wanted, line,
+        alloc, text, version, mode, period, harts, numbers, buffer, wanted, line,
     )
 }
 

@@ -8,8 +8,7 @@ use ffi::{
 };
 use std::alloc::Global;
 
-/// Audits RECEIVED against SENT, captures in either version, and reports what became of the messages of all harts of
-/// SENT: what `tracebench audit` reports. See [`ffi::tracebench_audit_all`].
+/// Audits RECEIVED against SENT, as `tracebench audit` does. See [`ffi::tracebench_audit_all`].
 #[unsafe(no_mangle)]
 pub extern "C" fn tracebench_audit_all(
     alloc: Global,
@@ -33,9 +32,7 @@ pub extern "C" fn tracebench_audit_all(
     )
 }
 
-/// Audits RECEIVED against SENT, captures in either version, by the payloads of the messages alone, and reports what
-/// became of those of all harts of SENT: what `tracebench audit --unnumbered` reports. See
-/// [`ffi::tracebench_audit_unnumbered`].
+/// Audits RECEIVED against SENT by payloads alone. See [`ffi::tracebench_audit_unnumbered`].
 #[unsafe(no_mangle)]
 pub extern "C" fn tracebench_audit_unnumbered(
     alloc: Global,

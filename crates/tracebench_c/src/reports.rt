@@ -5,17 +5,15 @@ ghost use Rattle.ffi.specs.Compared.{ReportsCompare};
 ghost use Rattle.ffi.specs.Dumped.{IsDumpHandedOut};
 ghost use Rattle.ffi.specs.Explained.{ReportsExplain};
 ghost use Rattle.ffi.specs.Images.{OfPieces};
-ghost use Rattle.ffi.specs.Listed.{ReportsList};
-ghost use Rattle.ffi.specs.Measured.{ReportsMeasure};
+ghost use Rattle.ffi.specs.Listed.{ReportsList, ReportsTreated};
+ghost use Rattle.ffi.specs.Encoded.{ReportsMeasure};
 ghost use Rattle.ffi.specs.Salvaged.{ReportsSalvage};
-ghost use Rattle.ffi.specs.Treated.{ReportsTreated};
 ghost use Rattle.ffi.specs.declared.status.TheConstants.{MEMORY};
 
 use ffi::{DumpEnd, ExplainEnd, ImagePiece, LogPlace, TextEnd};
 use std::alloc::Global;
 
-/// Writes a capture as text to a buffer: a line for its header, if it has one, and a line for each message. See
-/// [`ffi::tracebench_dump`].
+/// Writes a capture as text to a buffer. See [`ffi::tracebench_dump`].
 #[unsafe(no_mangle)]
 pub extern "C" fn tracebench_dump(
     alloc: Global,
@@ -31,8 +29,7 @@ pub extern "C" fn tracebench_dump(
     ffi::tracebench_dump(alloc, capture, buffer, wanted, ended)
 }
 
-/// Writes the listing of a capture to a buffer, as `tracebench list` prints it: a line for each message, with its
-/// packet and the events that it settles. See [`ffi::tracebench_list`].
+/// Writes the listing of a capture to a buffer, as `tracebench list` prints it. See [`ffi::tracebench_list`].
 #[unsafe(no_mangle)]
 pub extern "C" fn tracebench_list(
     alloc: Global,
@@ -53,9 +50,7 @@ pub extern "C" fn tracebench_list(
     )
 }
 
-/// Writes what salvaging does with each message of a capture to a buffer, as `tracebench list --salvage` prints it: a
-/// line for each message that is found among its bytes, with what it says and what is done with it, and one for each
-/// run of bytes between. See [`ffi::tracebench_list_salvaged`].
+/// Writes what salvaging does with each message of a capture. See [`ffi::tracebench_list_salvaged`].
 #[unsafe(no_mangle)]
 pub extern "C" fn tracebench_list_salvaged(
     alloc: Global,
@@ -76,8 +71,7 @@ pub extern "C" fn tracebench_list_salvaged(
     )
 }
 
-/// Writes what is left of the logs of a capture to a buffer, whatever happened to its bytes, as `tracebench salvage`
-/// prints it. See [`ffi::tracebench_salvage`].
+/// Writes what is left of the logs of a capture to a buffer. See [`ffi::tracebench_salvage`].
 #[unsafe(no_mangle)]
 pub extern "C" fn tracebench_salvage(
     alloc: Global,
@@ -95,8 +89,7 @@ pub extern "C" fn tracebench_salvage(
     ffi::tracebench_salvage(alloc, pieces, harts, capture, format, buffer, wanted, ended)
 }
 
-/// Writes the table of what each hart's log costs to a buffer, hart 0 first, as `tracebench measure` prints it. See
-/// [`ffi::tracebench_measure`].
+/// Writes the table of what each hart's log costs to a buffer. See [`ffi::tracebench_measure`].
 #[unsafe(no_mangle)]
 pub extern "C" fn tracebench_measure(
     alloc: Global,
@@ -117,8 +110,7 @@ pub extern "C" fn tracebench_measure(
     )
 }
 
-/// Writes how a capture compares with the logs of its harts to a buffer, hart 0 first, as `tracebench compare` prints
-/// it. See [`ffi::tracebench_compare`].
+/// Writes how a capture compares with the logs of its harts to a buffer. See [`ffi::tracebench_compare`].
 #[unsafe(no_mangle)]
 pub extern "C" fn tracebench_compare(
     alloc: Global,
@@ -140,8 +132,7 @@ pub extern "C" fn tracebench_compare(
     )
 }
 
-/// Writes the lines that explain the first illegal row of a log to a buffer, as `tracebench check --explain` prints
-/// them below the line of the log. See [`ffi::tracebench_explain`].
+/// Writes the lines that explain the first illegal row of a log. See [`ffi::tracebench_explain`].
 #[unsafe(no_mangle)]
 pub extern "C" fn tracebench_explain(
     alloc: Global,

@@ -8,6 +8,7 @@ use Rattle.command_inputs.specs.declared.words.Asked.{Asked}
 use Rattle.command_inputs.specs.declared.words.Asked.TheVariants.{Audit, Bench, Check, Decode, Dump, Encode, Listing}
 use Rattle.command_inputs.specs.declared.words.Asked.TheVariants as asked_for
 use Rattle.command_inputs.specs.declared.words.Audit.{Audit as AskedAudit}
+use Rattle.command_inputs.specs.declared.words.Check.{Check as AskedCheck}
 use Rattle.command_inputs.specs.declared.words.Encode.{Encode as AskedEncode}
 use Rattle.command_inputs.specs.declared.words.Format.{Format}
 use Rattle.command_inputs.specs.declared.words.Format.TheVariants.{Text}
@@ -15,10 +16,10 @@ use Rattle.command_inputs.specs.declared.words.ProgramArgs.{ProgramArgs}
 use Rattle.command_inputs.specs.declared.words.Asked.TheVariants.{Measure, Replay, Salvage}
 use Rattle.log_commands.specs.Benching.{BenchesLogs}
 use Rattle.commands.specs.CarriedOut.{IsCarriedOut}
-use Rattle.log_commands.specs.Checking.{WritesLines}
+use Rattle.log_commands.specs.Checking.{IsCheckInput, IsCheckInputWith, WritesLines}
 use Rattle.capture_commands.specs.CaptureInput.{IsCaptureInput, IsInputAt, IsInputWith}
 use Rattle.capture_commands.specs.Decoded.{DecodesInput, IsDecodeInput}
-use Rattle.capture_commands.specs.Dumping.{DumpsHarts, WritesDumpOf}
+use Rattle.capture_commands.specs.Dumping.{DumpsHarts, DumpsNamed, WritesDumpOf}
 use Rattle.capture_commands.specs.Listed.{IsListInput, ListsInput}
 use Rattle.capture_commands.specs.Salvaging.{IsSalvageInput, SalvagesInput}
 use Rattle.capture_commands.specs.declared.reason.CaptureReason.TheVariants as capture
@@ -39,6 +40,7 @@ use Rattle.log_commands.specs.Encoding.{AreLogsOf, ArePartLogs, IsMostLogs, IsPa
 use Rattle.command_inputs.specs.Faults.{Path as FilePath}
 use Rattle.command_inputs.specs.Finding.{After, IsFoundFrom}
 use Rattle.command_inputs.specs.OnlyHarts.{IsOnly}
+use Rattle.command_inputs.specs.Symbols.{AreSymbols}
 use Rattle.command_inputs.specs.Found.{AreFew, IsAskedBase, IsAskedProgram, IsBase, IsFormat, IsImageAt, IsProgramAt}
 use Rattle.command_inputs.specs.Found.{IsRead, IsWithPieces, program_at}
 use Rattle.command_inputs.specs.FoundLogs.{AreAskedLogsUpTo, AreLegalLogsUpTo}
@@ -118,6 +120,12 @@ no_asked most asked paths =
     not_after (IsBase asked) (λ base. After (AreFew most paths) (λ _. IsProgramAt none base asked)) (λ base is.
     not_after (AreFew most paths) (λ _. IsProgramAt none base asked) (λ few counted. no_program base asked))
 
+-- No input of `check` is found.
+no_checked : (asked : AskedCheck) → NeverFound (IsCheckInput none asked)
+no_checked asked =
+    not_after (IsAskedProgram none _ asked.program asked.logs.items) (IsCheckInputWith none asked.symbols)
+    (λ program is input found. no_asked _ asked.program asked.logs.items program is)
+
 -- No logs are found.
 no_logs : {W : Type 0} (rows most : ℕ) (asked : ProgramArgs) (paths : List FilePath)
     → NeverFound (AreAskedLogsUpTo {W = W} rows none most asked paths)
@@ -165,7 +173,7 @@ ends_so to text status own is =
 -- No lines that are written as they come end well.
 not_streamed : (asked : AskedCapture) (settings : Settings) (printed : lines.Printed) (status : Status)
     → printed.ended ≡ Ok status → (read : Result (List ℕ) lines.Fault) → IsRead none asked.lines read
-    → WritesStream asked.lines settings asked.skip read printed → ⊥
+    → WritesStream (none asked.lines.now) asked.lines settings asked.skip read printed → ⊥
 not_streamed asked settings printed status ended (Ok text) is writes = no_bytes asked.lines text is
 not_streamed asked settings printed status ended (Err why) is (inl quiet) =
     let stopped : printed.ended ≡ Err why = ap (λ (p : lines.Printed). p.ended) quiet in cc
@@ -187,11 +195,9 @@ not_ended : (asked : Asked) (status : Status) (old new : Option (List ℕ)) → 
 not_ended (Check asked) status old new done =
     let own = done.prints.own in
     let ends = ends_so Log done.text status own done.prints.is in
-    not_first (IsAskedProgram none _ asked.program asked.logs.items)
-    (λ program. WritesLines (most_of asked.long) none asked.explain program asked.logs.items)
-    own status ends
-    (λ program is lines. no_asked _ asked.program asked.logs.items program is)
-    done.prints.prints
+    not_first (IsCheckInput none asked)
+    (λ input. WritesLines (most_of asked.long) none asked.explain input asked.logs.items)
+    own status ends (λ input is lines. no_checked asked input is) done.prints.prints
 not_ended (Encode asked) status old new done =
     let own = done.prints.own in
     let ends = ends_so Log done.text status own done.prints.is in
@@ -201,8 +207,9 @@ not_ended (Dump asked) status old new done =
     let own = done.prints.own in
     let ends = ends_so Capture done.text status own done.prints.is in
     not_first (IsOnly asked.only) (DumpsHarts none asked) own status ends
-    (λ harts is prints. not_first (IsRead none asked.capture) (WritesDumpOf asked.search harts) own status ends
-    (λ bytes read dump. no_bytes asked.capture bytes read) prints) done.prints.prints
+    (λ harts is prints. not_first (AreSymbols none asked.symbols) (DumpsNamed none asked harts) own status ends
+    (λ symbols found prints. not_first (IsRead none asked.capture) (WritesDumpOf asked.search symbols harts) own status ends
+    (λ bytes read dump. no_bytes asked.capture bytes read) prints) prints) done.prints.prints
 not_ended (Decode asked) status old new done =
     let own = done.prints.own in
     let ends = ends_so Capture done.text status own done.prints.is in
@@ -279,11 +286,9 @@ reason_faulty (Log (log.Stray option)) = λ is. omega arith
 reason_faulty (Capture capture.Header) = λ is. omega arith
 reason_faulty (Capture (capture.Message number why)) = λ is. omega arith
 reason_faulty (Capture (capture.Unclosed hart)) = λ is. omega arith
-reason_faulty (Capture (capture.Symbols path why)) = λ is. omega arith
 reason_faulty (Capture (capture.Logs logs harts)) = λ is. omega arith
 reason_faulty (Capture (capture.NoHart harts)) = λ is. omega arith
 reason_faulty (Path (audit.Damaged path)) = λ is. omega arith
-reason_faulty (Path (audit.Unread path number why)) = λ is. omega arith
 reason_faulty (Path (audit.Sent sent why)) = λ is. omega arith
 reason_faulty (Path (audit.NoHart sent harts)) = λ is. omega arith
 reason_faulty (Line (line.ManyHarts most)) = λ is. omega arith
@@ -304,6 +309,7 @@ faulty (fault.Image why) = λ is. omega arith
 faulty (fault.Piece path why) = λ is. omega arith
 faulty (fault.Log path why) = λ is. omega arith
 faulty (fault.Illegal path why) = λ is. omega arith
+faulty (fault.Symbols path why) = λ is. omega arith
 faulty fault.Output = λ is. omega arith
 faulty fault.Memory = λ is. omega arith
 

@@ -39,6 +39,7 @@ fn put_check(text: &mut Case<'_>, asked: &Check<'_>) {
     text.put("Check(Check { ");
     put_program(text, &asked.program);
     put(text, "explain", asked.explain);
+    put(text, "symbols", asked.symbols);
     put(text, "long", asked.long);
     put(text, "progress", asked.progress);
     put(text, "logs", asked.logs.as_slice());
@@ -51,6 +52,7 @@ fn put_encode(text: &mut Case<'_>, asked: &Encode<'_>) {
     put(text, "mode", asked.mode);
     put(text, "version", asked.version);
     put(text, "hex", asked.hex);
+    put(text, "mixed", asked.mixed);
     put(text, "first", asked.first);
     put(text, "of", asked.of);
     put(text, "long", asked.long);
@@ -62,6 +64,7 @@ fn put_dump(text: &mut Case<'_>, asked: &Dump<'_>) {
     text.put("Dump(Dump { ");
     put(text, "search", asked.search);
     put(text, "only", asked.only);
+    put(text, "symbols", asked.symbols);
     put(text, "progress", asked.progress);
     put(text, "capture", asked.capture);
 }

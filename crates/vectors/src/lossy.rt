@@ -3,13 +3,14 @@
 use crate::captured::Captured;
 use crate::encoding::{legal_log, settings_of, sourced};
 use captures::read_messages;
-use cases::{Case, add_message, cut, messages_of, next_mode, put_rows};
+use cases::{Case, add_message, bytes_of, cut, messages_of, next_mode, put_rows};
 use losses::{HartPieces, LossyFault, Part, collect_lossy};
 use message::{Message, NoProgress};
 use payload::{Mode, Payload};
 use retire::Event;
 use salvaging::{
-    Part as Salvage, Reason, Salvaged, SalvagedHart, Treated, Treatment, salvage, treat_watched,
+    Part as Salvage, Reason, Salvaged, SalvagedHart, Treated, Treatment, far_numbers, salvage,
+    treat_watched,
 };
 use std::mem;
 
@@ -359,5 +360,31 @@ pub(crate) fn log_case(case: &mut Case<'_>, captured: Captured<'_>, done: Done) 
     } else {
         let messages = messages_drawn(case, payloads.as_slice());
         put_done(case, captured, (2, settings.1), messages.as_slice(), done);
+    }
+}
+
+/// The messages of a hart with these numbers: `N`, or `A-B` for all from A to B. The payload is 00, or the one after a `:`.
+fn numbered_messages(case: &mut Case<'_>) -> Vec<Message> {
+    let mut messages = Vec::new(case.alloc);
+    for word in case.text.split_whitespace() {
+        let (numbers, digits) = cut(word, ':');
+        let (first, last) = numbers.split_once('-').unwrap_or((numbers, numbers));
+        let (first, last) = (case.decimal(first), case.decimal(last));
+        let payload = bytes_of(case, if digits.is_empty() { "00" } else { digits });
+        for number in first..last.saturating_add(1) {
+            add_message(case, &mut messages, (0, number), payload.as_slice());
+        }
+    }
+    messages
+}
+
+/// `far NUMBERS`: the far numbers of a hart whose messages come in this order.
+pub(crate) fn far_case(case: &mut Case<'_>) {
+    let messages = numbered_messages(case);
+    let numbers = far_numbers(case.alloc, messages.as_slice());
+    if let Some(numbers) = case.granted(numbers) {
+        for number in numbers.as_slice() {
+            case.put_word(*number);
+        }
     }
 }

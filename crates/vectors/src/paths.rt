@@ -5,6 +5,7 @@ use explaining::{explain, explain_row};
 use legalpath::{LegalLog, Next, PathCheck, PathFault, Why, check, successor};
 use retire::Event;
 use rvclass::Program;
+use symbols::Symbols;
 
 /// The most events of a log that is also checked in two pieces.
 pub(crate) const MOST_CUT: usize = 100;
@@ -83,13 +84,13 @@ pub(crate) fn successor_case(case: &mut Case<'_>, program: &Program) {
 /// Appends the lines that explain a fault of a log, and whether they are others by its row and the one before it alone.
 fn put_explained(case: &mut Case<'_>, program: &Program, log: &[Event], fault: PathFault) {
     let mut lines = Vec::new(case.alloc);
-    let written = explain(program, log, fault, &mut lines);
+    let written = explain(program, log, fault, None::<&Symbols>, &mut lines);
     case.granted(written);
     let row = fault.row as usize;
     let mut own = Vec::new(case.alloc);
     if let Some(event) = log.get(row.wrapping_sub(1)) {
         let before = log.get(row.wrapping_sub(2)).copied();
-        let written = explain_row(program, before, event, fault, &mut own);
+        let written = explain_row(program, before, event, fault, None::<&Symbols>, &mut own);
         case.granted(written);
     }
     put_quoted(case, lines.as_slice());

@@ -12,7 +12,7 @@ use crate::decoding::{Asked, decode_case};
 use crate::encoding::{encode_alike_case, encode_case};
 use crate::leaping::leap_case;
 use crate::listed::{audit_capture_case, dump_capture_case, list_capture_case};
-use crate::lossy::{Done, capture_case, log_case, messages_case};
+use crate::lossy::{Done, capture_case, far_case, log_case, messages_case};
 use crate::measures::{count_alike_case, count_case, measure_case};
 use crate::packets::{outcomes_case, pack_case, payload_case, unpack_case};
 use crate::paths::{check_case, explain_case, explain_types_case, successor_case};
@@ -141,6 +141,7 @@ impl Vectors {
             "unpack" => unpack_case(case),
             "payload" => payload_case(case),
             "outcomes" => outcomes_case(case),
+            "far" => far_case(case),
             _ => self.ask(rt, case, verb),
         }
     }

@@ -11,7 +11,7 @@ use Rattle.message.specs.declared.message.Message.{Message}
 use Rattle.receiver.specs.Agreeing.{Agrees}
 use Rattle.receiver.specs.Holds.{Holds}
 use Rattle.receiver.specs.Received.{Received}
-use Rattle.captures.specs.OfHarts.{StopsOf}
+use Rattle.captures.specs.Decoded.{StopsOf}
 use Rattle.captures.specs.declared.outcome.CaptureFault.{CaptureFault}
 
 -- A receiver accepted those of these harts among the messages with which the bytes begin, and holds what they decode to.

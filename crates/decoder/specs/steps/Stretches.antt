@@ -1,6 +1,8 @@
 -- The events that a packet adds to a log, as this crate's code holds them.
 use Rattle.std.specs.Prelude.{◌≡◌, ℕ, ◌+◌, ◌≤◌, List, [], ◌∷◌, ◌++◌, length, Option, Some, None}
 use Rattle.std.specs.List.{last_or}
+use Rattle.std.specs.Vec.{vec_capacity}
+use Rattle.std.specs.declared.vec.Vec.{Vec}
 use Rattle.retire.specs.Events.{place}
 use Rattle.retire.specs.declared.event.Event.{Event}
 use Rattle.rvclass.specs.Words.{Words}
@@ -14,6 +16,10 @@ use Rattle.decoder.specs.declared.added_events.AddedEvents.TheVariants.{Nothing,
 use Rattle.decoder.specs.declared.walking.Progress.{Progress}
 use Rattle.decoder.specs.declared.walking.Progress.TheVariants.{Written, Pending}
 use Rattle.decoder.specs.steps.WritingAsFound.{AddsAs}
+
+-- Events came behind those of a list, or none, within the capacity that it had.
+abbrev pub IsGrown : {A : Type 0} → Vec Event A → Vec Event A → Type 0
+IsGrown old new = ((rest : List Event) × (new.items ≡ old.items ++ rest)) × (vec_capacity new ≡ vec_capacity old)
 
 -- How many events the stretch has.
 abbrev pub stretch_count : AddedEvents → ℕ

@@ -5,7 +5,7 @@ use Rattle.rvclass.specs.Image.{Image}
 use Rattle.symbols.specs.declared.fault.SymbolsFault.{SymbolsFault}
 use Rattle.symbols.specs.declared.fault.SymbolsFault.TheVariants.{Memory}
 use Rattle.ffi.specs.Listed.{HasListing, symbols_in}
-use Rattle.ffi.specs.Treated.{HasTreated}
+use Rattle.ffi.specs.Listed.{HasTreated}
 use Rattle.ffi.specs.declared.listing_capture.Account.{Account}
 use Rattle.ffi.specs.declared.listing_capture.Account.TheVariants.{Decoded, Salvaged}
 use Rattle.ffi.specs.declared.texts.TextEnd.{TextEnd}

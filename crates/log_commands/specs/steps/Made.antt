@@ -1,5 +1,6 @@
 -- What is made of logs before it is written.
-use Rattle.std.specs.Prelude.{◌≡◌, ℕ, ◌+◌, Bool, true, false, List, [], ◌∷◌, ◌++◌, Result, Ok, Err, length}
+use Rattle.std.specs.Prelude.{◌≡◌, ℕ, ◌+◌, All, Bool, true, false, List, [], ◌∷◌, ◌++◌, Option, Some, None, Result}
+use Rattle.std.specs.Prelude.{Ok, Err, length}
 use Rattle.std.specs.Prelude.{if◌then◌else◌}
 use Rattle.std.specs.List.{flat_map}
 use Rattle.std.specs.declared.alloc.Global.{Global}
@@ -7,13 +8,16 @@ use Rattle.std.specs.declared.vec.Vec.{Vec}
 use Rattle.captures.specs.HexLines.{hex_line}
 use Rattle.encoder.specs.Payloads.{payloads}
 use Rattle.log_streams.specs.Known.{Content}
+use Rattle.legalpath.specs.LegalUpTo.{IsLegalUpTo}
 use Rattle.legalpath.specs.ProgramLog.{ProgramLog}
+use Rattle.captures.specs.Returned.{IsLongLegalLog}
 use Rattle.log_streams.specs.declared.logs_fault.LogsFault.{LogsFault}
 use Rattle.captures.specs.Bounds.{AreWithin, most_counted}
 use Rattle.captures.specs.Measures.{measures_of}
 use Rattle.captures.specs.declared.measures.Measures.{Measures}
 use Rattle.message.specs.Capture.{message_bytes}
 use Rattle.message.specs.Numbered.{messages_from}
+use Rattle.message.specs.declared.fault.MessageFault.{MessageFault}
 use Rattle.message.specs.declared.header.Header.{Header}
 use Rattle.message.specs.declared.message.Message.{Message}
 use Rattle.payload.specs.declared.mode.Mode.{Mode}
@@ -21,6 +25,7 @@ use Rattle.rvclass.specs.Image.{Image}
 use Rattle.command_inputs.specs.declared.words.Encode.{Encode}
 use Rattle.command_inputs.specs.Faults.{Path, stop_fault}
 use Rattle.command_inputs.specs.FoundLogs.{AreLegalLogsUpTo}
+use Rattle.command_inputs.specs.declared.fault.Fault.TheVariants as fault
 use Rattle.log_commands.specs.Faults.{Fault}
 use Rattle.log_commands.specs.Parts.{all_harts, first_hart, part_start}
 use Rattle.log_commands.specs.declared.reason.LogReason.{LogReason}
@@ -39,6 +44,7 @@ module _ {X : Type 0} (Makes : ℕ → ProgramLog → X → Type 0) where
       : Type 0 where
     pub logs : List ProgramLog
     pub legal : AreLegalLogsUpTo {W = LogReason} most content program paths (Ok logs)
+    pub few : All (λ (log : ProgramLog). IsLegalUpTo most log.program log.events) logs
     pub each : AreMadeFrom 0 logs made
 
 -- What was made of logs, or the fault of the log at which it ended.
@@ -46,6 +52,11 @@ abbrev pub all_or_fault : {X : Type 0} → Vec X Global → Result (Unit {0}) Lo
     → Result (Vec X Global) Fault
 all_or_fault made (Ok end) = Ok made
 all_or_fault made (Err fault) = Err (stop_fault fault.path fault.why)
+
+-- Whether the messages are made as lines of hexadecimal: if these are asked for, and the messages are not mixed after.
+abbrev pub lines_made : Option ℕ → Bool → Bool
+lines_made None hex = hex
+lines_made (Some seed) hex = false
 
 -- What a message is written as in the form that is asked for: lines of hexadecimal, or the bytes of a capture.
 abbrev pub form_text : Bool → Message → List ℕ
@@ -57,6 +68,18 @@ form_text false = message_bytes
 abbrev pub AreMessagesOf : (Message → List ℕ) → ℕ → Mode → ℕ → ℕ → ProgramLog → Vec ℕ Global → Type 0
 AreMessagesOf text_of period mode first place log bytes =
     bytes.items ≡ flat_map text_of (messages_from (first + place) 0 (payloads period mode log))
+
+-- These bytes are the messages of legal logs, in the form in which they are made for what is asked. The first log is that
+-- of the first hart.
+abbrev pub AreAskedMessages : Encode → List ProgramLog → List (Vec ℕ Global) → Type 0
+AreAskedMessages asked logs made =
+    All IsLongLegalLog logs × AreMadeFrom (AreMessagesOf (form_text (lines_made asked.mixed asked.hex)) asked.period asked.mode
+    (first_hart asked.first)) 0 logs made
+
+-- Where messages were not written, the output failed.
+abbrev pub output_or : Result (Unit {0}) MessageFault → Result (Unit {0}) Fault
+output_or (Ok done) = Ok done
+output_or (Err why) = Err fault.Output
 
 -- The bytes that were made of logs, one after the other.
 abbrev pub joined : List (Vec ℕ Global) → List ℕ

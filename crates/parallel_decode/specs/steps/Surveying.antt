@@ -1,30 +1,31 @@
 -- How far the first pass over a capture's messages came.
-use Rattle.std.specs.Prelude.{ℕ, ◌≡◌, ◌++◌, All, List, Option, length}
-use Rattle.message.specs.Range.{selected}
+use Rattle.std.specs.Prelude.{ℕ, ◌≡◌, Bool, List, Option, Some, length, map, slice_get}
+use Rattle.message.specs.OfHart.{of_hart}
+use Rattle.message.specs.declared.message.Message.{Message}
 use Rattle.message.specs.declared.range.HartRange.{HartRange}
+use Rattle.retire.specs.declared.event.Event.{Event}
 use Rattle.rvclass.specs.Words.{Words}
 use Rattle.payload.specs.declared.mode.Mode.{Mode}
-use Rattle.message.specs.Accepted.{AreAccepted, newcomers}
-use Rattle.message.specs.Capture.{capture}
-use Rattle.message.specs.Cut.{IsMessage}
-use Rattle.message.specs.declared.message.Message.{Message}
-use Rattle.receiver.specs.Agreeing.{Agrees}
-use Rattle.receiver.specs.Holds.{Holds}
-use Rattle.receiver.specs.Received.{Received}
+use Rattle.captures.specs.Decoded.{AreHartsDecoded}
 use Rattle.captures.specs.declared.outcome.CaptureFault.{CaptureFault}
-use Rattle.captures.specs.OfHarts.{StopsOf}
 use Rattle.parallel_decode.specs.Surveyed.{NeverMemory}
+use Rattle.parallel_decode.specs.declared.own.Own.{Own}
+use Rattle.parallel_decode.specs.steps.OwnMessages.{IsOwn}
 
--- Of so many messages of the bytes a receiver received those of these harts, and then this is why it stopped.
+-- Of each hart its messages among these were received.
+abbrev pub AreOwns : Words → Option Mode → List Message → List Own → Type 0
+AreOwns words announced messages owns = (hart : ℕ) (own : Own) → slice_get owns hart ≡ Some own
+    → (log : List Event) × IsOwn words announced (of_hart hart messages) log own
+
+-- Whether the closing packet of each hart was decoded.
+abbrev pub closed_of : List Own → List Bool
+closed_of owns = map (λ (own : Own). own.closed) owns
+
+-- The bytes decode to these flags, and after so many messages this is why decoding stops. It is not that an allocation
+-- failed.
 pub record IsSurveyedUpTo (range : HartRange) (words : Words) (harts : ℕ) (announced : Option Mode) (bytes : List ℕ)
-    (received : Received) (number : ℕ) (stop : Option (ℕ × CaptureFault)) : Type 0 where
-  pub messages : List Message
-  pub rest : List ℕ
-  pub counted : number ≡ length messages
-  pub ranges : All IsMessage messages
-  pub whole : bytes ≡ capture messages ++ rest
-  pub accepted : AreAccepted (newcomers harts) (selected range messages)
-  pub agree : All (Agrees announced) (selected range messages)
-  pub holds : Holds (λ hart. words) harts (selected range messages) received
-  pub stops : StopsOf range words harts announced messages rest stop
+    (closed : List Bool) (number : ℕ) (stop : Option (ℕ × CaptureFault)) : Type 0 where
+  pub lists : List (List Event)
+  pub decoded : AreHartsDecoded range words harts announced bytes lists closed stop
+  pub counted : number ≡ length decoded.messages
   pub never_memory : NeverMemory stop

@@ -13,7 +13,7 @@ use Rattle.receiver.specs.NotReceived.{IsNotReceived}
 use Rattle.receiver.specs.declared.fault.ReceiveFault.{ReceiveFault}
 use Rattle.receiver.specs.declared.fault.ReceiveFault.TheVariants as receiving
 use Rattle.captures.specs.Decoded.{as_capture_fault}
-use Rattle.captures.specs.OfHarts.{StopsDecodingOf}
+use Rattle.captures.specs.Decoded.{StopsDecodingOf}
 use Rattle.captures.specs.Returned.{IsMemory}
 use Rattle.parallel_decode.specs.steps.Starts.{AreStarts}
 use Rattle.parallel_decode.specs.Marked.{IsMarkedSurvey}

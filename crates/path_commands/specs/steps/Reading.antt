@@ -8,8 +8,15 @@ use Rattle.path_commands.specs.declared.received.Progress.{Progress}
 abbrev pub and_more : ℕ → ℕ → ℕ
 and_more count more = min (count + more) (2 ^ 64 - 1)
 
--- How far RECEIVED is read after one span more.
-abbrev pub progress_after : Progress → Span → Progress
-progress_after progress (Frame offset message) = record progress { messages = and_more progress.messages 1 }
-progress_after progress (Bytes offset count) =
+-- How far RECEIVED is read after one message more, and after one run more of so many bytes.
+abbrev pub with_message : Progress → Progress
+with_message progress = record progress { messages = and_more progress.messages 1 }
+
+abbrev pub with_bytes : Progress → ℕ → Progress
+with_bytes progress count =
     record progress { bytes = and_more progress.bytes count; runs = and_more progress.runs 1 }
+
+-- The same after one span more.
+abbrev pub progress_after : Progress → Span → Progress
+progress_after progress (Frame offset message) = with_message progress
+progress_after progress (Bytes offset count) = with_bytes progress count

@@ -7,7 +7,7 @@ use Rattle.bench.proofs.gathering.collect_one.Goals as goal
 
 pub returns-clause-gathered : goal.returns-clause-gathered
 returns-clause-gathered g c = λ config logs started before.
-    subst (λ (o : OutletView). AreGathered config logs started o.taken c.take_message.new.self)
+    subst (λ (o : OutletView). AreGathered config logs started o.taken c.take_in.new.self)
     (sym c.in-Ok.ensures.taken)
-    (gathered_more config c.in-Ok.message c.take_message.result c.args.collector.now c.take_message.new.self
-    c.take_message.ensures started logs c.args.outlet.now.taken before c.in-Ok.ensures.number)
+    (gathered_more config c.in-Ok.message c.take_in.result c.args.collector.now c.take_in.new.self
+    c.take_in.ensures started logs c.args.outlet.now.taken before c.in-Ok.ensures.number)

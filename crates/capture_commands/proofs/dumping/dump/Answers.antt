@@ -27,7 +27,7 @@ returns-in_err-harts-clause-printed g c =
 
 pub returns-clause-early : goal.returns-clause-early
 returns-clause-early g c =
-    none_ends (only_fault (asked_harts c.args.asked.now.only)) c.dump_of.result c.in_ok-harts.ensures.some
+    none_ends (only_fault (asked_harts c.args.asked.now.only)) c.dump_named.result c.in_ok-harts.ensures.some
 
 pub returns-clause-printed : goal.returns-clause-printed
 returns-clause-printed g c =
@@ -35,9 +35,9 @@ returns-clause-printed g c =
     let content = g.F.Files.content c.args.files.now in
     let harts = c.in_ok-harts.harts in
     leads_on (DumpsHarts content asked harts) (Dumps content asked) (CanDumpHarts content asked harts)
-    (CanDump content asked) c.dump_of.result (g.O.Write.contents c.args.out.now) (g.O.Write.contents c.dump_of.new.out)
+    (CanDump content asked) c.dump_named.result (g.O.Write.contents c.args.out.now) (g.O.Write.contents c.dump_named.new.out)
     (λ printed is. (Ok harts, c.in_ok-harts.ensures.found, is)) (λ can. (harts, c.in_ok-harts.ensures.found, can))
-    c.dump_of.ensures.printed
+    c.dump_named.ensures.printed
 
 pub returns-clause-cut : goal.returns-clause-cut
 returns-clause-cut g c =
@@ -45,5 +45,5 @@ returns-clause-cut g c =
     let content = g.F.Files.content c.args.files.now in
     let harts = c.in_ok-harts.harts in
     cut_leads (DumpsHarts content asked harts) (Dumps content asked) (g.O.Write.contents c.args.out.now)
-    (g.O.Write.contents c.dump_of.new.out) (λ printed is. (Ok harts, c.in_ok-harts.ensures.found, is))
-    c.dump_of.ensures.cut
+    (g.O.Write.contents c.dump_named.new.out) (λ printed is. (Ok harts, c.in_ok-harts.ensures.found, is))
+    c.dump_named.ensures.cut

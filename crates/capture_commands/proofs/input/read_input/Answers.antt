@@ -5,10 +5,11 @@ use Rattle.command_inputs.specs.Found.{IsAskedBase, IsProgramAt, IsRead}
 use Rattle.command_inputs.specs.FurtherPieces.{base_number}
 use Rattle.command_inputs.specs.OnlyHarts.{IsOnly, asked_harts}
 use Rattle.command_inputs.specs.declared.fault.Fault.TheVariants as fault
+use Rattle.command_inputs.proofs.FirstSteps.{lacks}
 use Rattle.capture_commands.specs.CaptureInput.{IsCaptureInput}
-use Rattle.capture_commands.specs.Symbols.{AreSymbols}
+use Rattle.command_inputs.specs.Symbols.{AreSymbols}
 use Rattle.capture_commands.specs.declared.reason.CaptureReason.{CaptureReason}
-use Rattle.capture_commands.proofs.InputRuns.{early_base, early_none, early_only, lacks}
+use Rattle.capture_commands.proofs.InputRuns.{early_base, early_none, early_only}
 use Rattle.capture_commands.proofs.input.read_input.Goals as goal
 
 pub returns-in_err-base-clause-early : goal.returns-in_err-base-clause-early
@@ -110,7 +111,7 @@ returns-in_err-bytes-clause-lacked g c =
     let is : c.from_residual-in_err-bytes.result ≡ Err why = grind (arith, common_steps) in
     let lacked = subst (λ known. (why ≡ fault.Memory) ⊎ IsRead known asked.capture (Err why))
     (c.in_ok-symbols.ensures.kept ∙ c.in_ok-program.ensures.kept) c.in_err-bytes.ensures.lacked in
-    let named = subst (λ known. AreSymbols known asked.symbols (Ok c.in_ok-symbols.symbols)) c.in_ok-program.ensures.kept
+    let named = subst (λ known. AreSymbols {W = CaptureReason} known asked.symbols (Ok c.in_ok-symbols.symbols)) c.in_ok-program.ensures.kept
     c.in_ok-symbols.ensures.symbols in
     lacks why c.from_residual-in_err-bytes.result (IsRead content asked.capture (Err why))
     (λ why. IsCaptureInput content asked.format asked.program.now asked.only asked.symbols asked.capture (Err why)) is
@@ -139,7 +140,7 @@ pub returns-clause-found : goal.returns-clause-found
 returns-clause-found g c =
     let asked = c.args.asked.now in
     let content = g.F.Files.content c.args.files.now in
-    let named = subst (λ known. AreSymbols known asked.symbols (Ok c.in_ok-symbols.symbols)) c.in_ok-program.ensures.kept
+    let named = subst (λ known. AreSymbols {W = CaptureReason} known asked.symbols (Ok c.in_ok-symbols.symbols)) c.in_ok-program.ensures.kept
     c.in_ok-symbols.ensures.symbols in
     let read = subst (λ known. IsRead {W = CaptureReason} known asked.capture (Ok c.in_ok-bytes.bytes.items))
     (c.in_ok-symbols.ensures.kept ∙ c.in_ok-program.ensures.kept) c.in_ok-bytes.ensures.held in (

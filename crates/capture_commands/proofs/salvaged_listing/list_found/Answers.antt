@@ -1,13 +1,14 @@
 -- The prover tries no chain of steps by itself: what each step found is handed to it, in order.
-use Rattle.std.proofs.Common.{List, Option, subst, ℕ}
+use Rattle.std.proofs.Common.{◌≡◌, ◌∙◌, List, Option, ap, subst, ℕ}
 use Rattle.std.proofs.KnownBytes.{Keeps-refl}
 use Rattle.std.specs.Io.KnownBytes.{Appends}
 use Rattle.output.specs.Begun.{AppendsBeginning}
 use Rattle.command_inputs.proofs.Runs.{appends-keeps, prints}
 use Rattle.capture_commands.specs.Listed.{CanTreat}
 use Rattle.capture_commands.specs.ListedFormats.{treated_in}
-use Rattle.capture_commands.specs.ListedSalvaged.{TreatsHarts}
+use Rattle.capture_commands.specs.ListedSalvaged.{TreatsHarts, messages_of}
 use Rattle.capture_commands.specs.steps.Inputs.{names_in}
+use Rattle.salvage_reports.specs.HartRows.{in_rows}
 use Rattle.capture_commands.proofs.TreatedRuns.{treated_cut, treated_printed}
 use Rattle.capture_commands.proofs.salvaged_listing.list_found.Goals.{After-write_treated_in}
 use Rattle.capture_commands.proofs.salvaged_listing.list_found.Goals as goal
@@ -22,14 +23,23 @@ module _ (g : _) (c : After-write_treated_in g) where
   abbrev text : List ℕ
   text =
       treated_in c.args.asked.now.format c.args.asked.now.rows c.args.input.now.only (names_in c.args.input.now)
-      c.args.found.now.header c.args.input.now.bytes.now c.in_ok-treated.treated.items
+      c.args.found.now.header c.args.input.now.bytes.now (in_rows
+      (messages_of c.args.input.now.only c.args.found.now.header c.args.input.now.bytes.now) c.in_ok-treated.treated.items)
 
-  -- The buffer of treatments is handed over as a slice.
+  -- The rows are those of what is done with the messages, and both buffers are handed over as slices.
+  rows_are : c.as_slice-2.result.now
+      ≡ in_rows (messages_of c.args.input.now.only c.args.found.now.header c.args.input.now.bytes.now)
+      c.in_ok-treated.treated.items
+  rows_are =
+      c.as_slice-2.ensures.value ∙ c.in_ok-rows.ensures
+      ∙ ap (in_rows (messages_of c.args.input.now.only c.args.found.now.header c.args.input.now.bytes.now))
+      c.as_slice.ensures.value
+
   begun : AppendsBeginning text old mid
   begun =
       subst (λ treated. AppendsBeginning (treated_in c.args.asked.now.format c.args.asked.now.rows c.args.input.now.only
       (names_in c.args.input.now) c.args.found.now.header c.args.input.now.bytes.now
-      treated) old mid) c.as_slice.ensures.value c.write_treated_in.ensures.begun
+      treated) old mid) rows_are c.write_treated_in.ensures.begun
 
 pub returns-in_err-write_treated_in-clause-cut : goal.returns-in_err-write_treated_in-clause-cut
 returns-in_err-write_treated_in-clause-cut g c =
@@ -65,7 +75,8 @@ returns-clause-printed g c =
     let old = g.O.Write.contents c.args.out.now in
     let mid = g.O.Write.contents c.write_treated_in.new.sink in
     let new = g.O.Write.contents c.flush.new.self in
-    let text = treated_in c.args.asked.now.format c.args.asked.now.rows only symbols found.header bytes treated in
+    let text = treated_in c.args.asked.now.format c.args.asked.now.rows only symbols found.header bytes
+    (in_rows (messages_of only found.header bytes) treated) in
     prints (TreatsHarts c.args.asked.now.format c.args.asked.now.rows only c.args.asked.now.harts c.args.input.now.program.now symbols bytes)
     (CanTreat only c.args.asked.now.harts bytes) c.ended.result old new (record {
       text = text;
@@ -73,5 +84,6 @@ returns-clause-printed g c =
           c.requires treated c.in_ok-treated.ensures c.ended.result c.ended.ensures.value;
       appended = appends-keeps old mid new text
           (subst (λ treated. Appends old mid (treated_in c.args.asked.now.format c.args.asked.now.rows only symbols found.header bytes treated))
-          c.as_slice.ensures.value c.in_ok-write_treated_in.ensures.text) c.flush.ensures.bytes;
+          (rows_are g (goal.at.returns-clause-printed g c).After-write_treated_in)
+          c.in_ok-write_treated_in.ensures.text) c.flush.ensures.bytes;
     })

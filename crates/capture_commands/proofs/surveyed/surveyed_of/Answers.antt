@@ -2,7 +2,7 @@
 use Rattle.std.proofs.Common.{◌∙◌, subst, sym}
 use Rattle.comparing.specs.Counts.{AreCounted}
 use Rattle.rvclass.specs.Fetch.{words_of}
-use Rattle.comparing.proofs.EqualHarts.{lists_of}
+use Rattle.comparing.proofs.DecodedHarts.{flags_many}
 use Rattle.comparing.proofs.HeldHarts.{held_of}
 use Rattle.capture_commands.proofs.FoundHarts.{no_memory}
 use Rattle.capture_commands.proofs.surveyed.surveyed_of.Goals as goal
@@ -16,8 +16,8 @@ returns-clause-found g c =
       lists = is.lists;
       are = record {
         placed = is.placed;
-        flags = lists_of c.args.input.now.only words c.args.harts c.args.input.now.bytes.now is.lists survey.closed.items survey.fault
-            is.decoded;
+        flags = flags_many c.args.input.now.only words c.args.harts c.args.input.now.bytes.now is.lists
+            survey.closed.items survey.fault is.decoded;
       };
       got = held_of c.args.input.now.only words c.args.harts c.args.input.now.bytes.now is.lists survey.closed.items
           c.in_ok-counts.counts.items survey.fault is.decoded

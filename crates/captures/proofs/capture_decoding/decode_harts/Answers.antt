@@ -7,7 +7,7 @@ use Rattle.message.specs.Header.{HasBadHeader, IsCutHeader, IsHeader, IsMarked, 
 use Rattle.message.specs.declared.header.Header.{Header}
 use Rattle.captures.proofs.HeaderFaults.{no_header}
 use Rattle.captures.proofs.capture_decoding.decode_harts.Goals as goal
-use Rattle.captures.specs.OfHarts.{AreHartsDecoded, NoHeader, Version1, Version2}
+use Rattle.captures.specs.Decoded.{AreHartsDecoded, NoHeader, Version1, Version2}
 use Rattle.captures.specs.NoMessage.{BeginsNoHeader}
 use Rattle.receiver.specs.Received.{events_in}
 

@@ -1,20 +1,9 @@
--- What all harts of a capture decode to is what the capture does, and legal logs come back: by laws on captures, which no
--- tactic finds.
+-- Legal logs come back: by a law on captures, which no tactic finds.
 use Rattle.std.proofs.Common.{arith}
 use Rattle.std.proofs.lemmas.Result.{IfOk-weaker}
-use Rattle.rvclass.specs.Fetch.{words_of}
 use Rattle.captures.proofs.CapturesReturn.{captures_return}
-use Rattle.captures.proofs.EveryHart.{all_decoded}
 use Rattle.captures.proofs.capture_decoding.decode_watched.Goals as goal
 use Rattle.receiver.specs.Received.{events_in}
-
-pub returns-clause-decoded : goal.returns-clause-decoded
-returns-clause-decoded g c =
-    IfOk-weaker c.decode_harts.result _ _
-    (λ outcome here.
-    all_decoded (words_of c.args.program.now) c.args.harts c.args.bytes.now (events_in outcome.harts.items)
-    outcome.closed.items outcome.fault here)
-    c.decode_harts.ensures
 
 pub returns-clause-whole : goal.returns-clause-whole
 returns-clause-whole g c = λ version period mode logs sent asked.
@@ -22,4 +11,4 @@ returns-clause-whole g c = λ version period mode logs sent asked.
     (λ outcome decoded.
     captures_return c.args.program.now period mode c.args.harts logs c.args.bytes.now (events_in outcome.harts.items)
     outcome.closed.items outcome.fault version sent asked (omega (arith, c.ranges.harts.fits)) decoded)
-    (returns-clause-decoded g c)
+    c.decode_harts.ensures

@@ -1,5 +1,5 @@
 -- What was unpacked is what the payload's reading gives: the equation goes into the text, where no tactic puts it.
-use Rattle.std.proofs.Common.{◌≡◌, ap, subst, ◌∙◌}
+use Rattle.std.proofs.Common.{◌≡◌, ap, option_map, subst, ◌∙◌}
 use Rattle.std.specs.Io.KnownBytes.{Appends}
 use Rattle.output.specs.Begun.{AppendsBeginning}
 use Rattle.payload.specs.Reading.{reading}
@@ -15,19 +15,22 @@ pub returns-clause-text : goal.returns-clause-text
 returns-clause-text g c =
     let is_read = same g (goal.at.returns-clause-text g c).After-unpack-unpacked in
     subst
-    (λ read. Appends (g.W.Write.contents c.args.sink.now) (g.W.Write.contents c.write_text.new.out)
-    (line_with c.args.mode c.args.message.now read)) is_read c.in_ok-write_text.ensures.whole
+    (λ read. Appends (g.W.Write.contents c.args.sink.now) (g.W.Write.contents c.write_line_with.new.sink)
+    (line_with (option_map (λ file. file.now) c.args.symbols) c.args.mode c.args.message.now read)) is_read
+    c.in_ok-write_line_with.ensures.text
 
 pub returns-clause-begun : goal.returns-clause-begun
 returns-clause-begun g c =
     let is_read = same g (goal.at.returns-clause-begun g c).After-unpack-unpacked in
     subst
-    (λ read. AppendsBeginning (line_with c.args.mode c.args.message.now read) (g.W.Write.contents c.args.sink.now)
-    (g.W.Write.contents c.write_text.new.out)) is_read c.write_text.ensures.begun
+    (λ read. AppendsBeginning (line_with (option_map (λ file. file.now) c.args.symbols) c.args.mode c.args.message.now
+    read) (g.W.Write.contents c.args.sink.now) (g.W.Write.contents c.write_line_with.new.sink)) is_read
+    c.write_line_with.ensures.begun
 
-pub returns-in_err-write_text-clause-begun : goal.returns-in_err-write_text-clause-begun
-returns-in_err-write_text-clause-begun g c =
-    let is_read = same g (goal.at.returns-in_err-write_text-clause-begun g c).After-unpack-unpacked in
+pub returns-in_err-write_line_with-clause-begun : goal.returns-in_err-write_line_with-clause-begun
+returns-in_err-write_line_with-clause-begun g c =
+    let is_read = same g (goal.at.returns-in_err-write_line_with-clause-begun g c).After-unpack-unpacked in
     subst
-    (λ read. AppendsBeginning (line_with c.args.mode c.args.message.now read) (g.W.Write.contents c.args.sink.now)
-    (g.W.Write.contents c.write_text.new.out)) is_read c.write_text.ensures.begun
+    (λ read. AppendsBeginning (line_with (option_map (λ file. file.now) c.args.symbols) c.args.mode c.args.message.now
+    read) (g.W.Write.contents c.args.sink.now) (g.W.Write.contents c.write_line_with.new.sink)) is_read
+    c.write_line_with.ensures.begun

@@ -1,5 +1,5 @@
 -- What was counted behind a header or without one: by laws on captures, which no tactic finds.
-use Rattle.std.proofs.Common.{[], arith, None, Some, Ok, Err, ap, inr, length, refl, subst, sym}
+use Rattle.std.proofs.Common.{[], arith, None, Some, Ok, Err, ap, inr, refl, subst, sym}
 use Rattle.captures.proofs.HeaderFaults.{no_header}
 use Rattle.captures.proofs.WholeCaptures.{begins_with, front_of}
 use Rattle.captures.specs.Whole.{BeginsWith}

@@ -1,5 +1,5 @@
 -- What the decoder adds is told by its clauses, for lists that it is handed.
-use Rattle.std.proofs.Common.{◌≡◌, ◌++◌, ◌∷◌, [], List, ap, arith, subst, sym}
+use Rattle.std.proofs.Common.{◌≡◌, ◌++◌, ◌∷◌, [], ap, arith, subst, sym}
 use Rattle.std.proofs.lemmas.List.{length-append}
 use Rattle.decoder.specs.DecoderStands.{DecoderStands}
 use Rattle.rvclass.specs.Fetch.{words_of}

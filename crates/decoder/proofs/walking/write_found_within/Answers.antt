@@ -35,10 +35,12 @@ loop-done-preserved g c = (
       c.in-Goes.ensures.step c.event.ensures c.push_reserved.ensures.items,
 )
 
-pub returns-clause-behind : goal.returns-clause-behind
-returns-clause-behind g c =
+pub returns-clause-grown : goal.returns-clause-grown
+returns-clause-grown g c =
     let log = c.args.log.now in
     let made = c.loop-done.invariant.3 in
     let back = cut_back log.items c.loop-done.log.items made.made c.len-count.result
-    (omega (arith, c.len-count.ensures, log.ok.0)) made.joined in
-    ([], c.truncate.ensures.items ∙ back ∙ sym (append-nil log.items))
+    (omega (arith, c.len-count.ensures, log.ok.0)) made.joined in (
+      ([], c.truncate.ensures.items ∙ back ∙ sym (append-nil log.items)),
+      c.truncate.ensures.capacity ∙ c.loop-done.invariant.0,
+    )

@@ -9,8 +9,8 @@ use Rattle.payload.specs.declared.packet.Packet.{Packet}
 use Rattle.retire.specs.declared.event.Event.{Event}
 use Rattle.rvclass.specs.Fetch.{words_of}
 use Rattle.ffi.proofs.DecodersBack.{recalled}
-use Rattle.ffi.proofs.PassingBack.{closed_back, closed_numbers, is_sync, mode_announced, mode_numbers}
-use Rattle.ffi.proofs.PassingBack.{passes_back, stand_by, true_or_false}
+use Rattle.ffi.proofs.DecodersBack.{closed_back, closed_numbers, is_sync, mode_announced, mode_numbers}
+use Rattle.ffi.proofs.DecodersBack.{passes_back, stand_by, true_or_false}
 use Rattle.ffi.specs.DecoderKept.{NumbersStand, PassOver, numbers_of_state}
 use Rattle.ffi.proofs.feeding.feed_packet.Goals as goal
 

@@ -1,7 +1,7 @@
 -- A new decoder stands for nothing, and so do its numbers. It has no mode that was announced, and so have they.
 use Rattle.std.proofs.Common.{[], None, sym, subst}
 use Rattle.decoder.specs.Resuming.{HasMode}
-use Rattle.ffi.proofs.PassingBack.{mode_numbers}
+use Rattle.ffi.proofs.DecodersBack.{mode_numbers}
 use Rattle.ffi.proofs.feeding.tracebench_decoder.Goals as goal
 
 pub returns-clause-stands : goal.returns-clause-stands

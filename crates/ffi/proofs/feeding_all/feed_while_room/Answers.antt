@@ -1,5 +1,5 @@
 -- One payload more is fed: by lemmas on lists, which no tactic finds.
-use Rattle.std.proofs.Common.{ap, arith, length, refl}
+use Rattle.std.proofs.Common.{◌∙◌, ap, arith, length, refl}
 use Rattle.std.proofs.lemmas.List.{length-drop}
 use Rattle.ffi.proofs.FedInTurn.{fed_all, fed_more, fed_none, stopped}
 use Rattle.ffi.proofs.WrittenInTurn.{part_back, part_lent}
@@ -8,11 +8,13 @@ use Rattle.ffi.proofs.feeding_all.feed_while_room.Goals as goal
 
 pub returns-in-None : goal.returns-in-None
 returns-in-None c =
-    BadState (λ some. let same = c.in-None.ensures.only some.0 some.1 in cc) refl refl refl refl refl
+    BadState (λ some. let same = c.in-None.ensures.only some.0 some.1 in cc) c.none_fed.ensures.status
+    c.none_fed.ensures.taken c.none_fed.ensures.count refl refl
 
 pub returns-in-Err : goal.returns-in-Err
 returns-in-Err c =
-    NoProgram (c.in-Some.first, c.in-Some.ensures.found) c.in-Err.fault c.in-Err.is c.status.ensures refl refl refl refl
+    NoProgram (c.in-Some.first, c.in-Some.ensures.found) c.in-Err.fault c.in-Err.is
+    (c.none_fed-in-Err.ensures.status ∙ c.status.ensures) c.none_fed-in-Err.ensures.taken c.none_fed-in-Err.ensures.count refl refl
 
 pub loop-place-init : goal.loop-place-init
 loop-place-init c = (

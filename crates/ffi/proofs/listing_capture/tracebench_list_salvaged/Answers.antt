@@ -1,7 +1,7 @@
 -- The pieces are judged, and the rest is said of what they make, for as many harts as are asked for.
 use Rattle.std.proofs.Common.{subst}
 use Rattle.ffi.specs.Listed.{IsTextIn}
-use Rattle.ffi.specs.Treated.{HasTreated}
+use Rattle.ffi.specs.Listed.{HasTreated}
 use Rattle.ffi.proofs.listing_capture.tracebench_list_salvaged.Goals as goal
 
 pub returns : goal.returns

@@ -1,5 +1,5 @@
 -- What was found is put together with what was written: the steps are handed on, in order, which no tactic does.
-use Rattle.std.proofs.Common.{ℕ, List, ◌++◌, ◌∙◌, ap, option_map, subst, sym}
+use Rattle.std.proofs.Common.{◌≡◌, ℕ, List, ◌++◌, ◌∙◌, ap, option_map, subst, sym}
 use Rattle.message.specs.Range.{every_hart, selected}
 use Rattle.message.specs.declared.range.HartRange.{HartRange}
 use Rattle.rvclass.specs.Fetch.{words_of}
@@ -11,7 +11,8 @@ use Rattle.salvage_reports.proofs.OwnSpans.{messages_chosen, runs_chosen}
 use Rattle.salvage_reports.specs.Found.{IsFound}
 use Rattle.salvage_reports.specs.Frames.{messages_in}
 use Rattle.ffi.specs.Salvaged.{salvage_end}
-use Rattle.ffi.specs.Treated.{AreTreatedBehind}
+use Rattle.ffi.specs.Listed.{AreTreatedBehind, all_messages}
+use Rattle.salvage_reports.specs.HartRows.{in_rows}
 use Rattle.ffi.proofs.listing_capture.treat_by.Goals as goal
 use Rattle.salvage_reports.specs.TreatedText.{treated_text_of}
 
@@ -36,6 +37,10 @@ returns c =
     (subst (λ all. AreTreated (words_of program) c.mode_of-mode.result c.harts_counted-harts.result all treated)
     (c.as_slice-messages.ensures.value ∙ behind.frames.messages ∙ messages_chosen every_hart spans)
     c.in_ok-treated.ensures)) in
+    let rows : c.as_slice-2.result.now ≡ in_rows own treated =
+    c.as_slice-2.ensures.value ∙ c.in_ok-rows.ensures ∙ ap (in_rows c.as_slice-messages.result.now) c.as_slice.ensures.value
+    ∙ ap (λ all. in_rows all treated)
+    (c.as_slice-messages.ensures.value ∙ behind.frames.messages ∙ messages_chosen every_hart spans) in
     record {
       header = found.header;
       why = found.fault;
@@ -45,9 +50,10 @@ returns c =
       done = subst (λ h. AreTreatedBehind h c.args.asked program capture treated) (sym behind.header_is) done;
       laid_out = c.in_ok-write_treated.ensures.text
           ∙ ap (λ (before : List ℕ). before ++ treated_text_of c.args.format every_hart file start.header capture
-          c.as_slice.result.now) c.new-text.ensures.items
-          ∙ ap (treated_text_of c.args.format every_hart file start.header capture) c.as_slice.ensures.value
-          ∙ ap (λ h. treated_text_of c.args.format every_hart file h capture treated) (sym behind.header_is);
+          c.as_slice-2.result.now) c.new-text.ensures.items
+          ∙ ap (treated_text_of c.args.format every_hart file start.header capture) rows
+          ∙ ap (λ h. treated_text_of c.args.format every_hart file h capture (in_rows (all_messages h capture) treated))
+          (sym behind.header_is);
       ended = c.end_of_found-end.ensures
           ∙ ap (λ (r : HartRange). salvage_end r found.fault found.frames.runs found.salvaged) is.only_is
           ∙ ap (λ b. salvage_end every_hart found.fault b found.salvaged)

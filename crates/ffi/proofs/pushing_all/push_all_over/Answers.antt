@@ -2,7 +2,7 @@
 use Rattle.std.proofs.Common.{ap, arith, refl, sym, ◌∙◌}
 use Rattle.std.proofs.lemmas.Grind.{common_steps}
 use Rattle.encoder.specs.StateStands.{state_of}
-use Rattle.ffi.proofs.PushesReported.{all_reported, none_reported}
+use Rattle.ffi.proofs.PushedInTurn.{all_reported, none_reported}
 use Rattle.ffi.specs.EncoderKept.{numbers_of_state}
 use Rattle.ffi.specs.PushedAll.{BadState, NoProgram}
 use Rattle.ffi.proofs.pushing_all.push_all_over.Goals as goal

@@ -2,7 +2,7 @@
 use Rattle.std.proofs.Common.{refl, sym, subst, ◌∙◌}
 use Rattle.std.specs.Option.{unwrap_or}
 use Rattle.decoder.specs.Resuming.{HasMode, IsClosed, PassesOver}
-use Rattle.ffi.proofs.PassingBack.{closed_numbers, mode_numbers, passes_numbers}
+use Rattle.ffi.proofs.DecodersBack.{closed_numbers, mode_numbers, passes_numbers}
 use Rattle.ffi.specs.Received.{BadNumber, Resumed}
 use Rattle.ffi.proofs.receiving.tracebench_resume.Goals as goal
 

@@ -1,5 +1,5 @@
 -- A beginning of the text was written: what it is of is handed over, which no tactic finds.
-use Rattle.std.proofs.Common.{refl}
+use Rattle.std.proofs.Common.{option_map, refl}
 use Rattle.std.specs.List.{list_any}
 use Rattle.std.proofs.lemmas.Result.{err_from_is_err_and}
 use Rattle.frames.specs.Search.{chosen, is_damaged, search_text, stop_of}
@@ -11,7 +11,7 @@ returns-in_err-bad-clause-begun g c =
     let made = err_from_is_err_and c.from_residual.result c.from_residual.ensures.1 in
     let start = c.start_of-start.result in
     rw made.1 (record {
-      text = search_text c.args.harts start.header c.args.capture.now;
+      text = search_text (option_map (λ file. file.now) c.args.symbols) c.args.harts start.header c.args.capture.now;
       bad = list_any is_damaged (chosen c.args.harts (spans_of start.header c.args.capture.now));
       fault = stop_of start.fault;
       dumped = record {

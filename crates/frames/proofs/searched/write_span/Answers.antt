@@ -1,5 +1,5 @@
 -- Which span it is is an equation, which goes into the clauses, where no tactic puts it.
-use Rattle.std.proofs.Common.{◌≡◌, IfOk, sym, subst}
+use Rattle.std.proofs.Common.{◌≡◌, IfOk, option_map, sym, subst}
 use Rattle.output.specs.Begun.{AppendsBeginning}
 use Rattle.frames.specs.Search.{is_damaged, span_line}
 use Rattle.frames.proofs.searched.write_span.Goals as goal
@@ -12,5 +12,5 @@ returns-in-Frame-clause-damaged g c =
 pub returns-in-Frame-clause-begun : goal.returns-in-Frame-clause-begun
 returns-in-Frame-clause-begun g c =
     subst
-    (λ span. AppendsBeginning (span_line c.args.mode span) (g.W.Write.contents c.args.sink.now)
+    (λ span. AppendsBeginning (span_line (option_map (λ file. file.now) c.args.symbols) c.args.mode span) (g.W.Write.contents c.args.sink.now)
     (g.W.Write.contents c.write_message_line.new.sink)) (sym c.in-Frame.is) c.write_message_line.ensures.begun

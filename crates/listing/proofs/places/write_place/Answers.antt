@@ -2,8 +2,7 @@
 use Rattle.std.proofs.Common.{option_map}
 use Rattle.output.proofs.Beginnings.{begun_behind, begun_in_front}
 use Rattle.retire.specs.LogText.{hex}
-use Rattle.symbols.specs.SymbolText.{symbol_text}
-use Rattle.listing.specs.EffectText.{name_text}
+use Rattle.symbols.specs.SymbolText.{name_text}
 use Rattle.listing.proofs.places.write_place.Goals as goal
 
 pub returns-in_err-write_text-clause-begun : goal.returns-in_err-write_text-clause-begun
@@ -11,8 +10,8 @@ returns-in_err-write_text-clause-begun g c =
     begun_in_front (hex c.args.place) (name_text (option_map (λ file. file.now) c.args.symbols) c.args.place)
     (g.W.Write.contents c.args.sink.now) (g.W.Write.contents c.write_text.new.out) c.write_text.ensures.begun
 
-pub returns-in-Some-clause-begun : goal.returns-in-Some-clause-begun
-returns-in-Some-clause-begun g c =
-    rw c.in-Some.is (begun_behind (hex c.args.place) (symbol_text c.in-Some.symbols.now c.args.place)
+pub returns-clause-begun : goal.returns-clause-begun
+returns-clause-begun g c =
+    begun_behind (hex c.args.place) (name_text (option_map (λ file. file.now) c.args.symbols) c.args.place)
     (g.W.Write.contents c.args.sink.now) (g.W.Write.contents c.write_text.new.out)
-    (g.W.Write.contents c.write_symbol.new.sink) c.in_ok-write_text.ensures.whole c.write_symbol.ensures.begun)
+    (g.W.Write.contents c.write_name.new.sink) c.in_ok-write_text.ensures.whole c.write_name.ensures.begun

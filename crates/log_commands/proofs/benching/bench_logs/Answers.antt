@@ -1,5 +1,5 @@
 -- The prover tries no chain of steps by itself: what each step found is handed to it, in order.
-use Rattle.std.proofs.Common.{◌≡◌, inr, refl, arith, length, map, Ok, Err}
+use Rattle.std.proofs.Common.{◌≡◌, inr, refl, sym, arith, length, map, Ok, Err}
 use Rattle.std.proofs.lemmas.Grind.{common_steps}
 use Rattle.bench.specs.Got.{got_of}
 use Rattle.bench.specs.Report.{is_whole, report_text}
@@ -11,6 +11,9 @@ use Rattle.log_commands.specs.Sending.{IsSetting, config_at, end_of_report}
 use Rattle.log_commands.proofs.Reports.{reported}
 use Rattle.log_commands.proofs.benching.bench_logs.Goals.{After-end_with_report-ended}
 use Rattle.log_commands.proofs.benching.bench_logs.Goals as goal
+
+pub end_with_report-ended-requires : goal.end_with_report-ended-requires
+end_with_report-ended-requires g c = sym c.in_ok-ran.ensures.came.count
 
 pub returns-in_err-ran-clause-printed : goal.returns-in_err-ran-clause-printed
 returns-in_err-ran-clause-printed g c =

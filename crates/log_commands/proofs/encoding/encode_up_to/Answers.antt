@@ -1,12 +1,10 @@
 -- The prover tries no chain of steps by itself: what each step found is handed to it, in order.
-use Rattle.std.proofs.Common.{◌≡◌, ◌≤◌, ◌∙◌, ℕ, Global, List, Ok, Err, Vec, ap, arith, inr, length, refl, subst}
+use Rattle.std.proofs.Common.{◌≡◌, ◌≤◌, ◌∙◌, ◌+◌, ℕ, Global, List, Ok, Err, Vec, ap, arith, inr, length, refl, subst}
 use Rattle.std.proofs.Common.{sym}
 use Rattle.std.proofs.lemmas.Grind.{common_steps}
-use Rattle.std.specs.Io.KnownBytes.{Appends}
-use Rattle.std.specs.Prelude.{⊤, OnOk}
+use Rattle.std.specs.Prelude.{⊤}
 use Rattle.legalpath.specs.ProgramLog.{ProgramLog}
 use Rattle.message.specs.Version.{most_harts}
-use Rattle.output.specs.Begun.{AppendsBeginning}
 use Rattle.command_inputs.specs.FurtherPieces.{base_number}
 use Rattle.command_inputs.specs.Order.{logs_fault}
 use Rattle.command_inputs.specs.declared.status.Status.TheVariants.{Whole}
@@ -15,11 +13,11 @@ use Rattle.command_inputs.proofs.FirstSteps.{early_ends, logs_end, logs_there, n
 use Rattle.command_inputs.proofs.Runs as runs
 use Rattle.log_commands.specs.Encoding.{AreLogsOf, WritesMessages, written}
 use Rattle.log_commands.specs.Most.{most_of}
-use Rattle.log_commands.specs.Parts.{all_harts}
-use Rattle.log_commands.specs.steps.Made.{written_of}
+use Rattle.log_commands.specs.Parts.{all_harts, first_hart}
+use Rattle.log_commands.specs.steps.Made.{AreAskedMessages}
 use Rattle.log_commands.specs.steps.Parts.{CanEncodeUpTo, EncodesUpTo}
-use Rattle.log_commands.proofs.Headers.{harts_in_part}
-use Rattle.log_commands.proofs.MadeLogs.{messages_written}
+use Rattle.log_commands.proofs.Headers.{harts_in_part, logs_in_part}
+use Rattle.log_commands.proofs.MixedLogs.{long_logs, written_or_denied}
 use Rattle.log_commands.proofs.encoding.encode_up_to.Goals.{After-write_messages}
 use Rattle.log_commands.proofs.encoding.encode_up_to.Goals as goal
 
@@ -28,8 +26,8 @@ write_messages-requires-clause-some g c =
     let asked = c.args.asked.now in
     let made = c.in_ok-messages.messages.items in
     let count = c.in_ok-messages.ensures.count ∙ ap length c.as_slice-paths.ensures.value in
-    let some : 1 ≤ length made = omega (arith, count, c.in_ok-program.ensures.some) in
-    let few : length made ≤ c.args.most = omega (arith, count, c.in_ok-program.ensures.few) in
+    let some : 1 ≤ length made = omega (arith, count, c.in_ok-program.ensures.count.0) in
+    let few : length made ≤ c.args.most = omega (arith, count, c.in_ok-program.ensures.count.1) in
     subst (λ (messages : List (Vec ℕ Global)). 1 ≤ all_harts asked.of (length messages)) (sym c.as_slice.ensures.value)
     (harts_in_part asked (length made) c.args.most c.requires.most some few).0
 
@@ -38,10 +36,20 @@ write_messages-requires-clause-few g c =
     let asked = c.args.asked.now in
     let made = c.in_ok-messages.messages.items in
     let count = c.in_ok-messages.ensures.count ∙ ap length c.as_slice-paths.ensures.value in
-    let some : 1 ≤ length made = omega (arith, count, c.in_ok-program.ensures.some) in
-    let few : length made ≤ c.args.most = omega (arith, count, c.in_ok-program.ensures.few) in
+    let some : 1 ≤ length made = omega (arith, count, c.in_ok-program.ensures.count.0) in
+    let few : length made ≤ c.args.most = omega (arith, count, c.in_ok-program.ensures.count.1) in
     subst (λ (messages : List (Vec ℕ Global)). all_harts asked.of (length messages) ≤ most_harts asked.version)
     (sym c.as_slice.ensures.value) (harts_in_part asked (length made) c.args.most c.requires.most some few).1
+
+pub write_messages-requires-clause-room : goal.write_messages-requires-clause-room
+write_messages-requires-clause-room g c =
+    let asked = c.args.asked.now in
+    let made = c.in_ok-messages.messages.items in
+    let count = c.in_ok-messages.ensures.count ∙ ap length c.as_slice-paths.ensures.value in
+    let few : length made ≤ c.args.most = omega (arith, count, c.in_ok-program.ensures.count.1) in
+    subst (λ (messages : List (Vec ℕ Global)).
+    first_hart asked.first + length messages ≤ all_harts asked.of (length messages)) (sym c.as_slice.ensures.value)
+    (logs_in_part asked (length made) c.args.most c.requires.most few)
 
 pub returns-in_err-program-clause-early : goal.returns-in_err-program-clause-early
 returns-in_err-program-clause-early g c =
@@ -101,12 +109,12 @@ module _ (g : _) (c : After-write_messages g) where
       (g.F.Files.content c.asked_program.new.files) (Ok logs) c.in_ok-program.ensures.program
       c.in_ok-program.ensures.kept c.in_ok-messages.ensures.logs.legal
 
-  -- What is written of them is what is asked for.
-  text_is : written_of c.args.asked.now c.as_slice.result.now ≡ written c.args.asked.now logs
-  text_is =
+  -- Their messages were made.
+  made : AreAskedMessages c.args.asked.now logs c.as_slice.result.now
+  made =
       let asked = c.args.asked.now in
-      ap (written_of asked) c.as_slice.ensures.value
-      ∙ messages_written asked logs c.in_ok-messages.messages.items c.in_ok-messages.ensures.logs.each
+      subst (AreAskedMessages asked logs) (sym c.as_slice.ensures.value)
+      (long_logs asked.long logs c.in_ok-messages.ensures.logs.few, c.in_ok-messages.ensures.logs.each)
 
 pub returns-clause-printed : goal.returns-clause-printed
 returns-clause-printed g c =
@@ -121,9 +129,9 @@ returns-clause-printed g c =
     runs.leads_on (WritesMessages asked logs) (EncodesUpTo content asked most) ⊤ (CanEncodeUpTo content asked most)
     ended old new
     (λ printed is. (Ok logs, there g at, is)) (λ is. (logs, there g at, is))
-    (runs.written (WritesMessages asked logs) ⊤ (written asked logs) Whole ended old new refl tt
+    (written_or_denied (WritesMessages asked logs) ⊤ (written asked logs) Whole ended old new refl tt
     c.write_messages.ensures.fault c.write_messages.ensures.ended
-    (subst (λ text. OnOk ended (Appends old new text)) (text_is g at) c.write_messages.ensures.text))
+    (c.write_messages.ensures.text logs (made g at)))
 
 pub returns-clause-cut : goal.returns-clause-cut
 returns-clause-cut g c =
@@ -136,4 +144,4 @@ returns-clause-cut g c =
     cut_leads (WritesMessages asked logs) (EncodesUpTo content asked c.args.most) old new
     (λ printed is. (Ok logs, there g at, is))
     (inr (printed_begun (WritesMessages asked logs) (written asked logs) (Ok Whole) old new refl
-    (subst (λ text. AppendsBeginning text old new) (text_is g at) c.write_messages.ensures.begun)))
+    (c.write_messages.ensures.begun logs (made g at))))

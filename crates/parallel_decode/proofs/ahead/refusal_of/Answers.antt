@@ -9,7 +9,7 @@ use Rattle.message.specs.OfHart.{of_hart}
 use Rattle.message.specs.declared.fault.DemuxFault.TheVariants.{Stranger}
 use Rattle.receiver.specs.declared.fault.ReceiveFault.TheVariants as receiving
 use Rattle.parallel_decode.proofs.EndLemmas.{found-at, none-of}
-use Rattle.parallel_decode.proofs.Merging.{refused-own}
+use Rattle.parallel_decode.proofs.Owns.{refused-own}
 use Rattle.parallel_decode.specs.steps.Starts.{StartAt}
 use Rattle.parallel_decode.proofs.ahead.refusal_of.Goals as goal
 

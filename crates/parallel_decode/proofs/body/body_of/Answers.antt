@@ -5,7 +5,7 @@ use Rattle.message.specs.Header.{HasBadHeader, IsCutHeader, IsHeader, IsMarked, 
 use Rattle.message.specs.declared.header.Header.{Header}
 use Rattle.captures.proofs.HeaderFaults.{no_header}
 use Rattle.captures.specs.NoMessage.{BeginsNoHeader}
-use Rattle.captures.specs.OfHarts.{NoHeader, Version1, Version2}
+use Rattle.captures.specs.Decoded.{NoHeader, Version1, Version2}
 use Rattle.parallel_decode.proofs.CaptureLemmas.{behind, body, nothing_decoded}
 use Rattle.parallel_decode.proofs.body.body_of.Goals as goal
 

@@ -1,7 +1,7 @@
 -- What is found of a capture is what is found of its messages: by lemmas, which no tactic finds.
 use Rattle.std.proofs.Common.{subst, sym}
 use Rattle.rvclass.specs.Fetch.{words_of}
-use Rattle.captures.specs.OfHarts.{IsDecodedOf}
+use Rattle.captures.specs.Decoded.{IsDecodedOf}
 use Rattle.parallel_decode.proofs.CaptureLemmas.{never_memory_at}
 use Rattle.parallel_decode.specs.Surveyed.{NeverMemory}
 use Rattle.parallel_decode.proofs.capturing.survey_capture_side_by_side.Goals as goal

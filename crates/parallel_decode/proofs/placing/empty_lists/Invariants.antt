@@ -3,7 +3,7 @@ use Rattle.std.proofs.Common.{◌≡◌, ◌≤◌, All, [], length}
 use Rattle.std.specs.Vec.{vec_capacity}
 use Rattle.parallel_decode.proofs.placing.empty_lists.Given as goal
 
-abbrev pub invariant-loop-count : goal.invariant-loop-count
-invariant-loop-count g l =
-    (length l.lists.items ≡ l.count-index) × (length l.counts ≤ vec_capacity l.lists)
+abbrev pub invariant-loop-own : goal.invariant-loop-own
+invariant-loop-own g l =
+    (length l.lists.items ≡ l.own-index) × (length l.owns ≤ vec_capacity l.lists)
     × All (λ list. list.items ≡ []) l.lists.items

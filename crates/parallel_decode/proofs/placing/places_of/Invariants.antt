@@ -7,7 +7,7 @@ use Rattle.parallel_decode.proofs.placing.places_of.Given as goal
 
 abbrev pub invariant-loop : goal.invariant-loop
 invariant-loop g l = record {
-  harts : length l.places.items ≡ length l.counts;
+  harts : length l.places.items ≡ length l.owns;
   within : l.place ≤ length l.bytes;
   left : drop l.place l.bytes ≡ l.messages;
   placed : (messages : List Message) → AreFirst l.range l.bytes l.count messages

@@ -1,7 +1,7 @@
 -- What was received of each hart is put together: by the lemmas on this.
 use Rattle.std.proofs.Common.{◌≡◌, All, None, Vec, Global, ℕ, ap, arith, drop, length, refl, subst, sym}
 use Rattle.rvclass.specs.Fetch.{words_of}
-use Rattle.captures.specs.OfHarts.{StopsOf}
+use Rattle.captures.specs.Decoded.{StopsOf}
 use Rattle.parallel_decode.specs.Surveyed.{NeverMemory}
 use Rattle.parallel_decode.proofs.Merging.{merged, merged-accepted, stop-end, stop-fault}
 use Rattle.parallel_decode.specs.declared.hart.HartEnd.{HartEnd}

@@ -1,9 +1,7 @@
 -- One message more is read and kept: by lemmas on captures and lists, which no tactic finds.
-use Rattle.std.proofs.Common.{◌≡◌, ◌++◌, ◌∷◌, ◌∙◌, [], refl, arith, length}
-use Rattle.std.proofs.lemmas.Grind.{common_steps}
+use Rattle.std.proofs.Common.{◌++◌, ◌∷◌, ◌∙◌, [], refl, arith}
 use Rattle.captures.proofs.FoundInFront.{in_front}
 use Rattle.captures.proofs.WholeCaptures.{read_next}
-use Rattle.path_commands.proofs.ByHartLemmas.{kept_more}
 use Rattle.path_commands.proofs.by_hart.read_into.Goals as goal
 
 pub loop-message-init : goal.loop-message-init
@@ -19,20 +17,14 @@ loop-message-preserved c =
     let message = c.in-Ok-Some.message in
     let said = c.in-Ok-Some.ensures in
     let has = c.loop-message.invariant.0 in
-    let lists = c.loop-message.lists in
     let front = in_front c.loop-message.left next _ message c.in-Ok-Some.field-0-is said.ranges said.message
     said.shorter in
-    let pushed : c.push.new.self.items ≡ lists.harts.items ++ message.hart ∷ [] = grind (arith, common_steps) in
-    let split = c.in_ok-add_selected-in-Ok-Some.ensures.split
-    (length lists.payloads.lists) has.messages has.kept.split in (
+    let kept = c.in_ok-take_message-in-Ok-Some.ensures.kept has.messages has.kept in (
       record {
         messages = has.messages ++ message ∷ [];
         read = read_next c.args.left c.loop-message.left next has.messages message has.read front.is_message front.here;
-        kept =
-            kept_more c.args.harts has.messages message lists
-            (record { harts = c.push.new.self; payloads = c.add_selected.new.payloads }) has.kept
-            pushed c.add_selected.ensures.by split;
+        kept = kept.0;
       },
-      c.add_selected.ensures.by ∙ c.loop-message.invariant.1,
-      split.count ∙ c.loop-message.invariant.2,
+      c.take_message.ensures.by ∙ c.loop-message.invariant.1,
+      kept.1 ∙ c.loop-message.invariant.2,
     )

@@ -62,15 +62,15 @@ module _ (g : _) (c : After-write_text g) (sent : List Message) (came : Received
   whole : c.is_whole-whole.result ≡ is_whole_result c.args.path.now.by c.args.report.harts both came
   whole =
       whole_is c.args.path.now c.args.report sent c.args.arrived came has c.count_among.result c.in_ok-total.total
-      c.are_unlike-unlike.result c.is_undamaged.result c.is_whole-whole.result harts_is
-      (c.in_ok-total.ensures.total sent (messages_in came.spans) has.audits has.few) unlike_is c.is_undamaged.ensures
+      c.are_unlike-unlike.result c.is_undamaged-undamaged.result c.is_whole-whole.result harts_is
+      (c.in_ok-total.ensures.total sent (messages_in came.spans) has.audits has.few) unlike_is c.is_undamaged-undamaged.ensures
       c.is_whole-whole.ensures
 
   last_is : last ≡ ending_of c.args.path.now.by c.args.report.harts both came
   last_is =
       ending_is c.args.path.now c.args.report sent c.args.arrived came has c.count_among.result c.in_ok-total.total
-      c.are_unlike-unlike.result c.is_undamaged.result c.is_whole-whole.result harts_is
-      (c.in_ok-total.ensures.total sent (messages_in came.spans) has.audits has.few) unlike_is c.is_undamaged.ensures
+      c.are_unlike-unlike.result c.is_undamaged-undamaged.result c.is_whole-whole.result harts_is
+      (c.in_ok-total.ensures.total sent (messages_in came.spans) has.audits has.few) unlike_is c.is_undamaged-undamaged.ensures
       c.is_whole-whole.ensures
 
   ending_begun : (new : Option (List ℕ)) → AppendsBeginning (ending_row c.args.report.format last) second new

@@ -27,23 +27,18 @@ returns-clause-held g c =
     let content = g.F.Files.content c.args.files.now in
     let asked = c.args.asked.now in
     let how = by_packets asked.packets in
-    ok_in_words (KeepsSent how c.args.harts c.as_slice.result.now)
+    ok_in_words (KeepsSent how c.args.harts c.in_ok-bytes.bytes.items)
     (λ own. (bytes : List ℕ) × IsRead {W = PathReason} content asked.sent
     (Ok bytes) × KeepsSent how c.args.harts bytes own)
-    (λ own keeps. (
-      c.in_ok-bytes.bytes.items,
-      c.in_ok-bytes.ensures.held,
-      subst (λ bytes. KeepsSent how c.args.harts bytes own) c.as_slice.ensures.value keeps,
-    ))
+    (λ own keeps. (c.in_ok-bytes.bytes.items, c.in_ok-bytes.ensures.held, keeps))
     c.keep_sent.result c.keep_sent.ensures.held
 
 pub returns-clause-lacked : goal.returns-clause-lacked
 returns-clause-lacked g c =
     let content = g.F.Files.content c.args.files.now in
     let asked = c.args.asked.now in
-    err_in_words (λ why. (why ≡ fault.Memory) ⊎ IsFoundSent asked.sent c.as_slice.result.now (Err why))
+    err_in_words (λ why. (why ≡ fault.Memory) ⊎ IsFoundSent asked.sent c.in_ok-bytes.bytes.items (Err why))
     (λ why. (why ≡ fault.Memory) ⊎ After (IsRead content asked.sent) (IsFoundSent asked.sent) (Err why))
     (λ why lacked.
-    after_second content asked.sent why c.in_ok-bytes.bytes.items c.in_ok-bytes.ensures.held
-    (subst (λ bytes. (why ≡ fault.Memory) ⊎ IsFoundSent asked.sent bytes (Err why)) c.as_slice.ensures.value lacked))
+    after_second content asked.sent why c.in_ok-bytes.bytes.items c.in_ok-bytes.ensures.held lacked)
     c.keep_sent.result c.keep_sent.ensures.lacked

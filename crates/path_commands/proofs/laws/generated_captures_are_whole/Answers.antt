@@ -1,4 +1,5 @@
 -- The laws are recursions over the messages, which no search makes.
+use Rattle.std.proofs.Common.{refl}
 use Rattle.path_commands.proofs.GeneratedCaptures.{mixed_sent, mixed_whole}
 use Rattle.path_commands.proofs.laws.generated_captures_are_whole.Goals as goal
 
@@ -6,4 +7,8 @@ pub returns-clause-sent : goal.returns-clause-sent
 returns-clause-sent c = λ program header bytes start made. mixed_sent program header start bytes made
 
 pub returns-clause-whole : goal.returns-clause-whole
-returns-clause-whole c = λ program header bytes start made. mixed_whole program header start bytes made
+returns-clause-whole c = λ program header bytes start made.
+    mixed_whole program header start bytes made made.messages (λ hart. refl)
+
+pub returns-clause-alike : goal.returns-clause-alike
+returns-clause-alike c = λ program header bytes start made. mixed_whole program header start bytes made

@@ -1,42 +1,64 @@
 -- The rows are written one after the other: by lemmas on parts of a text, which no tactic finds.
-use Rattle.std.proofs.Common.{◌<◌, ◌≤◌, arith, length}
-use Rattle.std.specs.List.{flat_map}
-use Rattle.output.proofs.Beginnings.{whole_begun}
-use Rattle.output.proofs.Items.{item_begun, item_more, items_all}
-use Rattle.output.proofs.FieldParts.{part_none}
-use Rattle.path_commands.specs.MatchedRows.{arrival_row}
+use Rattle.std.proofs.Common.{◌<◌, ◌≤◌, ◌+◌, ap, arith, drop, length, subst, sym}
+use Rattle.std.proofs.lemmas.List.{length-drop, take_rest}
+use Rattle.output.proofs.FieldParts.{HasWritten, part_none}
+use Rattle.path_commands.proofs.RunLines.{lines_begun, rows_more, run_begun, then_all, then_begun}
+use Rattle.path_commands.specs.MatchedRows.{arrival_rows}
 use Rattle.path_commands.proofs.matched_report.write_arrivals.Goals as goal
 
-pub loop-line-init : goal.loop-line-init
-loop-line-init g c = part_none (flat_map (arrival_row c.args.format) c.args.lines.now)
-    (g.O.Write.contents c.args.out.now)
+pub loop-run-init : goal.loop-run-init
+loop-run-init g c = (
+  part_none (arrival_rows c.args.format c.args.runs.now c.args.lines.now) (g.O.Write.contents c.args.out.now),
+  omega arith,
+)
 
-pub loop-line-preserved : goal.loop-line-preserved
-loop-line-preserved g c =
-    let place = c.loop-line.line-index in
-    let within : place < length c.args.lines.now = omega arith in
-    item_more (arrival_row c.args.format) c.args.lines.now place (g.O.Write.contents c.args.out.now)
-    (g.O.Write.contents c.loop-line.out)
-    c.loop-line.invariant _ (g.O.Write.contents c.write_arrival.new.out) within
-    c.in_ok-write_arrival.ensures.text
+pub loop-run-preserved : goal.loop-run-preserved
+loop-run-preserved g c =
+    let at = c.loop-run.run-index in
+    let within : at < length c.args.runs.now = omega arith in
+    let few = c.loop-run.invariant.1 in
+    let left = c.loop-run.left.now in
+    let count = c.count_before-count.result in
+    let less = length-drop count left in
+    let same = ap length (take_rest left count) in (
+      subst
+          (λ l. HasWritten (arrival_rows c.args.format c.args.runs.now c.args.lines.now)
+          (arrival_rows c.args.format (drop (at + 1) c.args.runs.now) l) (g.O.Write.contents c.args.out.now)
+          (g.O.Write.contents c.write_run.new.out)) (sym (take_rest left count))
+          (rows_more c.args.format c.args.runs.now c.args.lines.now left at (g.O.Write.contents c.args.out.now)
+          (g.O.Write.contents c.loop-run.out) c.loop-run.invariant.0 _ within count
+          c.count_before-count.ensures.value (g.O.Write.contents c.write_lines.new.out)
+          c.in_ok-write_lines.ensures.text (g.O.Write.contents c.write_run.new.out) c.in_ok-write_run.ensures.text),
+      omega (arith, few, less, same),
+    )
 
-pub returns-in_err-write_arrival-clause-begun : goal.returns-in_err-write_arrival-clause-begun
-returns-in_err-write_arrival-clause-begun g c =
-    let place = c.loop-line.line-index in
-    let within : place < length c.args.lines.now = omega arith in
-    item_begun (arrival_row c.args.format) c.args.lines.now place (g.O.Write.contents c.args.out.now)
-    (g.O.Write.contents c.loop-line.out)
-    c.loop-line.invariant _ (g.O.Write.contents c.write_arrival.new.out) within
-    c.write_arrival.ensures.begun
+pub returns-in_err-write_lines-clause-begun : goal.returns-in_err-write_lines-clause-begun
+returns-in_err-write_lines-clause-begun g c =
+    let at = c.loop-run.run-index in
+    let within : at < length c.args.runs.now = omega arith in
+    lines_begun c.args.format c.args.runs.now c.args.lines.now c.loop-run.left.now at (g.O.Write.contents c.args.out.now)
+    (g.O.Write.contents c.loop-run.out) c.loop-run.invariant.0 _ within c.count_before-count.result
+    c.count_before-count.ensures.value (g.O.Write.contents c.write_lines.new.out) c.write_lines.ensures.begun
+
+pub returns-in_err-write_run-clause-begun : goal.returns-in_err-write_run-clause-begun
+returns-in_err-write_run-clause-begun g c =
+    let at = c.loop-run.run-index in
+    let within : at < length c.args.runs.now = omega arith in
+    run_begun c.args.format c.args.runs.now c.args.lines.now c.loop-run.left.now at (g.O.Write.contents c.args.out.now)
+    (g.O.Write.contents c.loop-run.out) c.loop-run.invariant.0 _ within c.count_before-count.result
+    c.count_before-count.ensures.value (g.O.Write.contents c.write_lines.new.out) c.in_ok-write_lines.ensures.text
+    (g.O.Write.contents c.write_run.new.out) c.write_run.ensures.begun
 
 pub returns-clause-text : goal.returns-clause-text
 returns-clause-text g c =
-    let end = c.loop-line-test.false in
-    let past : length c.args.lines.now ≤ c.loop-line.line-index = omega (arith, end) in
-    items_all (arrival_row c.args.format) c.args.lines.now c.loop-line.line-index (g.O.Write.contents c.args.out.now)
-    (g.O.Write.contents c.loop-line.out) c.loop-line.invariant past
+    let past : length c.args.runs.now ≤ c.loop-run.run-index = omega arith in
+    then_all c.args.format c.args.runs.now c.args.lines.now c.loop-run.left.now c.loop-run.run-index
+    (g.O.Write.contents c.args.out.now) (g.O.Write.contents c.loop-run.out) past c.loop-run.invariant.0
+    (g.O.Write.contents c.write_lines-2.new.out) c.write_lines-2.result c.write_lines-2.ensures.text
 
 pub returns-clause-begun : goal.returns-clause-begun
 returns-clause-begun g c =
-    whole_begun (flat_map (arrival_row c.args.format) c.args.lines.now) (g.O.Write.contents c.args.out.now)
-    (g.O.Write.contents c.loop-line.out) (returns-clause-text g c)
+    let past : length c.args.runs.now ≤ c.loop-run.run-index = omega arith in
+    then_begun c.args.format c.args.runs.now c.args.lines.now c.loop-run.left.now c.loop-run.run-index
+    (g.O.Write.contents c.args.out.now) (g.O.Write.contents c.loop-run.out) past c.loop-run.invariant.0
+    (g.O.Write.contents c.write_lines-2.new.out) c.write_lines-2.ensures.begun

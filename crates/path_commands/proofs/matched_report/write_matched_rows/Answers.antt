@@ -14,7 +14,7 @@ use Rattle.path_commands.proofs.matched_report.write_matched_rows.Goals as goal
 pub returns-in_err-write_singles-clause-begun : goal.returns-in_err-write_singles-clause-begun
 returns-in_err-write_singles-clause-begun g c =
     let report = c.args.report in
-    begun_in_front (unless_summary report.summary (single_rows report.format c.args.all.now c.args.lines.now))
+    begun_in_front (unless_summary report.summary (single_rows report.format c.args.all.now c.args.runs.now c.args.lines.now))
     (texts_from (of_selected report.harts (own_row report.format)) 0 c.args.all.now
     ++ total_row report.format c.args.its)
     (g.O.Write.contents c.args.out.now) (g.O.Write.contents c.write_singles.new.out) c.write_singles.ensures.begun
@@ -22,7 +22,7 @@ returns-in_err-write_singles-clause-begun g c =
 pub returns-in_err-write_aligned-clause-begun : goal.returns-in_err-write_aligned-clause-begun
 returns-in_err-write_aligned-clause-begun g c =
     let report = c.args.report in
-    begun_between (unless_summary report.summary (single_rows report.format c.args.all.now c.args.lines.now))
+    begun_between (unless_summary report.summary (single_rows report.format c.args.all.now c.args.runs.now c.args.lines.now))
     (texts_from (of_selected report.harts (own_row report.format)) 0 c.args.all.now)
     (total_row report.format c.args.its)
     (g.O.Write.contents c.args.out.now) (g.O.Write.contents c.write_singles.new.out)
@@ -30,11 +30,11 @@ returns-in_err-write_aligned-clause-begun g c =
 
 module _ (g : _) (c : After-write_text g) where
   abbrev text : List ℕ
-  text = matched_rows c.args.report c.args.all.now c.args.lines.now c.args.its
+  text = matched_rows c.args.report c.args.all.now c.args.runs.now c.args.lines.now c.args.its
 
   abbrev singles : List ℕ
   singles =
-      unless_summary c.args.report.summary (single_rows c.args.report.format c.args.all.now c.args.lines.now)
+      unless_summary c.args.report.summary (single_rows c.args.report.format c.args.all.now c.args.runs.now c.args.lines.now)
 
   abbrev rows : List ℕ
   rows = texts_from (of_selected c.args.report.harts (own_row c.args.report.format)) 0 c.args.all.now

@@ -5,6 +5,7 @@ use Rattle.output.specs.Begun.{AppendsBeginning}
 use Rattle.output.proofs.Beginnings.{whole_begun}
 use Rattle.payload.specs.Reading.{reading}
 use Rattle.salvage_reports.proofs.TreatedLine.{head_begun, line_written, tail_begun, word_begun}
+use Rattle.listing.specs.SettledRows.{shows_rows}
 use Rattle.salvage_reports.specs.Words.{late_text}
 use Rattle.salvage_reports.proofs.treated_messages.write_line.Goals.{After-late_text-late, After-unpack-unpacked}
 use Rattle.salvage_reports.proofs.treated_messages.write_line.Goals as goal
@@ -14,19 +15,19 @@ module _ (g : _) (c : After-unpack-unpacked g) where
   same = c.unpack-unpacked.ensures.value ∙ ap reading c.bytes.ensures.same
 
 module _ (g : _) (c : After-late_text-late g) where
-  tail_is : (c.late_text-late.result.now ++ codes "\n") ≡ late_text c.args.one.treated.now.late ++ codes "\n"
+  tail_is : (c.late_text-late.result.now ++ codes "\n") ≡ late_text c.args.one.treated.now.treated.late ++ codes "\n"
   tail_is = ap (λ late. late ++ codes "\n") c.late_text-late.ensures
 
 pub returns-in_err-write_text-clause-begun : goal.returns-in_err-write_text-clause-begun
 returns-in_err-write_text-clause-begun g c =
-    head_begun (option_map (λ file. file.now) c.args.symbols) c.args.one.mode c.args.one.offset c.args.one.message.now
+    head_begun (shows_rows c.args.form) (option_map (λ file. file.now) c.args.symbols) c.args.one.mode c.args.one.offset c.args.one.message.now
     c.args.one.treated.now c.unpack-unpacked.result
     (same g (goal.at.returns-in_err-write_text-clause-begun g c).After-unpack-unpacked)
     (g.W.Write.contents c.args.sink.now) (g.W.Write.contents c.write_text.new.out) c.write_text.ensures.begun
 
 pub returns-in_err-write_word-clause-begun : goal.returns-in_err-write_word-clause-begun
 returns-in_err-write_word-clause-begun g c =
-    word_begun (option_map (λ file. file.now) c.args.symbols) c.args.one.mode c.args.one.offset c.args.one.message.now
+    word_begun (shows_rows c.args.form) (option_map (λ file. file.now) c.args.symbols) c.args.one.mode c.args.one.offset c.args.one.message.now
     c.args.one.treated.now c.unpack-unpacked.result
     (same g (goal.at.returns-in_err-write_word-clause-begun g c).After-unpack-unpacked)
     (g.W.Write.contents c.args.sink.now) (g.W.Write.contents c.write_text.new.out) c.in_ok-write_text.ensures.whole
@@ -36,7 +37,7 @@ pub returns-in_err-write_text-2-clause-begun : goal.returns-in_err-write_text-2-
 returns-in_err-write_text-2-clause-begun g c =
     let mid = g.W.Write.contents c.write_word.new.sink in
     let new = g.W.Write.contents c.write_text-2.new.out in
-    tail_begun (option_map (λ file. file.now) c.args.symbols) c.args.one.mode c.args.one.offset c.args.one.message.now
+    tail_begun (shows_rows c.args.form) (option_map (λ file. file.now) c.args.symbols) c.args.one.mode c.args.one.offset c.args.one.message.now
     c.args.one.treated.now c.unpack-unpacked.result
     (same g (goal.at.returns-in_err-write_text-2-clause-begun g c).After-unpack-unpacked)
     (g.W.Write.contents c.args.sink.now) (g.W.Write.contents c.write_text.new.out) c.in_ok-write_text.ensures.whole
@@ -49,7 +50,7 @@ pub returns-clause-text : goal.returns-clause-text
 returns-clause-text g c =
     let mid = g.W.Write.contents c.write_word.new.sink in
     let new = g.W.Write.contents c.write_text-2.new.out in
-    line_written (option_map (λ file. file.now) c.args.symbols) c.args.one.mode c.args.one.offset c.args.one.message.now
+    line_written (shows_rows c.args.form) (option_map (λ file. file.now) c.args.symbols) c.args.one.mode c.args.one.offset c.args.one.message.now
     c.args.one.treated.now c.unpack-unpacked.result
     (same g (goal.at.returns-clause-text g c).After-unpack-unpacked)
     (g.W.Write.contents c.args.sink.now) (g.W.Write.contents c.write_text.new.out) c.in_ok-write_text.ensures.whole

@@ -1,20 +1,20 @@
 -- Which span it is, and which treatment is at the place, are equations, which go into the clauses by hand.
-use Rattle.std.proofs.Common.{◌≡◌, ◌+◌, ◌<◌, ◌∙◌, ◌∷◌, List, Option, ap, drop, drop-cons, length, option_map, subst, suc, sym, ℕ}
+use Rattle.std.proofs.Common.{◌≡◌, ◌+◌, ◌<◌, ◌∙◌, ◌∷◌, List, ap, drop, drop-cons, length, option_map, subst, suc, sym, ℕ}
 use Rattle.std.proofs.lemmas.Bool.{ltb-true}
 use Rattle.std.specs.Io.KnownBytes.{Appends}
 use Rattle.output.specs.Begun.{AppendsBeginning}
 use Rattle.frames.specs.declared.span.Span.{Span}
 use Rattle.frames.specs.declared.span.Span.TheVariants.{Frame}
-use Rattle.salvaging.specs.declared.treatment.Treated.{Treated}
+use Rattle.salvage_reports.specs.declared.hart_rows.TreatedInRows.{TreatedInRows}
 use Rattle.salvage_reports.specs.TreatedText.{message_text, span_text}
 use Rattle.salvage_reports.proofs.treated_writing.write_span.Goals.{In-Some}
 use Rattle.salvage_reports.proofs.treated_writing.write_span.Goals as goal
 
 module _ (g : _) (c : In-Some g) where
-  abbrev all : List Treated
+  abbrev all : List TreatedInRows
   all = c.args.treatments.treated.now
 
-  abbrev text : Span → List Treated → List ℕ
+  abbrev text : Span → List TreatedInRows → List ℕ
   text =
       span_text c.args.treatments.form (option_map (λ file. file.now) c.args.symbols) c.args.treatments.mode
       (c.args.place + c.args.passed)

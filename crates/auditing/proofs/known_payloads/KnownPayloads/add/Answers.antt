@@ -6,13 +6,13 @@ use Rattle.auditing.proofs.Recognised.{keeps_more, keeps_none, ok_then}
 use Rattle.auditing.specs.PayloadSights.{KnownSent, has_key}
 use Rattle.auditing.proofs.known_payloads.KnownPayloads.add.Goals as goal
 
-pub returns-then-self : goal.returns-then-self
-returns-then-self g c = λ framed how sent keeps.
+pub returns-then-self-clause-kept : goal.returns-then-self-clause-kept
+returns-then-self-clause-kept g c = λ framed how sent keeps.
     keeps_none framed how sent (sent ++ c.args.message.now ∷ []) c.args.self.now keeps
     (sym (ap (λ (k : KnownSent). k.framed) c.self.view_is) ∙ c.if-self.true)
 
-pub returns : goal.returns
-returns g c = λ framed how sent keeps.
+pub returns-clause-kept : goal.returns-clause-kept
+returns-clause-kept g c = λ framed how sent keeps.
     let old = c.args.self.now in
     let m = c.args.message.now in
     ok_then c.insert.result

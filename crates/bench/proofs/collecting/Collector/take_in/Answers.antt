@@ -1,50 +1,54 @@
--- Each clause is a part of one record, which a search among so many finds late.
+-- A collector sees outcomes as what came of harts, so what was written of one has to be said of all: by laws on lists,
+-- which no tactic finds.
+use Rattle.std.proofs.Common.{set, sym, ◌∙◌}
+use Rattle.bench.specs.Collected.{Collected}
+use Rattle.bench.specs.steps.Collecting.{taken_in}
+use Rattle.bench.proofs.MessageAnswers.{ends_not_accepted, ends_refused, ends_taken}
+use Rattle.bench.proofs.TakesIn.{TakesIn, takes_in, takes_kept}
 use Rattle.bench.proofs.collecting.Collector.take_in.Goals as goal
 
-pub returns-clause-logs : goal.returns-clause-logs
-returns-clause-logs g c = c.take_message.ensures.logs
+pub returns-then-is_refused : goal.returns-then-is_refused
+returns-then-is_refused g c =
+    ends_refused _ _ _ _ c.args.self.now c.self.view_is c.args.message c.from-hart.result c.from-hart.ensures
+    (c.is_refused.ensures.refused c.if-is_refused.true)
 
-pub returns-clause-next : goal.returns-clause-next
-returns-clause-next g c = c.take_message.ensures.next
+pub returns-in-Err : goal.returns-in-Err
+returns-in-Err g c =
+    ends_not_accepted _ _ _ _ c.args.self.now c.self.view_is c.args.message c.from-hart.result c.from-hart.ensures
+    c.accept.result c.accept.new.self c.in-Err.fault c.self.invariant (c.is_refused.ensures.going c.if-is_refused.false)
+    c.accept.ensures.value c.in-Err.is c.accept.ensures.state c.accept.ensures.refused
 
-pub returns-clause-only_memory : goal.returns-clause-only_memory
-returns-clause-only_memory g c = c.take_message.ensures.only_memory
+module _ (g : _) (c : goal.After-self-1 g) where
+  abbrev before : Collected
+  before = record {
+    logs = c.self.inside.logs.now;
+    keep = c.self.inside.keep;
+    received = c.self.inside.receiver;
+    harts = taken_in c.self.inside.harts.items;
+  }
 
-pub returns-clause-others : goal.returns-clause-others
-returns-clause-others g c = c.take_message.ensures.others
+  abbrev now : Collected
+  now = record before {
+    received = c.take_packet.new.receiver;
+    harts = taken_in (set c.self.inside.harts.items c.from-hart.result c.take_packet.new.outcome);
+  }
 
-pub returns-clause-memory : goal.returns-clause-memory
-returns-clause-memory g c = c.take_message.ensures.memory
+  step : TakesIn c.args.message c.in-Ok.packet c.take_packet.result before now
+  step =
+      takes_in c.self.inside.logs.now c.self.inside.keep c.self.inside.receiver c.accept.new.self
+      c.take_packet.new.receiver c.self.inside.harts.items
+      c.args.message c.in-Ok.packet c.from-hart.result c.log_at-log.result.now c.index_mut.result.now
+      c.take_packet.new.outcome
+      c.take_packet.result c.from-hart.ensures c.self.invariant (sym c.accept.ensures.value ∙ c.in-Ok.is)
+      c.accept.ensures.state
+      c.in-Ok.ensures.known c.log_at-log.ensures c.index_mut.ensures.value c.take_packet.ensures
 
-pub returns-clause-undecoded : goal.returns-clause-undecoded
-returns-clause-undecoded g c = c.take_message.ensures.undecoded
+pub invariant_of-self-2 : goal.invariant_of-self-2
+invariant_of-self-2 g c =
+    takes_kept c.args.message c.in-Ok.packet (before g c) (now g c) c.take_packet.result (step g c)
 
-pub returns-clause-not_accepted : goal.returns-clause-not_accepted
-returns-clause-not_accepted g c = c.take_message.ensures.not_accepted
-
-pub returns-clause-demux : goal.returns-clause-demux
-returns-clause-demux g c = c.take_message.ensures.demux
-
-pub returns-clause-passed_over : goal.returns-clause-passed_over
-returns-clause-passed_over g c = c.take_message.ensures.passed_over
-
-pub returns-clause-decoded : goal.returns-clause-decoded
-returns-clause-decoded g c = c.take_message.ensures.decoded
-
-pub returns-clause-none : goal.returns-clause-none
-returns-clause-none g c = c.take_message.ensures.none
-
-pub returns-clause-reason : goal.returns-clause-reason
-returns-clause-reason g c = c.take_message.ensures.reason
-
-pub returns-clause-counts : goal.returns-clause-counts
-returns-clause-counts g c = c.take_message.ensures.counts
-
-pub returns-clause-expected : goal.returns-clause-expected
-returns-clause-expected g c = c.take_message.ensures.expected
-
-pub returns-clause-kept : goal.returns-clause-kept
-returns-clause-kept g c = c.take_message.ensures.kept
-
-pub returns-clause-one_memory : goal.returns-clause-one_memory
-returns-clause-one_memory g c = c.take_message.ensures.one_memory
+pub returns : goal.returns
+returns g c =
+    ends_taken _ _ _ _ c.args.self.now c.self.view_is c.args.message c.from-hart.result c.from-hart.ensures
+    c.in-Ok.packet c.take_packet.result (now g c) (c.is_refused.ensures.going c.if-is_refused.false)
+    c.take_packet.ensures.one_memory (step g c)

@@ -36,7 +36,7 @@ returns-in-Err g c =
     (λ passed. pass settings c.args.skip passed (lines c.next.new.self)) new
     (line_by_line settings c.args.skip whole c.loop.self c.in-Some.line.now c.loop.lines c.next.new.self old mid
     c.in-Some.ensures.line c.loop.invariant)
-    c.in-Err.why c.pass.new.self c.pass.new.self c.in-Err.ensures
+    c.in-Err.why c.pass.new.self c.in-Err.ensures
 
 pub loop-preserved : goal.loop-preserved
 loop-preserved g c =

@@ -77,7 +77,7 @@ returns-then-is_err-clause-memory g c = λ packets s is.
     log.items c.plan.new.log.items c.in_default.ensures.written in
     stands_longer w packets log.items c.args.self.now c.args.packet.now first second found.settled found.of_packet
     (vec_capacity log) s found.gives_settled found.gives_of_packet can
-    (no_room _ _ full all c.plan.ensures.room c.plan.new.log.ok.0 c.left.ensures c.left-2.ensures)
+    (no_room _ _ full all c.plan.ensures.grown.1 c.plan.new.log.ok.0 c.left.ensures c.left-2.ensures)
 
 module _ (g : _) (c : After-write-2 g) where
   -- The events of both stretches were added.
@@ -123,8 +123,8 @@ returns-clause-only g c = λ packets s other all.
 pub returns-then-is_err-clause-goes_on : goal.returns-then-is_err-clause-goes_on
 returns-then-is_err-clause-goes_on g c =
     let log = c.args.log.now in
-    let grown = c.reserve.ensures.items ∙ c.plan.ensures.behind.1 in
-    let back = cut_back log.items c.reserve.new.self.items c.plan.ensures.behind.0 c.len-count.result
+    let grown = c.reserve.ensures.items ∙ c.plan.ensures.grown.0.1 in
+    let back = cut_back log.items c.reserve.new.self.items c.plan.ensures.grown.0.0 c.len-count.result
     (c.len-count.ensures ∙ log.ok.0) grown in
     ([], c.truncate-then-is_err.ensures.items ∙ back ∙ sym (append-nil log.items))
 
@@ -174,7 +174,7 @@ returns-then-is_err-clause-begins_memory g c = λ mode over sync is.
     begins_longer w mode c.args.self.now over c.args.packet.now first second found.settled found.of_packet (vec_len log)
     (vec_capacity log) sync found.gives_settled found.gives_of_packet can
     (subst (λ n. vec_capacity log < n + (stretch_count first + stretch_count second)) (sym log.ok.0)
-    (no_room _ _ full all c.plan.ensures.room c.plan.new.log.ok.0 c.left.ensures c.left-2.ensures))
+    (no_room _ _ full all c.plan.ensures.grown.1 c.plan.new.log.ok.0 c.left.ensures c.left-2.ensures))
 
 pub returns-in-Err-clause-begins_none : goal.returns-in-Err-clause-begins_none
 returns-in-Err-clause-begins_none g c = λ mode over sync. inr (λ other all.

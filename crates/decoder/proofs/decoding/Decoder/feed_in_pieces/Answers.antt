@@ -40,8 +40,8 @@ module _ (g : _) (c : After-of g) where
   back =
       let old = c.args.piece.now in
       c.truncate-then-left-capacity.ensures.items
-      ∙ cut_back old.items c.plan.new.log.items c.plan.ensures.behind.0 c.len-count.result
-      (c.len-count.ensures ∙ old.ok.0) c.plan.ensures.behind.1
+      ∙ cut_back old.items c.plan.new.log.items c.plan.ensures.grown.0.0 c.len-count.result
+      (c.len-count.ensures ∙ old.ok.0) c.plan.ensures.grown.0.1
 
   left_is : c.of.result ≡ c.in_default.ensures.found.settled ++ c.in_default.ensures.found.of_packet
   left_is =
@@ -61,7 +61,7 @@ pub returns-then-left-capacity-clause-all_or_none : goal.returns-then-left-capac
 returns-then-left-capacity-clause-all_or_none g c =
     let at = (goal.at.returns-then-left-capacity-clause-all_or_none g c).After-of in
     let full = no_room c.if-left-capacity.true c.capacity.ensures c.len.ensures c.plan.new.log.ok.0
-    c.plan.ensures.room c.left.ensures c.left-2.ensures in
+    c.plan.ensures.grown.1 c.left.ensures c.left-2.ensures in
     let more = too_little (words_of c.args.paths.program.now) c.args.self.now c.args.packet.now c.plan.new.first
     c.plan.new.second c.in_default.ensures.found c.args.piece.now.items c.plan.new.log.items
     (vec_len c.args.piece.now) (vec_capacity c.args.piece.now) c.in_default.ensures.written c.args.piece.now.ok.0 full in

@@ -5,9 +5,10 @@ use Rattle.std.proofs.lemmas.Option.{slice_get_read}
 use Rattle.rvclass.specs.Fetch.{words_of}
 use Rattle.message.specs.Harts.{Harts}
 use Rattle.message.specs.Lossy.{accepting_lossy, harts_after_lossy}
+use Rattle.losses.specs.declared.part.HartPieces.{HartPieces}
 use Rattle.losses.specs.steps.FollowingRuns.{FollowsEveryHart}
 use Rattle.losses.proofs.AllRuns.{every_hart_next, every_hart_fault, within_of}
-use Rattle.losses.proofs.collecting.Collection.take.Goals.{After-take_packet}
+use Rattle.losses.proofs.collecting.Collection.take.Goals.{After-take}
 use Rattle.losses.proofs.collecting.Collection.take.Goals as goal
 
 -- What holds at a place holds where the place and the harts are named by what is equal to them.
@@ -23,7 +24,7 @@ returns-in-Err-clause-takes g c = record {
   of_any = λ messages f. tt;
 }
 
-module _ (g : _) (c : After-take_packet g) where
+module _ (g : _) (c : After-take g) where
   value : accepting_lossy c.args.self.now.demux c.args.message.now ≡ Ok (c.in-Ok.taken.0, c.in-Ok.taken.1)
   value = sym c.in-Ok.ensures.value
 
@@ -38,40 +39,41 @@ module _ (g : _) (c : After-take_packet g) where
   at_trace : slice_get c.args.self.now.traces.items c.args.message.now.hart ≡ Some c.index_mut.result.now
   at_trace = found c.args.self.now.traces.items c.index_mut.result.now c.requires.traces c.index_mut.ensures.value
 
-  at_pieces : slice_get c.args.self.now.pieces.items c.args.message.now.hart ≡ Some c.index_mut-2.result.now
-  at_pieces = found c.args.self.now.pieces.items c.index_mut-2.result.now c.requires.pieces
-      c.index_mut-2.ensures.value
+  at_pieces : slice_get c.args.self.now.pieces.items c.args.message.now.hart ≡ Some c.index_mut-pieces.result.now
+  at_pieces = found c.args.self.now.pieces.items c.index_mut-pieces.result.now c.requires.pieces
+      c.index_mut-pieces.ensures.value
 
-pub returns-in-Ok-take_packet-clause-takes : goal.returns-in-Ok-take_packet-clause-takes
-returns-in-Ok-take_packet-clause-takes g c =
-    let call = (goal.at.returns-in-Ok-take_packet-clause-takes g c).After-take_packet in
+pub returns-in-Err-take-clause-takes : goal.returns-in-Err-take-clause-takes
+returns-in-Err-take-clause-takes g c =
+    let call = (goal.at.returns-in-Err-take-clause-takes g c).After-take in
+    let demux = c.args.self.now.demux in
+    let traces = c.args.self.now.traces.items in
+    let pieces = c.args.self.now.pieces.items in
+    let old = c.index_mut-pieces.result.now in
+    let new : HartPieces _ = record old { parts = c.take.new.parts } in
+    record {
+      of_any = λ messages f.
+          every_hart_fault (words_of c.args.program.now) c.args.mode messages c.args.message.now demux traces pieces f
+          c.index_mut.result.now c.take.new.self old new
+          (at_trace g call) (at_pieces g call) c.in-Ok.taken.0 c.in-Ok.taken.1 (value g call) c.in-Err-take.fault
+          c.args.place c.fault_at.result c.in-Err-take.ensures c.fault_at.ensures.fault c.fault_at.ensures.either;
+    }
+
+pub returns-clause-takes : goal.returns-clause-takes
+returns-clause-takes g c =
+    let call = (goal.at.returns-clause-takes g c).After-take in
     let demux = c.args.self.now.demux in
     let traces = c.args.self.now.traces.items in
     let pieces = c.args.self.now.pieces.items in
     let after = harts_after_lossy demux c.args.message.now in
-    let took = c.in-Ok-take_packet.ensures in
+    let new : HartPieces _ = record { parts = c.take.new.parts; closed = c.is_closing-pieces.result } in
     record {
       of_any = λ messages f.
           moved (FollowsEveryHart (words_of c.args.program.now) c.args.mode (messages ++ c.args.message.now ∷ [])) after
-          c.accept_lossy.new.self c.args.message.now.hart c.from-hart.result traces pieces c.take_packet.new.trace
-          c.take_packet.new.pieces c.accept_lossy.ensures.state c.from-hart.ensures
+          c.accept_lossy.new.self c.args.message.now.hart c.from-hart.result traces pieces c.take.new.self
+          new c.accept_lossy.ensures.state c.from-hart.ensures
           (every_hart_next (words_of c.args.program.now) c.args.mode messages c.args.message.now demux traces pieces f
-          c.index_mut.result.now c.take_packet.new.trace c.index_mut-2.result.now c.take_packet.new.pieces
-          (at_trace g call) (at_pieces g call) c.in-Ok.taken.0 c.in-Ok.taken.1 (value g call) took.takes took.closed);
-    }
-
-pub returns-in-Err-take_packet-clause-takes : goal.returns-in-Err-take_packet-clause-takes
-returns-in-Err-take_packet-clause-takes g c =
-    let call = (goal.at.returns-in-Err-take_packet-clause-takes g c).After-take_packet in
-    let demux = c.args.self.now.demux in
-    let traces = c.args.self.now.traces.items in
-    let pieces = c.args.self.now.pieces.items in
-    let why = c.in-Err-take_packet.fault in
-    let takes = c.in-Err-take_packet.ensures.takes in
-    record {
-      of_any = λ messages f.
-          every_hart_fault (words_of c.args.program.now) c.args.mode messages c.args.message.now demux traces pieces f
-          c.index_mut.result.now c.take_packet.new.trace c.index_mut-2.result.now c.take_packet.new.pieces
-          (at_trace g call) (at_pieces g call) c.in-Ok.taken.0 c.in-Ok.taken.1 (value g call) why c.args.place
-          c.fault_at.result takes c.fault_at.ensures.fault c.fault_at.ensures.either;
+          c.index_mut.result.now c.take.new.self c.index_mut-pieces.result.now new
+          (at_trace g call) (at_pieces g call) c.in-Ok.taken.0 c.in-Ok.taken.1 (value g call) c.in-Ok-take.ensures
+          c.is_closing-pieces.ensures);
     }

@@ -17,8 +17,8 @@ pub returns : goal.returns
 returns g c =
     let words = words_of c.args.program.now in
     let mode = c.args.mode in
-    let missed = c.args.missed in
-    let packet = c.args.packet.now in
+    let missed = c.args.taken.now.1 in
+    let packet = c.args.taken.now.0 in
     let self = c.args.self.now in
     let gone = c.go_on.new.self in
     let seen = parts_in c.args.parts.now.items in

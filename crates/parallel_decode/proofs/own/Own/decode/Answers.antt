@@ -5,11 +5,11 @@ use Rattle.rvclass.specs.Fetch.{words_of}
 use Rattle.decoder.specs.declared.fault.DecodeFault.TheVariants.{Memory}
 use Rattle.message.proofs.HartMessages.{last_is_closing-next}
 use Rattle.receiver.proofs.AcceptLemmas.{not_decoded}
-use Rattle.parallel_decode.proofs.TrackLemmas.{same_err}
+use Rattle.parallel_decode.proofs.OwnLemmas.{same_err}
 use Rattle.parallel_decode.proofs.own.Own.decode.Goals as goal
 
 pub returns-in-Ok-clause-decoded : goal.returns-in-Ok-clause-decoded
-returns-in-Ok-clause-decoded c = λ packets log stands.
+returns-in-Ok-clause-decoded g c = λ packets log stands.
     let added = c.feed_packet.new.piece.items ++ c.in-Ok.left in (
       added,
       omega (arith, length-append c.feed_packet.new.piece.items c.in-Ok.left),
@@ -17,11 +17,11 @@ returns-in-Ok-clause-decoded c = λ packets log stands.
     )
 
 pub returns-in-Ok-clause-closed : goal.returns-in-Ok-clause-closed
-returns-in-Ok-clause-closed c = λ packets.
+returns-in-Ok-clause-closed g c = λ packets.
     c.is_closing-self.ensures ∙ sym (last_is_closing-next packets c.args.packet.now)
 
 pub returns-clause-not_decoded : goal.returns-clause-not_decoded
-returns-clause-not_decoded c = λ packets log stands.
+returns-clause-not_decoded g c = λ packets log stands.
     not_decoded (words_of c.args.program.now) packets c.args.packet.now c.in-Err.fault
     (same_err _ _ _ (c.in-Err.ensures.adds_first packets log stands))
     (same_err _ _ _ (c.in-Err.ensures.adds_closed packets log stands))

@@ -1,0 +1,11 @@
+-- Some messages of SENT were read.
+use Rattle.std.proofs.Common.{ℕ, List}
+use Rattle.message.specs.declared.message.Message.{Message}
+use Rattle.live.specs.Following.{Audited, IsAudited, Reads}
+use Rattle.live.proofs.looking.look.Given as goal
+
+abbrev pub invariant-loop : goal.invariant-loop
+invariant-loop g l =
+    (all : Audited) (read : ℕ) (came : List Message) (front : ℕ) → IsAudited all
+    → Reads all read came front l.fn.window (g.S.SentSource.left l.fn.source)
+    → (now : ℕ) × Reads all now came front l.window (g.S.SentSource.left l.source)

@@ -1,0 +1,18 @@
+//! Where the messages of SENT come from.
+
+ghost use Rattle.std.specs.Prelude.{List};
+ghost use Rattle.message.specs.declared.message.Message.{Message as AnyMessage};
+ghost use Rattle.live.specs.Following.{IsNext};
+
+use crate::fault::SourceFault;
+use message::Message;
+
+/// Gives the messages of SENT, one after the other.
+pub trait SentSource {
+    /// The messages that are left. After them SENT ends, or has a fault.
+    ghost left: { Self → List AnyMessage };
+
+    /// The next message, `None` where SENT has ended.
+    fn next(&mut self) -> Result<Option<Message>, SourceFault>
+        ensures { IsNext result (left self.old) (left self.new) };
+}
