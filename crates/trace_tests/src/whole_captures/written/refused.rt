@@ -17,9 +17,9 @@ use std::io;
 use std::io::{ErrorKind, Write};
 use std::process::Abort;
 
-/// The requests of the first pass: for the numbers, the decoders, the flags and the counts of the harts; for the list
-/// of places and for the places of each of the two harts.
-const REQUESTS: u64 = 7;
+/// The requests of the first pass: for what is kept of the harts, for the list of places, for the places of each of the
+/// two harts, and for their flags.
+const REQUESTS: u64 = 5;
 
 /// Ends the test unless the first pass fails where a request is refused, and else makes no other.
 fn are_refused<R: Abort + AllocGlobal>(rt: &R, program: &Program, capture: &[u8]) {
